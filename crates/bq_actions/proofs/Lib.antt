@@ -3,7 +3,9 @@ pub mod AgreedLemmas
 pub mod BoundLemmas
 pub mod DueLemmas
 pub mod DigitLemmas
+pub mod FallingLemmas
 pub mod LargestLemmas
+pub mod LogarithmLemmas
 pub mod MaskLemmas
 pub mod OverLemmas
 pub mod SoundLemmas

@@ -1,6 +1,7 @@
 pub mod Lengths
 pub mod Streams
 pub mod Draws
+pub mod Laws
 pub mod Courses
 pub mod Accounts
 pub mod Dues

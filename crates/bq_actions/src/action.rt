@@ -1,5 +1,5 @@
 //! What a task does.
-ghost use Rattle.std.specs.Prelude.{◌≡◌, ◌↔◌};
+ghost use Rattle.std.specs.Prelude.{◌≡◌};
 ghost use Rattle.std.specs.List.{list_any};
 ghost use Rattle.bq_actions.specs.Lengths.{is_length, takes_time};
 

@@ -7,6 +7,7 @@ ghost use Rattle.bq_actions.specs.Plans.{PlansLook, PlansTick};
 
 use crate::Due;
 use crate::roster::{Astray, Roster};
+use bq_disc::limits::PROCESSORS;
 
 /// When each of so many processors looks first for a task to pull; one alone never looks.
 pub(crate) fn first_look(processors: u8, balance: u64) -> Option<u64>
@@ -133,7 +134,7 @@ impl Roster {
         ensures { HasLargest self.now.lanes.items 64 result }
     {
         let mut best: Option<u8> = None;
-        'processors: for processor in 0..64 {
+        'processors: for processor in 0..PROCESSORS {
             best = self.larger(best, processor);
         }
         best

@@ -1,5 +1,5 @@
 //! How far a task has come in what it does.
-ghost use Rattle.std.specs.Prelude.{◌≡◌, ◌+◌, ◌≤◌, ◌^◌, ◌<◌, Some, None, IfSome, IfNone, ◌↔◌};
+ghost use Rattle.std.specs.Prelude.{◌≡◌, ◌≤◌, ◌+◌, ◌^◌, true, IfSome, IfNone};
 
 /// Where a task is.
 #[derive(Clone, Copy)]
@@ -39,7 +39,7 @@ pub struct Course {
 }
 
 impl Course {
-    ghost use Rattle.bq_actions.specs.Courses.{advanced, begun, fresh, run_for, moved_to, woken, is_done, keeps_time, lacks_more, sleeps_past};
+    ghost use Rattle.bq_actions.specs.Courses.{advanced, begun, fresh, run_for, migrates_to, moved_to, woken, is_done, keeps_time, lacks_more, sleeps_past};
 
     /// A task that has done nothing, and sleeps until its timer wakes it first.
     pub fn new(kind: usize, home: u8, start: u64) -> Course
@@ -71,6 +71,7 @@ impl Course {
     pub fn run_for(&mut self, ran: u64) -> Option<()>
         ensures some { IfSome result (λ _. self.new ≡ run_for ran self.old) }
         ensures none { IfNone result (self.new ≡ self.old) }
+        ensures cause { IfNone result (2 ^ 64 ≤ self.old.got + ran) }
     {
         self.got = self.got.checked_add(ran)?;
         Some(())
@@ -81,6 +82,7 @@ impl Course {
     pub fn move_to(&mut self, processor: u8, cost: u64) -> Option<()>
         ensures some { IfSome result (λ _. self.new ≡ moved_to processor cost self.old) }
         ensures none { IfNone result (self.new ≡ self.old) }
+        ensures cause { IfNone result ((migrates_to processor self.old ≡ true) × (2 ^ 64 ≤ self.old.due + cost)) }
     {
         if self.has_run && self.home != processor && self.got <= self.due {
             self.due = self.due.checked_add(cost)?;

@@ -2,6 +2,8 @@
 ghost use Rattle.std.specs.Prelude.{◌≡◌, ◌<◌, Some};
 ghost use Rattle.bq_actions.specs.Dues.{IsDue, place_of, due_at};
 
+use bq_disc::limits::{PROCESSORS, TASKS};
+
 /// Something that comes due. At one instant they come in this order, and those of one kind by their numbers. Processors
 /// are numbered from 0 to 63, tasks from 0 to 1023.
 #[derive(Clone, Copy)]
@@ -16,6 +18,18 @@ pub enum Due {
     Pull(u8),
 }
 
+/// The place of the first wake, behind those of the ends of phases.
+const WAKES: u16 = PROCESSORS as u16;
+
+/// The place of the first tick.
+const TICKS: u16 = WAKES + TASKS;
+
+/// The place of the first look.
+const LOOKS: u16 = TICKS + PROCESSORS as u16;
+
+/// How many places there are.
+const PLACES: u16 = LOOKS + PROCESSORS as u16;
+
 impl Due {
     /// Its place in the order of one instant, below 2,048.
     pub fn place(self) -> u16
@@ -26,9 +40,9 @@ impl Due {
     {
         match self {
             Due::End(processor) => u16::from(processor),
-            Due::Wake(task) => 64 + task,
-            Due::Tick(processor) => 1088 + u16::from(processor),
-            Due::Pull(processor) => 1152 + u16::from(processor),
+            Due::Wake(task) => WAKES + task,
+            Due::Tick(processor) => TICKS + u16::from(processor),
+            Due::Pull(processor) => LOOKS + u16::from(processor),
         }
     }
 
@@ -36,14 +50,14 @@ impl Due {
     pub fn at(place: u16) -> Option<Due>
         ensures { result ≡ due_at place }
     {
-        if place < 64 {
+        if place < WAKES {
             Some(Due::End(place as u8))
-        } else if place < 1088 {
-            Some(Due::Wake(place - 64))
-        } else if place < 1152 {
-            Some(Due::Tick((place - 1088) as u8))
-        } else if place < 1216 {
-            Some(Due::Pull((place - 1152) as u8))
+        } else if place < TICKS {
+            Some(Due::Wake(place - WAKES))
+        } else if place < LOOKS {
+            Some(Due::Tick((place - TICKS) as u8))
+        } else if place < PLACES {
+            Some(Due::Pull((place - LOOKS) as u8))
         } else {
             None
         }

@@ -3,7 +3,8 @@
 //! Lengths are drawn from a stream of a task's own, by whole numbers alone (Pcg32).
 //! Promises which flaw of a workload is told: the first, in the order of `flaws_of`, and none just where there is none; and
 //! how many steps a workload takes at most. That the nth length of a task is a function of the seed, the task's number, n and
-//! what is asked for, so another task changes none of them; how each change of a roster is kept: what a task that ceases to
+//! what is asked for, so another task changes none of them; that the digits of an exponential length's logarithm are never
+//! more than it, and less than two units of the last below it; how each change of a roster is kept: what a task that ceases to
 //! run has got of its phase, what a change of processor adds to it, when a processor ticks next and looks next for a task to
 //! pull, from which it pulls one, what comes due with all that, and whether a timer, the end of a phase, a tick or a look is
 //! left until an instant; that what is due agrees with all that after each change, so that what is named as the next is the
@@ -20,6 +21,7 @@ pub mod course;
 pub mod due;
 pub mod exponential;
 pub mod lane;
+pub mod laws;
 pub mod limits;
 pub mod roster;
 pub mod setup;

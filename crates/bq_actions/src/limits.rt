@@ -2,8 +2,6 @@
 
 /// The longest duration, in nanoseconds: as long as a clock goes.
 pub use bq_disc::clock::LATEST as LONGEST;
-/// How many tasks there may be in all, and from which to which length their slices are, in nanoseconds.
-pub use bq_disc::limits::{GREATEST_SLICE, LEAST_SLICE, TASKS};
 
 /// How many bytes the name of a kind of tasks may have.
 pub const LONGEST_NAME: usize = 1024;

@@ -13,7 +13,7 @@ use crate::course::{Course, Stance};
 use crate::lane::Lane;
 use crate::{Agenda, Due};
 use bq_disc::clock::LATEST;
-use bq_disc::limits::TASKS;
+use bq_disc::limits::{PROCESSORS, TASKS};
 use std::alloc::{AllocError, Global};
 
 /// A number that stands for no task or processor, a time that does not fit, or a phase that ended too early or too late:
@@ -51,7 +51,7 @@ impl Roster {
         let lanes = vec![in alloc; Lane::new(look); usize::from(processors)]?;
         let mut agenda = Agenda::new(alloc)?;
         let seen = look.and_then(|time| until(pace.end, time));
-        plan_looks(&mut agenda, processors.min(64), seen);
+        plan_looks(&mut agenda, processors.min(PROCESSORS), seen);
         Ok(Roster {
             courses: Vec::new(alloc),
             lanes,
@@ -197,7 +197,7 @@ fn place_of(due: Due) -> Result<u16, Astray>
     ensures stray { IfErr result (λ _. IsDue due → ⊥) }
 {
     let is_due = match due {
-        Due::End(processor) | Due::Tick(processor) | Due::Pull(processor) => processor < 64,
+        Due::End(processor) | Due::Tick(processor) | Due::Pull(processor) => processor < PROCESSORS,
         Due::Wake(task) => task < TASKS,
     };
     if !is_due {

@@ -5,8 +5,9 @@ ghost use Rattle.bq_hooks.specs.OwnPlace.{allows};
 ghost use Rattle.bq_actions.specs.Lengths.{is_long};
 ghost use Rattle.bq_actions.specs.Soundness.{IsFirstAllowed, allows_one, first_flaw, flaws_of_doing, flaws_of_kind, flaws_of_machine, has_name, has_numbers, is_action};
 
-use crate::limits::{GREATEST_SLICE, LEAST_SLICE, LONGEST, LONGEST_NAME, TASKS};
+use crate::limits::{LONGEST, LONGEST_NAME};
 use crate::{Action, Setup, TaskKind, Workload, take_time};
+use bq_disc::limits::{GREATEST_SLICE, LEAST_SLICE, TASKS};
 use bq_weights::is_nice;
 use thiserror::Error;
 

@@ -1,7 +1,7 @@
 //! What the program does for a job.
-ghost use Rattle.std.specs.Prelude.{◌≡◌, ℕ, true, IfOk, IfErr, OnOk, OnErr};
+ghost use Rattle.std.specs.Prelude.{◌≡◌, true, IfOk, IfErr, OnOk, OnErr};
 ghost use Rattle.bq_streams.specs.Counts.{inner_of, calls_of, failures_of};
-ghost use Rattle.bq_streams.specs.Faults.{IsFault};
+ghost use Rattle.bq_streams.specs.Faults.{IsFault, IsWriteFault};
 ghost use Rattle.bq_cli.specs.Performing.{Performs, PerformsInPart, WritesPar, WritesParInPart};
 
 use crate::asked::{Job, Parallel};
@@ -48,7 +48,7 @@ fn perform_par<T: Threads + Wait + Sync, W: Write>(
     ensures ok { IfOk result (λ done. (done ≡ true) × WritesPar parallel.now (W.contents (inner_of output.old)) (W.contents (inner_of output.new))) }
     ensures kept { OnOk result (failures_of output.new ≡ failures_of output.old) }
     ensures part { OnErr result (WritesParInPart parallel.now (W.contents (inner_of output.old)) (W.contents (inner_of output.new))) }
-    ensures fault { IfErr result (λ e. (reads read calls after : ℕ) → IsFault e reads read (failures_of output.old) (failures_of output.new) calls after) }
+    ensures fault { IfErr result (λ e. IsWriteFault e (failures_of output.old) (failures_of output.new)) }
 {
     let summary = bq_par::run(rt, alloc, parallel.rule, parallel.size, parallel.ticks)?;
     let line = summary.line(alloc)?;

@@ -11,9 +11,8 @@ ghost use Rattle.bq_cli.specs.Jobs.{IsParallel, ticks_of};
 
 use crate::asked::Parallel;
 use bq_console::WordsFault;
-use bq_filters::refused;
 use bq_lines::numbers;
-use bq_options::value;
+use bq_options::{refused_value, value};
 use bq_words::{ProcessorCount, Rule};
 use clap::ArgMatches;
 use std::alloc::Global;
@@ -44,11 +43,11 @@ fn rule_in(alloc: Global, word: Option<&str>) -> Result<Rule, WordsFault>
     ensures taken { IfErr result (λ e. (r : Way) → option_and_then rule_of (option_map (λ (w : Bor (List ℕ)). w.now) word.entry) ≡ Some r → e ≡ WordsFault.OutOfMemory) }
 {
     let Some(word) = word else {
-        return Err(refused(alloc, "rule", "", RULES));
+        return Err(refused_value(alloc, "rule", "", RULES));
     };
     match Rule::of_word(word.as_bytes()) {
         Some(rule) => Ok(rule),
-        None => Err(refused(alloc, "rule", word, RULES)),
+        None => Err(refused_value(alloc, "rule", word, RULES)),
     }
 }
 
@@ -58,11 +57,11 @@ fn size_in(alloc: Global, word: Option<&str>) -> Result<ProcessorCount, WordsFau
     ensures taken { IfErr result (λ e. (s : Many) → option_and_then size_of (option_map (λ (w : Bor (List ℕ)). w.now) word.entry) ≡ Some s → e ≡ WordsFault.OutOfMemory) }
 {
     let Some(word) = word else {
-        return Err(refused(alloc, "processors", "", SIZES));
+        return Err(refused_value(alloc, "processors", "", SIZES));
     };
     match numbers::size(word.as_bytes()) {
         Some(size) => Ok(size),
-        None => Err(refused(alloc, "processors", word, SIZES)),
+        None => Err(refused_value(alloc, "processors", word, SIZES)),
     }
 }
 
@@ -72,11 +71,11 @@ fn ticks_in(alloc: Global, word: Option<&str>) -> Result<u32, WordsFault>
     ensures taken { IfErr result (λ e. (n : ℕ) → option_and_then ticks_of (option_map (λ (w : Bor (List ℕ)). w.now) word.entry) ≡ Some n → e ≡ WordsFault.OutOfMemory) }
 {
     let Some(word) = word else {
-        return Err(refused(alloc, "ticks", "", TICKS));
+        return Err(refused_value(alloc, "ticks", "", TICKS));
     };
     match ticks_named(word.as_bytes()) {
         Some(ticks) => Ok(ticks),
-        None => Err(refused(alloc, "ticks", word, TICKS)),
+        None => Err(refused_value(alloc, "ticks", word, TICKS)),
     }
 }
 

@@ -5,6 +5,7 @@ ghost use Rattle.bq_cli.specs.Program.{program};
 
 use bq_filters::ASM;
 use bq_options::{CommandText, Given, OptionText, texts, with_commands};
+use bq_words::{with_rules, with_sizes};
 use clap::Command;
 use std::alloc::{AllocError, Global};
 
@@ -14,12 +15,12 @@ static COMMANDS: [CommandText<'static>; 9] = [
     ASM,
     CommandText {
         name: "check",
-        about: "Reads the hex of an image from standard input and writes its hook and its budget",
+        about: texts::CHECK,
         options: &[],
     },
     CommandText {
         name: "dis",
-        about: "Reads the hex of a program from standard input and writes its listing",
+        about: texts::DIS,
         options: &[],
     },
     CommandText {
@@ -29,12 +30,12 @@ static COMMANDS: [CommandText<'static>; 9] = [
             OptionText {
                 name: "rule",
                 given: Given::Needed("RULE"),
-                help: "How processors choose: cfs or eevdf",
+                help: with_rules!("How processors choose: "),
             },
             OptionText {
                 name: "processors",
                 given: Given::Needed("PROCESSORS"),
-                help: "How many processors there are: 1, 2, 4, 8, 16, 32 or 64",
+                help: with_sizes!("How many processors there are: "),
             },
             OptionText {
                 name: "ticks",
@@ -60,12 +61,12 @@ static COMMANDS: [CommandText<'static>; 9] = [
     },
     CommandText {
         name: "run",
-        about: "Runs a policy once and says what it answers",
+        about: texts::RUN,
         options: &[],
     },
     CommandText {
         name: "import",
-        about: "Reads the text section of a compiled program and writes it as an assembler text",
+        about: texts::IMPORT,
         options: &[],
     },
 ];

@@ -1,6 +1,6 @@
 -- Runs, and more of them at the end.
-use Rattle.std.proofs.Common.{◌≡◌, ℕ, ◌+◌, List, [], ◌∷◌, ◌++◌, length, map, Ok, Err, Result, IfOk, ◌⊎◌, inl, inr, ap, sym, refl, zero, suc, subst, append_assoc, append-nil, ◌∙◌, arith}
-use Rattle.std.proofs.lemmas.List.{length-append, length-map, map-append}
+use Rattle.std.proofs.Common.{◌≡◌, ℕ, ◌+◌, List, [], ◌∷◌, ◌++◌, length, map, Ok, Err, Result, IfOk, ◌⊎◌, inl, inr, ap, sym, refl, zero, suc, subst, ◌∙◌, arith}
+use Rattle.std.proofs.lemmas.List.{length-append, length-map}
 use Rattle.bq_actions.specs.declared.workload.Workload.{Workload}
 use Rattle.bq_comparison.specs.declared.naming.Figure.{Figure}
 use Rattle.bq_comparison.specs.declared.runs.Run.{Run}
@@ -37,15 +37,6 @@ AreRuns-append policies w figures seed (x ∷ xs) more h k =
 
 abbrev ended : Run → Result Run SeedsFault
 ended = Ok
-
--- one more
-pub Comes-more : (before after : List Run) (results : List (Result Run SeedsFault)) (run : Run) → Comes before results after → Comes before (results ++ Ok run ∷ []) (after ++ run ∷ [])
-Comes-more before after results run (more, ok, is) =
-    (more ++ run ∷ [], ap (λ l. l ++ Ok run ∷ []) ok ∙ sym (map-append ended more (run ∷ [])), ap (λ l. l ++ run ∷ []) is ∙ append_assoc before more (run ∷ []))
-
--- of no results nothing comes
-pub Comes-none : (before : List Run) → Comes before [] before
-Comes-none before = ([], refl, sym (append-nil before))
 
 -- as many as came to their end
 pub Comes-count : (before after : List Run) (results : List (Result Run SeedsFault)) → Comes before results after → length after ≡ length before + length results

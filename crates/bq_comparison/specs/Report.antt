@@ -3,7 +3,7 @@ use Rattle.std.specs.Prelude.{ℕ, List, [], ◌∷◌, ◌++◌}
 use Rattle.std.specs.List.{flat_map, range_with_len}
 use Rattle.bq_bpf.specs.declared.hook.Hook.{Hook}
 use Rattle.bq_bpf.specs.declared.hook.Hook.TheVariants as hook
-use Rattle.bq_comparison.specs.declared.all.Extent.{Extent}
+use Rattle.bq_comparison.specs.declared.all.MachineSize.{MachineSize}
 use Rattle.bq_comparison.specs.declared.naming.Figure.{Figure}
 use Rattle.bq_comparison.specs.declared.naming.Figure.TheVariants.{Task, Latency, Processor, Hook as AtHook}
 use Rattle.bq_comparison.specs.declared.naming.HookFigure.TheVariants.{Asked, Overruled, Steps}
@@ -27,5 +27,5 @@ figures_of_processor cpu =
     ++ figures_of_hook cpu hook.Place ++ figures_of_hook cpu hook.Preempt ++ figures_of_hook cpu hook.Pull
 
 -- of all tasks and then of all processors, by number
-abbrev pub figures_of_report : Extent → List Figure
-figures_of_report extent = flat_map figures_of_task (range_with_len 0 extent.tasks) ++ flat_map figures_of_processor (range_with_len 0 extent.processors)
+abbrev pub figures_of_report : MachineSize → List Figure
+figures_of_report size = flat_map figures_of_task (range_with_len 0 size.tasks) ++ flat_map figures_of_processor (range_with_len 0 size.processors)

@@ -3,7 +3,7 @@ use Rattle.std.specs.Prelude.{◌≡◌, ℕ, min, List, Option, Some, None, opt
 use Rattle.std.specs.Option.{IsSomeAnd}
 use Rattle.bq_words.specs.Sizes.{processors_in}
 use Rattle.bq_actions.specs.declared.workload.Workload.{Workload}
-use Rattle.bq_comparison.specs.declared.all.Extent.{Extent}
+use Rattle.bq_comparison.specs.declared.all.MachineSize.{MachineSize}
 use Rattle.bq_comparison.specs.Report.{figures_of_report}
 use Rattle.bq_simulate.specs.Simulations.{Accepted}
 use Rattle.bq_comparison.specs.declared.summing.Row.{Row}
@@ -11,15 +11,15 @@ use Rattle.bq_comparison.specs.Seeds.{IsSummary}
 use Rattle.bq_comparison.specs.declared.sides.Sides.{Sides}
 
 -- the tasks of all kinds, as far as 16 bits count, and the processors
-abbrev pub extent_of : Workload → Extent
-extent_of w = record { tasks = min (sum_by (λ kind. kind.count) w.tasks.items) 65535; processors = processors_in w.machine.size }
+abbrev pub size_of_machine : Workload → MachineSize
+size_of_machine w = record { tasks = min (sum_by (λ kind. kind.count) w.tasks.items) 65535; processors = processors_in w.machine.size }
 
 -- there is another side just where there are other policies, and it tells of so many runs with these
 abbrev pub AreTheirs : Option (List Accepted) → Workload → ℕ → Option (List Row) → Type 0
 AreTheirs None w seeds rows = rows ≡ None
-AreTheirs (Some others) w seeds rows = IsSomeAnd rows (IsSummary others w seeds (figures_of_report (extent_of w)))
+AreTheirs (Some others) w seeds rows = IsSomeAnd rows (IsSummary others w seeds (figures_of_report (size_of_machine w)))
 
 -- each side tells of so many runs with its policies, and of all figures of the report
 pub record IsComparison (policies : List Accepted) (others : Option (List Accepted)) (w : Workload) (seeds : ℕ) (sides : Sides) : Type 0 where
-  pub ours : IsSummary policies w seeds (figures_of_report (extent_of w)) sides.ours.items
+  pub ours : IsSummary policies w seeds (figures_of_report (size_of_machine w)) sides.ours.items
   pub theirs : AreTheirs others w seeds (option_map (λ rows. rows.items) sides.theirs)

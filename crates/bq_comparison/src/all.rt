@@ -8,20 +8,20 @@ use std::alloc::{AllocError, Global};
 
 /// How many tasks and processors there are.
 #[derive(Clone, Copy)]
-pub struct Extent {
+pub struct MachineSize {
     pub tasks: u16,
     pub processors: u8,
 }
 
 /// The figures of each task, then those of each processor with those of its hooks.
-pub fn all_figures(alloc: Global, extent: Extent) -> Result<Vec<Figure>, AllocError>
-    ensures { IfOk result (λ v. v.items ≡ figures_of_report extent) }
+pub fn all_figures(alloc: Global, size: MachineSize) -> Result<Vec<Figure>, AllocError>
+    ensures { IfOk result (λ v. v.items ≡ figures_of_report size) }
 {
     let mut figures = Vec::new(alloc);
-    'tasks: for task in 0..extent.tasks {
+    'tasks: for task in 0..size.tasks {
         figures.extend_from_slice(&task_figures(task))?;
     }
-    'processors: for processor in 0..extent.processors {
+    'processors: for processor in 0..size.processors {
         figures.extend_from_slice(&processor_figures(processor))?;
     }
     Ok(figures)

@@ -25,7 +25,7 @@ mod table;
 mod values;
 mod writing;
 
-pub use all::{Extent, all_figures};
+pub use all::{MachineSize, all_figures};
 pub use asked::{Comparing, TableForm, asked_comparison};
 pub use difference::Difference;
 pub use fault::SeedsFault;
@@ -35,7 +35,7 @@ pub use means::{deviation, mean};
 pub use naming::{Figure, HookFigure, ProcessorFigure, TaskFigure};
 pub use runs::{FigureValue, Run, run_of};
 pub use seeds::{Rows, summary};
-pub use sides::{Sides, compare, extent_of};
+pub use sides::{Sides, compare, size_of_machine};
 pub use summing::{Row, rows};
 pub use values::{Delay, value_of};
 pub use writing::written;

@@ -1,9 +1,9 @@
 //! The two sides of a comparison.
 ghost use Rattle.std.specs.Prelude.{◌≡◌, IfErr, IfOk, option_map};
 ghost use Rattle.bq_comparison.specs.Faults.{IsNoSummary};
-ghost use Rattle.bq_comparison.specs.Sides.{IsComparison, extent_of};
+ghost use Rattle.bq_comparison.specs.Sides.{IsComparison, size_of_machine};
 
-use crate::{Extent, Rows, SeedsFault, all_figures, summary};
+use crate::{MachineSize, Rows, SeedsFault, all_figures, summary};
 use bq_actions::Workload;
 use bq_study::Policies;
 use std::alloc::Global;
@@ -30,7 +30,7 @@ pub fn compare<T: Threads + Sync>(
     ensures sides { IfOk result (IsComparison policies.now.loaded (option_map (λ p. p.now.loaded) others.entry) workload.now seeds) }
     ensures fault { IfErr result (IsNoSummary workload.now seeds) }
 {
-    let figures = all_figures(alloc, extent_of(workload))?;
+    let figures = all_figures(alloc, size_of_machine(workload))?;
     let figures = figures.as_slice();
     let ours = summary(threads, alloc, workload, policies.loaded(), seeds, figures)?;
     let theirs = match others {
@@ -44,14 +44,14 @@ pub fn compare<T: Threads + Sync>(
 }
 
 /// How many tasks a workload has, as far as 16 bits count, and how many processors.
-pub fn extent_of(workload: &Workload) -> Extent
-    ensures { result ≡ extent_of workload.now }
+pub fn size_of_machine(workload: &Workload) -> MachineSize
+    ensures { result ≡ size_of_machine workload.now }
 {
     let mut tasks: u16 = 0;
     'kinds: for kind in &workload.tasks {
         tasks = tasks.saturating_add(kind.count);
     }
-    Extent {
+    MachineSize {
         tasks,
         processors: workload.machine.size.processors(),
     }

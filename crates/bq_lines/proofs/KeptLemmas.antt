@@ -16,14 +16,6 @@ length_unkept line h = unkept (length line) (ltb 131073 (length line)) refl h.ke
     unkept n true e k = grind (arith, nat_tests)
     unkept n false e k = cc
 
--- where something is kept it is the line
-pub kept_whole : (bytes line : List ℕ) → StandsFor (Some bytes) line → bytes ≡ line
-kept_whole bytes line h = whole (ltb 131073 (length line)) h.kept_is
-  where
-    whole : (b : Bool) → Some bytes ≡ cond b None (Some line) → bytes ≡ line
-    whole true k = cc
-    whole false k = cc
-
 reading_of-long : (line : List ℕ) → ltb 131072 (length line) ≡ true → reading_of line ≡ Bad
 unfolding reading_of
 reading_of-long line e = rw e refl

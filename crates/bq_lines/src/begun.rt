@@ -11,7 +11,7 @@ use std::alloc::{AllocError, Global};
 use std::marker::Model;
 
 /// One byte more than the longest line, for a CR at its end.
-const KEPT: usize = 131_073;
+const KEPT: usize = LONGEST + 1;
 
 /// What is kept of a line that has begun: its bytes, unless it is too long whatever ends it.
 #[derive(Drop)]

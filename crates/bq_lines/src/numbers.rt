@@ -3,7 +3,7 @@ ghost use Rattle.std.specs.Prelude.{◌≡◌};
 ghost use Rattle.bq_lines.specs.Lines.{size_of};
 ghost use Rattle.bq_lines.specs.Numbers.{decimal_of, processor_of, task_of, mask_of, nice_of};
 
-use bq_words::{ProcessorCount, number};
+use bq_words::{ProcessorCount, number, with_sizes};
 
 /// A generation, a slice or a clock reading: decimal, below 2^64.
 pub fn decimal(word: &[u8]) -> Option<u64>
@@ -20,7 +20,7 @@ pub fn processor(word: &[u8]) -> Option<u8>
 }
 
 /// What a word that `size` does not take is said to be.
-pub const NO_SIZE: &str = "is no number of processors (1, 2, 4, 8, 16, 32 or 64)";
+pub const NO_SIZE: &str = with_sizes!("is no number of processors (", ")");
 
 /// How many processors a machine has: decimal, one of 1, 2, 4, 8, 16, 32 and 64.
 pub fn size(word: &[u8]) -> Option<ProcessorCount>

@@ -4,6 +4,7 @@ ghost use Rattle.std.specs.List.{slice_split};
 ghost use Rattle.bq_lines.specs.ProcessorSets.{processors_of, is_comma, is_dash, bits_of, span_of, processor_below};
 
 use crate::numbers;
+use bq_disc::limits::PROCESSORS;
 
 /// The processors that a word names: numbers and ranges with commas between them, as `0-3,5`. Each is below 64.
 ///
@@ -107,5 +108,9 @@ fn processor(word: &[u8]) -> Option<u8>
     ensures { result ≡ processor_below word.now }
 {
     let number = numbers::processor(word)?;
-    if number < 64 { Some(number) } else { None }
+    if number < PROCESSORS {
+        Some(number)
+    } else {
+        None
+    }
 }

@@ -1,10 +1,10 @@
 //! A trace is replayed, from a file or from standard input, to standard output.
 
-use bq_console::{ended, say_unread};
+use bq_console::{ended, say_unread, waiting_input};
 use bq_streams::{Counted, Kept};
 use bq_trace::replay;
 use std::fs;
-use std::io::{IsTerminal, Read};
+use std::io::Read;
 use std::process::ExitCode;
 
 /// Replays the trace in the file of that name, or on standard input. On a terminal it says that it waits. The exit status is
@@ -15,15 +15,7 @@ pub fn replay_file(rt: &HostRuntime, name: Option<&str>) -> ExitCode {
             Ok(trace) => replay_from(rt, name, trace),
             Err(error) => say_unread(rt, name, &error),
         },
-        None => {
-            let input = rt.stdin();
-            if input.is_terminal() {
-                let _ = eprintln!(rt;
-                    "bqsim: waiting for a trace on standard input; Ctrl-D ends it"
-                );
-            }
-            replay_from(rt, None, input)
-        }
+        None => replay_from(rt, None, waiting_input(rt)),
     }
 }
 

@@ -136,10 +136,6 @@ pub Lived-after : {S : Type 0} (takes : S → ℕ → News → S → Type 0) (ki
 Lived-after takes kinds A x y s t u same more =
     Lived-join takes kinds AreNone A A (λ xs ys none are. subst (λ (l : List Deed). A (l ++ ys)) (sym none) are) x x y s t u (Lived-same takes AreNone refl x s t same kinds) more
 
--- what befell after nothing was done befell from before it
-pub Befell-after : {S : Type 0} (takes : S → ℕ → News → S → Type 0) (A : List Deed → Type 0) (x y : S) (s t u : Simulation) → Same s t → Befell takes A x t y u → Befell takes A x s y u
-Befell-after takes A x y s t u same more kinds = Lived-after takes kinds A x y s t u same (more kinds)
-
 -- or after
 pub Lived-then : {S : Type 0} (takes : S → ℕ → News → S → Type 0) (kinds : List TaskKind) (A : List Deed → Type 0) (x y : S) (s t u : Simulation) → Lived takes kinds A x s y t → Same t u → Lived takes kinds A x s y u
 Lived-then takes kinds A x y s t u first same =
@@ -153,14 +149,6 @@ follows kinds c processor now action deeds = Follow action (aim_of kinds c actio
 pub Follow-same : {S : Type 0} (takes : S → ℕ → News → S → Type 0) (kinds : List TaskKind) (c : Course) (a b : Option Action) (processor now : ℕ) (x y : S) (s t : Simulation) → a ≡ b
     → Lived takes kinds (Follow b (aim_of kinds c b) processor now) x s y t → Lived takes kinds (Follow a (aim_of kinds c a) processor now) x s y t
 Follow-same takes kinds c a b processor now x y s t is lived = subst (λ (o : Option Action). Lived takes kinds (follows kinds c processor now o) x s y t) (sym is) lived
-
--- where twice nothing was done, nothing was done
-pub Same-join : (s t u : Simulation) → Same s t → Same t u → Same s u
-Same-join s t u first more = record {
-  driver = more.driver ∙ first.driver;
-  accounts = more.accounts ∙ first.accounts;
-  stays = record { agrees = λ h. more.stays.agrees (first.stays.agrees h); pace = more.stays.pace ∙ first.stays.pace; seed = more.stays.seed ∙ first.stays.seed; streams = more.stays.streams ∙ first.stays.streams; firsts = more.stays.firsts ∙ first.stays.firsts };
-}
 
 -- in one simulation nothing was done
 pub Same-here : (s : Simulation) → Same s s

@@ -6,7 +6,7 @@ use Rattle.bq_parts.specs.declared.reply.Reply.{Reply}
 use Rattle.bq_trace.specs.News.{News, Told, Gets}
 use Rattle.bq_trace.proofs.TakingLemmas.{TakesAll-append}
 use Rattle.bq_simulate.specs.declared.driver.Driver.{Driver}
-use Rattle.bq_simulate.specs.Drives.{Did, Does, Drives, Drove, Places, Went, placed_at}
+use Rattle.bq_simulate.specs.Drives.{Did, Does, Drives, Drove, Places, placed_at}
 
 -- events one after another, and then others
 pub Drives-append : (d m e : Driver) (xs ys : List Event) (told more : Told) → Drives d xs told m → Drives m ys more e → Drives d (xs ++ ys) (told ++ more) e
@@ -24,10 +24,6 @@ Drove-one takes old new d e x reply gets = record {
   taken = gets.taken;
   holds = (reply, e, gets.told, [], gets.holds, (refl, refl), sym (append-nil gets.told));
 }
-
--- none
-pub Drove-none : {S : Type 0} (takes : S → ℕ → News → S → Type 0) (s : S) (d : Driver) → Drove takes s d [] s d
-Drove-none takes s d = record { told = []; taken = refl; holds = (refl, refl) }
 
 -- some, and then others
 pub Drove-join : {S : Type 0} (takes : S → ℕ → News → S → Type 0) (a b c : S) (d m e : Driver) (xs ys : List Event) → Drove takes a d xs b m → Drove takes b m ys c e → Drove takes a d (xs ++ ys) c e
@@ -55,15 +51,3 @@ Drove-places takes a b d e from task now to gets =
       taken = gets.taken;
       holds = (h.begun, h.mid, h.first, h.more, h.begins, (h.placed, e, h.more, [], h.ends, (refl, refl), sym (append-nil h.more)), h.whole);
     }
-
--- some events
-pub Went-of : {S : Type 0} (takes : S → ℕ → News → S → Type 0) (a b : S) (d e : Driver) (xs : List Event) → Drove takes a d xs b e → Went takes a d b e
-Went-of takes a b d e xs drove = (xs, drove)
-
--- where nothing was done a sink is told of no events
-pub Went-none : {S : Type 0} (takes : S → ℕ → News → S → Type 0) (s : S) (d e : Driver) → e ≡ d → Went takes s d s e
-Went-none takes s d e same = let P : Driver → Type 0 = λ x. Went takes s d s x in subst P (sym same) ([], Drove-none takes s d)
-
--- a sink that is told of some events and then of others is told of some
-pub Went-join : {S : Type 0} (takes : S → ℕ → News → S → Type 0) (a b c : S) (d m e : Driver) → Went takes a d b m → Went takes b m c e → Went takes a d c e
-Went-join takes a b c d m e first second = (first.0 ++ second.0, Drove-join takes a b c d m e first.0 second.0 first.1 second.1)

@@ -1,5 +1,5 @@
 -- Words of printable bytes, and lines of such words.
-use Rattle.std.proofs.Common.{◌≡◌, ℕ, ◌+◌, ◌<◌, ◌≤◌, List, [], ◌∷◌, ◌++◌, length, refl, ap, ◌∙◌, Bool, true, false, cond, ltb, eqb, arith, length-append}
+use Rattle.std.proofs.Common.{◌≡◌, ℕ, ◌+◌, ◌<◌, ◌≤◌, List, [], ◌∷◌, ◌++◌, length, refl, ap, ◌∙◌, Bool, true, false, cond, ltb, arith, length-append}
 use Rattle.std.specs.Prelude.{filter, ◌&&◌, nat_le}
 use Rattle.std.specs.List.{All, AllByRecursion, list_all}
 use Rattle.std.proofs.lemmas.List.Elements.{All-from_recursion}
@@ -25,9 +25,6 @@ plain_no_space b h = grind (arith, nat_tests)
 
 plain_allowed : (b : ℕ) → is_plain b ≡ true → is_allowed b ≡ true
 plain_allowed b h = grind (arith, nat_tests)
-
-plain_no_feed : (b : ℕ) → is_plain b ≡ true → eqb b 10 ≡ false
-plain_no_feed b h = grind (arith, nat_tests)
 
 -- what each plain byte is, each byte of a plain word is
 of_each : (P : ℕ → Type 0) → ((b : ℕ) → is_plain b ≡ true → P b) → (w : List ℕ) → list_all is_plain w ≡ true → AllByRecursion P w

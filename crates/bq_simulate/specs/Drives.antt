@@ -1,5 +1,5 @@
 -- A machine driven event by event, and what is told of it.
-use Rattle.std.specs.Prelude.{◌≡◌, ℕ, ◌<◌, ◌≤◌, ◌^◌, List, [], ◌∷◌, ◌++◌, Option, Some, None, Ok}
+use Rattle.std.specs.Prelude.{◌≡◌, ℕ, ◌<◌, ◌≤◌, ◌^◌, List, [], ◌∷◌, ◌++◌, Option, Some, None, Ok, ◌⊎◌}
 use Rattle.bq_parts.specs.declared.event.Event.{Event}
 use Rattle.bq_parts.specs.declared.event.Event.TheVariants.{BeginWake, EndWake, Drain, Tick, Block, Pull}
 use Rattle.bq_parts.specs.declared.reply.Reply.{Reply}
@@ -10,6 +10,9 @@ use Rattle.bq_streams.specs.Counts.{one_more}
 use Rattle.bq_trace.specs.Machines.{opening_machine}
 use Rattle.bq_trace.specs.News.{News, Told, Opened, Gets}
 use Rattle.bq_trace.specs.Telling.{Happens}
+use Rattle.bq_parts.specs.Refusals.{refusal}
+use Rattle.bq_simulate.specs.declared.drive_fault.DriveFault.{DriveFault}
+use Rattle.bq_simulate.specs.declared.drive_fault.DriveFault.TheVariants.{Answer, OutOfMemory, Reading, Refused}
 use Rattle.bq_simulate.specs.declared.driver.Driver.{Driver}
 
 -- the reading that comes with an event
@@ -26,6 +29,11 @@ abbrev pub Rises : ℕ → Option ℕ → ℕ → Type 0
 Rises last None next = next ≡ last
 Rises last (Some now) next = (last ≤ now) × (now < 2 ^ 48) × (next ≡ now)
 
+-- a reading is less than the last that any clock was given, or too late to count
+abbrev pub Falls : ℕ → Option ℕ → Type 0
+Falls last None = ⊥
+Falls last (Some now) = (now < last) ⊎ (2 ^ 48 ≤ now)
+
 -- a machine to which nothing has happened: the first line of a trace
 pub record Starts (rule : Rule) (size : ProcessorCount) (told : Told) (d : Driver) : Type 0 where
   pub machine : d.machine ≡ opening_machine rule size
@@ -38,6 +46,14 @@ pub record Does (d : Driver) (event : Event) (reply : Reply) (told : Told) (e : 
   pub line : e.line ≡ one_more d.line
   pub rises : Rises d.now (reading_of event) e.now
   pub happens : Happens d.machine e.line event (Ok reply) told e.machine
+
+-- why an event is not done: its reading falls, the machine refuses it for the first reason that there is, or memory is wanted;
+-- never for the kind of its answer
+abbrev pub IsDriveFault : Driver → Event → DriveFault → Type 0
+IsDriveFault d event Reading = Falls d.now (reading_of event)
+IsDriveFault d event (Refused why) = refusal d.machine.world event ≡ Some why
+IsDriveFault d event OutOfMemory = Unit {0}
+IsDriveFault d event Answer = ⊥
 
 -- a sink is told of it
 abbrev pub Did : {S : Type 0} → (S → ℕ → News → S → Type 0) → S → Driver → Event → Reply → S → Driver → Type 0

@@ -95,14 +95,6 @@ Follow action aim processor now deeds = AreJust (Block processor now ∷ []) dee
 abbrev pub IsAct : ℕ → ℕ → ℕ → Option Action → Option ℕ → List Deed → Type 0
 IsAct processor task now action aim deeds = deeds ≡ Acts processor task now action aim ∷ []
 
--- the clock of a processor beats
-abbrev pub IsBeat : ℕ → ℕ → List Deed → Type 0
-IsBeat processor now deeds = deeds ≡ Beats processor now ∷ []
-
--- a processor looks for a task to pull
-abbrev pub IsLook : ℕ → ℕ → Option ℕ → List Deed → Type 0
-IsLook processor now source deeds = deeds ≡ Looks processor now source ∷ []
-
 -- a processor that has found one from which it pulls a task does so at once
 abbrev pub pulls_of : ℕ → ℕ → Option ℕ → List Event
 pulls_of processor now None = []

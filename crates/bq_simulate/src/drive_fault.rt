@@ -1,4 +1,6 @@
 //! Why a drive ends before its time.
+ghost use Rattle.std.specs.Prelude.{◌≡◌};
+ghost use Rattle.bq_simulate.specs.declared.drive_fault.DriveFault.TheVariants.{OutOfMemory};
 
 use bq_core::Refusal;
 use std::alloc::AllocError;
@@ -23,6 +25,8 @@ pub enum DriveFault {
 }
 
 impl From<AllocError> for DriveFault {
+    ghost from_gives = { λ _ e. e ≡ OutOfMemory };
+
     fn from(_error: AllocError) -> DriveFault {
         DriveFault::OutOfMemory
     }

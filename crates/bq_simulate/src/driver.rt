@@ -1,6 +1,7 @@
 //! A machine, and how far it was driven.
-ghost use Rattle.std.specs.Prelude.{◌≡◌, IfOk, OnOk};
-ghost use Rattle.bq_simulate.specs.Drives.{reading_of, Rises, Does, Starts};
+ghost use Rattle.std.specs.Prelude.{◌≡◌, IfErr, IfOk, OnErr, OnOk};
+ghost use Rattle.bq_simulate.specs.Drives.{reading_of, Falls, IsDriveFault, Rises, Does, Starts};
+ghost use Rattle.bq_simulate.specs.declared.drive_fault.DriveFault.TheVariants.{Reading};
 ghost use Rattle.bq_trace.specs.News.{Gets};
 
 use crate::drive_fault::DriveFault;
@@ -45,7 +46,8 @@ impl Driver {
         event: Event,
         sink: &mut S,
     ) -> Result<Reply, DriveFault>
-        ensures { IfOk result (λ reply. Gets S.takes sink.old sink.new (λ told. Does self.old event reply told self.new)) }
+        ensures does { IfOk result (λ reply. Gets S.takes sink.old sink.new (λ told. Does self.old event reply told self.new)) }
+        ensures fault { IfErr result (λ fault. IsDriveFault self.old event fault) }
     {
         self.read(reading_of(&event))?;
         self.line = self.line.saturating_add(1);
@@ -65,6 +67,8 @@ impl Driver {
         ensures rises { OnOk result (Rises self.old.now reading self.new.now) }
         ensures machine { self.new.machine ≡ self.old.machine }
         ensures line { self.new.line ≡ self.old.line }
+        ensures falls { IfErr result (λ fault. (fault ≡ Reading) × Falls self.old.now reading) }
+        ensures kept { OnErr result (self.new ≡ self.old) }
     {
         let Some(reading) = reading else {
             return Ok(());

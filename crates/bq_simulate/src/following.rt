@@ -3,6 +3,7 @@ ghost use Rattle.std.specs.Prelude.{◌≡◌, ◌≢◌, None, [], ◌∷◌, O
 ghost use Rattle.bq_actions.specs.Accounts.{accounts_of};
 ghost use Rattle.bq_words.specs.Sizes.{processors_in};
 ghost use Rattle.bq_actions.specs.Bounds.{most_steps};
+ghost use Rattle.bq_actions.specs.Kinds.{tasks_in};
 ghost use Rattle.bq_actions.specs.Next.{IsAgreed, NothingComes};
 ghost use Rattle.bq_actions.specs.Soundness.{first_flaw};
 ghost use Rattle.bq_simulate.specs.Faults.{flaw_told};
@@ -33,6 +34,7 @@ pub fn simulate<S: Sink>(
     sink: &mut S,
 ) -> Result<Tally, SimulateFault>
     ensures told { OnOk result (Gets S.takes sink.old sink.new (IsSimulation policies.now workload.now)) }
+    ensures tasks { IfOk result (λ tally. tally.tasks ≡ tasks_in workload.now.tasks.items) }
     ensures sound { IfOk result (λ _. first_flaw workload.now ≡ None) }
     ensures flaw { IfErr result (λ fault. flaw_told fault ≡ first_flaw workload.now) }
     ensures untold { first_flaw workload.now ≢ None → sink.new ≡ sink.old }
@@ -49,6 +51,7 @@ pub fn simulate_seed<S: Sink>(
     sink: &mut S,
 ) -> Result<Tally, SimulateFault>
     ensures told { OnOk result (Gets S.takes sink.old sink.new (IsSimulation policies.now (with_seed workload.now seed))) }
+    ensures tasks { IfOk result (λ tally. tally.tasks ≡ tasks_in workload.now.tasks.items) }
     ensures sound { IfOk result (λ _. first_flaw workload.now ≡ None) }
     ensures flaw { IfErr result (λ fault. flaw_told fault ≡ first_flaw workload.now) }
     ensures untold { first_flaw workload.now ≢ None → sink.new ≡ sink.old }
@@ -68,7 +71,8 @@ fn follow<S: Sink>(
     policies: &[Policy],
     sink: &mut S,
 ) -> Result<Tally, SimulateFault>
-    ensures { OnOk result (Gets S.takes sink.old sink.new (IsSimulation policies.now (with_seed workload.now seed))) }
+    ensures told { OnOk result (Gets S.takes sink.old sink.new (IsSimulation policies.now (with_seed workload.now seed))) }
+    ensures tasks { IfOk result (λ tally. tally.tasks ≡ tasks_in workload.now.tasks.items) }
 {
     let machine = &workload.machine;
     let driver = Driver::new(alloc, machine.rule, machine.size, sink)?;
@@ -124,17 +128,22 @@ impl Simulation {
     ) -> Result<Tally, SimulateFault>
         requires tasks { length self.old.roster.courses.items ≡ 0 }
         requires streams { length self.old.streams.items ≡ 0 }
-        ensures { OnOk result (Runs S.takes policies.now workload.now.tasks.items (most_steps workload.now) workload.now.machine.duration (processors_in workload.now.machine.size) sink.old self.old sink.new self.new) }
+        ensures tasks { IfOk result (λ tally. tally.tasks ≡ tasks_in workload.now.tasks.items) }
+        ensures runs { OnOk result (Runs S.takes policies.now workload.now.tasks.items (most_steps workload.now) workload.now.machine.duration (processors_in workload.now.machine.size) sink.old self.old sink.new self.new) }
     {
         let processors = workload.machine.size.processors();
         self.install(alloc, processors, policies, sink)?;
         self.admit(alloc, workload, sink)?;
+        let tasks = self.tasks()?;
         self.go_on(alloc, workload, most_steps(workload), sink)?;
         if !self.roster.is_over(workload.machine.duration) {
             return Err(SimulateFault::Astray);
         }
         self.finish(alloc, processors, workload.machine.duration, sink)?;
-        Ok(self.tally)
+        Ok(Tally {
+            tasks,
+            ..self.tally
+        })
     }
 
     /// Does what comes due, one thing after another, until nothing does: each is the first that comes by the accounts. Nothing

@@ -1,6 +1,7 @@
 //! How a simulation begins: policies are installed, and tasks are admitted.
-ghost use Rattle.std.specs.Prelude.{◌≡◌, ◌+◌, [], ◌∷◌, OnOk, Some, List, length, slice_get};
+ghost use Rattle.std.specs.Prelude.{◌≡◌, ◌+◌, [], ◌∷◌, IfOk, OnOk, Some, List, length, slice_get};
 ghost use Rattle.bq_parts.specs.declared.event.Event.TheVariants.{Admit};
+ghost use Rattle.bq_actions.specs.Kinds.{tasks_in};
 ghost use Rattle.bq_actions.specs.declared.workload.TaskKind.{TaskKind};
 ghost use Rattle.bq_simulate.specs.Actions.{IsOfKind, first_of, start_of};
 ghost use Rattle.bq_simulate.specs.Simulations.{Befell, Lived, Same, Silent};
@@ -63,7 +64,8 @@ impl Simulation {
     ) -> Result<(), SimulateFault>
         requires tasks { length self.old.roster.courses.items ≡ 0 }
         requires streams { length self.old.streams.items ≡ 0 }
-        ensures { OnOk result (Lived S.takes workload.now.tasks.items (AreAllAdmitted (processors_in workload.now.machine.size) 0 0 workload.now.tasks.items) sink.old self.old sink.new self.new) }
+        ensures lived { OnOk result (Lived S.takes workload.now.tasks.items (AreAllAdmitted (processors_in workload.now.machine.size) 0 0 workload.now.tasks.items) sink.old self.old sink.new self.new) }
+        ensures streams { OnOk result (length self.new.streams.items ≡ tasks_in workload.now.tasks.items) }
     {
         'kinds: for (number, kind) in workload.tasks.iter().enumerate() {
             self.begin_kind(number)?;
@@ -105,17 +107,25 @@ impl Simulation {
         ensures courses { self.new.roster ≡ self.old.roster }
         ensures streams { self.new.streams ≡ self.old.streams }
     {
-        let first = self.tally.tasks;
+        let first = self.tasks()?;
         if self.firsts.len() != number {
-            return Err(SimulateFault::Astray);
-        }
-        if self.streams.len() != usize::from(first) {
             return Err(SimulateFault::Astray);
         }
         match self.firsts.push(first) {
             Ok(()) => Ok(()),
             Err(_) => Err(SimulateFault::OutOfMemory),
         }
+    }
+
+    /// How many tasks there are, each with a stream of its own.
+    pub(crate) fn tasks(&self) -> Result<u16, SimulateFault>
+        ensures { IfOk result (λ tasks. tasks ≡ length self.now.streams.items) }
+    {
+        let tasks = self.tally.tasks;
+        if self.streams.len() != usize::from(tasks) {
+            return Err(SimulateFault::Astray);
+        }
+        Ok(tasks)
     }
 
     /// Counts a task, which is the last so far.

@@ -1,5 +1,5 @@
 //! The sink that writes the text of a trace.
-ghost use Rattle.std.specs.Prelude.{◌≡◌, ◌++◌, ℕ, List, [], string_bytes};
+ghost use Rattle.std.specs.Prelude.{◌≡◌, ℕ, List, [], string_bytes};
 ghost use Rattle.std.specs.Borrow.{Bor};
 ghost use Rattle.std.specs.Option.{option_map};
 ghost use Rattle.bq_simulate.specs.Texts.{Writes, brought, image_at};

@@ -11,8 +11,8 @@ use Rattle.bq_timeline.specs.Settings.{AsksFor, IsNoSettings, asked_or, form_ask
 use Rattle.bq_words.specs.Sizes.{rule_of}
 use Rattle.bq_workload.specs.Durations.{duration_of}
 use Rattle.bq_workload.specs.declared.changes.Changes.{Changes}
-use Rattle.bq_study.specs.declared.asked.Asked.{Asked}
-use Rattle.bq_study.specs.declared.asked.Asked.TheVariants.{Trace, Timeline}
+use Rattle.bq_study.specs.declared.asked.ShownAs.{ShownAs}
+use Rattle.bq_study.specs.declared.asked.ShownAs.TheVariants.{Trace, Timeline}
 use Rattle.bq_study.specs.declared.asked.AskedFault.{AskedFault}
 use Rattle.bq_study.specs.declared.asked.AskedFault.TheVariants as fault
 use Rattle.bq_study.specs.declared.command.HookWords.{HookWords}
@@ -70,7 +70,7 @@ abbrev pub NamesTrace : StudyWords → Type 0
 NamesTrace w = option_bytes w.shown.form ≡ Some (codes "trace")
 
 -- a trace where the form is called so, else what a timeline shows by these words
-abbrev pub AskToShow : StudyWords → Asked → Type 0
+abbrev pub AskToShow : StudyWords → ShownAs → Type 0
 AskToShow w Trace = NamesTrace w
 AskToShow w (Timeline settings) = (¬ NamesTrace w) × AsksFor w.shown settings
 

@@ -10,7 +10,7 @@ use Rattle.bq_program.specs.declared.fault.PolicyFault.{PolicyFault as FileFault
 use Rattle.bq_program.specs.declared.fault.PolicyFault.TheVariants.{Disagrees}
 use Rattle.bq_program.specs.declared.head.Head.{Head}
 use Rattle.bq_program.specs.declared.mark.Key.{Key}
-use Rattle.bq_program.specs.declared.policy.Policy.{Policy}
+use Rattle.bq_program.specs.declared.policy_source.PolicySource.{PolicySource}
 use Rattle.bq_simulate.specs.Retelling.{IsOfImage}
 use Rattle.bq_study.specs.Standing.{Adds, Standing, image_for}
 use Rattle.bq_study.specs.declared.policies.AttachFault.{AttachFault}
@@ -24,12 +24,12 @@ pub record Asks (hook : Option Hook) (asked : Head) : Type 0 where
   pub format : asked.format ≡ None
 
 -- where that is asked for, a file is read as this policy
-abbrev pub IsRead : Option Hook → List ℕ → Policy → Type 0
+abbrev pub IsRead : Option Hook → List ℕ → PolicySource → Type 0
 IsRead hook file policy = (asked : Head) × Asks hook asked × IsPolicy file asked policy
 
 -- A policy that was read so is taken at this hook, at which no image was: its image is added, and what is loaded of it.
-pub record Takes (Reads : Policy → Type 0) (hook : Hook) (old new : Standing) : Type 0 where
-  pub read : Policy
+pub record Takes (Reads : PolicySource → Type 0) (hook : Hook) (old new : Standing) : Type 0 where
+  pub read : PolicySource
   pub reads : Reads read
   pub hook_is : read.hook ≡ hook
   pub free : image_for old.images hook ≡ None
@@ -40,16 +40,16 @@ pub record Takes (Reads : Policy → Type 0) (hook : Hook) (old new : Standing) 
   pub adds : Adds hook image policy old new
 
 -- a policy that was read so is for a hook at which an image was
-abbrev pub IsSecond : (Policy → Type 0) → Standing → Type 0
-IsSecond Reads s = (read : Policy) × Reads read × IsSome (image_for s.images read.hook)
+abbrev pub IsSecond : (PolicySource → Type 0) → Standing → Type 0
+IsSecond Reads s = (read : PolicySource) × Reads read × IsSome (image_for s.images read.hook)
 
 -- where that is asked for, a file is none for this fault
 abbrev pub IsNone : Option Hook → List ℕ → FileFault → Type 0
 IsNone hook file named = (asked : Head) × Asks hook asked × IsPolicyFault file asked named
 
 -- the image of a policy that was read so is not loaded, for this fault
-pub record IsUnaccepted (Reads : Policy → Type 0) (named : LoadFault) : Type 0 where
-  pub read : Policy
+pub record IsUnaccepted (Reads : PolicySource → Type 0) (named : LoadFault) : Type 0 where
+  pub read : PolicySource
   pub reads : Reads read
   pub image : List ℕ
   pub spells : IsImage image read.version read.hook read.shapes.items (spelling read.insns.items)
@@ -57,7 +57,7 @@ pub record IsUnaccepted (Reads : Policy → Type 0) (named : LoadFault) : Type 0
 
 -- Why a file is not taken: it holds a policy for a hook at which an image was, it disagrees with what was asked for, it is none in words,
 -- or its program is not accepted. Want of memory says nothing of it.
-abbrev pub IsTold : (Policy → Type 0) → (FileFault → Type 0) → Standing → AttachFault → Type 0
+abbrev pub IsTold : (PolicySource → Type 0) → (FileFault → Type 0) → Standing → AttachFault → Type 0
 IsTold Reads Refuses s told.Twice = IsSecond Reads s
 IsTold Reads Refuses s told.Hook = (key : Key) × Refuses (Disagrees key)
 IsTold Reads Refuses s (told.File words) = (named : FileFault) × Refuses named

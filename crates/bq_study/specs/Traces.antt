@@ -6,8 +6,8 @@ use Rattle.bq_simulate.specs.Retelling.{Answers, AreOfImages}
 use Rattle.bq_simulate.specs.Texts.{AreFitting, ByHook, told_lines}
 use Rattle.bq_simulate.specs.Simulations.{Accepted, IsSimulation}
 use Rattle.bq_study.specs.Names.{comments_of}
-use Rattle.bq_study.specs.declared.asked.Asked.{Asked}
-use Rattle.bq_study.specs.declared.asked.Asked.TheVariants.{Trace, Timeline}
+use Rattle.bq_study.specs.declared.asked.ShownAs.{ShownAs}
+use Rattle.bq_study.specs.declared.asked.ShownAs.TheVariants.{Trace, Timeline}
 use Rattle.bq_study.specs.declared.policies.Policies.{Policies}
 use Rattle.bq_study.specs.declared.running.Written.{Written}
 use Rattle.bq_study.specs.Standing.{image_for}
@@ -30,7 +30,7 @@ pub record IsTrace (w : Workload) (policies : List Accepted) (images : ByHook) (
   pub whole : text ≡ with_feeds (comments_of w ++ told_lines images told)
 
 -- What is written of a workload that is run with these policies: a trace, and no notes; or what a viewer of a simulation has.
-abbrev pub IsWritten : Asked → Workload → Policies → Written → Type 0
+abbrev pub IsWritten : ShownAs → Workload → Policies → Written → Type 0
 IsWritten Trace w policies written = IsTrace w policies.loaded (image_for policies.images) (string_bytes written.text) × (string_bytes written.notes ≡ [])
 IsWritten (Timeline settings) w policies written = AreNotesOf policies.loaded w (string_bytes written.notes)
 

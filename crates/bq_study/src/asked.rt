@@ -9,27 +9,36 @@ ghost use Rattle.bq_study.specs.Asking.{AskForChanges, AskToShow, IsNoChange, Is
 use crate::command::StudyWords;
 use bq_actions::limits::LONGEST;
 use bq_lines::numbers::{decimal, size};
-use bq_timeline::{Settings, SettingsFault};
-use bq_words::{ProcessorCount, Rule};
+use bq_timeline::{Settings, SettingsFault, with_forms};
+use bq_words::{ProcessorCount, Rule, with_rules, with_sizes};
 use bq_workload::{Changes, duration};
 use std::alloc::Global;
 use thiserror::Error;
 
 /// How a simulation is shown.
 #[derive(Drop)]
-pub enum Asked {
+pub enum ShownAs {
     /// As a trace.
     Trace,
     /// As `timeline` shows one.
     Timeline(Settings),
 }
 
+/// What a word for the discipline has to be.
+const RULES: &str = with_rules!("--discipline: a discipline is ");
+
+/// What a word for the number of processors has to be.
+const SIZES: &str = with_sizes!("--processors: a number of processors is ");
+
+/// What a word for the form has to be.
+const FORMS: &str = with_forms!("--as: a form is trace, report, ");
+
 /// Why words ask for no simulation.
 #[derive(Clone, Copy, Debug, PartialEq, Eq, Error)]
 pub enum AskedFault {
-    #[error("--discipline: a discipline is cfs or eevdf")]
+    #[error("{words}", words = RULES)]
     Discipline,
-    #[error("--processors: a number of processors is 1, 2, 4, 8, 16, 32 or 64")]
+    #[error("{words}", words = SIZES)]
     Processors,
     #[error("--duration: a duration is a whole number and ns, us, ms or s, as 500us or 2s, from 1ns to 281474976710655ns")]
     Duration,
@@ -39,23 +48,23 @@ pub enum AskedFault {
     Seeds,
     #[error("--as: with --seeds or --against a form is report, csv or json")]
     TableForm,
-    #[error("--as: a form is trace, report, map, timehist, why, svg, perfetto, csv or json")]
+    #[error("{words}", words = FORMS)]
     Form,
     #[error("{0}")]
     Settings(SettingsFault),
 }
 
-impl Asked {
+impl ShownAs {
     /// How the words want it shown: in a report, unless they say otherwise.
-    pub fn of(alloc: Global, words: &StudyWords) -> Result<Asked, AskedFault>
+    pub fn of(alloc: Global, words: &StudyWords) -> Result<ShownAs, AskedFault>
         ensures asked { IfOk result (AskToShow words.now) }
         ensures fault { IfErr result (IsNotShown words.now) }
     {
         if names_trace(&words.shown.form) {
-            return Ok(Asked::Trace);
+            return Ok(ShownAs::Trace);
         }
         match Settings::of(alloc, &words.shown) {
-            Ok(settings) => Ok(Asked::Timeline(settings)),
+            Ok(settings) => Ok(ShownAs::Timeline(settings)),
             Err(SettingsFault::Form) => Err(AskedFault::Form),
             Err(fault) => Err(AskedFault::Settings(fault)),
         }

@@ -9,7 +9,8 @@ ghost use Rattle.bq_study.specs.SimulateApp.{simulate_app};
 use bq_console::WordsFault;
 use bq_core::Hook;
 use bq_options::{CommandText, Given, OptionText, all_words, matches_of, texts, word};
-use bq_timeline::{SHOWN_OPTIONS, Words, shown_words};
+use bq_timeline::{SHOWN_OPTIONS, Words, shown_words, with_forms};
+use bq_words::{with_rules, with_sizes};
 use clap::ArgMatches;
 use std::alloc::{AllocError, Global};
 
@@ -53,12 +54,12 @@ const MACHINE_OPTIONS: [OptionText; 6] = [
     OptionText {
         name: "discipline",
         given: Given::Once("RULE"),
-        help: "cfs or eevdf",
+        help: with_rules!(""),
     },
     OptionText {
         name: "processors",
         given: Given::Once("P"),
-        help: "1, 2, 4, 8, 16, 32 or 64",
+        help: with_sizes!(""),
     },
     OptionText {
         name: "duration",
@@ -87,7 +88,7 @@ const FORM_OPTIONS: [OptionText; 2] = [
     OptionText {
         name: "as",
         given: Given::Once("FORM"),
-        help: "report (without it), trace, map, timehist, why, svg, perfetto, csv or json",
+        help: with_forms!("report (without it), trace, "),
     },
 ];
 

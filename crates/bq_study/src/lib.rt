@@ -13,8 +13,8 @@ pub mod names;
 pub mod policies;
 pub mod running;
 
-pub use asked::{Asked, AskedFault, asked_changes};
+pub use asked::{AskedFault, ShownAs, asked_changes};
 pub use command::{HookWords, MachineWords, StudyWords, study_words};
-pub use names::task_names;
+pub use names::{plain, task_names};
 pub use policies::{AttachFault, Policies};
 pub use running::{Written, run_as};

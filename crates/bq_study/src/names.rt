@@ -60,7 +60,7 @@ pub fn tell_names<S: Sink>(
 }
 
 /// The name as a line of a trace can have it: a character that is no printable ASCII stands as `?`.
-fn plain(alloc: Global, name: &str) -> Result<String, AllocError>
+pub fn plain(alloc: Global, name: &str) -> Result<String, AllocError>
     ensures { IfOk result (λ text. string_bytes text ≡ plain_name name.now) }
 {
     let mut text = String::new(alloc);

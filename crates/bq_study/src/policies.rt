@@ -2,8 +2,6 @@
 ghost use Rattle.std.specs.Prelude.{◌≡◌, ℕ, List, [], Some, None, IfOk, IfErr, OnOk, OnErr};
 ghost use Rattle.std.specs.Borrow.{Bor};
 ghost use Rattle.std.specs.Option.{option_map};
-ghost use Rattle.bq_insn.specs.Spelling.{spelling};
-ghost use Rattle.bq_load.specs.Layout.{IsImage};
 ghost use Rattle.bq_program.specs.Files.{IsPolicy, IsPolicyFault};
 ghost use Rattle.bq_simulate.specs.Retelling.{IsOfImage};
 ghost use Rattle.bq_simulate.specs.Texts.{image_at};
@@ -11,14 +9,16 @@ ghost use Rattle.bq_study.specs.Standing.{Adds, AreOfTheirImages, image_for};
 ghost use Rattle.bq_study.specs.Taking.{IsNone, IsRead, IsTold, IsToldOf, IsToldOfImage, Takes};
 
 use bq_core::{Hook, Policy};
-use bq_insn::encode::encode;
-use bq_load::{Image, LoadFault, load, write_image};
+use bq_load::{LoadFault, load};
 use bq_policy_commands::fault_reason;
 use bq_program::{Head, read_policy};
 use bq_simulate::Images;
 use std::alloc::{AllocError, AllocFailed, Global};
 use std::marker::Model;
 use thiserror::Error;
+
+/// What is said of a file that tells no hook, where no option could.
+const NO_HOOK: &str = "the hook is not said: write a line ;@ hook place in the text's head";
 
 /// Why a file is no policy for a hook.
 #[derive(Debug, Drop, Error)]
@@ -108,7 +108,7 @@ impl Policies {
         if self.image_at(read.hook).is_some() {
             return Err(AttachFault::Twice);
         }
-        let image = image_of(alloc, &read)?;
+        let image = read.image(alloc)?;
         let policy = policy_of(alloc, image.as_slice())?;
         self.keep(read.hook, image, policy)
     }
@@ -184,7 +184,11 @@ fn told(alloc: Global, file: &[u8], fault: bq_program::PolicyFault) -> AttachFau
     if let bq_program::PolicyFault::Disagrees(_) = fault {
         return AttachFault::Hook;
     }
-    match fault_reason(alloc, file, fault) {
+    let why = match fault {
+        bq_program::PolicyFault::NoHook => String::from_str(alloc, NO_HOOK),
+        fault => fault_reason(alloc, file, fault),
+    };
+    match why {
         Ok(why) => AttachFault::File(why),
         Err(_) => AttachFault::OutOfMemory,
     }
@@ -201,21 +205,4 @@ fn policy_of(alloc: Global, image: &[u8]) -> Result<Policy, AttachFault>
         Err(fault) => return Err(AttachFault::Program(fault)),
     };
     Ok(Policy::new(alloc, program)?)
-}
-
-/// The bytes of the image of a policy.
-fn image_of(alloc: Global, policy: &bq_program::Policy) -> Result<Vec<u8>, AllocError>
-    ensures { IfOk result (λ image. IsImage image.items policy.now.version policy.now.hook policy.now.shapes.items (spelling policy.now.insns.items)) }
-{
-    let mut program = Vec::new(alloc);
-    encode(policy.insns.as_slice(), &mut program)?;
-    let image = Image {
-        version: policy.version,
-        hook: policy.hook,
-        shapes: Vec::from_slice(alloc, policy.shapes.as_slice())?,
-        program,
-    };
-    let mut bytes = Vec::new(alloc);
-    write_image(&image, &mut bytes)?;
-    Ok(bytes)
 }

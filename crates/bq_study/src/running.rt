@@ -3,9 +3,9 @@ ghost use Rattle.std.specs.Prelude.{IfErr, IfOk, string_bytes};
 ghost use Rattle.bq_simulate.specs.Faults.{TellsNoOther};
 ghost use Rattle.bq_study.specs.Traces.{IsWritten};
 ghost use Rattle.bq_study.specs.Views.{AreNotesOf, IsViewed};
-ghost use Rattle.bq_study.specs.declared.asked.Asked.TheVariants.{Trace};
+ghost use Rattle.bq_study.specs.declared.asked.ShownAs.TheVariants.{Trace};
 
-use crate::asked::Asked;
+use crate::asked::ShownAs;
 use crate::later::Later;
 use crate::names::tell_names;
 use crate::policies::Policies;
@@ -27,16 +27,16 @@ pub fn run_as(
     alloc: Global,
     workload: &Workload,
     policies: &Policies,
-    asked: Asked,
+    shown: ShownAs,
 ) -> Result<Written, SimulateFault>
-    ensures written { IfOk result (IsWritten asked workload.now policies.now) }
+    ensures written { IfOk result (IsWritten shown workload.now policies.now) }
 
     // Where a flaw is told, it is the first that the workload has.
     ensures flaw { IfErr result (TellsNoOther workload.now) }
 {
-    match asked {
-        Asked::Trace => as_trace(alloc, workload, policies),
-        Asked::Timeline(settings) => as_timeline(alloc, workload, policies, settings),
+    match shown {
+        ShownAs::Trace => as_trace(alloc, workload, policies),
+        ShownAs::Timeline(settings) => as_timeline(alloc, workload, policies, settings),
     }
 }
 

@@ -18,7 +18,7 @@ use Rattle.bq_timeline.specs.Notes.{last_notes}
 use Rattle.bq_timeline.specs.Timelines.{Closes, IsTimeline, Keeps, Watches}
 use Rattle.bq_timeline.specs.Watching.{schedule_after, troubled, troubles_after, watched}
 use Rattle.bq_timeline.specs.declared.showing.Outcome.{Outcome}
-use Rattle.bq_timeline.specs.declared.showing.Turns.{Turns}
+use Rattle.bq_timeline.specs.declared.showing.Showing.{Showing}
 use Rattle.bq_timeline.specs.declared.viewer.Viewer.{Viewer}
 
 -- a viewer takes a piece of news
@@ -49,7 +49,7 @@ troubles_after-append k [] ys = refl
 troubles_after-append k ((n, x) ∷ xs) ys = troubles_after-append (troubled k x) xs ys
 
 -- The reader gave input, whose whole lines the viewer was told, and the rest has begun.
-pub record Underway (from to : Option (List ℕ)) (turns : Turns) : Type 0 where
+pub record Underway (from to : Option (List ℕ)) (showing : Showing) : Type 0 where
   pub input : List ℕ
   pub told : Told
   pub ended : List (List ℕ)
@@ -57,15 +57,15 @@ pub record Underway (from to : Option (List ℕ)) (turns : Turns) : Type 0 where
   pub consumed : Consumes from to input
   pub whole : input ≡ with_feeds ended ++ rest
   pub each : AllByRecursion IsOneLine ended
-  pub story : Story start (map strip_carriage_return ended) told turns.standing.progress
-  pub stands : StandsFor turns.standing.begun rest
-  pub schedule : turns.viewer.schedule ≡ schedule_after None told
-  pub troubles : turns.viewer.troubles ≡ troubles_after 0 told
+  pub story : Story start (map strip_carriage_return ended) told showing.position.progress
+  pub stands : StandsFor showing.position.begun rest
+  pub schedule : showing.viewer.schedule ≡ schedule_after None told
+  pub troubles : showing.viewer.troubles ≡ troubles_after 0 told
 
 -- at the start nothing has been read and nothing told
-pub Underway-none : (from : Option (List ℕ)) (turns : Turns) → turns.standing.progress ≡ start → turns.standing.begun ≡ Some [] → turns.viewer.schedule ≡ None → turns.viewer.troubles ≡ 0
-    → Underway from from turns
-Underway-none from turns first empty schedule troubles = record {
+pub Underway-none : (from : Option (List ℕ)) (showing : Showing) → showing.position.progress ≡ start → showing.position.begun ≡ Some [] → showing.viewer.schedule ≡ None → showing.viewer.troubles ≡ 0
+    → Underway from from showing
+Underway-none from showing first empty schedule troubles = record {
   input = [];
   told = [];
   ended = [];
@@ -84,8 +84,8 @@ AllByRecursion-append [] ys h k = k
 AllByRecursion-append (x ∷ xs) ys h k = (h.0, AllByRecursion-append xs ys h.1 k)
 
 -- a piece that is read and told leaves the timeline underway
-pub Underway-more : (from mid to : Option (List ℕ)) (s t : Turns) (piece : List ℕ) → (h : Underway from mid s) → Consumes mid to piece
-    → Watches s.viewer t.viewer (λ told. GoesOn s.standing h.rest piece told t.standing) → Underway from to t
+pub Underway-more : (from mid to : Option (List ℕ)) (s t : Showing) (piece : List ℕ) → (h : Underway from mid s) → Consumes mid to piece
+    → Watches s.viewer t.viewer (λ told. GoesOn s.position h.rest piece told t.position) → Underway from to t
 Underway-more from mid to s t piece h consumed w =
     let on = w.holds in
     record {
@@ -96,19 +96,19 @@ Underway-more from mid to s t piece h consumed w =
       consumed = Consumes-trans from mid to h.input piece h.consumed consumed;
       whole = with_feeds-join [] h.input h.rest piece on.rest h.ended on.ended h.whole on.whole;
       each = AllByRecursion-append h.ended on.ended h.each on.each;
-      story = subst (λ ls. Story start ls (h.told ++ w.told) t.standing.progress) (sym (map-append strip_carriage_return h.ended on.ended))
-          (Story-append start s.standing.progress t.standing.progress (map strip_carriage_return h.ended) (map strip_carriage_return on.ended) h.told w.told h.story on.story);
+      story = subst (λ ls. Story start ls (h.told ++ w.told) t.position.progress) (sym (map-append strip_carriage_return h.ended on.ended))
+          (Story-append start s.position.progress t.position.progress (map strip_carriage_return h.ended) (map strip_carriage_return on.ended) h.told w.told h.story on.story);
       stands = on.stands;
       schedule = w.schedule ∙ ap (λ k. schedule_after k w.told) h.schedule ∙ sym (schedule_after-append None h.told w.told);
       troubles = w.troubles ∙ ap (λ k. troubles_after k w.told) h.troubles ∙ sym (troubles_after-append 0 h.told w.told);
     }
 
 -- a timeline whose reader has no more and whose last line is told is done
-pub Underway-ends : (from mid to : Option (List ℕ)) (turns : Turns) (outcome : Outcome) → (h : Underway from mid turns) → Consumes mid to [] → IsAtEnd to → Closes turns h.rest outcome
+pub Underway-ends : (from mid to : Option (List ℕ)) (showing : Showing) (outcome : Outcome) → (h : Underway from mid showing) → Consumes mid to [] → IsAtEnd to → Closes showing h.rest outcome
     → IsTimeline from to outcome
-Underway-ends from mid to turns outcome h consumed at_end f =
-    let count : troubles_after turns.viewer.troubles f.told ≡ troubles_after 0 (h.told ++ f.told) = ap (λ k. troubles_after k f.told) h.troubles ∙ sym (troubles_after-append 0 h.told f.told) in
-    let last : schedule_after turns.viewer.schedule f.told ≡ schedule_after None (h.told ++ f.told) = ap (λ s. schedule_after s f.told) h.schedule ∙ sym (schedule_after-append None h.told f.told) in
+Underway-ends from mid to showing outcome h consumed at_end f =
+    let count : troubles_after showing.viewer.troubles f.told ≡ troubles_after 0 (h.told ++ f.told) = ap (λ k. troubles_after k f.told) h.troubles ∙ sym (troubles_after-append 0 h.told f.told) in
+    let last : schedule_after showing.viewer.schedule f.told ≡ schedule_after None (h.told ++ f.told) = ap (λ s. schedule_after s f.told) h.schedule ∙ sym (schedule_after-append None h.told f.told) in
     record {
       input = h.input;
       told = h.told ++ f.told;
@@ -116,9 +116,9 @@ Underway-ends from mid to turns outcome h consumed at_end f =
       consumed = subst (Consumes from to) (append-nil h.input) (Consumes-trans from mid to h.input [] h.consumed consumed);
       at_end = at_end;
       story = subst (λ ls. Story start ls (h.told ++ f.told) f.final) (sym (ap lines h.whole ∙ lines-with_feeds h.ended h.rest h.each))
-          (Story-append start turns.standing.progress f.final (map strip_carriage_return h.ended) (lines h.rest) h.told f.told h.story f.story);
+          (Story-append start showing.position.progress f.final (map strip_carriage_return h.ended) (lines h.rest) h.told f.told h.story f.story);
       clean = f.clean ∙ ap (λ k. k == 0) count;
       before = f.before;
-      notes = f.notes ∙ ap (λ k. f.before ++ last_notes (schedule_after turns.viewer.schedule f.told) k) count
+      notes = f.notes ∙ ap (λ k. f.before ++ last_notes (schedule_after showing.viewer.schedule f.told) k) count
           ∙ ap (λ s. f.before ++ last_notes s (troubles_after 0 (h.told ++ f.told))) last;
     }

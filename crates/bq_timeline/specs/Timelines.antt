@@ -9,7 +9,7 @@ use Rattle.bq_trace.specs.declared.progress.Progress.{Progress}
 use Rattle.bq_timeline.specs.Notes.{last_notes}
 use Rattle.bq_timeline.specs.Watching.{schedule_after, troubled, troubles_after, watched}
 use Rattle.bq_timeline.specs.declared.showing.Outcome.{Outcome}
-use Rattle.bq_timeline.specs.declared.showing.Turns.{Turns}
+use Rattle.bq_timeline.specs.declared.showing.Showing.{Showing}
 use Rattle.bq_timeline.specs.declared.viewer.Viewer.{Viewer}
 
 -- A viewer was told a piece of news: it has the schedule that goes on by it, and has counted it where it is trouble.
@@ -25,13 +25,13 @@ pub record Watches (old new : Viewer) (Holds : Told → Type 0) : Type 0 where
 
 -- The line that has begun is the last. It is clean where no line of the trace was bad or refused, and the last notes are those
 -- at the schedule of the whole trace.
-pub record Closes (turns : Turns) (begun : List ℕ) (outcome : Outcome) : Type 0 where
+pub record Closes (showing : Showing) (begun : List ℕ) (outcome : Outcome) : Type 0 where
   pub told : Told
   pub final : Progress
-  pub story : Story turns.standing.progress (lines begun) told final
-  pub clean : outcome.clean ≡ (troubles_after turns.viewer.troubles told == 0)
+  pub story : Story showing.position.progress (lines begun) told final
+  pub clean : outcome.clean ≡ (troubles_after showing.viewer.troubles told == 0)
   pub before : List ℕ
-  pub notes : string_bytes outcome.notes ≡ before ++ last_notes (schedule_after turns.viewer.schedule told) (troubles_after turns.viewer.troubles told)
+  pub notes : string_bytes outcome.notes ≡ before ++ last_notes (schedule_after showing.viewer.schedule told) (troubles_after showing.viewer.troubles told)
 
 -- The reader gave these bytes and has no more, and this came of their lines, all of them. It is clean where none of them was
 -- bad or refused, and the last notes are those at the schedule that they tell.

@@ -1,5 +1,5 @@
 -- What a timeline keeps of the news of a trace: the schedule that they tell, and how many lines were bad or refused.
-use Rattle.std.specs.Prelude.{ℕ, List, [], ◌∷◌, Option, Some, None, Result, Ok, Err, nat_lt, if◌then◌else◌}
+use Rattle.std.specs.Prelude.{ℕ, [], ◌∷◌, Option, Some, Err, nat_lt, if◌then◌else◌}
 use Rattle.bq_parts.specs.World.{count_in}
 use Rattle.bq_words.specs.Sizes.{processors_in}
 use Rattle.bq_streams.specs.Counts.{one_more}

@@ -5,6 +5,7 @@ ghost use Rattle.bq_timeline.specs.Asking.{AreWords};
 ghost use Rattle.bq_timeline.specs.TimelineApp.{timeline_app};
 
 use crate::settings::Words;
+use crate::with_forms;
 use bq_console::WordsFault;
 use bq_options::{CommandText, Given, OptionText, matches_of, texts, word};
 use clap::ArgMatches;
@@ -20,7 +21,7 @@ const FORM_OPTIONS: [OptionText; 2] = [
     OptionText {
         name: "as",
         given: Given::Once("FORM"),
-        help: "report (without it), map, timehist, why, svg, perfetto, csv or json",
+        help: with_forms!("report (without it), "),
     },
 ];
 

@@ -1,9 +1,11 @@
 //! Why a line is bad.
 
+use bq_bpf::board::COUNTERS;
 use bq_core::Hook;
 use bq_lines::words::is_allowed_line;
 use bq_lines::{Keyword, numbers};
-use bq_words::{ProcessorCount, Rule, next_word};
+use bq_options::with_hooks;
+use bq_words::{Rule, next_word, with_rules};
 use std::{fmt, str};
 
 /// What a word of a line is to be.
@@ -28,9 +30,7 @@ impl Kind {
     fn fits(self, word: &[u8]) -> bool {
         match self {
             Kind::Rule => Rule::of_word(word).is_some(),
-            Kind::ProcessorCount => numbers::processor(word)
-                .and_then(|number| ProcessorCount::of_number(number))
-                .is_some(),
+            Kind::ProcessorCount => numbers::size(word).is_some(),
             Kind::Processor => numbers::processor(word).is_some(),
             Kind::Task => numbers::task(word).is_some(),
             Kind::Nice => numbers::nice(word).is_some(),
@@ -38,14 +38,15 @@ impl Kind {
             Kind::Time | Kind::Generation | Kind::Slice => numbers::decimal(word).is_some(),
             Kind::Hook => Hook::of_word(word).is_some(),
             Kind::Image => true,
-            Kind::Counter => numbers::processor(word).is_some_and(|counter| counter < 64),
+            Kind::Counter => numbers::processor(word).is_some_and(|counter| usize::from(counter)
+                < COUNTERS),
         }
     }
 
     /// What a word that is not that is said to be, or not to fit.
     fn words(self) -> &'static str {
         match self {
-            Kind::Rule => "is no rule (cfs or eevdf)",
+            Kind::Rule => with_rules!("is no rule (", ")"),
             Kind::ProcessorCount => numbers::NO_SIZE,
             Kind::Processor => "does not fit a processor's number (0 to 255)",
             Kind::Task => "does not fit a task's number (0 to 65535)",
@@ -54,7 +55,7 @@ impl Kind {
             Kind::Time => "does not fit a clock reading (0 to 2^64 - 1)",
             Kind::Generation => "does not fit a generation (0 to 2^64 - 1)",
             Kind::Slice => "does not fit a slice (0 to 2^64 - 1)",
-            Kind::Hook => "is no hook (place, preempt or pull)",
+            Kind::Hook => with_hooks!("is no hook (", ")"),
             Kind::Image => "is no image",
             Kind::Counter => "does not fit a counter's number (0 to 63)",
         }

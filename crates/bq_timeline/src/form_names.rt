@@ -16,6 +16,14 @@ pub enum FormName {
     Perfetto,
 }
 
+/// A text that ends with the names of the forms that come behind the report's.
+#[macro_export]
+macro_rules! with_forms {
+    ($before:literal) => {
+        concat!($before, "map, timehist, why, svg, perfetto, csv or json")
+    };
+}
+
 impl FormName {
     /// The form of that name.
     pub fn of_word(word: &str) -> Option<FormName>

@@ -4,10 +4,10 @@
 //! Stands on bq_trace's sinks, on bq_schedule and its forms, and on bq_why.
 #![tactic(auto)]
 
+pub mod bounds_table;
 pub mod command;
 pub mod faults;
 pub mod form_names;
-pub mod near;
 pub mod numbers;
 pub mod screen;
 pub mod settings;

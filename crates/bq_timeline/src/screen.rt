@@ -3,8 +3,8 @@ ghost use Rattle.std.specs.Prelude.{◌≡◌, ◌++◌, OnOk, Some, string_byte
 ghost use Rattle.bq_timeline.specs.Notes.{last_notes, trouble_note, waiting_note, waiting_notes};
 ghost use Rattle.bq_timeline.specs.Shown.{IsAskedFor, is_read_by_lines};
 
-use crate::faults::why_bad;
-use crate::near::Near;
+use crate::bounds_table::BoundsTable;
+use crate::faults::{Fault, why_bad};
 use crate::settings::Settings;
 use crate::shown::Shown;
 use bq_core::{Event, Refusal, Reply};
@@ -17,6 +17,9 @@ use bq_why::{Because, InWords, Occurrence};
 use bq_words::Rule;
 use std::alloc::{AllocError, Global};
 
+/// What is said behind the fault of a line that should have made the machine.
+const NOT_READ_ON: &str = "; a trace begins with its machine line, and nothing after this is done";
+
 /// What is written of a trace, as far as it has come.
 #[derive(Drop)]
 pub struct Screen {
@@ -24,7 +27,7 @@ pub struct Screen {
     shown: Shown,
     has_notes: bool,
     /// The bounds of the rule, once there is a machine, where the form shows them.
-    near: Option<Near>,
+    near: Option<BoundsTable>,
     /// The processors that are shown, by bits.
     processors: u64,
     /// What goes to the output, since it was cleared last.
@@ -69,7 +72,7 @@ impl Screen {
         schedule: &Schedule,
     ) -> Result<(), AllocError> {
         if let Shown::Report(_) = &self.shown {
-            self.near = Some(Near::new(alloc, rule, schedule.processors())?);
+            self.near = Some(BoundsTable::new(alloc, rule, schedule.processors())?);
         }
         self.shown.begin(schedule, &self.names, &mut self.text)
     }
@@ -152,7 +155,7 @@ impl Screen {
         write!(self.notes(), "line {number}: show {processor}: {because}\n")
     }
 
-    /// A line is bad.
+    /// A line is bad. Where it should have made the machine, the trace is not read on.
     pub fn bad(
         &mut self,
         number: u64,
@@ -160,7 +163,12 @@ impl Screen {
         is_open: bool,
     ) -> Result<(), AllocError> {
         let fault = why_bad(line, is_open);
-        write!(self.notes(), "line {number}: {fault}\n")
+        let end = match fault {
+            Fault::NoMachine => "",
+            _ if is_open => "",
+            _ => NOT_READ_ON,
+        };
+        write!(self.notes(), "line {number}: {fault}{end}\n")
     }
 
     /// The trace is over. So many lines were bad or refused.

@@ -1,11 +1,11 @@
 //! What a timeline is to show, by the words of its options.
 ghost use Rattle.std.specs.Prelude.{◌≡◌, IfErr, IfOk};
 ghost use Rattle.bq_lines.specs.ProcessorSets.{processors_of};
-ghost use Rattle.bq_timeline.specs.Settings.{AsksFor, IsNoSettings, asked_or, form_of, tasks_of, time_of, width_of};
+ghost use Rattle.bq_timeline.specs.Settings.{AsksFor, IsNoSettings, asked_or, form_of, time_of, width_of};
 ghost use Rattle.bq_timeline.specs.declared.settings.SettingsFault.TheVariants.{OutOfMemory};
 
 use crate::form_names::FormName;
-use crate::numbers;
+use crate::{numbers, with_forms};
 use bq_forms::Window;
 use bq_lines::processor_sets::processors;
 use std::alloc::{AllocError, Global};
@@ -41,11 +41,14 @@ pub struct Settings {
     pub width: usize,
 }
 
+/// What a word for the form has to be.
+const FORMS: &str = with_forms!("--as: a form is report, ");
+
 /// Why words are no settings.
 #[derive(Clone, Copy, Debug, PartialEq, Eq, Error)]
 pub enum SettingsFault {
     /// No form has that name.
-    #[error("--as: a form is report, map, timehist, why, svg, perfetto, csv or json")]
+    #[error("{words}", words = FORMS)]
     Form,
     /// That is no time.
     #[error("--from: a time is a number with ns, us, ms or s, as 1500, 1.5ms or 2s")]

@@ -41,58 +41,58 @@ pub fn show<R: Read, W: Write>(
     ensures fault { IfErr result (λ e. IsFault e (failures_of input.old) (failures_of input.new)
         (failures_of output.old) (failures_of output.new) (calls_of input.old) (calls_of input.new)) }
 {
-    let mut turns = Turns::new(alloc, settings);
+    let mut showing = Showing::new(alloc, settings);
     let mut piece = [0u8; PIECE];
     for _ in 0..READS {
         let count = input.read(&mut piece)?;
         if count == 0 {
-            return turns.finish(output);
+            return showing.finish(output);
         }
-        turns.feed(&piece[..count], output)?;
+        showing.feed(&piece[..count], output)?;
     }
     Err(StreamFault::TooLong)
 }
 
 /// A timeline of the pieces so far.
-struct Turns {
+struct Showing {
     alloc: Global,
-    standing: TracePosition,
+    position: TracePosition,
     viewer: Viewer,
 }
 
 // Written out, so that letting it go is one call.
-impl Drop for Turns {
+impl Drop for Showing {
     fn drop(self) {
-        let Turns {
+        let Showing {
             alloc: _,
-            standing: _standing,
+            position: _position,
             viewer: _viewer,
         } = self;
     }
 }
 
-impl Turns {
-    fn new(alloc: Global, settings: Settings) -> Turns
-        ensures progress { result.standing.progress ≡ start }
-        ensures begun { result.standing.begun ≡ Some [] }
+impl Showing {
+    fn new(alloc: Global, settings: Settings) -> Showing
+        ensures progress { result.position.progress ≡ start }
+        ensures begun { result.position.begun ≡ Some [] }
         ensures schedule { result.viewer.schedule ≡ None }
         ensures troubles { result.viewer.troubles ≡ 0 }
     {
-        Turns {
+        Showing {
             alloc,
-            standing: TracePosition::new(alloc),
+            position: TracePosition::new(alloc),
             viewer: Viewer::new(alloc, settings),
         }
     }
 
     /// Takes a piece, and writes what is ripe.
     fn feed<W: Write>(&mut self, piece: &[u8], output: &mut Counted<W>) -> Result<(), StreamFault>
-        ensures told { OnOk result ((begun : List ℕ) → StandsFor self.old.standing.begun begun
-            → Watches self.old.viewer self.new.viewer (λ told. GoesOn self.old.standing begun piece.now told self.new.standing)) }
+        ensures told { OnOk result ((begun : List ℕ) → StandsFor self.old.position.begun begun
+            → Watches self.old.viewer self.new.viewer (λ told. GoesOn self.old.position begun piece.now told self.new.position)) }
         ensures kept { OnOk result (failures_of output.new ≡ failures_of output.old) }
         ensures fault { IfErr result (λ e. IsWriteFault e (failures_of output.old) (failures_of output.new)) }
     {
-        self.standing.go_on(self.alloc, piece, &mut self.viewer)?;
+        self.position.go_on(self.alloc, piece, &mut self.viewer)?;
         output.write_text(self.viewer.screen.text.as_bytes())?;
         self.viewer.screen.text.clear();
         Ok(())
@@ -100,12 +100,12 @@ impl Turns {
 
     /// The trace is over: writes what is left.
     fn finish<W: Write>(&mut self, output: &mut Counted<W>) -> Result<Outcome, StreamFault>
-        ensures told { IfOk result (λ outcome. (begun : List ℕ) → StandsFor self.old.standing.begun begun
+        ensures told { IfOk result (λ outcome. (begun : List ℕ) → StandsFor self.old.position.begun begun
             → Closes self.old begun outcome) }
         ensures kept { OnOk result (failures_of output.new ≡ failures_of output.old) }
         ensures fault { IfErr result (λ e. IsWriteFault e (failures_of output.old) (failures_of output.new)) }
     {
-        self.standing.end(self.alloc, &mut self.viewer)?;
+        self.position.end(self.alloc, &mut self.viewer)?;
         self.viewer.end()?;
         output.write_text(self.viewer.screen.text.as_bytes())?;
         let notes = self.viewer.screen.notes.clone()?;

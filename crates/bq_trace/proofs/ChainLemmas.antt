@@ -1,10 +1,10 @@
 -- Lines in order, and lines in pieces.
-use Rattle.std.proofs.Common.{◌≡◌, ℕ, List, [], ◌∷◌, ◌++◌, length, map, refl, sym, ap, ◌∙◌, append_assoc, append-nil, subst, Bool, true, false, cond, eqb}
+use Rattle.std.proofs.Common.{◌≡◌, ℕ, List, [], ◌∷◌, ◌++◌, length, map, refl, sym, ap, ◌∙◌, append_assoc, subst, Bool, true, false, cond, eqb}
 use Rattle.std.specs.List.{slice_split, onto_first, AllByRecursion}
 use Rattle.std.specs.Str.Lines.{lines, lines_of_parts, strip_carriage_return}
 use Rattle.std.proofs.lemmas.List.Splits.{slice_split_at, slice_split_none}
 use Rattle.bq_lines.specs.Kept.{IsOneLine}
-use Rattle.bq_trace.specs.Trace.{AnswersAll, AnswersLine}
+use Rattle.bq_trace.specs.Trace.{AnswersAll}
 use Rattle.bq_trace.specs.Feeding.{with_feeds}
 use Rattle.bq_trace.specs.declared.progress.Progress.{Progress}
 
@@ -14,10 +14,6 @@ AnswersAll-append p m q [] ys t u h k =
     subst (λ s. AnswersAll s ys (t ++ u) q) h.1 (subst (λ l. AnswersAll m ys (l ++ u) q) (sym h.0) k)
 AnswersAll-append p m q (x ∷ xs) ys t u h k =
     (h.0, h.1, h.2 ++ u, h.3, AnswersAll-append h.0 m q xs ys h.2 u h.4 k, ap (λ l. l ++ u) h.5 ∙ append_assoc h.1 h.2 u)
-
--- the text that answers a line answers the list of it alone
-pub AnswersAll-one : (p q : Progress) (line text : List ℕ) → AnswersLine p line text q → AnswersAll p (line ∷ []) text q
-AnswersAll-one p q line text h = (q, text, [], h, (refl, refl), sym (append-nil text))
 
 abbrev is_feed : ℕ → Bool
 is_feed b = eqb b 10

@@ -1,12 +1,12 @@
 -- What comes of the lines of a piece in turn.
-use Rattle.std.proofs.Common.{◌≡◌, ℕ, List, [], ◌∷◌, ◌++◌, length, map, refl, sym, ap, ◌∙◌, append_assoc, append-nil, subst, true, false, cond, eqb, Some}
+use Rattle.std.proofs.Common.{◌≡◌, ℕ, List, [], ◌∷◌, ◌++◌, length, map, refl, sym, ap, ◌∙◌, append_assoc, append-nil, subst, false, cond, eqb, Some}
 use Rattle.std.specs.List.{AllByRecursion}
 use Rattle.std.specs.Str.Lines.{lines, strip_carriage_return}
 use Rattle.std.proofs.lemmas.List.{map-append}
 use Rattle.std.proofs.lemmas.List.Elements.{All-append, All-nil}
 use Rattle.bq_lines.specs.Kept.{IsOneLine, StandsFor}
 use Rattle.bq_trace.specs.News.{News, Told, TakesAll, Gets}
-use Rattle.bq_trace.specs.Telling.{TellsLine, Story, GoesOn}
+use Rattle.bq_trace.specs.Telling.{TellsLine, Story}
 use Rattle.bq_trace.specs.Feeding.{with_feeds}
 use Rattle.bq_trace.proofs.ChainLemmas.{lines-one}
 use Rattle.bq_trace.proofs.TakingLemmas.{TakesAll-append}
@@ -81,33 +81,6 @@ SoFar-more takes s t u whole rest tail more old mid new h cut one a cleared = re
   stands = subst (λ k. StandsFor k []) (sym cleared) stands_for_nothing;
   taken = TakesAll-append takes old mid new h.told a.told h.taken a.taken;
 }
-
--- no line ends in what is left
-pub SoFar-all : {S : Type 0} (takes : S → ℕ → News → S → Type 0) (s t u : TracePosition) (begun piece rest : List ℕ) (old new : S) → (h : SoFar takes s (begun ++ piece) t rest old new)
-    → u.progress ≡ t.progress → StandsFor u.begun (h.current ++ rest) → Gets takes old new (λ told. GoesOn s begun piece told u)
-SoFar-all takes s t u begun piece rest old new h same stands = record {
-  told = h.told;
-  taken = h.taken;
-  holds = record {
-    ended = h.ended;
-    rest = h.current ++ rest;
-    whole = h.split;
-    each = h.each;
-    story = subst (λ p. Story s.progress (map strip_carriage_return h.ended) h.told p) (sym same) h.story;
-    stands = stands;
-  };
-}
-
--- there is no last line
-pub ends_without : {S : Type 0} (takes : S → ℕ → News → S → Type 0) (p : Progress) (begun : List ℕ) (old : S) → IsOneLine begun → eqb (length begun) 0 ≡ true
-    → Gets takes old old (λ told. Story p (lines begun) told p)
-ends_without takes p begun old one e =
-    let none : lines begun ≡ [] = lines-one begun one ∙ ap (λ t. cond t [] (begun ∷ [])) e in
-    record {
-      told = [];
-      taken = refl;
-      holds = subst (λ ls. Story p ls [] p) (sym none) (refl, refl);
-    }
 
 -- the last line is told
 pub ends_with : {S : Type 0} (takes : S → ℕ → News → S → Type 0) (p q : Progress) (begun : List ℕ) (old new : S) → IsOneLine begun → eqb (length begun) 0 ≡ false

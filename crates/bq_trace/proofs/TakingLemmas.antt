@@ -8,14 +8,6 @@ pub TakesAll-append : {S : Type 0} (takes : S → ℕ → News → S → Type 0)
 TakesAll-append takes a b c [] ys h k = subst (λ s. TakesAll takes s ys c) h k
 TakesAll-append takes a b c ((n, x) ∷ xs) ys h k = (h.0, h.1, TakesAll-append takes h.0 b c xs ys h.2 k)
 
--- nothing is taken
-pub gets_none : {S : Type 0} (takes : S → ℕ → News → S → Type 0) (a : S) (Holds : Told → Type 0) → Holds [] → Gets takes a a Holds
-gets_none takes a Holds h = record { told = []; taken = refl; holds = h }
-
--- one piece of news is taken
-pub gets_one : {S : Type 0} (takes : S → ℕ → News → S → Type 0) (a b : S) (n : ℕ) (x : News) (Holds : Told → Type 0) → takes a n x b → Holds ((n, x) ∷ []) → Gets takes a b Holds
-gets_one takes a b n x Holds h k = record { told = (n, x) ∷ []; taken = (b, h, refl); holds = k }
-
 -- two pieces of news are taken
 pub gets_two : {S : Type 0} (takes : S → ℕ → News → S → Type 0) (a b c : S) (n : ℕ) (x y : News) (Holds : Told → Type 0) → takes a n x b → takes b n y c
     → Holds ((n, x) ∷ (n, y) ∷ []) → Gets takes a c Holds

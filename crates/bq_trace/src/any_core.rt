@@ -2,11 +2,8 @@
 ghost use Rattle.std.specs.Prelude.{◌≡◌, ◌<◌, slice_index, IfOk};
 ghost use Rattle.std.specs.Borrow.{Bor};
 ghost use Rattle.std.specs.Option.{option_map};
-ghost use Rattle.bq_parts.specs.World.{opening_world};
 ghost use Rattle.bq_parts.specs.Processors.{Processor};
-ghost use Rattle.bq_parts.specs.Choices.{policies};
-ghost use Rattle.bq_words.specs.Sizes.{processors_in};
-ghost use Rattle.bq_trace.specs.Machines.{opening_machine, Advances};
+ghost use Rattle.bq_trace.specs.Machines.{opening_machine};
 ghost use Rattle.bq_trace.specs.Cores.{processor_in};
 ghost use Rattle.bq_trace.specs.Seeing.{seen_of};
 

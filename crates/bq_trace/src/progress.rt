@@ -13,6 +13,7 @@ use crate::bare::bare;
 use crate::loading::Installation;
 use crate::sink::Sink;
 use crate::telling;
+use bq_bpf::board::COUNTERS;
 use bq_core::{Event, Refusal, Reply};
 use bq_lines::{Command, Reading, read_heard};
 use std::alloc::{AllocError, Global};
@@ -117,7 +118,7 @@ impl AnyCore {
                 Ok(false)
             }
             Reading::Says(Command::Counter { counter }) => {
-                if counter >= 64 {
+                if usize::from(counter) >= COUNTERS {
                     telling::call_bad(number, line, sink)?;
                     return Ok(true);
                 }

@@ -24,10 +24,10 @@ abbrev pub lag_text : Row → List ℕ
 lag_text row = sign_of row.is_eligible ++ millis_text (min row.lag (2 ^ 64 - 1))
 
 -- whether a task may run, in words
-abbrev pub standing_of : Bool → List ℕ
-standing_of true = codes "eligible"
-standing_of false = codes "not eligible"
+abbrev pub eligibility_text : Bool → List ℕ
+eligibility_text true = codes "eligible"
+eligibility_text false = codes "not eligible"
 
 -- the same of a row
-abbrev pub standing : Row → List ℕ
-standing row = standing_of row.is_eligible
+abbrev pub eligibility : Row → List ℕ
+eligibility row = eligibility_text row.is_eligible

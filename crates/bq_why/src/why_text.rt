@@ -7,7 +7,7 @@ use crate::happenings::InWords;
 use crate::presence::present;
 use crate::reasons::{Reason, why};
 use crate::table::{Row, rows};
-use crate::words_of::{Ids, Lag, Virtual, Who, standing};
+use crate::words_of::{Ids, Lag, Virtual, Who, eligibility};
 use bq_cfs::GRANULARITY;
 use bq_core::{By, Event, Hook, Reply};
 use bq_forms::{Millis, Names, Window};
@@ -316,7 +316,7 @@ impl Why {
             if let Rule::Eevdf = rule {
                 let deadline = format!(in self.alloc; "{}", Virtual(row.deadline))?;
                 let lag = format!(in self.alloc; "{}", Lag(row))?;
-                let eligible = standing(row);
+                let eligible = eligibility(row);
                 write!(text, " {deadline:>10} {lag:>10}  {eligible}")?;
             }
             text.push_str("\n")?;

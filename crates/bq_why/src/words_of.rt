@@ -1,13 +1,11 @@
 //! Tasks, virtual times and lags as text.
 ghost use Rattle.std.specs.Prelude.{◌≡◌, ◌^◌, ◌-◌, min, Some};
-ghost use Rattle.bq_why.specs.Words.{lag_text, sign_of, standing};
+ghost use Rattle.bq_why.specs.Words.{lag_text, sign_of, eligibility};
 
 use crate::table::Row;
+use bq_disc::limits::FIRST_MARK;
 use bq_forms::{Millis, Names};
 use std::fmt;
-
-/// Virtual time begins here.
-const START: u64 = 1 << 32;
 
 /// A task by its name, or by its number.
 #[derive(Clone, Copy)]
@@ -62,8 +60,8 @@ pub struct Virtual(pub u64);
 
 impl fmt::Display for Virtual {
     fn fmt<W: fmt::Write>(&self, f: &mut fmt::Formatter<W>) -> fmt::Result {
-        let distance = Millis(self.0.abs_diff(START));
-        let sign = if self.0 < START { "-" } else { "" };
+        let distance = Millis(self.0.abs_diff(FIRST_MARK));
+        let sign = if self.0 < FIRST_MARK { "-" } else { "" };
         write!(f, "{sign}{distance}")
     }
 }
@@ -97,8 +95,8 @@ fn sign(row: &Row) -> &'static str
 }
 
 /// Whether a row may run, in words.
-pub fn standing(row: &Row) -> &'static str
-    ensures { result.now ≡ standing row.now }
+pub fn eligibility(row: &Row) -> &'static str
+    ensures { result.now ≡ eligibility row.now }
 {
     if row.is_eligible {
         "eligible"

@@ -36,12 +36,6 @@ actions-more names acts vs i v a h e f =
     ap (actions_of names acts) (items_view-drop vs i v h)
     ∙ ap (option_and_then (λ (b : Action). actions_of names (acts ++ b ∷ []) (items_view (drop (i + 1) vs)))) (ap (λ (w : Value). action_of names (view w)) (sym e) ∙ sym f)
 
--- where the next value of a list is no action, the list is none
-pub actions-none : (names : List (String Global)) (acts : List Action) (vs : List Value) (i : ℕ) (v : Value) → i < length vs → v ≡ get_or vs i v → None ≡ action_of names (view v) → actions_of names acts (items_view (drop i vs)) ≡ None
-actions-none names acts vs i v h e f =
-    ap (actions_of names acts) (items_view-drop vs i v h)
-    ∙ ap (option_and_then (λ (b : Action). actions_of names (acts ++ b ∷ []) (items_view (drop (i + 1) vs)))) (ap (λ (w : Value). action_of names (view w)) (sym e) ∙ sym f)
-
 -- some values that are kinds of tasks, and one more, are the kinds and one more
 pub AreKinds-more : (names : List (String Global)) (all : ℕ) (vs : List Value) (ks : List TaskKind) (v : Value) (k : TaskKind) → AreKinds names all (items_view vs) ks → (ms : Members) → as_table (view v) ≡ Some ms → IsKind names all ms k → AreKinds names all (items_view (vs ++ v ∷ [])) (ks ++ k ∷ [])
 AreKinds-more names all [] [] v k h ms t d = ((ms, t, d), tt)

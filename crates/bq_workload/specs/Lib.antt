@@ -3,5 +3,6 @@ pub mod Keys
 pub mod Fields
 pub mod Lengths
 pub mod Actions
+pub mod Positions
 pub mod Workloads
 pub mod Durations

@@ -22,6 +22,7 @@ use Rattle.bq_workload.specs.Fields.{or_default, span_in, number_in, rule_in, si
 use Rattle.bq_workload.specs.Keys.{document_keys, first_unknown, machine_keys, task_keys}
 use Rattle.bq_workload.specs.Lengths.{length_of}
 use Rattle.bq_workload.specs.Actions.{actions_of, named_at}
+use Rattle.bq_workload.specs.Positions.{IsPlace}
 
 -- a duration that takes time, at a key or else the default
 abbrev pub time_at : ℕ → List ℕ → Members → Option ℕ
@@ -129,8 +130,9 @@ pub record IsWorkload (c : Changes) (document : Members) (w : Workload) : Type 0
 abbrev pub Describes : List ℕ → Changes → Workload → Type 0
 Describes text c w = (document : Members) × (parse_document text ≡ Some document) × IsWorkload c document w
 
--- a text is called no TOML only where it is none, and to say no workload only where it is TOML
+-- a text is called no TOML only where it is none, at the place of one of its bytes or of its end, and to say no workload only where
+-- it is TOML
 abbrev pub IsReadFault : List ℕ → Fault → Type 0
-IsReadFault text (Syntax line column message) = parse_document text ≡ None
+IsReadFault text (Syntax line column message) = (parse_document text ≡ None) × IsPlace text line column
 IsReadFault text (Meaning words) = IsSome (parse_document text)
 IsReadFault text OutOfMemory = Unit {0}

@@ -1,7 +1,9 @@
 //! Why a text is no workload, as its reader tells it.
-ghost use Rattle.std.specs.Prelude.{◌≡◌, ℕ, List, None, IfOk, IsSome};
+ghost use Rattle.std.specs.Prelude.{◌≡◌, ◌<◌, ◌-◌, ◌^◌, ℕ, List, [], ◌∷◌, ◌++◌, None, IfOk, IsSome};
+ghost use Rattle.std.specs.Fmt.{is_char_start};
 ghost use Rattle.toml.specs.Errors.{IsMemory};
 ghost use Rattle.toml.specs.Parse.{parse_document};
+ghost use Rattle.bq_workload.specs.Positions.{column_after, line_after};
 ghost use Rattle.bq_workload.specs.Workloads.{IsReadFault};
 
 use crate::blame::Location;
@@ -39,14 +41,11 @@ pub(crate) fn syntax(alloc: Global, text: &str, error: &toml::de::Error) -> Faul
     requires { ¬ IsMemory error.now → parse_document text.now ≡ None }
     ensures { IsReadFault text.now result }
 {
-    if error.is_memory() {
-        return Fault::OutOfMemory;
-    }
-    let before = match error.span() {
-        Some(span) => &text.as_bytes()[..span.start.min(text.len())],
-        None => text.as_bytes(),
+    let at = match error.span() {
+        Some(span) => span.start.min(text.len()),
+        None => return Fault::OutOfMemory,
     };
-    let (line, column) = position(before);
+    let (line, column) = position(&text.as_bytes()[..at]);
     match String::from_str(alloc, error.message()) {
         Ok(message) => Fault::Syntax {
             line,
@@ -58,18 +57,38 @@ pub(crate) fn syntax(alloc: Global, text: &str, error: &toml::de::Error) -> Faul
 }
 
 /// The line and the column, both from 1, of what comes after these bytes. A column counts characters.
-fn position(before: &[u8]) -> (usize, usize) {
-    let mut line = 1usize;
-    let mut column = 1usize;
+fn position(before: &[u8]) -> (usize, usize)
+    ensures line { result.0 ≡ line_after before.now }
+    ensures column { result.1 ≡ column_after before.now }
+{
+    let mut place = (1, 1);
     for byte in before {
-        if *byte == b'\n' {
-            line = line.saturating_add(1);
-            column = 1;
-        } else if *byte & 0xC0 != 0x80 {
-            column = column.saturating_add(1);
-        }
+        place = passed(place.0, place.1, *byte);
     }
-    (line, column)
+    place
+}
+
+/// The line and the column of what comes after one more byte.
+fn passed(line: usize, column: usize, byte: u8) -> (usize, usize)
+    requires line { line < 2 ^ 64 - 1 }
+    requires column { column < 2 ^ 64 - 1 }
+    ensures line { (before : List ℕ) → line ≡ line_after before → result.0 ≡ line_after (before ++ byte ∷ []) }
+    ensures column { (before : List ℕ) → column ≡ column_after before → result.1 ≡ column_after (before ++ byte ∷ []) }
+{
+    if byte == b'\n' {
+        (line + 1, 1)
+    } else if is_char_start(byte) {
+        (line, column + 1)
+    } else {
+        (line, column)
+    }
+}
+
+/// Whether a byte is the first of a character.
+fn is_char_start(byte: u8) -> bool
+    ensures { result ≡ is_char_start byte }
+{
+    byte < 0x80 || byte >= 0xC0
 }
 
 /// What is wrong, with its place and the word that was perhaps meant.

@@ -12,8 +12,9 @@ use crate::doing::all_actions;
 use crate::fields::{loops, mask, name, nice, number_at, span_at};
 use crate::tables::all_known;
 use crate::why::{Range, Why};
-use bq_actions::limits::{GREATEST_SLICE, LEAST_SLICE, LONGEST, TASKS};
+use bq_actions::limits::LONGEST;
 use bq_actions::{TaskKind, take_time};
+use bq_disc::limits::{DEFAULT_SLICE, GREATEST_SLICE, LEAST_SLICE, TASKS};
 use bq_lines::processor_sets::bits;
 use bq_words::ProcessorCount;
 use std::alloc::Global;
@@ -23,9 +24,6 @@ use toml::Table;
 static TASK: [&str; 10] = [
     "name", "count", "nice", "cpus", "slice", "start", "loops", "run", "sleep", "do",
 ];
-
-/// 3 ms.
-const SLICE: u64 = 3_000_000;
 
 /// What is said of the processors of a machine: their bits, and how many they are.
 #[derive(Clone, Copy)]
@@ -80,7 +78,7 @@ fn all_numbers<'a>(table: &'a Table, processors: Processors) -> Result<Numbers, 
     let count = number_at(table, "count", 1, counts)?;
     let nice = nice(table)?;
     let mask = mask(table, processors.all, processors.number)?;
-    let slice = span_at(table, "slice", SLICE, slices)?;
+    let slice = span_at(table, "slice", DEFAULT_SLICE, slices)?;
     let start = span_at(table, "start", 0, starts)?;
     let loops = loops(table)?;
     Ok(Numbers {

@@ -16,8 +16,8 @@ use crate::kinds::{Processors, kind};
 use crate::setup::{absent, setup};
 use crate::tables::{all_known, at};
 use crate::why::{Wanted, Why};
-use bq_actions::limits::TASKS;
 use bq_actions::{Setup, TaskKind, Workload};
+use bq_disc::limits::TASKS;
 use std::alloc::Global;
 use toml::{Table, Value};
 

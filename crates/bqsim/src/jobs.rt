@@ -1,9 +1,8 @@
 //! The jobs of bq_cli: filters, `par` and `replay`.
 
-use crate::inputs::file_named;
 use bq_cli::asked::Job;
 use bq_cli::perform;
-use bq_console::ended;
+use bq_console::{ended, file_named};
 use bq_policy_desk::do_filter;
 use bq_replay_desk::replay_file;
 use bq_streams::{Counted, Kept};

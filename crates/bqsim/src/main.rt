@@ -1,16 +1,13 @@
 //! Does what its words ask, from standard input or a file to standard output.
 #![tactic(auto)]
 
-mod inputs;
 mod jobs;
-mod outputs;
 mod requests;
 mod simulate;
 mod timeline;
 
 use crate::requests::{Request, asked};
-use bq_console::WordsFault;
-use bq_console::status::REFUSED;
+use bq_console::say_refused;
 use bq_policy_desk::do_policy;
 use bq_run_desk::{do_import, do_run};
 use std::process::ExitCode;
@@ -19,11 +16,7 @@ use std::thread::Threads;
 
 fn main(rt: HostRuntime) -> ExitCode {
     match asked(&rt) {
-        Err(WordsFault::Words(text)) => {
-            let _ = eprint!(rt; "{text}");
-            ExitCode::from(REFUSED)
-        }
-        Err(WordsFault::OutOfMemory) => outputs::out_of_memory(&rt),
+        Err(fault) => say_refused(&rt, &fault),
         Ok(request) => done(&rt, &rt, &request),
     }
 }

@@ -1,13 +1,12 @@
 //! `bqsim simulate`.
 
-use crate::inputs::{name_of, whole_file, whole_input};
-use crate::outputs::{out_of_memory, write_out};
 use bq_actions::Workload;
 use bq_comparison::{Comparing, SeedsFault, asked_comparison, compare, lines, written};
 use bq_console::status::{BAD_INPUT, REFUSED};
+use bq_console::{name_of, say_out_of_memory, whole_file, whole_input};
 use bq_core::Hook;
 use bq_simulate::SimulateFault;
-use bq_study::{Asked, AskedFault, AttachFault, Policies, StudyWords, asked_changes, run_as};
+use bq_study::{AskedFault, AttachFault, Policies, ShownAs, StudyWords, asked_changes, run_as};
 use bq_timeline::SettingsFault;
 use bq_workload::{Changes, Fault, read};
 use std::process::ExitCode;
@@ -36,17 +35,17 @@ fn simulated<T: Threads + Sync>(
     if let Some(asked) = compared {
         return side_by_side(rt, threads, words, &asked);
     }
-    let asked = Asked::of(rt.alloc(), words).map_err(|fault| refused(rt, fault))?;
+    let shown = ShownAs::of(rt.alloc(), words).map_err(|fault| refused(rt, fault))?;
     let changes = asked_changes(words).map_err(|fault| refused(rt, fault))?;
     let workload = workload(rt, words, changes)?;
     let policies = policies(rt, words)?;
-    match run_as(rt.alloc(), &workload, &policies, asked) {
+    match run_as(rt.alloc(), &workload, &policies, shown) {
         Ok(written) => {
             let notes = written.notes;
             let _ = eprint!(rt; "{notes}");
-            Ok(write_out(rt, written.text.as_str()))
+            Ok(bq_console::written(rt, written.text.as_str(), ExitCode::SUCCESS))
         }
-        Err(SimulateFault::OutOfMemory) => Err(out_of_memory(rt)),
+        Err(SimulateFault::OutOfMemory) => Err(say_out_of_memory(rt)),
         Err(fault) => {
             let _ = eprintln!(rt; "bqsim: {fault}");
             Err(ExitCode::from(BAD_INPUT))
@@ -66,8 +65,8 @@ fn side_by_side<T: Threads + Sync>(
     let ours = policies(rt, words)?;
     let others = others(rt, words)?;
     match tabled(rt, threads, &workload, &ours, others.as_ref(), asked) {
-        Ok(text) => Ok(write_out(rt, text.as_str())),
-        Err(SeedsFault::OutOfMemory) => Err(out_of_memory(rt)),
+        Ok(text) => Ok(bq_console::written(rt, text.as_str(), ExitCode::SUCCESS)),
+        Err(SeedsFault::OutOfMemory) => Err(say_out_of_memory(rt)),
         Err(fault) => {
             let _ = eprintln!(rt; "bqsim: {fault}");
             Err(ExitCode::from(BAD_INPUT))
@@ -109,7 +108,7 @@ fn others(rt: &HostRuntime, words: &StudyWords) -> Result<Option<Policies>, Exit
 /// Says what is wrong with the words.
 fn refused(rt: &HostRuntime, fault: AskedFault) -> ExitCode {
     if fault == AskedFault::Settings(SettingsFault::OutOfMemory) {
-        return out_of_memory(rt);
+        return say_out_of_memory(rt);
     }
     let _ = eprintln!(rt; "error: {fault}");
     ExitCode::from(REFUSED)
@@ -125,7 +124,7 @@ fn workload(rt: &HostRuntime, words: &StudyWords, changes: Changes) -> Result<Wo
     };
     match read(rt.alloc(), text, changes) {
         Ok(workload) => Ok(workload),
-        Err(Fault::OutOfMemory) => Err(out_of_memory(rt)),
+        Err(Fault::OutOfMemory) => Err(say_out_of_memory(rt)),
         Err(fault) => {
             let _ = eprintln!(rt; "{name}{fault}");
             Err(ExitCode::from(BAD_INPUT))
@@ -164,7 +163,7 @@ fn add(
 fn told(rt: &HostRuntime, path: &str, taken: Result<(), AttachFault>) -> Result<(), ExitCode> {
     match taken {
         Ok(()) => Ok(()),
-        Err(AttachFault::OutOfMemory) => Err(out_of_memory(rt)),
+        Err(AttachFault::OutOfMemory) => Err(say_out_of_memory(rt)),
         Err(fault) => {
             let _ = eprintln!(rt; "{path}: {fault}");
             Err(ExitCode::from(BAD_INPUT))

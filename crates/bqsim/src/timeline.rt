@@ -1,9 +1,7 @@
 //! `bqsim timeline`.
 
-use crate::inputs::file_named;
-use crate::outputs::out_of_memory;
 use bq_console::status::REFUSED;
-use bq_console::{ended, say_unread};
+use bq_console::{ended, file_named, say_out_of_memory, say_unread, waiting_input};
 use bq_streams::{Counted, Kept};
 use bq_timeline::{Settings, SettingsFault, Words, show};
 use std::fs;
@@ -14,7 +12,7 @@ use std::process::ExitCode;
 pub(crate) fn timeline(rt: &HostRuntime, words: &Words) -> ExitCode {
     let settings = match Settings::of(rt.alloc(), words) {
         Ok(settings) => settings,
-        Err(SettingsFault::OutOfMemory) => return out_of_memory(rt),
+        Err(SettingsFault::OutOfMemory) => return say_out_of_memory(rt),
         Err(fault) => {
             let _ = eprintln!(rt; "error: {fault}");
             return ExitCode::from(REFUSED);
@@ -25,7 +23,7 @@ pub(crate) fn timeline(rt: &HostRuntime, words: &Words) -> ExitCode {
             Ok(file) => show_from(rt, settings, Some(path), file),
             Err(error) => say_unread(rt, Some(path), &error),
         },
-        None => show_from(rt, settings, None, rt.stdin()),
+        None => show_from(rt, settings, None, waiting_input(rt)),
     }
 }
 

@@ -3,18 +3,14 @@
 #![tactic(auto)]
 
 use bq_console::status::REFUSED;
-use bq_console::{WordsFault, as_texts, given_words, say_out_of_memory};
+use bq_console::{WordsFault, as_texts, given_words, say_refused};
 use bq_policy_desk::{desk_request, do_request};
 use std::process::ExitCode;
 
 fn main(rt: HostRuntime) -> ExitCode {
     match done(&rt) {
         Ok(code) => code,
-        Err(WordsFault::Words(text)) => {
-            let _ = eprint!(rt; "{text}");
-            ExitCode::from(REFUSED)
-        }
-        Err(WordsFault::OutOfMemory) => say_out_of_memory(&rt),
+        Err(fault) => say_refused(&rt, &fault),
     }
 }
 

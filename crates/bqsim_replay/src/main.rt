@@ -2,18 +2,14 @@
 #![tactic(auto)]
 
 use bq_console::status::REFUSED;
-use bq_console::{WordsFault, as_texts, given_words, say_out_of_memory};
+use bq_console::{WordsFault, as_texts, given_words, say_refused};
 use bq_replay_desk::replay_file;
 use std::process::ExitCode;
 
 fn main(rt: HostRuntime) -> ExitCode {
     match replayed(&rt) {
         Ok(code) => code,
-        Err(WordsFault::Words(text)) => {
-            let _ = eprint!(rt; "{text}");
-            ExitCode::from(REFUSED)
-        }
-        Err(WordsFault::OutOfMemory) => say_out_of_memory(&rt),
+        Err(fault) => say_refused(&rt, &fault),
     }
 }
 

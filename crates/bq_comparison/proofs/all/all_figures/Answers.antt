@@ -10,7 +10,7 @@ tasks-preserved c = grind (arith, common_steps, flat_map-range_more figures_of_t
 
 pub processors-preserved : goal.processors-preserved
 processors-preserved c =
-    let tasks = flat_map figures_of_task (range_with_len 0 c.args.extent.tasks) in
+    let tasks = flat_map figures_of_task (range_with_len 0 c.args.size.tasks) in
     let cpu = c.processors.processor in
     let before = flat_map figures_of_processor (range_with_len 0 cpu) in
     let own = figures_of_processor cpu in

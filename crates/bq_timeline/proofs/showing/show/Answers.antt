@@ -30,5 +30,5 @@ loop-init g c = record {
   reads = refl;
   writes = refl;
   calls = omega arith;
-  so_far = Underway-none _ _ c.new-turns.ensures.progress c.new-turns.ensures.begun c.new-turns.ensures.schedule c.new-turns.ensures.troubles;
+  so_far = Underway-none _ _ c.new-showing.ensures.progress c.new-showing.ensures.begun c.new-showing.ensures.schedule c.new-showing.ensures.troubles;
 }

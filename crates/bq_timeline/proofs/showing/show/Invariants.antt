@@ -9,5 +9,5 @@ invariant-loop g l = record {
   reads : failures_of l.input ≡ failures_of l.initial.input;
   writes : failures_of l.output ≡ failures_of l.initial.output;
   calls : HasCounted l.counter (calls_of l.initial.input) (calls_of l.input);
-  so_far : Underway (g.R.Read.remaining (inner_of l.initial.input)) (g.R.Read.remaining (inner_of l.input)) l.turns;
+  so_far : Underway (g.R.Read.remaining (inner_of l.initial.input)) (g.R.Read.remaining (inner_of l.input)) l.showing;
 }

@@ -1,4 +1,4 @@
-use Rattle.std.proofs.Common.{sym, subst, ℕ}
+use Rattle.std.proofs.Common.{sym, subst}
 use Rattle.std.proofs.lemmas.Result.{IfOk-weaker}
 use Rattle.bq_actions.specs.declared.roster.Pace.{Pace}
 use Rattle.bq_actions.specs.declared.roster.Roster.{Roster}

@@ -3,4 +3,4 @@ use Rattle.bq_simulate.proofs.DriveLemmas.{Places-of}
 use Rattle.bq_simulate.proofs.driver.Driver.wake.Goals as goal
 
 pub returns-in-Begun : goal.returns-in-Begun
-returns-in-Begun g c = IfOk-weaker c.place.result _ _ (λ to h. Places-of g.S.Sink.takes _ _ _ _ _ _ _ _ _ to _ _ c.in_ok-perform.ensures h.1 h.2) c.place.ensures
+returns-in-Begun g c = IfOk-weaker c.place.result _ _ (λ to h. Places-of g.S.Sink.takes _ _ _ _ _ _ _ _ _ to _ _ c.in_ok-perform.ensures.does h.1 h.2) c.place.ensures

@@ -2,6 +2,7 @@ use Rattle.std.proofs.Common.{◌≤◌, ◌+◌, List, [], ◌++◌, get_or, le
 use Rattle.std.proofs.lemmas.Option.{slice_get_read}
 use Rattle.bq_actions.specs.declared.roster.Roster.{Roster}
 use Rattle.bq_actions.specs.declared.workload.TaskKind.{TaskKind}
+use Rattle.bq_actions.specs.Kinds.{tasks_in}
 use Rattle.bq_words.specs.Sizes.{processors_in}
 use Rattle.bq_simulate.specs.Actions.{first_of}
 use Rattle.bq_simulate.specs.Chronicles.{Deed}
@@ -55,8 +56,14 @@ kinds-preserved g c =
       streams = c.in_ok-admit_kind.ensures.streams ∙ ap (λ n. n + kind.count) streams ∙ next;
     }
 
-pub returns : goal.returns
-returns g c =
+pub returns-clause-streams : goal.returns-clause-streams
+returns-clause-streams g c =
+    let kinds = c.args.workload.now.tasks.items in
+    let late : length kinds ≤ c.kinds.number = omega (arith, ap length c.deref-kind-items.ensures.value, c.kinds-test.false) in
+    c.kinds.invariant.streams ∙ ap tasks_in (take_all c.kinds.number kinds late)
+
+pub returns-clause-lived : goal.returns-clause-lived
+returns-clause-lived g c =
     let w = c.args.workload.now in
     let kinds = w.tasks.items in
     let all = processors_in w.machine.size in

@@ -6,5 +6,4 @@ pub returns-in-Ok-clause-silent : goal.returns-in-Ok-clause-silent
 returns-in-Ok-clause-silent c =
     let was = c.args.self.now in
     let long : length was.firsts.items ≡ c.args.number = grind (arith, c.len.ensures, c.if-len-number.false) in
-    let place : was.tally.tasks ≡ length was.streams.items = grind (arith, c.len-2.ensures, c.from.ensures, c.if-len-from.false) in
-    λ kinds streams. Silent-begins kinds _ _ c.args.number long refl refl refl refl (c.in-Ok.ensures.items ∙ ap (λ (n : ℕ). was.firsts.items ++ n ∷ []) (place ∙ streams))
+    λ kinds streams. Silent-begins kinds _ _ c.args.number long refl refl refl refl (c.in-Ok.ensures.items ∙ ap (λ (n : ℕ). was.firsts.items ++ n ∷ []) (c.in_ok-first.ensures ∙ streams))

@@ -9,8 +9,8 @@ use Rattle.bq_simulate.proofs.DeedLemmas.{Lived-join, Lived-weaker}
 use Rattle.bq_simulate.proofs.WholeLemmas.{Opens-join, Proceeds-join}
 use Rattle.bq_simulate.proofs.simulation.Simulation.run.Goals as goal
 
-pub returns : goal.returns
-returns g c =
+pub returns-clause-runs : goal.returns-clause-runs
+returns-clause-runs g c =
     let takes = g.S.Sink.takes in
     let w = c.args.workload.now in
     let kinds = w.tasks.items in
@@ -22,7 +22,7 @@ returns g c =
     let installs = AreInstalled all policies in
     let opens = Opens policies all kinds in
     let installed = Lived-weaker takes kinds (AreInstalled c.processors-processors.result policies) installs (λ xs are. subst (λ (n : ℕ). AreInstalled n policies xs) c.processors-processors.ensures are) _ _ _ _ (c.in_ok-install.ensures.befell kinds) in
-    let opened = Lived-join takes kinds installs admits opens (Opens-join policies all kinds) _ _ _ _ _ _ installed c.in_ok-admit.ensures in
+    let opened = Lived-join takes kinds installs admits opens (Opens-join policies all kinds) _ _ _ _ _ _ installed c.in_ok-admit.ensures.lived in
     let was = c.args.self.now in
     let mid = c.admit.new.self in
     let met = subst (λ (n : ℕ). LivedFrom takes kinds (AreMet kinds mid.seed mid.roster.pace n end) c.admit.new.sink mid c.go_on.new.sink ended) c.most_steps.ensures c.in_ok-go_on.ensures.lived in

@@ -3,6 +3,7 @@
 use bq_bounds::{Bounds, Charge, Glance, RunningTask, how_it_stands};
 use bq_core::{Event, Reply};
 use bq_disc::RunQueue;
+use bq_disc::limits::PROCESSORS;
 use bq_forms::percent::Percent;
 use bq_forms::tables::write_millis;
 use bq_forms::window::is_in;
@@ -18,17 +19,17 @@ const HEAD: &str = "  cpu law                 charges left out  greatest ms   at
 
 /// The charges of all processors, measured against the bounds of the rule as the trace comes.
 #[derive(Drop)]
-pub struct Near {
+pub struct BoundsTable {
     alloc: Global,
     bounds: Bounds,
     /// How the processor of the next event stands.
     standing: Option<RunningTask>,
 }
 
-impl Near {
+impl BoundsTable {
     /// Nothing has happened at so many processors.
-    pub fn new(alloc: Global, rule: Rule, processors: usize) -> Result<Near, AllocError> {
-        Ok(Near {
+    pub fn new(alloc: Global, rule: Rule, processors: usize) -> Result<BoundsTable, AllocError> {
+        Ok(BoundsTable {
             alloc,
             bounds: Bounds::new(alloc, rule, processors)?,
             standing: None,
@@ -89,7 +90,7 @@ impl Near {
     /// Adds the lines of each of these processors at which a law was measured; nothing where none was.
     pub fn write(&self, processors: u64, text: &mut String) -> Result<(), AllocError> {
         let mut lines = String::new(self.alloc);
-        for number in 0..64u8 {
+        for number in 0..PROCESSORS {
             if is_in(processors, number) {
                 self.write_charges(number, &mut lines)?;
                 self.write_lags(number, &mut lines)?;

@@ -7,14 +7,14 @@ use Rattle.bq_timeline.specs.Notes.{last_notes}
 use Rattle.bq_timeline.specs.Timelines.{Watches}
 use Rattle.bq_timeline.specs.Watching.{schedule_after}
 use Rattle.bq_timeline.proofs.WatchLemmas.{watches}
-use Rattle.bq_timeline.proofs.showing.Turns.finish.Goals as goal
+use Rattle.bq_timeline.proofs.showing.Showing.finish.Goals as goal
 
 pub returns-clause-told : goal.returns-clause-told
 returns-clause-told g c = λ begun stands.
     let old = c.args.self.now in
     let new = c.end.new.sink in
-    let w : Watches old.viewer new (λ told. Story old.standing.progress (lines begun) told c.end.new.self.progress) =
-    watches old.viewer new new (λ told. Story old.standing.progress (lines begun) told c.end.new.self.progress) (c.in_ok-end.ensures begun stands) refl refl
+    let w : Watches old.viewer new (λ told. Story old.position.progress (lines begun) told c.end.new.self.progress) =
+    watches old.viewer new new (λ told. Story old.position.progress (lines begun) told c.end.new.self.progress) (c.in_ok-end.ensures begun stands) refl refl
     in
     let before = string_bytes new.screen.notes in
     record {

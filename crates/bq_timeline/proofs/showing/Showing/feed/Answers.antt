@@ -1,6 +1,6 @@
 use Rattle.std.proofs.Common.{refl}
 use Rattle.bq_timeline.proofs.WatchLemmas.{watches}
-use Rattle.bq_timeline.proofs.showing.Turns.feed.Goals as goal
+use Rattle.bq_timeline.proofs.showing.Showing.feed.Goals as goal
 
 pub returns-clause-told : goal.returns-clause-told
 returns-clause-told g c = λ begun stands. watches _ _ _ _ (c.in_ok-go_on.ensures begun stands) refl refl
