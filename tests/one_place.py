@@ -33,11 +33,21 @@ FACTS = [
     ('the text of a refused event', r'"(?:refused )?C\d+ ', {'bq_parts/src/refusal.rt'}),
     ('what is no number of processors', r'is no number of processors', {'bq_lines/src/numbers.rt'}),
     ('the first words of instructions', r'\bjsle64\b|\bsmod32\b', {'bq_asm/src/table.rt'}),
-    ('an exit status', r'u8 = [1-4];', {'bq_console/src/status.rt', 'bq_console/src/saying.rt'}),
+    ('an exit status', r'u8 = [1-4];', {'bq_console/src/status.rt'}),
     ('the longest duration', r'281_?474_?976_?710_?655;', set()),
     ('how many tasks there may be', r'(?<!NAME: usize) = 1_?024;|\.\.1_?024\b|>= 1_?024\b', {'bq_disc/src/limits.rt'}),
     ('from which to which nice values are', r'(?:[<>=]=? |\()-20\b|\b19 ?>=|<=? ?19\b', {'bq_weights/src/lib.rt'}),
     ('from which to which length slices are', r'(?i)slice(?:: u64 =| <=?| >=?) *100_?000', {'bq_disc/src/limits.rt'}),
+    ('how many slots a program has at most', r'(?m)^(?! *(?:requires|ensures|ghost)\b)[^"\n]*?(?<!PIECE: usize = )\b(?:4_?096|32_?768)\b', {'bq_insn/src/lib.rt'}),
+    ('how many counters there are', r'(?m)^(?! *(?:requires|ensures|ghost)\b)[^"\n]*?(?:counter\)? (?:<|>=|>) 6[34]\b|number >= 64|view, 1, 63)', {'bq_bpf/src/board.rt'}),
+    ('how many processors there may be', r'0\.\.64\b|min\(64\)|place < 64\b', {'bq_disc/src/limits.rt', 'bq_bpf/src/board.rt'}),
+    ('how many maps a program has at most', r'(?:count|index) (?:<=|>=) 8\b|MAPS: usize', {'bq_bpf/src/shape.rt'}),
+    ('where virtual time begins', r'(?:mark: |u64 = )1 << 32\b', {'bq_disc/src/limits.rt', 'bq_streams/src/whole.rt'}),
+    ('the slice of a task that asks for none', r'SLICE: u64 = 3_?000_?000\b', {'bq_disc/src/limits.rt'}),
+    ('what the helpers do', r'1 looks an entry up, 2 writes', {'bq_explain/src/vocabulary.rt'}),
+    ('the words of rules as a list', r'cfs or eevdf', {'bq_words/src/rule.rt'}),
+    ('the numbers of processors as a list', r'32 or 64', {'bq_words/src/processor_count.rt'}),
+    ('the names of forms as a list', r'map, timehist', {'bq_timeline/src/form_names.rt'}),
     ('what a task is called that may run under EEVDF', r'"(?:not )?eligible"', {'bq_why/src/words_of.rt'}),
     ('how many waits of a processor are drawn', r'LANES: usize', {'bq_pictures/src/lanes.rt'}),
 ]
@@ -51,12 +61,12 @@ DEFINED = [
 
 # What may stand in two places, and why.
 ALLOWED = {
+    'the same lemma: bq_comparison/proofs/RangeLemmas.antt: flat_map-range_more, bq_one_run/proofs/ChangeLemmas.antt: flat_map-range_more': 'a fact of the library\'s ranges, which it has no lemma for; neither crate stands on the other',
     'the list of the helpers: bq_explain/src/summary.rt': 'the order in which a summary names helpers; a helper that it lacked would only not be named',
     'which helpers are of counters: bq_interp/src/counters.rt': 'asked at each call of a run, of the number alone, by a function that stands in its loop',
     'the word of a hook: bq_forms/src/summary.rt': 'keys of a form in JSON, which stay what they are whatever traces call a hook',
     'the word of a hook: bq_forms/src/tables.rt': 'the column of a report, which stays what it is whatever traces call a hook',
     'the word of a hook: bq_lines/src/keyword.rt': 'the keyword `pull` of a trace, an event, whose word only happens to be that of a hook too',
-    'the words of hooks as a list: bq_timeline/src/faults.rt': 'why a word is no hook, in a sentence of its own that ends by a bracket',
 }
 
 

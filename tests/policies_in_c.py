@@ -16,7 +16,7 @@ WAYS = [(level, cpu) for level in ('-O2', '-O1') for cpu in ('v4', 'v3')]
 
 HEADS = {
     'place': ('struct bq_place', ['task', 'weight', 'waker', 'previous', 'processors', 'own'], ['mask', 'slice'], ('load', 16)),
-    'preempt': ('struct bq_preempt', ['processor', 'waiting', 'task', 'weight', 'next', 'next_weight', 'own'], ['v', 'deadline', 'next_v'], None),
+    'preempt': ('struct bq_preempt', ['processor', 'queued', 'task', 'weight', 'next', 'next_weight', 'own'], ['v', 'deadline', 'next_v'], None),
     'pull': ('struct bq_pull', ['puller', 'other', 'size', 'other_size', 'movable', 'shown', 'own'], [], ('tasks', 8)),
 }
 

@@ -47,7 +47,7 @@ struct bq_place2 {
 /* The running task gives way (answer 1) or stays (answer 0). */
 struct bq_preempt {
     u32 processor;
-    u32 waiting;     /* how many tasks the queue has */
+    u32 queued;      /* how many tasks the queue has */
     u32 task;        /* the running one */
     u32 weight;
     u64 v;

@@ -24,5 +24,5 @@ u64 policy(const struct bq_preempt *ask)
     }
     if (now - seen->since < 4000000)
         return 0;
-    return ask->waiting != 0;
+    return ask->queued != 0;
 }
