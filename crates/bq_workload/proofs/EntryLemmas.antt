@@ -43,6 +43,12 @@ AreKinds-more names all [] (l ∷ ks) v k h ms t d = absurd h
 AreKinds-more names all (w ∷ vs) [] v k h ms t d = absurd h
 AreKinds-more names all (w ∷ vs) (l ∷ ks) v k h ms t d = (h.0, AreKinds-more names all vs ks v k h.1 ms t d)
 
+-- some values that are kinds of tasks, at least one, are one kind at least
+pub some-kinds : (names : List (String Global)) (all : ℕ) (vs : List Value) (ks : List TaskKind) → AreKinds names all (items_view vs) ks → 0 < length vs → 0 < length ks
+some-kinds names all [] ks h some = absurd (omega (arith, some))
+some-kinds names all (v ∷ vs) [] h some = absurd h
+some-kinds names all (v ∷ vs) (k ∷ ks) h some = omega arith
+
 -- some values that are names, and one more, are the names and one more
 pub AreNames-more : (vs : List Value) (ns : List (String Global)) (v : Value) (n : String Global) → AreNames (items_view vs) ns → name_in (view v) ≡ Some (string_bytes n) → AreNames (items_view (vs ++ v ∷ [])) (ns ++ n ∷ [])
 AreNames-more [] [] v n h e = (e, tt)

@@ -1,5 +1,5 @@
 -- What a document says of a machine and of its tasks.
-use Rattle.std.specs.Prelude.{◌≡◌, ℕ, ◌-◌, ◌^◌, ◌≤◌, ℤ, pos, true, List, [], ◌∷◌, ◌++◌, sum_by, Option, Some, None, IsSome, unwrap_or, option_map, option_and_then, codes, String, string_bytes}
+use Rattle.std.specs.Prelude.{◌≡◌, ℕ, ◌-◌, ◌^◌, ◌<◌, ◌≤◌, ℤ, pos, true, List, [], ◌∷◌, ◌++◌, sum_by, Option, Some, None, IsSome, unwrap_or, length, option_map, option_and_then, codes, String, string_bytes}
 use Rattle.std.specs.List.{list_any}
 use Rattle.std.specs.Option.{IsSomeAnd}
 use Rattle.std.specs.declared.alloc.Global.{Global}
@@ -119,11 +119,13 @@ abbrev pub HasTasks : ProcessorCount → Members → List TaskKind → Type 0
 HasTasks size document kinds =
     (items : Items) × (names : List (String Global)) × (tasks_of document ≡ Some items) × AreNames items names × AreOthers [] names × AreKinds names (all_of size) items kinds
 
--- the workload that a document describes, each of whose keys means something, on its machine with what is put in its place
+-- the workload that a document describes, each of whose keys means something, on its machine with what is put in its place: it has
+-- one task at least, and at most 1,024
 pub record IsWorkload (c : Changes) (document : Members) (w : Workload) : Type 0 where
   pub known : first_unknown document_keys document ≡ None
   pub machine : (s : Setup) × IsMachine document s × (w.machine ≡ changed_by c s)
   pub tasks : HasTasks w.machine.size document w.tasks.items
+  pub some : 0 < length w.tasks.items
   pub few : sum_by (λ k. k.count) w.tasks.items ≤ 1024
 
 -- the workload that a text describes

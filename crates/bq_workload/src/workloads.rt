@@ -1,9 +1,11 @@
 //! Whole workloads.
-ghost use Rattle.std.specs.Prelude.{◌≡◌, ◌≤◌, ℕ, List, [], Some, None, IfErr, IfOk, IsSome, option_and_then, sum_by};
+ghost use Rattle.std.specs.Prelude.{◌≡◌, ◌<◌, ◌≤◌, ℕ, true, List, [], Some, None, IfErr, IfOk, IfSome, IsSome, length, option_and_then, sum_by};
 ghost use Rattle.std.specs.Result.{result_err};
 ghost use Rattle.toml.specs.Data.{as_table};
 ghost use Rattle.toml.specs.Parse.{parse_document};
 ghost use Rattle.toml.specs.View.{view, items_view, table_view};
+ghost use Rattle.bq_actions.specs.Lengths.{is_long};
+ghost use Rattle.bq_actions.specs.Soundness.{first_flaw};
 ghost use Rattle.bq_workload.specs.Keys.{document_keys, first_unknown, unknown_there};
 ghost use Rattle.bq_workload.specs.Workloads.{AreKinds, AreNames, AreOthers, Describes, IsMachine, IsReadFault, tasks_of};
 
@@ -25,8 +27,10 @@ use toml::{Table, Value};
 static DOCUMENT: [&str; 2] = ["machine", "task"];
 
 /// The workload that a text describes, on its machine with these changes. A text is called no TOML only where it is none.
+/// The loop can follow it to its end, unless a changed duration is none that a machine may have.
 pub fn read(alloc: Global, text: &str, changes: Changes) -> Result<Workload, Fault>
     ensures describes { IfOk result (Describes text.now changes) }
+    ensures sound { IfSome changes.duration (λ d. is_long d ≡ true) → IfOk result (λ w. first_flaw w ≡ None) }
     ensures fault { IfErr result (IsReadFault text.now) }
 {
     let document = match toml::table_from_str(alloc, text) {
@@ -72,6 +76,7 @@ fn outline(document: &Table) -> Result<(Setup, &[Value]), Trouble<'_>>
     ensures unknown { (key : List ℕ) → first_unknown document_keys (table_view document.now) ≡ Some key → option_and_then unknown_there (result_err result) ≡ Some key }
     ensures machine { IfOk result (λ p. IsMachine (table_view document.now) p.0) }
     ensures tasks { IfOk result (λ p. tasks_of (table_view document.now) ≡ Some (items_view p.1.now)) }
+    ensures some { IfOk result (λ p. 0 < length p.1.now) }
 {
     Location::Document.says(all_known(document, &DOCUMENT))?;
     let machine = machine(document)?;
@@ -108,7 +113,8 @@ fn table_at<'a>(key: &'static str, value: &'a Value) -> Result<&'a Table, Why<'a
 
 /// The tables of the tasks, at least one.
 fn tables(document: &Table) -> Result<&[Value], Why<'_>>
-    ensures { IfOk result (λ t. tasks_of (table_view document.now) ≡ Some (items_view t.now)) }
+    ensures tasks { IfOk result (λ t. tasks_of (table_view document.now) ≡ Some (items_view t.now)) }
+    ensures some { IfOk result (λ t. 0 < length t.now) }
 {
     let value = match at(document, "task") {
         None => return Err(Why::Missing("[[task]]")),

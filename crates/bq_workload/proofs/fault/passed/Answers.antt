@@ -1,4 +1,4 @@
-use Rattle.std.proofs.Common.{◌≡◌, ◌+◌, ℕ, Bool, cond, ap, sym, ◌∙◌, arith}
+use Rattle.std.proofs.Common.{◌≡◌, ℕ, Bool, cond, ap, sym, ◌∙◌, arith}
 use Rattle.std.specs.Fmt.{is_char_start}
 use Rattle.bq_workload.proofs.PlaceLemmas.{column-first, column-more, line-next, line-same}
 use Rattle.bq_workload.proofs.fault.passed.Goals as goal
