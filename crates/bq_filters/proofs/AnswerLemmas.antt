@@ -1,6 +1,6 @@
 -- How what was read, its answer, and what was written of it make what a command did.
-use Rattle.std.proofs.Common.{◌≡◌, ℕ, Bool, List, subst, sym, inl, inr}
-use Rattle.std.specs.Prelude.{Option}
+use Rattle.std.proofs.Common.{◌≡◌, ℕ, Bool, List, Result, Ok, Err, subst, sym, inl, inr}
+use Rattle.std.specs.Prelude.{IfOk, Option}
 use Rattle.std.specs.Io.KnownBytes.{Appends}
 use Rattle.std.proofs.KnownBytes.{Keeps-refl}
 use Rattle.bq_streams.specs.Writing.{AppendsPart}
@@ -34,3 +34,8 @@ module _ (Writes : List ℕ → Bool → List ℕ → Type 0) (from to old : Opt
     added = wrote;
     answers = answers;
   }
+
+-- what holds anyhow holds where there is a value
+pub IfOk-anyhow : {T E P : Type 0} (r : Result T E) → P → IfOk r (λ _. P)
+IfOk-anyhow (Ok x) p = p
+IfOk-anyhow (Err e) p = tt

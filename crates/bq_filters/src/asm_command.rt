@@ -1,6 +1,6 @@
 //! The words after `asm`.
-ghost use Rattle.std.specs.Prelude.{◌≡◌, IfErr, IfOk, map, true};
-ghost use Rattle.clap.specs.Words.{matches_of, takes};
+ghost use Rattle.std.specs.Prelude.{◌≡◌, [], IfErr, IfOk, map, true};
+ghost use Rattle.clap.specs.Words.{fault_of, matches_of, takes};
 ghost use Rattle.bq_filters.specs.AsmApp.{asm_alone};
 ghost use Rattle.bq_filters.specs.Asked.{AreOptions};
 ghost use Rattle.bq_program.specs.declared.options.Options.{Options as Chosen};
@@ -38,6 +38,9 @@ pub const ASM: CommandText<'static> = CommandText {
 pub fn asm_options<'a>(alloc: Global, given: &'a [&'a str]) -> Result<Options, WordsFault>
     // They are the values that clap finds for the options of `asm`.
     ensures found { IfOk result (AreOptions (matches_of asm_alone (map (λ w. w.now) given.entry.now))) }
+
+    // Words are taken only where clap finds no fault in them.
+    ensures faultless { IfOk result (λ _. fault_of asm_alone (map (λ w. w.now) given.entry.now) ≡ []) }
 
     // Words that clap takes are refused for want of memory alone, unless they name no hook or no format.
     ensures taken { IfErr result (λ e. takes asm_alone (map (λ w. w.now) given.entry.now) ≡ true

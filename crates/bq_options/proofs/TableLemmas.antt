@@ -1,9 +1,9 @@
 -- One row more of the table of commands, or of a command's tables of options.
 use Rattle.std.proofs.Common.{◌≡◌, ℕ, ◌+◌, ◌<◌, List, Result, true, length, drop, get_or, add-one, refl, subst}
 use Rattle.std.proofs.Math.Seq.{drop-cons}
-use Rattle.std.specs.Prelude.{IfErr}
+use Rattle.std.specs.Prelude.{[], IfErr, IfOk}
 use Rattle.std.specs.Borrow.{Bor}
-use Rattle.clap.specs.Words.{App, Text, takes, with_rule, with_subcommand}
+use Rattle.clap.specs.Words.{App, Text, fault_of, is_simple_and_free, takes, with_rule, with_subcommand}
 use Rattle.clap.specs.declared.parser.matches.ArgMatches.{ArgMatches}
 use Rattle.bq_console.specs.declared.fault.WordsFault.{WordsFault}
 use Rattle.bq_console.specs.declared.fault.WordsFault.TheVariants.{OutOfMemory}
@@ -30,3 +30,8 @@ with_commands-next a b xs i d h e = rw (e, add-one, drop-cons xs i d) refl
 pub taken-alike : (a b : App) (words : List Text) (r : Result ArgMatches WordsFault) → a ≡ b
     → IfErr r (λ e. takes a words ≡ true → e ≡ OutOfMemory) → IfErr r (λ e. takes b words ≡ true → e ≡ OutOfMemory)
 taken-alike a b words r same told = subst (λ x. IfErr r (λ e. takes x words ≡ true → e ≡ OutOfMemory)) same told
+
+-- words in which clap finds no fault by one command have none by the same command under another name
+pub faultless-alike : (a b : App) (words : List Text) (r : Result ArgMatches WordsFault) → a ≡ b
+    → (is_simple_and_free a ≡ true → IfOk r (λ _. fault_of a words ≡ [])) → (is_simple_and_free b ≡ true → IfOk r (λ _. fault_of b words ≡ []))
+faultless-alike a b words r same told = subst (λ x. is_simple_and_free x ≡ true → IfOk r (λ _. fault_of x words ≡ [])) same told

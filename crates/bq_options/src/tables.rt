@@ -1,6 +1,6 @@
 //! Commands and their options as tables, and as clap takes them.
-ghost use Rattle.std.specs.Prelude.{◌≡◌, IfErr, IfOk, false, map, true};
-ghost use Rattle.clap.specs.Words.{HasMatchesOf, app_of, rule_of, takes};
+ghost use Rattle.std.specs.Prelude.{◌≡◌, [], IfErr, IfOk, false, map, true};
+ghost use Rattle.clap.specs.Words.{HasMatchesOf, app_of, fault_of as faults_in, is_simple_and_free, rule_of, takes};
 ghost use Rattle.clap.specs.declared.builder.command.Command.TheViews.{out-Command as fields_of};
 ghost use Rattle.bq_options.specs.Tables.{alone, app_told, named, rule_told, with_commands, with_options, with_tables};
 
@@ -135,6 +135,9 @@ pub fn found_in<'a>(
 ) -> Result<ArgMatches<'a>, WordsFault>
     ensures matches { IfOk result (HasMatchesOf (app_of command.entry) (map (λ w. w.now) given.entry.now)) }
 
+    // Words are taken only where clap finds no fault in them.
+    ensures faultless { is_simple_and_free (app_of command.entry) ≡ true → IfOk result (λ _. faults_in (app_of command.entry) (map (λ w. w.now) given.entry.now) ≡ []) }
+
     // Words that clap takes are refused for want of memory alone.
     ensures taken { IfErr result (λ e. takes (app_of command.entry) (map (λ w. w.now) given.entry.now) ≡ true → e ≡ WordsFault.OutOfMemory) }
 {
@@ -152,6 +155,9 @@ pub fn matches_of<'a>(
     given: &'a [&'a str],
 ) -> Result<ArgMatches<'a>, WordsFault>
     ensures matches { IfOk result (HasMatchesOf (alone text.entry.now) (map (λ w. w.now) given.entry.now)) }
+
+    // Words are taken only where clap finds no fault in them.
+    ensures faultless { is_simple_and_free (alone text.entry.now) ≡ true → IfOk result (λ _. faults_in (alone text.entry.now) (map (λ w. w.now) given.entry.now) ≡ []) }
 
     // Words that clap takes are refused for want of memory alone.
     ensures taken { IfErr result (λ e. takes (alone text.entry.now) (map (λ w. w.now) given.entry.now) ≡ true → e ≡ WordsFault.OutOfMemory) }
