@@ -82,7 +82,8 @@ shows-drained cpu now d run s inside =
 shows-admitted : (id : ℕ) (s : Figures) (t : Figures) → KeepsWorks (leaves id s) t → KeepsRunning (leaves id s) t → KeepsWorks s t × KeepsRunning s t
 shows-admitted id s t a b = (works-then s (leaves id s) t (works-leaves id s) a, running-then s (leaves id s) t (running-leaves id s) b)
 
-inside_of : (a b : ℕ) → ltb a b ≡ true → a < b
+-- what is below a number by the test is below it
+pub inside_of : (a b : ℕ) → ltb a b ≡ true → a < b
 inside_of a b e = grind (arith, nat_tests)
 
 -- a reply to an event whose processor is there does to the works, and to who runs, what it shows

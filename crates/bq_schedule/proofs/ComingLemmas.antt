@@ -13,7 +13,7 @@ use Rattle.bq_schedule.specs.Steps.{admitted}
 use Rattle.bq_schedule.specs.FairTimes.{weight_there, weights_at}
 use Rattle.bq_schedule.proofs.FrameLemmas.{task_kept}
 use Rattle.bq_schedule.proofs.PurseLemmas
-use Rattle.bq_schedule.proofs.LeavingLemmas.{weight-here, weight-elsewhere, weight-nowhere, weights-few, weights-set, set-there, set_reads, shared-with_processor, joined-set, raw-set, unseated, weight_at-le}
+use Rattle.bq_schedule.proofs.LeavingLemmas.{weight-here, weight-elsewhere, weight-nowhere, weights-few, weights-set, set-there, set_reads, shared-with_processor, joined-set, raw-set, beyond_table, weight_at-le}
 
 -- each task has what it had, and all stays sound
 pub record Stays (s s' : Figures) : Type 0 where
@@ -42,7 +42,7 @@ worth-here f u cpu o e j =
     let none : f cpu - u.joined ≡ 0 = omega (arith, j) in
     ap (λ p. PurseLemmas.worth_at f u p) e ∙ ap (λ n. u.settled + u.weight * n) none ∙ omega arith
 
--- a task with a seat comes
+-- a task with an id of the table comes
 joined-inside : (s : Figures) (id cpu : ℕ) (p : ProcessorFigures) (t' : TaskFigures) → PurseLemmas.IsSound s → id < length s.tasks → (task_of s id).place ≡ None → p.shared ≡ PurseLemmas.shared_at s cpu →
     p.weight ≡ counted (processor_of s cpu).weight (task_of s id).weight → t'.place ≡ Some cpu → t'.weight ≡ (task_of s id).weight → t'.joined ≡ PurseLemmas.shared_at s cpu → t'.settled ≡ (task_of s id).settled →
     Stays s (with_task (with_processor s cpu p) id t')
@@ -61,7 +61,7 @@ joined-inside s id cpu p t' h inside at shared weight place same joined settled 
             (set-there s cpu j p (eqb cpu j) there' (eqb_tells cpu j) ∙ ap (λ w. cond (eqb cpu j) w (processor_of s j).weight) weight);
         joined = λ j. joined-set s s2 j u (eqb id j) gives (is j) (joined-here (PurseLemmas.shared_at s) u cpu t'.place place joined) (h.joined j);
         table = λ j. omega (arith, h.table j, task_kept (λ (v : TaskFigures). v.weight) s1 id j t' same);
-        seats = length-set s.tasks id t' ∙ h.seats;
+        ids = length-set s.tasks id t' ∙ h.ids;
       };
       raws = λ j. raw-set s s2 id j u gives (is j) (worth-here (PurseLemmas.shared_at s) u cpu t'.place place joined ∙ settled ∙ sym had);
     }
@@ -76,7 +76,7 @@ counted-none s cpu j w false h there (inl e) new = absurd (cc)
 counted-none s cpu j w true h there (inr e) new = absurd (cc)
 counted-none s cpu j w false h there (inr e) new = new
 
--- one without a seat changes nothing
+-- one without changes nothing
 joined-outside : (s : Figures) (id cpu : ℕ) (p : ProcessorFigures) (t' : TaskFigures) → PurseLemmas.IsSound s → length s.tasks ≤ id → p.shared ≡ PurseLemmas.shared_at s cpu →
     p.weight ≡ counted (processor_of s cpu).weight (task_of s id).weight → Stays s (with_task (with_processor s cpu p) id t')
 joined-outside s id cpu p t' h past shared weight =
@@ -85,7 +85,7 @@ joined-outside s id cpu p t' h past shared weight =
     let tasks : s2.tasks ≡ s.tasks = set_past s.tasks id t' past in
     let gives : (j : ℕ) → PurseLemmas.shared_at s2 j ≡ PurseLemmas.shared_at s j = λ j. shared-with_processor s cpu p j shared in
     let same : (j : ℕ) → task_of s2 j ≡ task_of s j = λ j. ap (λ l. get_or l j unknown) tasks in
-    let none : (task_of s id).weight ≡ 0 = ap (λ (t : TaskFigures). t.weight) (unseated s id past) in
+    let none : (task_of s id).weight ≡ 0 = ap (λ (t : TaskFigures). t.weight) (beyond_table s id past) in
     record {
       sound = record {
         weights = λ j there.
@@ -96,7 +96,7 @@ joined-outside s id cpu p t' h past shared weight =
         joined = λ j. PurseLemmas.joined-more (PurseLemmas.shared_at s) (PurseLemmas.shared_at s2) (PurseLemmas.purse (task_of s2 j)) (task_of s2 j).place (λ k. omega (arith, gives k))
             (PurseLemmas.joined-same (PurseLemmas.shared_at s) (PurseLemmas.purse (task_of s2 j)) (PurseLemmas.purse (task_of s j)) (ap PurseLemmas.purse (same j)) (h.joined j));
         table = λ j. omega (arith, h.table j, ap (λ (v : TaskFigures). v.weight) (same j));
-        seats = length-set s.tasks id t' ∙ h.seats;
+        ids = length-set s.tasks id t' ∙ h.ids;
       };
       raws = λ j. PurseLemmas.raw-kept s s2 j gives (ap PurseLemmas.purse (same j));
     }
@@ -126,7 +126,7 @@ admitted-inside s id t' h inside at place weight settled =
         weights = λ j there. omega (arith, h.weights j there, weights-set s id j t' inside, weight-nowhere j t' place, weight-nowhere j (task_of s id) at);
         joined = λ j. joined-set s s2 j u (eqb id j) (λ k. refl) (is j) (rw place tt) (h.joined j);
         table = λ j. omega (arith, ap (λ (v : PurseLemmas.Purse). v.weight) (is j), table-cond (eqb id j) u (PurseLemmas.purse (task_of s j)) weight (h.table j));
-        seats = length-set s.tasks id t' ∙ h.seats;
+        ids = length-set s.tasks id t' ∙ h.ids;
       };
       raws = λ j. raw-set s s2 id j u (λ k. refl) (is j) (ap (λ o. PurseLemmas.worth_at (PurseLemmas.shared_at s) u o) place ∙ settled ∙ sym had);
     }
@@ -141,7 +141,7 @@ admitted-outside s id t' h past =
         weights = λ j there. h.weights j there ∙ ap (λ l. sum_by (weight_there j) l) (sym tasks);
         joined = λ j. PurseLemmas.joined-same (PurseLemmas.shared_at s) (PurseLemmas.purse (task_of s2 j)) (PurseLemmas.purse (task_of s j)) (ap PurseLemmas.purse (same j)) (h.joined j);
         table = λ j. omega (arith, h.table j, ap (λ (v : TaskFigures). v.weight) (same j));
-        seats = length-set s.tasks id t' ∙ h.seats;
+        ids = length-set s.tasks id t' ∙ h.ids;
       };
       raws = λ j. PurseLemmas.raw-kept s s2 j (λ k. refl) (ap PurseLemmas.purse (same j));
     }

@@ -161,7 +161,8 @@ time-with_latency : (t : TaskFigures) (n : Option ℕ) → (with_latency t n).ti
 time-with_latency t None = refl
 time-with_latency t (Some n) = refl
 
-works-stopped : (left : Left) (now : ℕ) (running : Option Start) (s : Figures) → KeepsWorks s (stopped left now running s)
+-- what ceases to run keeps the works
+pub works-stopped : (left : Left) (now : ℕ) (running : Option Start) (s : Figures) → KeepsWorks s (stopped left now running s)
 works-stopped left now None s = works-id s
 works-stopped Blocked now (Some old) s = works-id s
 works-stopped Preempted now (Some old) s = works-with_task s old.task _ refl
@@ -175,7 +176,8 @@ works-begun_if : (cpu now : ℕ) (run : Option ℕ) (s : Figures) → KeepsWorks
 works-begun_if cpu now None s = works-id s
 works-begun_if cpu now (Some id) s = works-with_task s id _ (time-with_latency (task_of s id) _)
 
-processors-begun_if : (cpu now : ℕ) (run : Option ℕ) (s : Figures) → (begun_if cpu now run s).processors ≡ s.processors
+-- a task that begins to run, or none, keeps the processors
+pub processors-begun_if : (cpu now : ℕ) (run : Option ℕ) (s : Figures) → (begun_if cpu now run s).processors ≡ s.processors
 processors-begun_if cpu now None s = refl
 processors-begun_if cpu now (Some id) s = refl
 
@@ -230,7 +232,8 @@ runs-started cpu now run s inside =
       λ j ne. ap (λ l. (get_or (slice_set l cpu q) j unread).running) e ∙ ap (λ (p : ProcessorFigures). p.running) (get_or-set_other s.processors cpu j q unread ne),
     )
 
-who_is : (running : Option Start) (run : Option ℕ) → is_run_by running run ≡ true → option_map (λ (x : Start). x.task) running ≡ run
+-- where a task is the one that runs, or none is, it is who runs
+pub who_is : (running : Option Start) (run : Option ℕ) → is_run_by running run ≡ true → option_map (λ (x : Start). x.task) running ≡ run
 who_is None None e = refl
 who_is None (Some id) e = cc
 who_is (Some start) None e = cc

@@ -42,17 +42,17 @@ weight_at_if false n h = omega arith
 pub weight_at-le : (nice : ℤ) → weight_at nice ≤ 88761
 weight_at-le nice = weight_at_if _ (weight_of nice) (weight_of-le nice)
 
--- a task that is somewhere has a seat
-seated_by : (s : Figures) (id cpu : ℕ) (b : Bool) → (task_of s id).place ≡ Some cpu → ((b ≡ true) × (length s.tasks ≤ id)) ⊎ ((b ≡ false) × (id < length s.tasks)) → id < length s.tasks
-seated_by s id cpu b e (inl past) = let u : (task_of s id).place ≡ None = ap (λ (t : TaskFigures). t.place) (get_or_past s.tasks id unknown past.1) in cc
-seated_by s id cpu b e (inr inside) = inside.1
+-- a task that is somewhere has an id of the table
+in_table_by : (s : Figures) (id cpu : ℕ) (b : Bool) → (task_of s id).place ≡ Some cpu → ((b ≡ true) × (length s.tasks ≤ id)) ⊎ ((b ≡ false) × (id < length s.tasks)) → id < length s.tasks
+in_table_by s id cpu b e (inl past) = let u : (task_of s id).place ≡ None = ap (λ (t : TaskFigures). t.place) (get_or_past s.tasks id unknown past.1) in cc
+in_table_by s id cpu b e (inr inside) = inside.1
 
-seated : (s : Figures) (id cpu : ℕ) → (task_of s id).place ≡ Some cpu → id < length s.tasks
-seated s id cpu e = seated_by s id cpu (leb (length s.tasks) id) e (leb_tells (length s.tasks) id)
+in_table : (s : Figures) (id cpu : ℕ) → (task_of s id).place ≡ Some cpu → id < length s.tasks
+in_table s id cpu e = in_table_by s id cpu (leb (length s.tasks) id) e (leb_tells (length s.tasks) id)
 
 -- one that has none has nothing
-pub unseated : (s : Figures) (id : ℕ) → length s.tasks ≤ id → task_of s id ≡ unknown
-unseated s id past = get_or_past s.tasks id unknown past
+pub beyond_table : (s : Figures) (id : ℕ) → length s.tasks ≤ id → task_of s id ≡ unknown
+beyond_table s id past = get_or_past s.tasks id unknown past
 
 -- where a task is set, what f reads of each task is what it was, or what it is set to
 pub set_reads : {Y : Type 0} (f : TaskFigures → Y) (s : Figures) (id j : ℕ) (t : TaskFigures) (b : Bool) → id < length s.tasks → ((b ≡ true) × (id ≡ j)) ⊎ ((b ≡ false) × (id ≢ j)) →
@@ -158,7 +158,7 @@ left-one s id cpu p t' h at shared weight nowhere same settled =
     let s1 = with_processor s cpu p in
     let s2 = with_task s1 id t' in
     let u = PurseLemmas.purse t' in
-    let inside : id < length s.tasks = seated s id cpu at in
+    let inside : id < length s.tasks = in_table s id cpu at in
     let gives : (j : ℕ) → PurseLemmas.shared_at s2 j ≡ PurseLemmas.shared_at s j = λ j. shared-with_processor s cpu p j shared in
     let is : (j : ℕ) → PurseLemmas.purse (task_of s2 j) ≡ cond (eqb id j) u (PurseLemmas.purse (task_of s j)) = λ j. set_reads PurseLemmas.purse s1 id j t' (eqb id j) inside (eqb_tells id j) in
     record {
@@ -171,7 +171,7 @@ left-one s id cpu p t' h at shared weight nowhere same settled =
             (set-there s cpu j p (eqb cpu j) there' (eqb_tells cpu j) ∙ ap (λ w. cond (eqb cpu j) w (processor_of s j).weight) weight);
         joined = λ j. joined-set s s2 j u (eqb id j) gives (is j) (rw nowhere tt) (h.joined j);
         table = λ j. omega (arith, h.table j, task_kept (λ (v : TaskFigures). v.weight) s1 id j t' same);
-        seats = length-set s.tasks id t' ∙ h.seats;
+        ids = length-set s.tasks id t' ∙ h.ids;
       };
       raws = λ j. raw-set s s2 id j u gives (is j) (ap (λ o. PurseLemmas.worth_at (PurseLemmas.shared_at s) u o) nowhere ∙ settled);
       nowhere = ap (λ (v : TaskFigures). v.place) (get_or-set_same s.tasks id t' unknown inside) ∙ nowhere;
@@ -193,7 +193,7 @@ pub weights-few : (s : Figures) (cpu : ℕ) → PurseLemmas.IsSound s → weight
 weights-few s cpu h =
     omega (
       arith,
-      h.seats,
+      h.ids,
       sum_by-le (weight_there cpu) 88761 s.tasks
           (All-from_get_or (λ (t : TaskFigures). weight_there cpu t ≤ 88761) s.tasks unknown (λ j inside. there-le (is_place cpu (task_of s j).place) (task_of s j).weight (h.table j))),
     )

@@ -12,3 +12,5 @@ pub mod ComingLemmas
 pub mod TotalLemmas
 pub mod RunLemmas
 pub mod PercentileLemmas
+pub mod SwitchLemmas
+pub mod WaitLemmas

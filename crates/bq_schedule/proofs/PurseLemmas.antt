@@ -167,7 +167,7 @@ pub record IsSound (s : Figures) : Type 0 where
   pub weights : (cpu : ℕ) → cpu < length s.processors → (processor_of s cpu).weight ≡ weights_at s cpu
   pub joined : (id : ℕ) → JoinedBy (shared_at s) (purse (task_of s id)) (task_of s id).place
   pub table : (id : ℕ) → (task_of s id).weight ≤ 88761
-  pub seats : length s.tasks ≡ 1024
+  pub ids : length s.tasks ≡ 1024
 
 -- what had been given when a purse came is no more than what is given, if so of one that is the same
 pub joined-same : (f : ℕ → ℕ) (u v : Purse) → u ≡ v → JoinedBy f v v.place → JoinedBy f u u.place
@@ -180,5 +180,5 @@ sound-kept s s' k h = record {
   joined = λ id. joined-same (shared_at s') (purse (task_of s' id)) (purse (task_of s id)) (k.purses id)
       (joined-more (shared_at s) (shared_at s') (purse (task_of s id)) (task_of s id).place (λ j. omega (arith, ap (λ (q : Pot). q.shared) (k.pots j))) (h.joined id));
   table = λ id. omega (arith, h.table id, ap (λ (u : Purse). u.weight) (k.purses id));
-  seats = k.tasks ∙ h.seats;
+  ids = k.tasks ∙ h.ids;
 }

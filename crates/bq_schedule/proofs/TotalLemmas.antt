@@ -205,7 +205,7 @@ goes-if false s e r there h = goes-nothing s e r there h
 
 goes-after : (s : Figures) (e : Event) (a : Result Reply Refusal) → IsWithin (length s.processors) (sight_of e a) → GoesFrom s (sight_of e a) (after s e a)
 goes-after s e (Ok r) h = goes-if (is_there s e) s e r refl h
-goes-after s e (Err r) h = record { keeps = record { at = λ j. refl; count = refl; tasks = refl; times = λ id. refl }; goes = λ f short. record { sound = record { weights = f.sound.weights; joined = f.sound.joined; table = f.sound.table; seats = f.sound.seats }; raws = λ j. refl } }
+goes-after s e (Err r) h = record { keeps = record { at = λ j. refl; count = refl; tasks = refl; times = λ id. refl }; goes = λ f short. record { sound = record { weights = f.sound.weights; joined = f.sound.joined; table = f.sound.table; ids = f.sound.ids }; raws = λ j. refl } }
 
 -- a reading changes no purse
 purse-with_charged : (s : Figures) (o : Option Slice) (id : ℕ) → PurseLemmas.purse (task_of (with_charged s o) id) ≡ PurseLemmas.purse (task_of s id)
@@ -284,7 +284,7 @@ sound-read_at cpu now s h inside fits =
           PurseLemmas.joined-more (PurseLemmas.shared_at s) (PurseLemmas.shared_at r) (PurseLemmas.purse (task_of r id)) (task_of r id).place (λ j. omega (arith, shared-read_at cpu now j s inside fits))
           (PurseLemmas.joined-same (PurseLemmas.shared_at s) (PurseLemmas.purse (task_of r id)) (PurseLemmas.purse (task_of s id)) (purse-read_at cpu now s id) (h.joined id));
       table = λ id. omega (arith, h.table id, ap (λ (u : PurseLemmas.Purse). u.weight) (purse-read_at cpu now s id));
-      seats = tasks-read_at cpu now s ∙ h.seats;
+      ids = tasks-read_at cpu now s ∙ h.ids;
     }
 
 -- a reading, all of whose numbers fit
@@ -387,7 +387,7 @@ opening-full count =
         weights = λ cpu inside. ap (λ (p : ProcessorFigures). p.weight) (same_everywhere count cpu unread) ∙ sym (sum-none (weight_there cpu) unknown 1024 refl);
         joined = λ id. PurseLemmas.joined-same (PurseLemmas.shared_at s) (PurseLemmas.purse (task_of s id)) (PurseLemmas.purse unknown) (ap PurseLemmas.purse (same_everywhere 1024 id unknown)) tt;
         table = λ id. omega (arith, ap (λ (t : TaskFigures). t.weight) (same_everywhere 1024 id unknown));
-        seats = length-replicate 1024 unknown;
+        ids = length-replicate 1024 unknown;
       };
       total = omega (arith, sum-none (PurseLemmas.uncapped_of s) unknown 1024 refl, sum-none (λ (p : ProcessorFigures). p.unshared) unread count refl, sum-none (λ (p : ProcessorFigures). p.busy) unread count refl);
       ahead = λ j. omega (arith, ap (λ (p : ProcessorFigures). p.shared) (same_everywhere count j unread));

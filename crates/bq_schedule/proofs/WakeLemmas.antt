@@ -178,7 +178,8 @@ switched-awaits left cpu now run s t j inside k r =
 kept-ask : (cpu now : ℕ) (d : Decision) (s : Figures) → KeepsWakes s (asked cpu d (read_at cpu now s))
 kept-ask cpu now d s = both s (read_at cpu now s) _ (kept-read_at cpu now s) (of_processor (read_at cpu now s) cpu _)
 
-runs-ask : (cpu now : ℕ) (d : Decision) (s : Figures) (j : ℕ) → (processor_of (asked cpu d (read_at cpu now s)) j).running ≡ (processor_of s j).running
+-- counting a decision and reading a clock keep who runs
+pub runs-ask : (cpu now : ℕ) (d : Decision) (s : Figures) (j : ℕ) → (processor_of (asked cpu d (read_at cpu now s)) j).running ≡ (processor_of s j).running
 runs-ask cpu now d s j = (running-asked cpu d (read_at cpu now s)).at j ∙ (running-read_at cpu now s).at j
 
 decided-awaits : (cpu now : ℕ) (d : Decision) (run : Option ℕ) (s : Figures) (j : ℕ) → j < length s.tasks →
@@ -188,7 +189,8 @@ decided-awaits cpu now d run s j inside = switched-awaits Preempted cpu (time_at
 kept-block : (cpu now id : ℕ) (s : Figures) → KeepsWakes s (leaves id (read_at cpu now s))
 kept-block cpu now id s = both s (read_at cpu now s) _ (kept-read_at cpu now s) (kept-leaves id (read_at cpu now s))
 
-runs-block : (cpu now id : ℕ) (s : Figures) (j : ℕ) → (processor_of (leaves id (read_at cpu now s)) j).running ≡ (processor_of s j).running
+-- so does a task's leaving
+pub runs-block : (cpu now id : ℕ) (s : Figures) (j : ℕ) → (processor_of (leaves id (read_at cpu now s)) j).running ≡ (processor_of s j).running
 runs-block cpu now id s j = (running-leaves id (read_at cpu now s)).at j ∙ (running-read_at cpu now s).at j
 
 blocked-awaits : (cpu now id : ℕ) (run : Option ℕ) (s : Figures) (j : ℕ) → j < length s.tasks →
@@ -198,7 +200,8 @@ blocked-awaits cpu now id run s j inside = switched-awaits Blocked cpu (time_at 
 kept-pull : (cpu now : ℕ) (d : Decision) (task : Option ℕ) (s : Figures) → KeepsWakes s (taken cpu (time_at cpu now s) task (asked cpu d (read_at cpu now s)))
 kept-pull cpu now d task s = both s (asked cpu d (read_at cpu now s)) _ (kept-ask cpu now d s) (kept-taken cpu (time_at cpu now s) task _)
 
-runs-pull : (cpu now : ℕ) (d : Decision) (task : Option ℕ) (s : Figures) (j : ℕ) →
+-- and a pull
+pub runs-pull : (cpu now : ℕ) (d : Decision) (task : Option ℕ) (s : Figures) (j : ℕ) →
     (processor_of (taken cpu (time_at cpu now s) task (asked cpu d (read_at cpu now s))) j).running ≡ (processor_of s j).running
 runs-pull cpu now d task s j = (running-taken cpu (time_at cpu now s) task (asked cpu d (read_at cpu now s))).at j ∙ runs-ask cpu now d s j
 

@@ -1,5 +1,5 @@
 -- The laws of schedules.
-use Rattle.std.specs.Prelude.{◌≡◌, ℕ, ◌+◌, ◌-◌, ◌*◌, ◌<◌, ◌≤◌, true, All, List, [], ◌∷◌, ◌++◌, Option, Some, None, Result, option_to_list, ◌==◌, if◌then◌else◌}
+use Rattle.std.specs.Prelude.{◌≡◌, ℕ, ◌+◌, ◌-◌, ◌*◌, ◌^◌, ◌<◌, ◌≤◌, min, true, All, List, [], ◌∷◌, ◌++◌, map, Option, Some, None, IfSome, IsSomeAnd, Result, option_to_list, ◌==◌, if◌then◌else◌}
 use Rattle.std.specs.Option.{option_map}
 use Rattle.bq_disc.specs.Tasks.{id_of}
 use Rattle.bq_disc.specs.Discipline.{Discipline}
@@ -12,6 +12,7 @@ use Rattle.bq_parts.specs.Steps.{WorldRun}
 use Rattle.bq_core.specs.Laws.{under_any_answers}
 use Rattle.bq_schedule.specs.declared.slice.Slice.{Slice}
 use Rattle.bq_schedule.specs.declared.change.Start.{Start}
+use Rattle.bq_schedule.specs.declared.change.Stop.{Stop}
 use Rattle.bq_schedule.specs.Moments.{Moment, History}
 use Rattle.bq_schedule.specs.Figures.{processor_of, task_of}
 use Rattle.bq_schedule.specs.Counts.{parts}
@@ -21,6 +22,8 @@ use Rattle.bq_schedule.specs.FairTimes.{share, all_fair, all_unshared, all_busy}
 use Rattle.bq_schedule.specs.Slices.{Sight, sight_of, clock, runner, slices, time_in, is_of, is_at, StandApart, slices_at, runs}
 use Rattle.bq_schedule.specs.Wakes.{begins, awaited}
 use Rattle.bq_schedule.specs.Steps.{change, figures}
+use Rattle.bq_schedule.specs.Switches.{BeginsAt, CeasesAt, why_left, starts_told_at, stops_told_at}
+use Rattle.bq_schedule.specs.Waits.{waits_since, waits_told}
 
 -- what is shown is of a processor that is there
 abbrev pub IsWithin : ℕ → Option Sight → Type 0
@@ -117,3 +120,41 @@ told_runs count cpu (m ∷ past) =
 abbrev pub TellsRuns : Type 0
 TellsRuns = (count : ℕ) (past : History) (cpu : ℕ) → IsOf count past → cpu < count →
     told_runs count cpu past ++ option_to_list (processor_of (figures count past) cpu).run ≡ runs (slices_at cpu past)
+
+-- a start is told just where a task begins to run: each that begins is told, and what is told is of one that begins there, at
+-- that processor's clock
+abbrev pub TellsStarts : Type 0
+TellsStarts = (count : ℕ) (past : History) (m : Moment) → IsOf count (m ∷ past) →
+    let told = (change (figures count past) m.event m.answer).start in
+    ((cpu task : ℕ) → cpu < count → BeginsAt cpu task m past → IsSomeAnd told (λ s. (s.processor ≡ cpu) × (s.task ≡ task)))
+    × IfSome told (λ s. (s.processor < count) × BeginsAt s.processor s.task m past × (s.at ≡ clock s.processor (m ∷ past)))
+
+-- and a stop just where one ceases to, with the reason
+abbrev pub TellsStops : Type 0
+TellsStops = (count : ℕ) (past : History) (m : Moment) → IsOf count (m ∷ past) →
+    let told = (change (figures count past) m.event m.answer).stop in
+    ((cpu task : ℕ) → cpu < count → CeasesAt cpu task m past → IsSomeAnd told (λ s. (s.start.processor ≡ cpu) × (s.start.task ≡ task)))
+    × IfSome told (λ s.
+    (s.start.processor < count)
+    × CeasesAt s.start.processor s.start.task m past
+    × (s.at ≡ clock s.start.processor (m ∷ past))
+    × (s.left ≡ why_left m.event))
+
+-- the starts told of a processor are, in their order, those that its stops ended, and the one of the task that runs there: so
+-- each start ends with one stop, and starts and stops alternate
+abbrev pub EndsStarts : Type 0
+EndsStarts = (count : ℕ) (past : History) (cpu : ℕ) → IsOf count past → cpu < count →
+    starts_told_at count cpu past ≡ map (λ (s : Stop). s.start) (stops_told_at count cpu past) ++ option_to_list (processor_of (figures count past) cpu).running
+
+-- a start says how long its task has waited there: the distance from the moment at which it was placed, preempted or pulled to
+-- the start; and a pull says how long it had waited till then. Where the clocks disagree the other way that is 0
+abbrev pub TellsWaits : Type 0
+TellsWaits = (count : ℕ) (past : History) (m : Moment) → IsOf count (m ∷ past) →
+    let told = change (figures count past) m.event m.answer in
+    IfSome told.start (λ s. s.task < 1024 → s.waited ≡ s.at - waits_since s.task (m ∷ past))
+    × IfSome told.pull (λ p. p.task < 1024 → p.waited ≡ p.at - waits_since p.task past)
+
+-- how long a task has waited in all is the sum of what its pulls and starts tell, up to the greatest number of 64 bits
+abbrev pub AddsUpWaits : Type 0
+AddsUpWaits = (count : ℕ) (past : History) (id : ℕ) → IsOf count past → id < 1024 →
+    (task_of (figures count past) id).waited ≡ min (waits_told count id past) (2 ^ 64 - 1)

@@ -9,5 +9,7 @@ pub mod Percentiles
 pub mod Slices
 pub mod Wakes
 pub mod WakeLatencies
+pub mod Switches
+pub mod Waits
 pub mod FairTimes
 pub mod Laws

@@ -1,5 +1,5 @@
 //! The laws of schedules, each as the contract of a function that does nothing.
-ghost use Rattle.bq_schedule.specs.Laws.{AddsUpFairTimes, AddsUpSlices, FillsWindow, IsCharged, LeavesLittle, SharesOut, ShowsClocks, SlicesStandApart, TellsLatencies, TellsRuns, TellsSlices};
+ghost use Rattle.bq_schedule.specs.Laws.{AddsUpFairTimes, AddsUpSlices, AddsUpWaits, EndsStarts, FillsWindow, IsCharged, LeavesLittle, SharesOut, ShowsClocks, SlicesStandApart, TellsLatencies, TellsRuns, TellsSlices, TellsStarts, TellsStops, TellsWaits};
 
 /// A schedule shows each processor's last reading, and who runs there.
 pub fn shows_clocks()
@@ -58,4 +58,32 @@ pub fn leaves_little()
 /// the one that goes on from it.
 pub fn tells_runs()
     ensures { TellsRuns }
+{}
+
+/// A start is told just where a task begins to run: of that task, at that processor, at its clock.
+pub fn tells_starts()
+    ensures { TellsStarts }
+{}
+
+/// A stop is told just where a task ceases to run, at the processor's clock: it went to sleep with a block, and with any other
+/// event another runs in its place.
+pub fn tells_stops()
+    ensures { TellsStops }
+{}
+
+/// The starts that are told of a processor are, in their order, those that its stops ended, and the one of the task that runs
+/// there. So each start ends with one stop, and starts and stops alternate.
+pub fn ends_starts()
+    ensures { EndsStarts }
+{}
+
+/// A start says how long its task has waited there: the distance from the moment at which it was placed, preempted or pulled
+/// to the start. A pull says how long it had waited till then. Where clocks disagree the other way that is 0.
+pub fn tells_waits()
+    ensures { TellsWaits }
+{}
+
+/// How long a task has waited in all is the sum of what its pulls and starts tell. It stops at the greatest number.
+pub fn adds_up_waits()
+    ensures { AddsUpWaits }
 {}

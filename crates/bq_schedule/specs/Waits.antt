@@ -1,0 +1,53 @@
+-- Since when a task waits to run, and how long it has waited as its pulls and starts tell it.
+use Rattle.std.specs.Prelude.{ℕ, ◌+◌, Bool, not, ◌&&◌, ◌||◌, ◌==◌, [], ◌∷◌, Option, Some, None, Result, Ok, if◌then◌else◌, unwrap_or}
+use Rattle.bq_disc.specs.OneProcessor.{reading}
+use Rattle.bq_parts.specs.declared.event.Event.{Event}
+use Rattle.bq_parts.specs.declared.event.Event.TheVariants.{EndWake, Drain, Tick, Pull}
+use Rattle.bq_parts.specs.declared.reply.Reply.{Reply}
+use Rattle.bq_parts.specs.declared.reply.Reply.TheVariants.{Placed, Drained, Ticked, Pulled}
+use Rattle.bq_parts.specs.declared.refusal.Refusal.{Refusal}
+use Rattle.bq_schedule.specs.declared.change.Change.{Change}
+use Rattle.bq_schedule.specs.declared.change.Start.{Start}
+use Rattle.bq_schedule.specs.declared.change.Moved.{Moved}
+use Rattle.bq_schedule.specs.Moments.{History}
+use Rattle.bq_schedule.specs.Slices.{clock, runner}
+use Rattle.bq_schedule.specs.Wakes.{is_run}
+use Rattle.bq_schedule.specs.Steps.{change, figures}
+
+-- the task gives way: it ran, and from now on does not
+abbrev pub gives_way : ℕ → Option ℕ → Option ℕ → Bool
+gives_way id who run = is_run id who && not (is_run id run)
+
+-- then, where that is so
+abbrev pub then_if : Bool → ℕ → Option ℕ
+then_if b at = if b then Some at else None
+
+-- when a moment has the task wait, by the clock of the event's processor: it is placed, pulled or preempted
+abbrev pub wait_begins : ℕ → History → Event → Result Reply Refusal → Option ℕ
+wait_begins id past (EndWake cpu now) (Ok (Placed task to by steps)) = then_if (task == id) (reading (clock cpu past) now)
+wait_begins id past (Drain cpu now) (Ok (Drained count run by steps)) = then_if (gives_way id (runner cpu past) run) (reading (clock cpu past) now)
+wait_begins id past (Tick cpu now) (Ok (Ticked run by steps)) = then_if (gives_way id (runner cpu past) run) (reading (clock cpu past) now)
+wait_begins id past (Pull cpu from now) (Ok (Pulled task run by steps)) = then_if (is_run id task || gives_way id (runner cpu past) run) (reading (clock cpu past) now)
+wait_begins id past e a = None
+
+-- since when the task waits, or has waited before it ran: 0 where it never has
+abbrev pub waits_since : ℕ → History → ℕ
+waits_since id [] = 0
+waits_since id (m ∷ past) = unwrap_or (wait_begins id past m.event m.answer) (waits_since id past)
+
+-- how long a task has waited as a pull of it tells, and as a start of it does
+abbrev pub wait_of_pull : ℕ → Option Moved → ℕ
+wait_of_pull id None = 0
+wait_of_pull id (Some p) = if p.task == id then p.waited else 0
+
+abbrev pub wait_of_start : ℕ → Option Start → ℕ
+wait_of_start id None = 0
+wait_of_start id (Some s) = if s.task == id then s.waited else 0
+
+abbrev pub wait_told : ℕ → Change → ℕ
+wait_told id c = wait_of_pull id c.pull + wait_of_start id c.start
+
+-- how long it has waited as all of them tell
+abbrev pub waits_told : ℕ → ℕ → History → ℕ
+waits_told count id [] = 0
+waits_told count id (m ∷ past) = waits_told count id past + wait_told id (change (figures count past) m.event m.answer)
