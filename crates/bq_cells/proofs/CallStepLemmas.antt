@@ -44,9 +44,9 @@ pub length_is : (xs : List Task) → length xs ≡ tally ones xs
 length_is [] = refl
 length_is (x ∷ xs) = omega (arith, length_is xs)
 
--- the number of a seat is not refused
-seated : (id : ℕ) → id < 1024 → nat_le 1024 id ≡ false
-seated id h = grind (arith, nat_tests)
+-- the number of an entry is not refused
+has_entry : (id : ℕ) → id < 1024 → nat_le 1024 id ≡ false
+has_entry id h = grind (arith, nat_tests)
 
 -- it is decided who runs: the size stays
 decided_size : (s : Regime) (p : Processor) (settled : Decision) → size_of (decided_by s p settled) ≡ size_of p
@@ -140,7 +140,7 @@ module _ (d : Discipline) (n : ℕ) where
   begin_moves c id p q l m k r bound b =
       moves_cpu_lobby d n c p q l m k k (record { event = BeginWake c id; reply = r; calls = [] })
       (λ w s kw there at is. (
-        (begins_step d w c id r q m there bound (rw (at, is, ap (λ (x : Kept). x.loads) kw) b), rw (within w c there, seated id bound) refl, begins_named id k.loads p l r q m b),
+        (begins_step d w c id r q m there bound (rw (at, is, ap (λ (x : Kept). x.loads) kw) b), rw (within w c there, has_entry id bound) refl, begins_named id k.loads p l r q m b),
         kept_same w c p q k kw at (begin_size id k.loads p l r q m b),
       ))
 
@@ -163,7 +163,7 @@ module _ (d : Discipline) (n : ℕ) where
           let ys : List Task = xs ++ x.task ∷ [] in
           let one : loads_of (set w.processors c q) (set w.inboxes x.to ys) ≡ loads_of w.processors (set w.inboxes x.to ys) = loads_same w.processors (set w.inboxes x.to ys) c q (place_size c now p q calls x b ∙ sym (ap size_of at)) in
           let was : get_or (loads_of w.processors w.inboxes) x.to 0 ≡ load_of (processor w x.to) (inbox w x.to) = load_kept w.processors w.inboxes x.to even (omega arith) in
-          let few = few_at w x.to s.seats s.orderly in
+          let few = few_at w x.to s.lobby s.orderly in
           let is : load_of (processor w x.to) ys ≡ min (get_or (loads_of w.processors w.inboxes) x.to 0 + 1) (2 ^ 16 - 1) = rw (was, box) (omega (arith, length-append xs (x.task ∷ []), few, ap (λ (z : List Task). length z) box)) in
           ap (λ (ls : List ℕ). record { drawn = w.drawn; loads = ls }) (one ∙ loads_box w.processors w.inboxes x.to ys even ∙ ap (λ (z : ℕ). set (loads_of w.processors w.inboxes) x.to z) is)
           ∙ ap (one_more x.to) kw

@@ -9,7 +9,7 @@ use Rattle.bq_hooks.specs.OwnPlace.{HasPlace}
 use Rattle.bq_parts.specs.declared.carried.Carried.{Carried}
 use Rattle.bq_parts.specs.declared.lobby_entry.LobbyEntry.{LobbyEntry}
 use Rattle.bq_parts.specs.declared.lobby_entry.LobbyEntry.TheVariants.{Absent, Blocked}
-use Rattle.bq_parts.specs.Processors.{Processor, HasEachOnce, HasSeatedIds}
+use Rattle.bq_parts.specs.Processors.{Processor, HasEachOnce, HasLobbyIds}
 use Rattle.bq_parts.specs.World.{World, opening_world, processor, inbox}
 use Rattle.bq_parts.proofs.CountLemmas.{count_of-append}
 use Rattle.bq_parts.proofs.OnceLemmas.{standing_once, held_two, count_of-held_by, each_once_running, each_once_runnable, none_beyond_at, few_at}
@@ -24,11 +24,11 @@ module _ (d : Discipline) (n c : ℕ) (p : Processor) where
   pub seen_once : Seen → HasEachOnce (present_at p.running)
   seen_once k = subst (λ (x : Processor). HasEachOnce (present_at x.running)) k.2.1 (each_once_running k.0 c (reached_sound d n k.0 k.1).orderly)
 
-  pub seen_seated : Seen → HasSeatedIds (present_at p.running)
-  seen_seated k =
+  pub seen_ids : Seen → HasLobbyIds (present_at p.running)
+  seen_ids k =
       let s = reached_sound d n k.0 k.1 in
-      subst (λ (x : Processor). HasSeatedIds (present_at x.running)) k.2.1
-      (λ id h. let p' = (processor k.0 c).running in omega (arith, none_beyond_at k.0 c id s.seats s.orderly h, count_of-append id (present_at p') (inbox k.0 c)))
+      subst (λ (x : Processor). HasLobbyIds (present_at x.running)) k.2.1
+      (λ id h. let p' = (processor k.0 c).running in omega (arith, none_beyond_at k.0 c id s.lobby s.orderly h, count_of-append id (present_at p') (inbox k.0 c)))
 
   usable_by_case : (o : Option Carried) → ((x : Carried) → o ≡ Some x → HasPlace n x.task) → IfSome o (λ x. HasPlace n x.task)
   usable_by_case None h = tt
@@ -48,7 +48,7 @@ module _ (d : Discipline) (n c : ℕ) (xs : List Task) where
   pub seen_few : SeenInbox → length xs ≤ 1024
   seen_few k =
       let s = reached_sound d n k.0 k.1 in
-      omega (arith, few_at k.0 c s.seats s.orderly, ap (λ (ys : List Task). length ys) k.2.1)
+      omega (arith, few_at k.0 c s.lobby s.orderly, ap (λ (ys : List Task). length ys) k.2.1)
 
 -- a look at a processor and its inbox
 module _ (d : Discipline) (n c : ℕ) (p : Processor) (xs : List Task) where
@@ -58,8 +58,8 @@ module _ (d : Discipline) (n c : ℕ) (p : Processor) (xs : List Task) where
   pub both_once : SeenBoth → HasEachOnce (present_at p.running ++ xs)
   both_once k = rw (← k.2.1, ← k.3.1) (each_once_runnable k.0 c (reached_sound d n k.0 k.1).orderly)
 
-  pub both_seated : SeenBoth → HasSeatedIds (present_at p.running ++ xs)
-  both_seated k = let s = reached_sound d n k.0 k.1 in rw (← k.2.1, ← k.3.1) (λ id h. none_beyond_at k.0 c id s.seats s.orderly h)
+  pub both_ids : SeenBoth → HasLobbyIds (present_at p.running ++ xs)
+  both_ids k = let s = reached_sound d n k.0 k.1 in rw (← k.2.1, ← k.3.1) (λ id h. none_beyond_at k.0 c id s.lobby s.orderly h)
 
 -- a look at two processors
 module _ (d : Discipline) (n c b : ℕ) (p q : Processor) (apart : c ≢ b) where
@@ -76,16 +76,16 @@ module _ (d : Discipline) (n c b : ℕ) (p q : Processor) (apart : c ≢ b) wher
       λ id. omega (arith, standing_once k.0 id s.orderly, held_two id k.0.processors c b apart, count_of-held_by id one, count_of-held_by id other, count_of-append id (present_at one.running) (present_at other.running)) in
       rw (← k.2.1, ← k.3.1) both
 
-  pub two_seated : SeenTwo → HasSeatedIds (present_at p.running ++ present_at q.running)
-  two_seated k =
+  pub two_ids : SeenTwo → HasLobbyIds (present_at p.running ++ present_at q.running)
+  two_ids k =
       let s = reached_sound d n k.0 k.1 in
       let one = (processor k.0 c).running in
       let other = (processor k.0 b).running in
-      let both : HasSeatedIds (present_at one ++ present_at other) =
+      let both : HasLobbyIds (present_at one ++ present_at other) =
       λ id h. omega (
         arith,
-        none_beyond_at k.0 c id s.seats s.orderly h,
-        none_beyond_at k.0 b id s.seats s.orderly h,
+        none_beyond_at k.0 c id s.lobby s.orderly h,
+        none_beyond_at k.0 b id s.lobby s.orderly h,
         count_of-append id (present_at one) (inbox k.0 c),
         count_of-append id (present_at other) (inbox k.0 b),
         count_of-append id (present_at one) (present_at other),
@@ -93,10 +93,10 @@ module _ (d : Discipline) (n c b : ℕ) (p q : Processor) (apart : c ≢ b) wher
       rw (← k.2.1, ← k.3.1) both
 
 -- a look at the lobby
-module _ (d : Discipline) (n : ℕ) (seats : List LobbyEntry) where
+module _ (d : Discipline) (n : ℕ) (lobby : List LobbyEntry) where
   abbrev pub SeenLobby : Type 0
-  SeenLobby = (w : World) × IsReached (RecordStep d) (opening_world n) w × HasPart w (lobby_part seats)
+  SeenLobby = (w : World) × IsReached (RecordStep d) (opening_world n) w × HasPart w (lobby_part lobby)
 
   -- each task stands at its own id
-  pub seen_own : SeenLobby → (id : ℕ) (t : Task) → slice_index_or seats id Absent ≡ Blocked t → t.id ≡ id
+  pub seen_own : SeenLobby → (id : ℕ) (t : Task) → slice_index_or lobby id Absent ≡ Blocked t → t.id ≡ id
   seen_own k id t e = (reached_sound d n k.0 k.1).orderly.once.blocked id t (ap (λ (l : List LobbyEntry). slice_index_or l id Absent) k.2 ∙ e)

@@ -104,7 +104,7 @@ module _ (d : Discipline) (n : ℕ) where
       let even : length w.inboxes ≡ length w.processors = s.boxes ∙ sym s.many in
       let long : length (with_processor w b r).processors ≡ length w.processors = length-set w.processors b r in
       let first = kept_less w b o r k even kw there at' (omega (arith, less, one)) in
-      let few = few_at w c s.seats s.orderly in
+      let few = few_at w c s.lobby s.orderly in
       ap (λ ps. kept_of (record w { processors = ps })) (set_comm w.processors c b q r apart)
       ∙ kept_more (with_processor w b r) c p q (one_less b k) (even ∙ sym long) first (omega (arith, here, long)) (beside w b c r p apart at) (omega (arith, more, one)) (rw (← at) few)
 

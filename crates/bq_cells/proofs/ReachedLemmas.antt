@@ -20,28 +20,28 @@ use Rattle.bq_history.proofs.ReachingLemmas.{reached_keeps}
 use Rattle.bq_cells.specs.Parts.{RecordStep}
 use Rattle.bq_cells.specs.declared.record.Record.{Record}
 
--- it has so many processors, each with an inbox; a seat for each id; and it is in order
+-- it has so many processors, each with an inbox; an entry for each id; and it is in order
 pub record IsSound (n : ℕ) (w : World) : Type 0 where
   pub many : count_in w ≡ n
   pub boxes : length w.inboxes ≡ n
-  pub seats : length w.seats ≡ 1024
+  pub lobby : length w.lobby ≡ 1024
   pub orderly : IsOrderly w
 
-seats_after : (s : Regime) (w : World) (e : Event) (calls : List Asked) (r : Reply) (u : World) → Performs s w e calls r u → length u.seats ≡ length w.seats
-seats_after s w (Admit id nice mask slice) calls r u k = ap (λ (v : World). length v.seats) k.3 ∙ ap length k.1.2 ∙ length-set w.seats id _
-seats_after s w (Retire id) calls r u k = ap (λ (v : World). length v.seats) k.3 ∙ ap length k.1.2 ∙ length-set w.seats id Absent
-seats_after s w Draw calls r u k = ap (λ (v : World). length v.seats) k.2
-seats_after s w (Install cpu h g policy) calls r u k = ap (λ (v : World). length v.seats) k.3
-seats_after s w (BeginWake cpu id) calls r u k = ap (λ (v : World). length v.seats) k.4 ∙ ap length k.2.5 ∙ length-set w.seats id Away
-seats_after s w (EndWake cpu now) calls r u k = ap (λ (v : World). length v.seats) k.4
-seats_after s w (Drain cpu now) calls r u k = ap (λ (v : World). length v.seats) k.2
-seats_after s w (Tick cpu now) calls r u k = ap (λ (v : World). length v.seats) k.2
-seats_after s w (Block cpu now) calls r u k = ap (λ (v : World). length v.seats) k.4 ∙ ap length k.2.1.3 ∙ length-set w.seats k.2.0.id _
-seats_after s w (Pull cpu from now) calls r u k = ap (λ (v : World). length v.seats) k.3
+lobby_after : (s : Regime) (w : World) (e : Event) (calls : List Asked) (r : Reply) (u : World) → Performs s w e calls r u → length u.lobby ≡ length w.lobby
+lobby_after s w (Admit id nice mask slice) calls r u k = ap (λ (v : World). length v.lobby) k.3 ∙ ap length k.1.2 ∙ length-set w.lobby id _
+lobby_after s w (Retire id) calls r u k = ap (λ (v : World). length v.lobby) k.3 ∙ ap length k.1.2 ∙ length-set w.lobby id Absent
+lobby_after s w Draw calls r u k = ap (λ (v : World). length v.lobby) k.2
+lobby_after s w (Install cpu h g policy) calls r u k = ap (λ (v : World). length v.lobby) k.3
+lobby_after s w (BeginWake cpu id) calls r u k = ap (λ (v : World). length v.lobby) k.4 ∙ ap length k.2.5 ∙ length-set w.lobby id Away
+lobby_after s w (EndWake cpu now) calls r u k = ap (λ (v : World). length v.lobby) k.4
+lobby_after s w (Drain cpu now) calls r u k = ap (λ (v : World). length v.lobby) k.2
+lobby_after s w (Tick cpu now) calls r u k = ap (λ (v : World). length v.lobby) k.2
+lobby_after s w (Block cpu now) calls r u k = ap (λ (v : World). length v.lobby) k.4 ∙ ap length k.2.1.3 ∙ length-set w.lobby k.2.0.id _
+lobby_after s w (Pull cpu from now) calls r u k = ap (λ (v : World). length v.lobby) k.3
 
-seats_stay : (s : Regime) (w : World) (e : Event) (calls : List Asked) (r : Result Reply Refusal) (u : World) → WorldStep s w e calls r u → length u.seats ≡ length w.seats
-seats_stay s w e calls (Ok r) u k = seats_after s w e calls r u k.1
-seats_stay s w e calls (Err r) u k = ap (λ (v : World). length v.seats) k.1
+lobby_stays : (s : Regime) (w : World) (e : Event) (calls : List Asked) (r : Result Reply Refusal) (u : World) → WorldStep s w e calls r u → length u.lobby ≡ length w.lobby
+lobby_stays s w e calls (Ok r) u k = lobby_after s w e calls r u k.1
+lobby_stays s w e calls (Err r) u k = ap (λ (v : World). length v.lobby) k.1
 
 step_sound : (d : Discipline) (n : ℕ) (v : World) (x : Record) (u : World) → IsSound n v → RecordStep d v x u → IsSound n u
 step_sound d n v x u s told =
@@ -50,12 +50,12 @@ step_sound d n v x u s told =
     record {
       many = y.many ∙ s.many;
       boxes = y.boxes ∙ s.many;
-      seats = seats_stay (policies d) v x.event x.calls x.reply u k ∙ s.seats;
+      lobby = lobby_stays (policies d) v x.event x.calls x.reply u k ∙ s.lobby;
       orderly = step_keeps (policies d) v x.event x.calls x.reply u k s.orderly;
     }
 
 opening_sound : (n : ℕ) → IsSound n (opening_world n)
-opening_sound n = record { many = length-replicate n opening; boxes = length-replicate n []; seats = length-replicate 1024 Absent; orderly = opening_is_orderly n }
+opening_sound n = record { many = length-replicate n opening; boxes = length-replicate n []; lobby = length-replicate 1024 Absent; orderly = opening_is_orderly n }
 
 -- every world that a history leaves is sound
 pub reached_sound : (d : Discipline) (n : ℕ) (w : World) → IsReached (RecordStep d) (opening_world n) w → IsSound n w

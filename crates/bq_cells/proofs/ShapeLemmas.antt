@@ -46,15 +46,15 @@ module _ (d : Discipline) (n : ℕ) where
       others w (part.Lobby o) none f = f
 
   -- the lobby alone
-  pub moves_lobby : (l m : List LobbyEntry) (k : Kept) (e : Record) → ((w : World) → IsSound n w → w.seats ≡ l → RecordStep d w e (record w { seats = m })) → MovesHere k (lobby_part l ∷ []) e k (lobby_part m ∷ [])
-  moves_lobby l m k e steps = (same_self, counts, λ w reached kw h. (record w { seats = m }, steps w (reached_sound d n w reached) h.0, kw, (refl, tt), others w))
+  pub moves_lobby : (l m : List LobbyEntry) (k : Kept) (e : Record) → ((w : World) → IsSound n w → w.lobby ≡ l → RecordStep d w e (record w { lobby = m })) → MovesHere k (lobby_part l ∷ []) e k (lobby_part m ∷ [])
+  moves_lobby l m k e steps = (same_self, counts, λ w reached kw h. (record w { lobby = m }, steps w (reached_sound d n w reached) h.0, kw, (refl, tt), others w))
     where
       counts : (x : Part) → count (same_part x) (lobby_part m ∷ []) ≡ count (same_part x) (lobby_part l ∷ [])
       counts (part.Cpu b r) = refl
       counts (part.Inbox b j) = refl
       counts (part.Lobby o) = refl
 
-      others : (w : World) (x : Part) → count (same_part x) (lobby_part l ∷ []) ≡ 0 → HasPart w x → HasPart (record w { seats = m }) x
+      others : (w : World) (x : Part) → count (same_part x) (lobby_part l ∷ []) ≡ 0 → HasPart w x → HasPart (record w { lobby = m }) x
       others w (part.Cpu b r) none f = f
       others w (part.Inbox b j) none f = f
       others w (part.Lobby o) none f = absurd (omega arith)
@@ -83,14 +83,14 @@ module _ (d : Discipline) (n : ℕ) where
 
   -- one processor and the lobby
   pub moves_cpu_lobby : (c : ℕ) (p q : Processor) (l o : List LobbyEntry) (k m : Kept) (e : Record) →
-      ((w : World) → IsSound n w → kept_of w ≡ k → c < count_in w → processor w c ≡ p → w.seats ≡ l → RecordStep d w e (record (with_processor w c q) { seats = o }) × (kept_of (with_processor w c q) ≡ m)) →
+      ((w : World) → IsSound n w → kept_of w ≡ k → c < count_in w → processor w c ≡ p → w.lobby ≡ l → RecordStep d w e (record (with_processor w c q) { lobby = o }) × (kept_of (with_processor w c q) ≡ m)) →
       MovesHere k (cpu_part c p ∷ lobby_part l ∷ []) e m (cpu_part c q ∷ lobby_part o ∷ [])
   moves_cpu_lobby c p q l o k m e steps = (
     same_self,
     counts,
     λ w reached kw h.
         let s = steps w (reached_sound d n w reached) kw h.0.0 h.0.1 h.1.0 in
-        (record (with_processor w c q) { seats = o }, s.0, s.1, (written w c q h.0.0, (refl, tt)), others w),
+        (record (with_processor w c q) { lobby = o }, s.0, s.1, (written w c q h.0.0, (refl, tt)), others w),
   )
     where
       counts : (x : Part) → count (same_part x) (cpu_part c q ∷ lobby_part o ∷ []) ≡ count (same_part x) (cpu_part c p ∷ lobby_part l ∷ [])
@@ -98,7 +98,7 @@ module _ (d : Discipline) (n : ℕ) where
       counts (part.Inbox b j) = refl
       counts (part.Lobby z) = refl
 
-      others : (w : World) (x : Part) → count (same_part x) (cpu_part c p ∷ lobby_part l ∷ []) ≡ 0 → HasPart w x → HasPart (record (with_processor w c q) { seats = o }) x
+      others : (w : World) (x : Part) → count (same_part x) (cpu_part c p ∷ lobby_part l ∷ []) ≡ 0 → HasPart w x → HasPart (record (with_processor w c q) { lobby = o }) x
       others w (part.Cpu b r) none f = unwritten w c b q r (apart b c (omega arith)) f
       others w (part.Inbox b j) none f = f
       others w (part.Lobby z) none f = absurd (omega arith)

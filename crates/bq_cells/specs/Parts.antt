@@ -37,7 +37,7 @@ abbrev pub inbox_part : ℕ → List Task → Part
 inbox_part c tasks = part.Inbox c tasks
 
 abbrev pub lobby_part : List LobbyEntry → Part
-lobby_part seats = part.Lobby seats
+lobby_part lobby = part.Lobby lobby
 
 -- whether two parts stand at one place
 abbrev pub same_part : Part → Part → Bool
@@ -55,7 +55,7 @@ same_part (part.Lobby l) (part.Lobby m) = true
 abbrev pub HasPart : World → Part → Type 0
 HasPart w (part.Cpu c p) = (c < count_in w) × (processor w c ≡ p)
 HasPart w (part.Inbox c tasks) = (c < length w.inboxes) × (inbox w c ≡ tasks)
-HasPart w (part.Lobby seats) = w.seats ≡ seats
+HasPart w (part.Lobby lobby) = w.lobby ≡ lobby
 
 abbrev pub kept_of : World → Kept
 kept_of w = record { drawn = w.drawn; loads = loads_of w.processors w.inboxes }

@@ -10,7 +10,7 @@ use Rattle.bq_parts.specs.declared.carried.Carried.{Carried}
 use Rattle.bq_parts.specs.declared.lobby_entry.LobbyEntry.{LobbyEntry}
 use Rattle.bq_parts.specs.declared.lobby_entry.LobbyEntry.TheVariants.{Absent, Blocked, Away}
 use Rattle.bq_parts.specs.Processors.{Processor, opening, count_of, in_hand}
-use Rattle.bq_parts.specs.World.{World, processor, inbox, seat, with_processor, with_inbox}
+use Rattle.bq_parts.specs.World.{World, processor, inbox, entry, with_processor, with_inbox}
 use Rattle.bq_parts.specs.Refusals.{is_absent, is_away}
 use Rattle.bq_disc.specs.Movable.{is_movable_to}
 use Rattle.bq_policies.specs.Attachments.{Attachments}
@@ -26,26 +26,26 @@ use Rattle.bq_parts.proofs.OnceLemmas.{count_of-held_by}
 use Rattle.bq_core.proofs.MoveLemmas.{tally-after_leaving, tally-without_task, tally-pulled}
 use Rattle.bq_parts.proofs.PermittedLemmas.{may_pull_names, may_go}
 use Rattle.bq_core.proofs.SuitableTaskLemmas.{unsuited, suits_of, of_suits}
-use Rattle.bq_core.proofs.OnTheWayLemmas.{IsTidy, with_seat, with_processor_tidy, running_tidy, inbox_tidy, seat_tidy, leaves_lobby, enters_lobby}
+use Rattle.bq_core.proofs.OnTheWayLemmas.{IsTidy, with_entry, with_processor_tidy, running_tidy, inbox_tidy, entry_tidy, leaves_lobby, enters_lobby}
 
 -- the processor after its time has passed
 abbrev pub charged_at : Discipline → World → ℕ → ℕ → Processor
 charged_at d w cpu now = after_time d now (processor w cpu)
 
--- an absent seat is not away
+-- an absent entry is not away
 absent_is_not_away : (s : LobbyEntry) → is_absent s ≡ true → as_number (is_away s) ≡ 0
 absent_is_not_away Absent h = refl
 absent_is_not_away (Blocked t) h = cc
 absent_is_not_away Away h = cc
 
--- a task is admitted to a seat that is absent
-pub admit_tidy : (count : ℕ) (w : World) (id : ℕ) (new : Task) → IsTidy count [] w → is_absent (seat w id) ≡ true → new.id ≡ id → HasPlace count new → IsTidy count [] (with_seat w id (Blocked new))
+-- a task is admitted to an entry that is absent
+pub admit_tidy : (count : ℕ) (w : World) (id : ℕ) (new : Task) → IsTidy count [] w → is_absent (entry w id) ≡ true → new.id ≡ id → HasPlace count new → IsTidy count [] (with_entry w id (Blocked new))
 admit_tidy count w id new y a same place =
-    seat_tidy count [] w id (Blocked new) y (sym (absent_is_not_away (seat w id) a)) (λ t e. let is : new ≡ t = cc in rw (← is) (same, place))
+    entry_tidy count [] w id (Blocked new) y (sym (absent_is_not_away (entry w id) a)) (λ t e. let is : new ≡ t = cc in rw (← is) (same, place))
 
--- a task leaves a seat that is not away
-pub retire_tidy : (count : ℕ) (w : World) (id : ℕ) → IsTidy count [] w → is_away (seat w id) ≡ false → IsTidy count [] (with_seat w id Absent)
-retire_tidy count w id y a = seat_tidy count [] w id Absent y (sym (ap as_number a)) (λ t e. cc)
+-- a task leaves an entry that is not away
+pub retire_tidy : (count : ℕ) (w : World) (id : ℕ) → IsTidy count [] w → is_away (entry w id) ≡ false → IsTidy count [] (with_entry w id Absent)
+retire_tidy count w id y a = entry_tidy count [] w id Absent y (sym (ap as_number a)) (λ t e. cc)
 
 -- what is drawn moves no task
 pub draw_tidy : (count : ℕ) (w : World) (n : ℕ) → IsTidy count [] w → IsTidy count [] (record w { drawn = n })
@@ -61,14 +61,14 @@ no_hand None h = refl
 no_hand (Some c) h = cc
 
 -- a task goes from the lobby to an empty hand
-pub begin_wake_tidy : (count : ℕ) (w : World) (cpu id : ℕ) (t : Task) (loads : List ℕ) → IsTidy count [] w → cpu < count → seat w id ≡ Blocked t → is_some (processor w cpu).hand ≡ false →
-    IsTidy count [] (with_seat (with_processor w cpu (record (processor w cpu) { hand = Some (record { task = t; loads = loads }) })) id Away)
+pub begin_wake_tidy : (count : ℕ) (w : World) (cpu id : ℕ) (t : Task) (loads : List ℕ) → IsTidy count [] w → cpu < count → entry w id ≡ Blocked t → is_some (processor w cpu).hand ≡ false →
+    IsTidy count [] (with_entry (with_processor w cpu (record (processor w cpu) { hand = Some (record { task = t; loads = loads }) })) id Away)
 begin_wake_tidy count w cpu id t loads y l e empty =
     let p : Processor = processor w cpu in
     let c : Carried = record { task = t; loads = loads } in
     let q : Processor = record p { hand = Some c } in
     let none : (i : ℕ) → count_of i (in_hand p) ≡ 0 = λ i. ap (λ o. count_of i (option_to_list (option_map (λ (c : Carried). c.task) o))) (no_hand p.hand empty) in
-    with_processor_tidy count (t ∷ []) [] (with_seat w id Away) cpu q (leaves_lobby count w id t y e) l
+    with_processor_tidy count (t ∷ []) [] (with_entry w id Away) cpu q (leaves_lobby count w id t y e) l
     (λ i. omega (arith, count_of-held_by i p, count_of-held_by i q, none i))
     (λ d f. let is : c ≡ d = cc in rw (← is) ((y.blocked id t e).1))
     (y.present cpu)
@@ -114,7 +114,7 @@ drain_tidy s count w cpu now settled y l =
 
 -- the current task goes to the lobby
 pub block_tidy : (d : Discipline) (count : ℕ) (w : World) (cpu now : ℕ) (t : Task) → IsTidy count [] w → cpu < count → (charged_at d w cpu now).running.current ≡ Some t →
-    IsTidy count [] (with_seat (with_processor w cpu (record (charged_at d w cpu now) { running = after_leaving d (charged_at d w cpu now).running })) t.id (Blocked (as_it_leaves (charged_at d w cpu now).running cpu t)))
+    IsTidy count [] (with_entry (with_processor w cpu (record (charged_at d w cpu now) { running = after_leaving d (charged_at d w cpu now).running })) t.id (Blocked (as_it_leaves (charged_at d w cpu now).running cpu t)))
 block_tidy d count w cpu now t y l e =
     let p : Processor = charged_at d w cpu now in
     let q : Processor = record p { running = after_leaving d p.running } in

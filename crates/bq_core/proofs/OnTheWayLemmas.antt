@@ -11,7 +11,7 @@ use Rattle.bq_parts.specs.declared.carried.Carried.{Carried}
 use Rattle.bq_parts.specs.declared.lobby_entry.LobbyEntry.{LobbyEntry}
 use Rattle.bq_parts.specs.declared.lobby_entry.LobbyEntry.TheVariants.{Absent, Blocked, Away}
 use Rattle.bq_parts.specs.Processors.{Processor, opening, count_of, held_by, in_hand}
-use Rattle.bq_parts.specs.World.{World, processor, inbox, seat, count_in, with_processor, with_inbox, with_seats}
+use Rattle.bq_parts.specs.World.{World, processor, inbox, entry, count_in, with_processor, with_inbox, with_lobby}
 use Rattle.bq_parts.specs.Refusals.{is_away}
 use Rattle.bq_hooks.specs.Contexts.{as_number}
 use Rattle.bq_hooks.specs.OwnPlace.{HasPlace}
@@ -22,16 +22,16 @@ use Rattle.bq_parts.proofs.TallyLemmas.{tally, tally-append}
 use Rattle.bq_parts.proofs.CountLemmas.{one, ones, one_self, count_of-tally}
 use Rattle.bq_parts.proofs.OnceLemmas.{count_of-held_by, as_number_le}
 
--- one seat is written
-abbrev pub with_seat : World → ℕ → LobbyEntry → World
-with_seat w id s = with_seats w (set w.seats id s)
+-- one entry is written
+abbrev pub with_entry : World → ℕ → LobbyEntry → World
+with_entry w id s = with_lobby w (set w.lobby id s)
 
 -- order in a world of so many processors, with some tasks on their way
 pub record IsTidy (count : ℕ) (floating : List Task) (w : World) : Type 0 where
   pub many : length w.processors ≡ count
   pub boxes : length w.inboxes ≡ count
-  pub away : (id : ℕ) → standing_count id w + count_of id floating ≡ as_number (is_away (seat w id))
-  pub blocked : (id : ℕ) (t : Task) → seat w id ≡ Blocked t → (t.id ≡ id) × HasPlace count t
+  pub away : (id : ℕ) → standing_count id w + count_of id floating ≡ as_number (is_away (entry w id))
+  pub blocked : (id : ℕ) (t : Task) → entry w id ≡ Blocked t → (t.id ≡ id) × HasPlace count t
   pub hand : (cpu : ℕ) (c : Carried) → (processor w cpu).hand ≡ Some c → HasPlace count c.task
   pub present : (cpu : ℕ) → tally (unsuited count cpu) (present_at (processor w cpu).running) ≡ 0
   pub placed : (cpu : ℕ) → tally (unsuited count cpu) (inbox w cpu) ≡ 0
@@ -140,14 +140,14 @@ inbox_tidy count xs ys w cpu tasks y l moved fit =
       placed = at_set (λ n (ts : List Task). tally (unsuited count n) ts ≡ 0) w.inboxes cpu tasks [] (omega (arith, moved (unsuited count cpu), y.placed cpu, fit)) y.placed;
     }
 
--- a seat is written, and is away afterwards if it was before
-pub seat_tidy : (count : ℕ) (xs : List Task) (w : World) (id : ℕ) (s : LobbyEntry) → IsTidy count xs w → as_number (is_away s) ≡ as_number (is_away (seat w id)) →
-    ((t : Task) → s ≡ Blocked t → (t.id ≡ id) × HasPlace count t) → IsTidy count xs (with_seat w id s)
-seat_tidy count xs w id s y same blocked = record {
+-- an entry is written, and is away afterwards if it was before
+pub entry_tidy : (count : ℕ) (xs : List Task) (w : World) (id : ℕ) (s : LobbyEntry) → IsTidy count xs w → as_number (is_away s) ≡ as_number (is_away (entry w id)) →
+    ((t : Task) → s ≡ Blocked t → (t.id ≡ id) × HasPlace count t) → IsTidy count xs (with_entry w id s)
+entry_tidy count xs w id s y same blocked = record {
   many = y.many;
   boxes = y.boxes;
-  away = at_set (λ j (x : LobbyEntry). standing_count j w + count_of j xs ≡ as_number (is_away x)) w.seats id s Absent (y.away id ∙ sym same) y.away;
-  blocked = at_set (λ j (x : LobbyEntry). (t : Task) → x ≡ Blocked t → (t.id ≡ j) × HasPlace count t) w.seats id s Absent blocked y.blocked;
+  away = at_set (λ j (x : LobbyEntry). standing_count j w + count_of j xs ≡ as_number (is_away x)) w.lobby id s Absent (y.away id ∙ sym same) y.away;
+  blocked = at_set (λ j (x : LobbyEntry). (t : Task) → x ≡ Blocked t → (t.id ≡ j) × HasPlace count t) w.lobby id s Absent blocked y.blocked;
   hand = y.hand;
   present = y.present;
   placed = y.placed;
@@ -157,37 +157,37 @@ seat_tidy count xs w id s y same blocked = record {
 other_id : (j : ℕ) (t : Task) → j ≢ t.id → one j t ≡ 0
 other_id j t n = grind (arith, nat_tests)
 
--- a seat that is not absent is one of the lobby's
-past_seat : (w : World) (id : ℕ) → seat w id ≢ Absent → id < length w.seats
-past_seat w id n = elim (cases_lt id (length w.seats)) [ inl l ↦ l | inr g ↦ absurd (n (get_or_past w.seats id Absent g)) ]
+-- an entry that is not absent is one of the lobby's
+past_entry : (w : World) (id : ℕ) → entry w id ≢ Absent → id < length w.lobby
+past_entry w id n = elim (cases_lt id (length w.lobby)) [ inl l ↦ l | inr g ↦ absurd (n (get_or_past w.lobby id Absent g)) ]
 
 -- a task leaves the lobby
-pub leaves_lobby : (count : ℕ) (w : World) (id : ℕ) (t : Task) → IsTidy count [] w → seat w id ≡ Blocked t → IsTidy count (t ∷ []) (with_seat w id Away)
+pub leaves_lobby : (count : ℕ) (w : World) (id : ℕ) (t : Task) → IsTidy count [] w → entry w id ≡ Blocked t → IsTidy count (t ∷ []) (with_entry w id Away)
 leaves_lobby count w id t y e =
     let same : t.id ≡ id = (y.blocked id t e).0 in
-    let asleep : as_number (is_away (seat w id)) ≡ 0 = ap (λ s. as_number (is_away s)) e in
+    let asleep : as_number (is_away (entry w id)) ≡ 0 = ap (λ s. as_number (is_away s)) e in
     let once : one id t ≡ 1 = subst (λ i. one i t ≡ 1) same (one_self t) in
     let apart : (j : ℕ) → j ≢ id → one j t ≡ 0 = λ j n. other_id j t (λ h. n (h ∙ same)) in
     record {
       many = y.many;
       boxes = y.boxes;
-      away = at_set_else (λ j (x : LobbyEntry). standing_count j w + count_of j (t ∷ []) ≡ as_number (is_away x)) w.seats id Away Absent (past_seat w id (λ h. cc)) (omega (arith, y.away id)) (λ j n. omega (arith, y.away j, apart j n));
-      blocked = at_set (λ j (x : LobbyEntry). (t : Task) → x ≡ Blocked t → (t.id ≡ j) × HasPlace count t) w.seats id Away Absent (λ t e. cc) y.blocked;
+      away = at_set_else (λ j (x : LobbyEntry). standing_count j w + count_of j (t ∷ []) ≡ as_number (is_away x)) w.lobby id Away Absent (past_entry w id (λ h. cc)) (omega (arith, y.away id)) (λ j n. omega (arith, y.away j, apart j n));
+      blocked = at_set (λ j (x : LobbyEntry). (t : Task) → x ≡ Blocked t → (t.id ≡ j) × HasPlace count t) w.lobby id Away Absent (λ t e. cc) y.blocked;
       hand = y.hand;
       present = y.present;
       placed = y.placed;
     }
 
 -- a task comes to the lobby
-pub enters_lobby : (count : ℕ) (w : World) (t new : Task) → IsTidy count (t ∷ []) w → new.id ≡ t.id → HasPlace count new → IsTidy count [] (with_seat w t.id (Blocked new))
+pub enters_lobby : (count : ℕ) (w : World) (t new : Task) → IsTidy count (t ∷ []) w → new.id ≡ t.id → HasPlace count new → IsTidy count [] (with_entry w t.id (Blocked new))
 enters_lobby count w t new y same place =
     let apart : (j : ℕ) → j ≢ t.id → one j t ≡ 0 = λ j n. other_id j t n in
-    let there : t.id < length w.seats = past_seat w t.id (λ h. absurd (omega (arith, y.away t.id, one_self t, ap (λ s. as_number (is_away s)) h))) in
+    let there : t.id < length w.lobby = past_entry w t.id (λ h. absurd (omega (arith, y.away t.id, one_self t, ap (λ s. as_number (is_away s)) h))) in
     record {
       many = y.many;
       boxes = y.boxes;
-      away = at_set_else (λ j (x : LobbyEntry). standing_count j w + 0 ≡ as_number (is_away x)) w.seats t.id (Blocked new) Absent there (omega (arith, y.away t.id, one_self t, as_number_le (is_away (seat w t.id)))) (λ j n. omega (arith, y.away j, apart j n));
-      blocked = at_set (λ j (x : LobbyEntry). (t : Task) → x ≡ Blocked t → (t.id ≡ j) × HasPlace count t) w.seats t.id (Blocked new) Absent (λ u e. let is : new ≡ u = cc in rw (← is) (same, place)) y.blocked;
+      away = at_set_else (λ j (x : LobbyEntry). standing_count j w + 0 ≡ as_number (is_away x)) w.lobby t.id (Blocked new) Absent there (omega (arith, y.away t.id, one_self t, as_number_le (is_away (entry w t.id)))) (λ j n. omega (arith, y.away j, apart j n));
+      blocked = at_set (λ j (x : LobbyEntry). (t : Task) → x ≡ Blocked t → (t.id ≡ j) × HasPlace count t) w.lobby t.id (Blocked new) Absent (λ u e. let is : new ≡ u = cc in rw (← is) (same, place)) y.blocked;
       hand = y.hand;
       present = y.present;
       placed = y.placed;
@@ -208,11 +208,11 @@ same_everywhere x zero i = refl
 same_everywhere x (suc n) zero = refl
 same_everywhere x (suc n) (suc i) = same_everywhere x n i
 
--- a world of so many seats that opens is tidy
-pub opening_tidy : (n seats : ℕ) → IsTidy n [] (record { processors = replicate n opening; inboxes = replicate n []; seats = replicate seats Absent; drawn = 0 })
-opening_tidy n seats =
-    let w : World = record { processors = replicate n opening; inboxes = replicate n []; seats = replicate seats Absent; drawn = 0 } in
-    let empty : (id : ℕ) → seat w id ≡ Absent = λ id. same_everywhere Absent seats id in
+-- a world of so many lobby that opens is tidy
+pub opening_tidy : (n many : ℕ) → IsTidy n [] (record { processors = replicate n opening; inboxes = replicate n []; lobby = replicate many Absent; drawn = 0 })
+opening_tidy n many =
+    let w : World = record { processors = replicate n opening; inboxes = replicate n []; lobby = replicate many Absent; drawn = 0 } in
+    let empty : (id : ℕ) → entry w id ≡ Absent = λ id. same_everywhere Absent many id in
     let rests : (cpu : ℕ) → processor w cpu ≡ opening = λ cpu. same_everywhere opening n cpu in
     record {
       many = length-replicate n opening;

@@ -112,16 +112,16 @@ module _ (d : Discipline) where
   blocked_one : (t u : Task) (s : LobbyEntry) → s ≡ Blocked t → s ≡ Blocked u → t ≡ u
   blocked_one t u s e f = cc
 
-  blocks_one : (cpu now : ℕ) (p : Processor) (seats : List LobbyEntry) (r r' : Reply) (q q' : Processor) (left left' : List LobbyEntry) → Blocks d cpu now p seats (Ok r) q left → Blocks d cpu now p seats (Ok r') q' left' →
+  blocks_one : (cpu now : ℕ) (p : Processor) (lobby : List LobbyEntry) (r r' : Reply) (q q' : Processor) (left left' : List LobbyEntry) → Blocks d cpu now p lobby (Ok r) q left → Blocks d cpu now p lobby (Ok r') q' left' →
       (r ≡ r') × (q ≡ q') × (left ≡ left')
-  blocks_one cpu now p seats r r' q q' left left' h k =
+  blocks_one cpu now p lobby r r' q q' left left' h k =
       let task = some_one h.0 k.0 _ h.1.0 k.1.0 in
       let cpus : q ≡ q' = h.1.1 ∙ sym k.1.1 in
       (h.1.2 ∙ rw (task, cpus) refl ∙ sym k.1.2, cpus, h.1.3 ∙ rw task refl ∙ sym k.1.3)
 
-  begins_one : (id : ℕ) (loads : List ℕ) (p : Processor) (seats : List LobbyEntry) (r r' : Reply) (q q' : Processor) (left left' : List LobbyEntry) → Begins id loads p seats (Ok r) q left → Begins id loads p seats (Ok r') q' left' →
+  begins_one : (id : ℕ) (loads : List ℕ) (p : Processor) (lobby : List LobbyEntry) (r r' : Reply) (q q' : Processor) (left left' : List LobbyEntry) → Begins id loads p lobby (Ok r) q left → Begins id loads p lobby (Ok r') q' left' →
       (r ≡ r') × (q ≡ q') × (left ≡ left')
-  begins_one id loads p seats r r' q q' left left' h k =
+  begins_one id loads p lobby r r' q q' left left' h k =
       let task = blocked_one h.0 k.0 _ h.2 k.2 in
       (h.3 ∙ sym k.3, h.4 ∙ rw task refl ∙ sym k.4, h.5 ∙ sym k.5)
 
@@ -159,7 +159,7 @@ module _ (d : Discipline) where
   performs_one w Draw calls calls' r r' u u' h k alike = (h.0 ∙ sym k.0, h.2 ∙ sym k.2, h.1 ∙ sym k.1)
   performs_one w (Install cpu hook g policy) calls calls' r r' u u' h k alike = (h.1.1 ∙ sym k.1.1, h.3 ∙ rw (h.1.2, k.1.2) refl ∙ sym k.3, h.2 ∙ sym k.2)
   performs_one w (BeginWake cpu id) calls calls' r r' u u' h k alike =
-      let same = begins_one id _ _ w.seats r r' h.0 k.0 h.1 k.1 h.2 k.2 in
+      let same = begins_one id _ _ w.lobby r r' h.0 k.0 h.1 k.1 h.2 k.2 in
       (same.0, h.4 ∙ rw (same.1, same.2) refl ∙ sym k.4, h.3 ∙ sym k.3)
   performs_one w (EndWake cpu now) calls calls' r r' u u' h k alike =
       let same = places_one _ cpu now _ calls calls' h.0 k.0 h.1 k.1 h.2 k.2 alike in
@@ -171,7 +171,7 @@ module _ (d : Discipline) where
       let same = ticks_one cpu now _ calls calls' r r' h.0 k.0 h.1 k.1 alike in
       (same.0, h.2 ∙ rw same.1 refl ∙ sym k.2, same.2)
   performs_one w (Block cpu now) calls calls' r r' u u' h k alike =
-      let same = blocks_one cpu now _ w.seats r r' h.0 k.0 h.1 k.1 h.2 k.2 in
+      let same = blocks_one cpu now _ w.lobby r r' h.0 k.0 h.1 k.1 h.2 k.2 in
       (same.0, h.4 ∙ rw (same.1, same.2) refl ∙ sym k.4, h.3 ∙ sym k.3)
   performs_one w (Pull cpu from now) calls calls' r r' u u' h k alike =
       let same = pulls_one cpu from now _ _ calls calls' r r' h.0 k.0 h.1 k.1 h.2 k.2 alike in

@@ -18,7 +18,7 @@ use Rattle.bq_parts.specs.declared.reply.Reply.{Reply}
 use Rattle.bq_parts.specs.declared.refusal.Refusal.{Refusal}
 use Rattle.bq_parts.specs.declared.refusal.Refusal.TheVariants as no
 use Rattle.bq_parts.specs.Processors.{Processor, HasEachOnce, opening}
-use Rattle.bq_parts.specs.World.{World, opening_world, processor, seat, count_in, loads_of}
+use Rattle.bq_parts.specs.World.{World, opening_world, processor, entry, count_in, loads_of}
 use Rattle.bq_parts.specs.Refusals.{refusal, argument_refusal, state_refusal, either, is_absent, is_away}
 use Rattle.bq_parts.specs.Choices.{Regime, Decision, policies, place_bytes, own_pull}
 use Rattle.bq_parts.specs.Moves.{admitted}
@@ -82,8 +82,8 @@ admit_keeps s w id nice mask slice calls r w' y h k =
 
 retire_keeps : (s : Regime) (w : World) (id : ℕ) (calls : List Asked) (r : Reply) (w' : World) → IsTidy (count_in w) [] w → Performs s w (Retire id) calls r w' → Keeps w w'
 retire_keeps s w id calls r w' y k =
-    let later = (passed (is_absent (seat w id)) no.NoTask _ k.1.0).1 in
-    rw (k.3, k.1.2) (EventLemmas.retire_tidy (count_in w) w id y (passed (is_away (seat w id)) no.NotBlocked None later).0)
+    let later = (passed (is_absent (entry w id)) no.NoTask _ k.1.0).1 in
+    rw (k.3, k.1.2) (EventLemmas.retire_tidy (count_in w) w id y (passed (is_away (entry w id)) no.NotBlocked None later).0)
 
 install_keeps : (s : Regime) (w : World) (cpu : ℕ) (hook : Hook) (g : ℕ) (policy : Option Accepted) (calls : List Asked) (r : Reply) (w' : World) → IsTidy (count_in w) [] w → refusal w (Install cpu hook g policy) ≡ None →
     Performs s w (Install cpu hook g policy) calls r w' → Keeps w w'
@@ -97,7 +97,7 @@ begin_wake_keeps : (s : Regime) (w : World) (cpu id : ℕ) (calls : List Asked) 
 begin_wake_keeps s w cpu id calls r w' y h k =
     let b = k.2 in
     let l = (there (count_in w) cpu _ (accepted w (BeginWake cpu id) h).0).0 in
-    let later = (passed (is_away (seat w id)) no.NotBlocked _ (passed (is_absent (seat w id)) no.NoTask _ b.1).1).1 in
+    let later = (passed (is_away (entry w id)) no.NotBlocked _ (passed (is_absent (entry w id)) no.NoTask _ b.1).1).1 in
     rw (k.4, b.4, b.5) (EventLemmas.begin_wake_tidy (count_in w) w cpu id b.0 (loads_of w.processors w.inboxes) y l b.2 (passed (is_some (processor w cpu).hand) no.InHand None later).0)
 
 end_wake_keeps : (s : Regime) (w : World) (cpu now : ℕ) (calls : List Asked) (r : Reply) (w' : World) → IsTidy (count_in w) [] w → refusal w (EndWake cpu now) ≡ None →

@@ -13,7 +13,7 @@ use Rattle.bq_parts.specs.declared.refusal.Refusal.{Refusal}
 use Rattle.bq_parts.specs.declared.refusal.Refusal.TheVariants as no
 use Rattle.bq_parts.specs.declared.lobby_entry.LobbyEntry.{LobbyEntry}
 use Rattle.bq_parts.specs.Processors.{Processor, opening}
-use Rattle.bq_parts.specs.World.{World, processor, inbox, count_in, with_processor, with_inbox, with_seats, loads_of}
+use Rattle.bq_parts.specs.World.{World, processor, inbox, count_in, with_processor, with_inbox, with_lobby, loads_of}
 use Rattle.bq_parts.specs.declared.wakes.Placement.{Placement}
 use Rattle.bq_parts.specs.declared.carried.Carried.{Carried}
 use Rattle.bq_parts.specs.Refusals.{argument_refusal}
@@ -26,20 +26,20 @@ use Rattle.bq_verify.specs.Accepted.{Accepted}
 use Rattle.bq_policies.specs.Answers.{fresh_maps}
 use Rattle.bq_core.proofs.StepLemmas.{within, still_runs, block_idle}
 
--- the number of a seat is not refused
-seated : (id : ℕ) → id < 1024 → nat_le 1024 id ≡ false
-seated id h = grind (arith, nat_tests)
+-- the number of an entry is not refused
+has_entry : (id : ℕ) → id < 1024 → nat_le 1024 id ≡ false
+has_entry id h = grind (arith, nat_tests)
 
 -- the lobby's share of an admission, done or refused, is the world's step, where no argument is refused
-pub admits_step : (d : Discipline) (w : World) (id : ℕ) (nice : ℤ) (mask slice : ℕ) (r : Result Reply Refusal) (seats : List LobbyEntry) → argument_refusal (count_in w) (Admit id nice mask slice) ≡ None →
-    Admits id (admitted (count_in w) id nice mask slice) w.seats r seats → WorldStep (policies d) w (Admit id nice mask slice) [] r (with_seats w seats)
-admits_step d w id nice mask slice (Ok r) seats h a = (rw (h, a.0) refl, (seats, a, refl, refl))
-admits_step d w id nice mask slice (Err e) seats h a = (refl, ap (with_seats w) a.2, inl (rw (h, a.0, a.1) refl))
+pub admits_step : (d : Discipline) (w : World) (id : ℕ) (nice : ℤ) (mask slice : ℕ) (r : Result Reply Refusal) (lobby : List LobbyEntry) → argument_refusal (count_in w) (Admit id nice mask slice) ≡ None →
+    Admits id (admitted (count_in w) id nice mask slice) w.lobby r lobby → WorldStep (policies d) w (Admit id nice mask slice) [] r (with_lobby w lobby)
+admits_step d w id nice mask slice (Ok r) lobby h a = (rw (h, a.0) refl, (lobby, a, refl, refl))
+admits_step d w id nice mask slice (Err e) lobby h a = (refl, ap (with_lobby w) a.2, inl (rw (h, a.0, a.1) refl))
 
--- the lobby's share of a retirement, done or refused, is the world's step, where the id is that of a seat
-pub retires_step : (d : Discipline) (w : World) (id : ℕ) (r : Result Reply Refusal) (seats : List LobbyEntry) → id < 1024 → Retires id w.seats r seats → WorldStep (policies d) w (Retire id) [] r (with_seats w seats)
-retires_step d w id (Ok r) seats l b = (rw (seated id l, b.0) refl, (seats, b, refl, refl))
-retires_step d w id (Err e) seats l b = (refl, ap (with_seats w) b.1, inl (rw (seated id l, b.0) refl))
+-- the lobby's share of a retirement, done or refused, is the world's step, where the id is that of an entry
+pub retires_step : (d : Discipline) (w : World) (id : ℕ) (r : Result Reply Refusal) (lobby : List LobbyEntry) → id < 1024 → Retires id w.lobby r lobby → WorldStep (policies d) w (Retire id) [] r (with_lobby w lobby)
+retires_step d w id (Ok r) lobby l b = (rw (has_entry id l, b.0) refl, (lobby, b, refl, refl))
+retires_step d w id (Err e) lobby l b = (refl, ap (with_lobby w) b.1, inl (rw (has_entry id l, b.0) refl))
 
 -- a processor's share of a tick is the world's step, where the world has that processor
 pub ticks_step : (d : Discipline) (w : World) (cpu now : ℕ) (calls : List Asked) (r : Reply) (q : Processor) → cpu < count_in w → Ticks (policies d) cpu now (processor w cpu) calls r q →
@@ -56,20 +56,20 @@ same_processor : (w : World) (cpu : ℕ) (q : Processor) → q ≡ processor w c
 same_processor w cpu q e = ap (with_processor w cpu) e ∙ ap (λ (x : List Processor). record w { processors = x }) (set-get_or w.processors cpu opening)
 
 -- and so is the lobby
-same_lobby_too : (w : World) (cpu : ℕ) (q : Processor) (seats : List LobbyEntry) → q ≡ processor w cpu → seats ≡ w.seats → with_seats (with_processor w cpu q) seats ≡ w
-same_lobby_too w cpu q seats e f = ap (with_seats (with_processor w cpu q)) f ∙ same_processor w cpu q e
+same_lobby_too : (w : World) (cpu : ℕ) (q : Processor) (lobby : List LobbyEntry) → q ≡ processor w cpu → lobby ≡ w.lobby → with_lobby (with_processor w cpu q) lobby ≡ w
+same_lobby_too w cpu q lobby e f = ap (with_lobby (with_processor w cpu q)) f ∙ same_processor w cpu q e
 
 -- what a block makes of a processor and the lobby, done or refused, is the world's step
-pub blocks_step : (d : Discipline) (w : World) (cpu now : ℕ) (r : Result Reply Refusal) (q : Processor) (seats : List LobbyEntry) → cpu < count_in w → Blocks d cpu now (processor w cpu) w.seats r q seats →
-    WorldStep (policies d) w (Block cpu now) [] r (with_seats (with_processor w cpu q) seats)
-blocks_step d w cpu now (Ok r) q seats h b = (rw (within w cpu h, still_runs d w cpu now b.0 (sym b.1.0)) refl, (q, seats, b, refl, refl))
-blocks_step d w cpu now (Err e) q seats h b = (refl, same_lobby_too w cpu q seats b.2 b.3, rw b.1 (block_idle d w cpu now h b.0).2)
+pub blocks_step : (d : Discipline) (w : World) (cpu now : ℕ) (r : Result Reply Refusal) (q : Processor) (lobby : List LobbyEntry) → cpu < count_in w → Blocks d cpu now (processor w cpu) w.lobby r q lobby →
+    WorldStep (policies d) w (Block cpu now) [] r (with_lobby (with_processor w cpu q) lobby)
+blocks_step d w cpu now (Ok r) q lobby h b = (rw (within w cpu h, still_runs d w cpu now b.0 (sym b.1.0)) refl, (q, lobby, b, refl, refl))
+blocks_step d w cpu now (Err e) q lobby h b = (refl, same_lobby_too w cpu q lobby b.2 b.3, rw b.1 (block_idle d w cpu now h b.0).2)
 
--- what a wake's beginning makes of the hand and the lobby is the world's step, done or refused, for an id of a seat
-pub begins_step : (d : Discipline) (w : World) (cpu id : ℕ) (r : Result Reply Refusal) (q : Processor) (seats : List LobbyEntry) → cpu < count_in w → id < 1024 → Begins id (loads_of w.processors w.inboxes) (processor w cpu) w.seats r q seats →
-    WorldStep (policies d) w (BeginWake cpu id) [] r (with_seats (with_processor w cpu q) seats)
-begins_step d w cpu id (Ok r) q seats h l b = (rw (within w cpu h, seated id l, b.1) refl, (q, seats, b, refl, refl))
-begins_step d w cpu id (Err e) q seats h l b = (refl, same_lobby_too w cpu q seats b.1 b.2, inl (rw (within w cpu h, seated id l, b.0) refl))
+-- what a wake's beginning makes of the hand and the lobby is the world's step, done or refused, for an id of an entry
+pub begins_step : (d : Discipline) (w : World) (cpu id : ℕ) (r : Result Reply Refusal) (q : Processor) (lobby : List LobbyEntry) → cpu < count_in w → id < 1024 → Begins id (loads_of w.processors w.inboxes) (processor w cpu) w.lobby r q lobby →
+    WorldStep (policies d) w (BeginWake cpu id) [] r (with_lobby (with_processor w cpu q) lobby)
+begins_step d w cpu id (Ok r) q lobby h l b = (rw (within w cpu h, has_entry id l, b.1) refl, (q, lobby, b, refl, refl))
+begins_step d w cpu id (Err e) q lobby h l b = (refl, same_lobby_too w cpu q lobby b.1 b.2, inl (rw (within w cpu h, has_entry id l, b.0) refl))
 
 -- a processor's share of a wake's end is the world's step, which puts the task at the end of the chosen inbox
 pub places_step : (d : Discipline) (w : World) (cpu now : ℕ) (calls : List Asked) (x : Placement) (q : Processor) → cpu < count_in w → Places (policies d) (count_in w) cpu now (processor w cpu) calls (Some x) q →
@@ -82,9 +82,9 @@ pub drains_at : (d : Discipline) (w w' : World) (cpu now : ℕ) (calls : List As
 drains_at d w w' cpu now calls r q p xs h at box t e = rw e (drains_step d w cpu now calls r q h (rw (← at, ← box) t))
 
 -- and of a block
-pub blocks_at : (d : Discipline) (w w' : World) (cpu now : ℕ) (r : Result Reply Refusal) (q p : Processor) (seats seats' : List LobbyEntry) → cpu < count_in w → p ≡ processor w cpu → seats ≡ w.seats →
-    Blocks d cpu now p seats r q seats' → w' ≡ with_seats (with_processor w cpu q) seats' → WorldStep (policies d) w (Block cpu now) [] r w'
-blocks_at d w w' cpu now r q p seats seats' h at is b e = rw e (blocks_step d w cpu now r q seats' h (rw (← at, ← is) b))
+pub blocks_at : (d : Discipline) (w w' : World) (cpu now : ℕ) (r : Result Reply Refusal) (q p : Processor) (lobby lobby' : List LobbyEntry) → cpu < count_in w → p ≡ processor w cpu → lobby ≡ w.lobby →
+    Blocks d cpu now p lobby r q lobby' → w' ≡ with_lobby (with_processor w cpu q) lobby' → WorldStep (policies d) w (Block cpu now) [] r w'
+blocks_at d w w' cpu now r q p lobby lobby' h at is b e = rw e (blocks_step d w cpu now r q lobby' h (rw (← at, ← is) b))
 
 -- where no argument is refused, the generation alone is
 pub installs_step : (d : Discipline) (w : World) (cpu g : ℕ) (h : Hook) (o : Option Accepted) (r : Result Reply Refusal) (q : Processor) → argument_refusal (count_in w) (Install cpu h g o) ≡ None →
@@ -124,12 +124,12 @@ pub places_none_at : (d : Discipline) (w w' : World) (cpu now count : ℕ) (call
 places_none_at d w w' cpu now count calls q p h at k e = rw e (places_none d w cpu now calls q h (k.0, ap (λ (x : Processor). x.hand) (sym at) ∙ k.1, k.2 ∙ at))
 
 -- and of a wake's beginning
-pub begins_at : (d : Discipline) (w w' : World) (cpu id : ℕ) (loads : List ℕ) (r : Result Reply Refusal) (q p : Processor) (seats seats' : List LobbyEntry) → cpu < count_in w → id < 1024 →
-    loads ≡ loads_of w.processors w.inboxes → p ≡ processor w cpu → seats ≡ w.seats → Begins id loads p seats r q seats' → w' ≡ with_seats (with_processor w cpu q) seats' → WorldStep (policies d) w (BeginWake cpu id) [] r w'
-begins_at d w w' cpu id loads r q p seats seats' h l count at is b e =
-    let found = subst (λ (ns : List ℕ). Begins id ns p seats r q seats') count b in
-    let there = subst (λ (x : Processor). Begins id (loads_of w.processors w.inboxes) x seats r q seats') at found in
-    rw e (begins_step d w cpu id r q seats' h l (subst (λ (xs : List LobbyEntry). Begins id (loads_of w.processors w.inboxes) (processor w cpu) xs r q seats') is there))
+pub begins_at : (d : Discipline) (w w' : World) (cpu id : ℕ) (loads : List ℕ) (r : Result Reply Refusal) (q p : Processor) (lobby lobby' : List LobbyEntry) → cpu < count_in w → id < 1024 →
+    loads ≡ loads_of w.processors w.inboxes → p ≡ processor w cpu → lobby ≡ w.lobby → Begins id loads p lobby r q lobby' → w' ≡ with_lobby (with_processor w cpu q) lobby' → WorldStep (policies d) w (BeginWake cpu id) [] r w'
+begins_at d w w' cpu id loads r q p lobby lobby' h l count at is b e =
+    let found = subst (λ (ns : List ℕ). Begins id ns p lobby r q lobby') count b in
+    let there = subst (λ (x : Processor). Begins id (loads_of w.processors w.inboxes) x lobby r q lobby') at found in
+    rw e (begins_step d w cpu id r q lobby' h l (subst (λ (xs : List LobbyEntry). Begins id (loads_of w.processors w.inboxes) (processor w cpu) xs r q lobby') is there))
 
 -- and of a pull
 pub pulls_at : (d : Discipline) (w w' : World) (cpu from now : ℕ) (calls : List Asked) (r : Reply) (ps qs : List Processor) (q other : Processor) → cpu < count_in w → from < count_in w → cpu ≢ from → ps ≡ w.processors →
@@ -140,8 +140,8 @@ pulls_at d w w' cpu from now calls r ps qs q other h k n is p f e =
     rw (e, f, is) (pulls_step d w cpu from now calls r q other h k n there)
 
 -- and of an admission
-pub admits_at : (d : Discipline) (w w' : World) (id : ℕ) (nice : ℤ) (mask slice : ℕ) (new : Task) (r : Result Reply Refusal) (old seats : List LobbyEntry) → argument_refusal (count_in w) (Admit id nice mask slice) ≡ None →
-    new ≡ admitted (count_in w) id nice mask slice → old ≡ w.seats → Admits id new old r seats → w' ≡ with_seats w seats → WorldStep (policies d) w (Admit id nice mask slice) [] r w'
-admits_at d w w' id nice mask slice new r old seats h made is a e =
-    let there = subst (λ (t : Task). Admits id t old r seats) made a in
-    rw e (admits_step d w id nice mask slice r seats h (subst (λ (xs : List LobbyEntry). Admits id (admitted (count_in w) id nice mask slice) xs r seats) is there))
+pub admits_at : (d : Discipline) (w w' : World) (id : ℕ) (nice : ℤ) (mask slice : ℕ) (new : Task) (r : Result Reply Refusal) (old lobby : List LobbyEntry) → argument_refusal (count_in w) (Admit id nice mask slice) ≡ None →
+    new ≡ admitted (count_in w) id nice mask slice → old ≡ w.lobby → Admits id new old r lobby → w' ≡ with_lobby w lobby → WorldStep (policies d) w (Admit id nice mask slice) [] r w'
+admits_at d w w' id nice mask slice new r old lobby h made is a e =
+    let there = subst (λ (t : Task). Admits id t old r lobby) made a in
+    rw e (admits_step d w id nice mask slice r lobby h (subst (λ (xs : List LobbyEntry). Admits id (admitted (count_in w) id nice mask slice) xs r lobby) is there))

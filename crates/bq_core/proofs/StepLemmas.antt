@@ -10,7 +10,7 @@ use Rattle.bq_parts.specs.declared.event.Event.TheVariants.{Block}
 use Rattle.bq_parts.specs.declared.refusal.Refusal.TheVariants as no
 use Rattle.bq_parts.specs.declared.lobby_entry.LobbyEntry.{LobbyEntry}
 use Rattle.bq_parts.specs.Processors.{Processor}
-use Rattle.bq_parts.specs.World.{World, processor, count_in, with_processor, with_inbox, with_seats}
+use Rattle.bq_parts.specs.World.{World, processor, count_in, with_processor, with_inbox, with_lobby}
 use Rattle.bq_parts.specs.Choices.{policies}
 use Rattle.bq_parts.specs.Shares.{after_time}
 use Rattle.bq_parts.specs.Steps.{WorldStep}
@@ -39,8 +39,8 @@ pub write_back_both : (v w : World) (i j cpu : ℕ) (x q : Processor) (xs ys : L
 write_back_both v w i j cpu x q xs ys e f h k l = rw (e, f, h, k, l) refl
 
 -- a processor and the lobby that were written back
-pub write_back_lobby : (v w : World) (i cpu : ℕ) (q : Processor) (seats : List LobbyEntry) → v ≡ w → i ≡ cpu → with_seats (with_processor v i q) seats ≡ with_seats (with_processor w cpu q) seats
-write_back_lobby v w i cpu q seats e f = rw (e, f) refl
+pub write_back_lobby : (v w : World) (i cpu : ℕ) (q : Processor) (lobby : List LobbyEntry) → v ≡ w → i ≡ cpu → with_lobby (with_processor v i q) lobby ≡ with_lobby (with_processor w cpu q) lobby
+write_back_lobby v w i cpu q lobby e f = rw (e, f) refl
 
 -- a processor and another's inbox that were written back
 pub write_back_inbox : (v w : World) (i cpu j to : ℕ) (x q : Processor) (xs ys : List Task) → v ≡ w → i ≡ cpu → j ≡ to → x ≡ q → xs ≡ ys →

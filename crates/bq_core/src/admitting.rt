@@ -33,7 +33,7 @@ impl<Q: RunQueue> Parts<Q> {
     /// A task leaves the lobby for good.
     #[inline(never)]
     pub(crate) fn retire(&mut self, task: u16) -> Result<Reply, Refusal>
-        requires seat { task < 1024 }
+        requires below { task < 1024 }
         ensures step { WorldStep (policies Q.R.discipline) self.old (Event.Retire task) [] result self.new }
     {
         self.lobby.retire(task)

@@ -15,8 +15,8 @@ mod waking;
 mod world;
 
 pub use bq_parts::{
-    Board, By, Carried, Cpu, Event, Hook, Hooks, Inbox, Installed, Loads, Lobby, LobbyEntry,
-    Outcome, Placement, Plain, Policy, Refusal, Reply, Scratch, Unlinked, argument_refusal,
+    Board, By, Carried, Cpu, Decision, Event, Hook, Hooks, Inbox, Installed, Loads, Lobby,
+    LobbyEntry, Placement, Plain, Policy, Refusal, Reply, Scratch, Unlinked, argument_refusal,
     new_task,
 };
 pub use sized_core::Core;

@@ -22,7 +22,7 @@ impl<Q: RunQueue> Model for Parts<Q> {
 
     ghost Value = { World };
 
-    ghost view = { λ w. record { processors = w.cpus.items; inboxes = w.inboxes.items; seats = w.lobby; drawn = w.drawn } };
+    ghost view = { λ w. record { processors = w.cpus.items; inboxes = w.inboxes.items; lobby = w.lobby; drawn = w.drawn } };
 
     ghost invariant = { λ w. (length w.cpus.items ≡ length w.inboxes.items) × (length w.inboxes.items ≤ 64) × (length w.lobby ≡ 1024) };
 }
@@ -56,10 +56,10 @@ impl<Q: RunQueue> Parts<Q> {
     pub(crate) fn of(cpus: Vec<Cpu<Q>>, inboxes: Vec<Inbox>, lobby: Lobby, drawn: u64) -> Parts<Q>
         requires few { length cpus.items ≤ 64 }
         requires inboxes { length inboxes.items ≡ length cpus.items }
-        ensures { result ≡ record { processors = cpus.items; inboxes = inboxes.items; seats = lobby; drawn = drawn } }
+        ensures { result ≡ record { processors = cpus.items; inboxes = inboxes.items; lobby = lobby; drawn = drawn } }
     {
         // To look at the lobby brings to the proof that it has an entry for each id.
-        let _seats = &lobby;
+        let _entries = &lobby;
         Parts {
             cpus,
             inboxes,

@@ -59,8 +59,8 @@ impl<Q: RunQueue, const P: usize> Core<Q, P> {
         requires few { P ≤ 64 }
         requires cpus { length cpus.items ≡ P }
         requires inboxes { length inboxes.items ≡ P }
-        requires orderly { IsOrderly (record { processors = cpus.items; inboxes = inboxes.items; seats = lobby; drawn = drawn }) }
-        ensures { result ≡ record { processors = cpus.items; inboxes = inboxes.items; seats = lobby; drawn = drawn } }
+        requires orderly { IsOrderly (record { processors = cpus.items; inboxes = inboxes.items; lobby = lobby; drawn = drawn }) }
+        ensures { result ≡ record { processors = cpus.items; inboxes = inboxes.items; lobby = lobby; drawn = drawn } }
     {
         Core {
             world: DynamicCore::from_parts(cpus, inboxes, lobby, drawn),

@@ -18,7 +18,7 @@ impl<Q: RunQueue> Parts<Q> {
     pub(crate) fn begin_wake(&mut self, processor: u8, task: u16) -> Result<Reply, Refusal>
         requires orderly { IsOrderly self.old }
         requires inside { processor < count_in self.old }
-        requires seat { task < 1024 }
+        requires below { task < 1024 }
         ensures step { WorldStep (policies Q.R.discipline) self.old (Event.BeginWake processor task) [] result self.new }
     {
         let loads = loads_of(self.cpus.as_slice(), self.inboxes.as_slice());

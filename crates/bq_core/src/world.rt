@@ -61,8 +61,8 @@ impl<Q: RunQueue> DynamicCore<Q> {
     ) -> DynamicCore<Q>
         requires few { length cpus.items ≤ 64 }
         requires inboxes { length inboxes.items ≡ length cpus.items }
-        requires orderly { IsOrderly (record { processors = cpus.items; inboxes = inboxes.items; seats = lobby; drawn = drawn }) }
-        ensures { result ≡ record { processors = cpus.items; inboxes = inboxes.items; seats = lobby; drawn = drawn } }
+        requires orderly { IsOrderly (record { processors = cpus.items; inboxes = inboxes.items; lobby = lobby; drawn = drawn }) }
+        ensures { result ≡ record { processors = cpus.items; inboxes = inboxes.items; lobby = lobby; drawn = drawn } }
     {
         DynamicCore {
             parts: Parts::of(cpus, inboxes, lobby, drawn),

@@ -16,7 +16,7 @@ use bq_disc::RunQueue;
 use bq_history::Receipt;
 use bq_load::{LoadFault, load};
 use bq_parts::{Event, Hook, Policy, Refusal};
-use bq_recording::{Caller, Seat, Spare, one_spare};
+use bq_recording::{Seat, Spare, WorkingSeat, one_spare};
 use bq_seats::Counting;
 use bq_tie::Naming;
 use std::alloc::{AllocError, Global};
@@ -147,7 +147,7 @@ impl<Q: RunQueue + Drop, K: Clock + Drop, N: Naming + Counting, const P: usize> 
     fn install_all<R: Wait>(
         &self,
         rt: &R,
-        working: &mut Caller<N>,
+        working: &mut WorkingSeat<N>,
         loading: Loading<'_>,
         mut spares: Vec<Spare>,
         installs: &mut Vec<Receipt<Record>>,
@@ -182,7 +182,7 @@ impl<Q: RunQueue + Drop, K: Clock + Drop, N: Naming + Counting, const P: usize> 
     fn install<R: Wait>(
         &self,
         rt: &R,
-        working: &mut Caller<N>,
+        working: &mut WorkingSeat<N>,
         processor: u8,
         hook: Hook,
         generation: u64,

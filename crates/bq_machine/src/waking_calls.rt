@@ -17,7 +17,7 @@ use bq_cells::{CallRooms, Record, loads_room, record_room};
 use bq_disc::RunQueue;
 use bq_history::{Receipt, Room};
 use bq_parts::{Event, Refusal, argument_refusal};
-use bq_recording::{BeginRooms, Caller, CpuCell, EventRooms, LoadRooms, Placing, Seat};
+use bq_recording::{BeginRooms, CpuCell, EventRooms, LoadRooms, Placing, Seat, WorkingSeat};
 use bq_seats::Counting;
 use bq_tie::Naming;
 use std::alloc::Global;
@@ -98,7 +98,7 @@ impl<Q: RunQueue + Drop, K: Clock + Drop, N: Naming + Counting, const P: usize> 
     fn wake_at<R: Wait>(
         &self,
         rt: &R,
-        working: &mut Caller<N>,
+        working: &mut WorkingSeat<N>,
         processor: u8,
         task: u16,
         begin_rooms: BeginRooms<'_>,
@@ -138,7 +138,7 @@ impl<Q: RunQueue + Drop, K: Clock + Drop, N: Naming + Counting, const P: usize> 
     fn begin_in_lobby<R: Wait>(
         &self,
         rt: &R,
-        working: &mut Caller<N>,
+        working: &mut WorkingSeat<N>,
         cell: &mut CpuCell<Q, N>,
         task: u16,
         rooms: BeginRooms<'_>,

@@ -8,7 +8,7 @@ use Rattle.bq_disc.specs.OneProcessor.{Running, present_at, charge}
 use Rattle.bq_hooks.specs.OwnPlace.{HasPlace}
 use Rattle.bq_hooks.specs.Permitted.{may_place}
 use Rattle.bq_parts.specs.declared.carried.Carried.{Carried}
-use Rattle.bq_parts.specs.Processors.{Processor, count_of, HasSeatedIds}
+use Rattle.bq_parts.specs.Processors.{Processor, count_of, HasLobbyIds}
 use Rattle.bq_parts.specs.Choices.{Decision, SettlesPlace, policies}
 use Rattle.bq_parts.proofs.CountLemmas.{one, one_self, keeps_charge}
 use Rattle.bq_parts.proofs.PermittedLemmas.{settled_permitted, own_place_permitted, may_place_fits}
@@ -21,9 +21,9 @@ leaves f (Some t) s h = (t, refl, (cc))
 below_by_case : (t : Task) (m n : ℕ) → (1024 ≤ t.id → m ≡ 0) → m ≡ one t.id t + n → t.id < 1024
 below_by_case t m n h e = elim (cases_lt t.id 1024) [ inl l ↦ l | inr g ↦ absurd (omega (arith, one_self t, h g, e)) ]
 
--- the task that runs has a seat, if all have
-pub current_seated : (d : Discipline) (p : Running) (now : ℕ) (t : Task) → HasSeatedIds (present_at p) → Some t ≡ (charge d p now).current → t.id < 1024
-current_seated d p now t s e =
+-- the task that runs has an entry, if all have
+pub current_id : (d : Discipline) (p : Running) (now : ℕ) (t : Task) → HasLobbyIds (present_at p) → Some t ≡ (charge d p now).current → t.id < 1024
+current_id d p now t s e =
     let q = charge d p now in
     let here : count_of t.id (present_at q) ≡ one t.id t + count_of t.id q.queue = ap (λ (x : Option Task). count_of t.id (present x q.queue)) (sym e) in
     below_by_case t (count_of t.id (present_at p)) (count_of t.id q.queue) (s t.id) (omega (arith, here, keeps_charge t.id d p now))

@@ -9,8 +9,8 @@ use Rattle.std.proofs.lemmas.Bool.Decides.{nat_tests}
 use Rattle.bq_disc.specs.Tasks.{Task}
 use Rattle.bq_disc.specs.OneProcessor.{present_at}
 use Rattle.bq_parts.specs.declared.lobby_entry.LobbyEntry.TheVariants.{Absent}
-use Rattle.bq_parts.specs.Processors.{Processor, opening, count_of, held_by, in_hand, HasEachOnce, HasSeatedIds}
-use Rattle.bq_parts.specs.World.{World, processor, inbox, seat}
+use Rattle.bq_parts.specs.Processors.{Processor, opening, count_of, held_by, in_hand, HasEachOnce, HasLobbyIds}
+use Rattle.bq_parts.specs.World.{World, processor, inbox, entry}
 use Rattle.bq_parts.specs.Refusals.{is_away}
 use Rattle.bq_hooks.specs.Contexts.{as_number}
 use Rattle.bq_parts.specs.StandsOnce.{held_count, placed_count, standing_count, IsOrderly}
@@ -43,7 +43,7 @@ as_number_le false = omega arith
 
 -- no id stands twice
 pub standing_once : (w : World) (id : ℕ) → IsOrderly w → standing_count id w ≤ 1
-standing_once w id o = omega (arith, o.once.away id, as_number_le (is_away (seat w id)))
+standing_once w id o = omega (arith, o.once.away id, as_number_le (is_away (entry w id)))
 
 -- a processor's tasks are those present and the one in its hand
 pub count_of-held_by : (id : ℕ) (p : Processor) → count_of id (held_by p) ≡ count_of id (present_at p.running) + count_of id (in_hand p)
@@ -71,21 +71,21 @@ each_once_runnable w cpu o = HasEachOnce-left (present_at (processor w cpu).runn
 pub each_once_running : (w : World) (cpu : ℕ) → IsOrderly w → HasEachOnce (present_at (processor w cpu).running)
 each_once_running w cpu o = HasEachOnce-left (present_at (processor w cpu).running) (inbox w cpu) (each_once_runnable w cpu o)
 
--- an id beyond the seats stands nowhere
-pub none_beyond : (w : World) (id : ℕ) → length w.seats ≡ 1024 → IsOrderly w → 1024 ≤ id → standing_count id w ≡ 0
+-- an id beyond the lobby stands nowhere
+pub none_beyond : (w : World) (id : ℕ) → length w.lobby ≡ 1024 → IsOrderly w → 1024 ≤ id → standing_count id w ≡ 0
 none_beyond w id l o h =
-    let past : seat w id ≡ Absent = get_or_past w.seats id Absent (omega arith) in
+    let past : entry w id ≡ Absent = get_or_past w.lobby id Absent (omega arith) in
     o.once.away id ∙ ap (λ s. as_number (is_away s)) past
 
--- a processor's tasks have no id beyond the seats
-pub none_beyond_at : (w : World) (cpu id : ℕ) → length w.seats ≡ 1024 → IsOrderly w → 1024 ≤ id → count_of id (present_at (processor w cpu).running ++ inbox w cpu) ≡ 0
+-- a processor's tasks have no id beyond the lobby
+pub none_beyond_at : (w : World) (cpu id : ℕ) → length w.lobby ≡ 1024 → IsOrderly w → 1024 ≤ id → count_of id (present_at (processor w cpu).running ++ inbox w cpu) ≡ 0
 none_beyond_at w cpu id l o h =
     let p : Processor = processor w cpu in
     omega (arith, none_beyond w id l o h, held_le id w.processors cpu, placed_le id w.inboxes cpu, count_of-held_by id p, count_of-append id (present_at p.running) (inbox w cpu))
 
--- the tasks that run or wait at a processor have ids of seats
-pub seated_running : (w : World) (cpu : ℕ) → length w.seats ≡ 1024 → IsOrderly w → HasSeatedIds (present_at (processor w cpu).running)
-seated_running w cpu l o = λ id h. omega (arith, none_beyond_at w cpu id l o h, count_of-append id (present_at (processor w cpu).running) (inbox w cpu))
+-- the tasks that run or wait at a processor have ids of the lobby
+pub ids_running : (w : World) (cpu : ℕ) → length w.lobby ≡ 1024 → IsOrderly w → HasLobbyIds (present_at (processor w cpu).running)
+ids_running w cpu l o = λ id h. omega (arith, none_beyond_at w cpu id l o h, count_of-append id (present_at (processor w cpu).running) (inbox w cpu))
 
 -- the first of some tasks has an id below a bound from which none stands there
 head_below : (x : Task) (m n : ℕ) → (n ≤ x.id → one x.id x + m ≡ 0) → x.id < n
@@ -105,13 +105,13 @@ each_once_two w cpu from n o = λ id.
       count_of-append id (present_at p.running) (present_at q.running),
     )
 
--- and none beyond the seats
-pub seated_two : (w : World) (cpu from : ℕ) → length w.seats ≡ 1024 → IsOrderly w → HasSeatedIds (present_at (processor w cpu).running ++ present_at (processor w from).running)
-seated_two w cpu from l o = λ id h.
+-- and none beyond the lobby
+pub ids_two : (w : World) (cpu from : ℕ) → length w.lobby ≡ 1024 → IsOrderly w → HasLobbyIds (present_at (processor w cpu).running ++ present_at (processor w from).running)
+ids_two w cpu from l o = λ id h.
     omega (
       arith,
-      seated_running w cpu l o id h,
-      seated_running w from l o id h,
+      ids_running w cpu l o id h,
+      ids_running w from l o id h,
       count_of-append id (present_at (processor w cpu).running) (present_at (processor w from).running),
     )
 
@@ -148,7 +148,7 @@ pub few_below : (xs : List Task) (n : ℕ) → HasEachOnce xs → ((id : ℕ) �
 few_below xs n h k = rw length-ids at (length-le_from_distinct_below (ids xs) n (distinct xs h) (λ q a. all_below xs n q k a))
 
 -- so a processor has at most 1024 tasks, with those of its inbox
-pub few_at : (w : World) (cpu : ℕ) → length w.seats ≡ 1024 → IsOrderly w → length (present_at (processor w cpu).running) + length (inbox w cpu) ≤ 1024
+pub few_at : (w : World) (cpu : ℕ) → length w.lobby ≡ 1024 → IsOrderly w → length (present_at (processor w cpu).running) + length (inbox w cpu) ≤ 1024
 few_at w cpu l o =
     let xs : List Task = present_at (processor w cpu).running in
     omega (arith, length-append xs (inbox w cpu), few_below (xs ++ inbox w cpu) 1024 (each_once_runnable w cpu o) (λ id h. none_beyond_at w cpu id l o h))

@@ -6,37 +6,37 @@ use Rattle.bq_disc.specs.Tasks.{Task, with_id, present}
 use Rattle.bq_disc.specs.Discipline.{Discipline, left_at}
 use Rattle.bq_disc.specs.Queues.{HasDistinctIds}
 use Rattle.bq_disc.specs.OneProcessor.{Running, present_at, charge, marked}
-use Rattle.bq_parts.specs.Processors.{HasEachOnce, HasSeatedIds}
+use Rattle.bq_parts.specs.Processors.{HasEachOnce, HasLobbyIds}
 use Rattle.bq_parts.specs.Moves.{taken_from}
 use Rattle.bq_parts.proofs.TallyLemmas.{with_id-id}
 use Rattle.bq_parts.proofs.CountLemmas.{one, one_self, count_of-append, count_of-without, queue_le_present, with_id-absent, each_once_queue, HasEachOnce-left, HasEachOnce-right, HasDistinctIds-from_counts}
 use Rattle.bq_parts.proofs.OnceLemmas.{few_below}
 
--- where all ids of two lists together are seated, those of the left one are
-pub seated_left : (xs ys : List Task) → HasSeatedIds (xs ++ ys) → HasSeatedIds xs
-seated_left xs ys h = λ id l. omega (arith, h id l, count_of-append id xs ys)
+-- where all ids of two lists together are ids, those of the left one are
+pub ids_left : (xs ys : List Task) → HasLobbyIds (xs ++ ys) → HasLobbyIds xs
+ids_left xs ys h = λ id l. omega (arith, h id l, count_of-append id xs ys)
 
--- where all ids of two lists together are seated, those of the right one are
-pub seated_right : (xs ys : List Task) → HasSeatedIds (xs ++ ys) → HasSeatedIds ys
-seated_right xs ys h = λ id l. omega (arith, h id l, count_of-append id xs ys)
+-- where all ids of two lists together are ids, those of the right one are
+pub ids_right : (xs ys : List Task) → HasLobbyIds (xs ++ ys) → HasLobbyIds ys
+ids_right xs ys h = λ id l. omega (arith, h id l, count_of-append id xs ys)
 
--- a processor has at most as many tasks as there are seats
-few_running : (p : Running) → HasEachOnce (present_at p) → HasSeatedIds (present_at p) → length (present_at p) ≤ 1024
+-- a processor has at most as many tasks as the lobby has entries
+few_running : (p : Running) → HasEachOnce (present_at p) → HasLobbyIds (present_at p) → length (present_at p) ≤ 1024
 few_running p h k = few_below (present_at p) 1024 h k
 
 size_by_case : (f : Task → Task) (o : Option Task) (queue : List Task) → length (present (option_map f o) queue) ≡ length (present o queue)
 size_by_case f None queue = refl
 size_by_case f (Some t) queue = refl
 
--- the puller, once charged, has no more tasks than there are seats
-pub puller_within_seats : (d : Discipline) (p q : Running) (now : ℕ) → HasEachOnce (present_at p ++ present_at q) → HasSeatedIds (present_at p ++ present_at q) → length (present_at (charge d p now)) ≤ 1024
-puller_within_seats d p q now h k =
+-- the puller, once charged, has no more tasks than the lobby has entries
+pub puller_within_lobby : (d : Discipline) (p q : Running) (now : ℕ) → HasEachOnce (present_at p ++ present_at q) → HasLobbyIds (present_at p ++ present_at q) → length (present_at (charge d p now)) ≤ 1024
+puller_within_lobby d p q now h k =
     let same : length (present_at (charge d p now)) ≡ length (present_at p) = size_by_case _ p.current p.queue in
-    omega (arith, same, few_running p (HasEachOnce-left (present_at p) (present_at q) h) (seated_left (present_at p) (present_at q) k))
+    omega (arith, same, few_running p (HasEachOnce-left (present_at p) (present_at q) h) (ids_left (present_at p) (present_at q) k))
 
--- the source has no more tasks than there are seats either
-pub source_within_seats : (p q : Running) → HasEachOnce (present_at p ++ present_at q) → HasSeatedIds (present_at p ++ present_at q) → length (present_at q) ≤ 1024
-source_within_seats p q h k = few_running q (HasEachOnce-right (present_at p) (present_at q) h) (seated_right (present_at p) (present_at q) k)
+-- the source has no more tasks than the lobby has entries either
+pub source_within_lobby : (p q : Running) → HasEachOnce (present_at p ++ present_at q) → HasLobbyIds (present_at p ++ present_at q) → length (present_at q) ≤ 1024
+source_within_lobby p q h k = few_running q (HasEachOnce-right (present_at p) (present_at q) h) (ids_right (present_at p) (present_at q) k)
 
 -- the source's ids are distinct
 pub source_distinct : (p q : Running) → HasEachOnce (present_at p ++ present_at q) → HasDistinctIds q.queue

@@ -41,6 +41,6 @@ count_of id (x ∷ xs) = (if has_id id x then 1 else 0) + count_of id xs
 abbrev pub HasEachOnce : List Task → Type 0
 HasEachOnce xs = (id : ℕ) → count_of id xs ≤ 1
 
--- each id is one of a seat
-abbrev pub HasSeatedIds : List Task → Type 0
-HasSeatedIds xs = (id : ℕ) → 1024 ≤ id → count_of id xs ≡ 0
+-- each id is one of the lobby
+abbrev pub HasLobbyIds : List Task → Type 0
+HasLobbyIds xs = (id : ℕ) → 1024 ≤ id → count_of id xs ≡ 0

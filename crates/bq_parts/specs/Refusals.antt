@@ -12,7 +12,7 @@ use Rattle.bq_parts.specs.declared.event.Event.{Event}
 use Rattle.bq_parts.specs.declared.event.Event.TheVariants.{Admit, Retire, Draw, Install, BeginWake, EndWake, Drain, Tick, Block, Pull}
 use Rattle.bq_parts.specs.declared.refusal.Refusal.{Refusal}
 use Rattle.bq_parts.specs.declared.refusal.Refusal.TheVariants as no
-use Rattle.bq_parts.specs.World.{World, processor, seat, count_in}
+use Rattle.bq_parts.specs.World.{World, processor, entry, count_in}
 
 -- the first that holds
 abbrev pub first_refusal : List (Bool × Refusal) → Option Refusal
@@ -56,11 +56,11 @@ argument_refusal count (Tick cpu now) = first_refusal (no_processor count cpu �
 argument_refusal count (Block cpu now) = first_refusal (no_processor count cpu ∷ [])
 argument_refusal count (Pull cpu from now) = first_refusal (no_processor count cpu ∷ no_processor count from ∷ (cpu == from, no.SameProcessor) ∷ [])
 
--- what a seat refuses of a task that leaves for good
+-- what an entry refuses of a task that leaves for good
 abbrev pub retire_refusal : LobbyEntry → Option Refusal
 retire_refusal s = first_refusal ((is_absent s, no.NoTask) ∷ (is_away s, no.NotBlocked) ∷ [])
 
--- what a seat and a hand refuse of a wake that begins
+-- what an entry and a hand refuse of a wake that begins
 abbrev pub begin_refusal : LobbyEntry → Option Carried → Option Refusal
 begin_refusal s hand = first_refusal ((is_absent s, no.NoTask) ∷ (is_away s, no.NotBlocked) ∷ (is_some hand, no.InHand) ∷ [])
 
@@ -70,11 +70,11 @@ install_refusal newest drawn g = first_refusal ((nat_lt 0 newest && nat_le g new
 
 -- what this world refuses
 abbrev pub state_refusal : World → Event → Option Refusal
-state_refusal w (Admit id nice mask slice) = first_refusal ((not (is_absent (seat w id)), no.TaskExists) ∷ [])
-state_refusal w (Retire id) = retire_refusal (seat w id)
+state_refusal w (Admit id nice mask slice) = first_refusal ((not (is_absent (entry w id)), no.TaskExists) ∷ [])
+state_refusal w (Retire id) = retire_refusal (entry w id)
 state_refusal w Draw = None
 state_refusal w (Install cpu h g policy) = install_refusal (at_hook h (processor w cpu).hooks).generation w.drawn g
-state_refusal w (BeginWake cpu id) = begin_refusal (seat w id) (processor w cpu).hand
+state_refusal w (BeginWake cpu id) = begin_refusal (entry w id) (processor w cpu).hand
 state_refusal w (EndWake cpu now) = first_refusal ((is_none (processor w cpu).hand, no.NothingInHand) ∷ [])
 state_refusal w (Drain cpu now) = None
 state_refusal w (Tick cpu now) = None

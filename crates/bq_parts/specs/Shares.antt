@@ -31,13 +31,13 @@ remarked d p = record p { running = marked d p.running }
 
 -- the lobby admits a task
 abbrev pub Admits : ℕ → Task → List LobbyEntry → Result Reply Refusal → List LobbyEntry → Type 0
-Admits id t seats (Ok r) seats' = (is_absent (slice_index_or seats id Absent) ≡ true) × (r ≡ Admitted) × (seats' ≡ slice_set seats id (Blocked t))
-Admits id t seats (Err e) seats' = (is_absent (slice_index_or seats id Absent) ≡ false) × (e ≡ no.TaskExists) × (seats' ≡ seats)
+Admits id t lobby (Ok r) lobby' = (is_absent (slice_index_or lobby id Absent) ≡ true) × (r ≡ Admitted) × (lobby' ≡ slice_set lobby id (Blocked t))
+Admits id t lobby (Err e) lobby' = (is_absent (slice_index_or lobby id Absent) ≡ false) × (e ≡ no.TaskExists) × (lobby' ≡ lobby)
 
 -- a sleeping task leaves the lobby for good
 abbrev pub Retires : ℕ → List LobbyEntry → Result Reply Refusal → List LobbyEntry → Type 0
-Retires id seats (Ok r) seats' = (retire_refusal (slice_index_or seats id Absent) ≡ None) × (r ≡ Retired) × (seats' ≡ slice_set seats id Absent)
-Retires id seats (Err e) seats' = (retire_refusal (slice_index_or seats id Absent) ≡ Some e) × (seats' ≡ seats)
+Retires id lobby (Ok r) lobby' = (retire_refusal (slice_index_or lobby id Absent) ≡ None) × (r ≡ Retired) × (lobby' ≡ slice_set lobby id Absent)
+Retires id lobby (Err e) lobby' = (retire_refusal (slice_index_or lobby id Absent) ≡ Some e) × (lobby' ≡ lobby)
 
 -- it is decided who runs
 abbrev pub Decides : Regime → ℕ → Processor → Decision → Processor → Type 0
@@ -59,19 +59,19 @@ Drains s cpu now p tasks calls r q =
 
 -- the running task goes to the lobby
 abbrev pub Blocks : Discipline → ℕ → ℕ → Processor → List LobbyEntry → Result Reply Refusal → Processor → List LobbyEntry → Type 0
-Blocks d cpu now p seats (Ok r) q seats' =
+Blocks d cpu now p lobby (Ok r) q lobby' =
     (t : Task)
     × (let c = after_time d now p in
     (c.running.current ≡ Some t) × (q ≡ record c { running = after_leaving d c.running })
-    × (r ≡ Went t.id (id_of q.running.current)) × (seats' ≡ slice_set seats t.id (Blocked (as_it_leaves c.running cpu t))))
-Blocks d cpu now p seats (Err e) q seats' = (p.running.current ≡ None) × (e ≡ no.Idle) × (q ≡ p) × (seats' ≡ seats)
+    × (r ≡ Went t.id (id_of q.running.current)) × (lobby' ≡ slice_set lobby t.id (Blocked (as_it_leaves c.running cpu t))))
+Blocks d cpu now p lobby (Err e) q lobby' = (p.running.current ≡ None) × (e ≡ no.Idle) × (q ≡ p) × (lobby' ≡ lobby)
 
 -- a task of the lobby comes into the hand, with these loads
 abbrev pub Begins : ℕ → List ℕ → Processor → List LobbyEntry → Result Reply Refusal → Processor → List LobbyEntry → Type 0
-Begins id loads p seats (Ok r) q seats' =
-    (t : Task) × (begin_refusal (slice_index_or seats id Absent) p.hand ≡ None) × (slice_index_or seats id Absent ≡ Blocked t) × (r ≡ Begun id loads)
-    × (q ≡ record p { hand = Some (record { task = t; loads = loads }) }) × (seats' ≡ slice_set seats id Away)
-Begins id loads p seats (Err e) q seats' = (begin_refusal (slice_index_or seats id Absent) p.hand ≡ Some e) × (q ≡ p) × (seats' ≡ seats)
+Begins id loads p lobby (Ok r) q lobby' =
+    (t : Task) × (begin_refusal (slice_index_or lobby id Absent) p.hand ≡ None) × (slice_index_or lobby id Absent ≡ Blocked t) × (r ≡ Begun id loads)
+    × (q ≡ record p { hand = Some (record { task = t; loads = loads }) }) × (lobby' ≡ slice_set lobby id Away)
+Begins id loads p lobby (Err e) q lobby' = (begin_refusal (slice_index_or lobby id Absent) p.hand ≡ Some e) × (q ≡ p) × (lobby' ≡ lobby)
 
 -- the task in the hand is given for the processor that is chosen among so many
 abbrev pub Places : Regime → ℕ → ℕ → ℕ → Processor → List Asked → Option Placement → Processor → Type 0

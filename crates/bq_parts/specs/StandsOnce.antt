@@ -11,7 +11,7 @@ use Rattle.bq_policies.specs.Standing.{AreReady}
 use Rattle.bq_parts.specs.declared.carried.Carried.{Carried}
 use Rattle.bq_parts.specs.declared.lobby_entry.LobbyEntry.TheVariants.{Blocked}
 use Rattle.bq_parts.specs.Processors.{Processor, held_by, count_of}
-use Rattle.bq_parts.specs.World.{World, processor, inbox, seat, count_in}
+use Rattle.bq_parts.specs.World.{World, processor, inbox, entry, count_in}
 use Rattle.bq_parts.specs.Refusals.{is_away}
 
 -- how often an id stands in hands, currents and queues
@@ -34,15 +34,15 @@ runnable_at w cpu = present_at (processor w cpu).running ++ inbox w cpu
 -- every task that is away from the lobby stands with the processors just once
 pub record StandsOnce (w : World) : Type 0 where
   -- an id that is away stands once with the processors, and no other id does
-  pub away : (id : ℕ) → standing_count id w ≡ as_number (is_away (seat w id))
+  pub away : (id : ℕ) → standing_count id w ≡ as_number (is_away (entry w id))
   -- a task of the lobby stands at its own id
-  pub blocked : (id : ℕ) (t : Task) → seat w id ≡ Blocked t → t.id ≡ id
+  pub blocked : (id : ℕ) (t : Task) → entry w id ≡ Blocked t → t.id ≡ id
   -- each runnable task is on a processor of its mask
   pub allowed : (cpu : ℕ) → All (λ t. can_use cpu t ≡ true) (runnable_at w cpu)
 
 -- every admitted task has a processor that it may use, wherever it stands
 pub record HasPlaces (w : World) : Type 0 where
-  pub in_lobby : (id : ℕ) (t : Task) → seat w id ≡ Blocked t → HasPlace (count_in w) t
+  pub in_lobby : (id : ℕ) (t : Task) → entry w id ≡ Blocked t → HasPlace (count_in w) t
   pub in_hand : (cpu : ℕ) (c : Carried) → (processor w cpu).hand ≡ Some c → HasPlace (count_in w) c.task
   pub runnable : (cpu : ℕ) → All (HasPlace (count_in w)) (runnable_at w cpu)
 

@@ -1,5 +1,5 @@
 -- The step that each event makes in the world: what it is replied, and what its share leaves of the parts that it touches.
-use Rattle.std.specs.Prelude.{◌≡◌, ◌+◌, ◌-◌, ◌^◌, ◌⊎◌, min, List, [], ◌∷◌, ◌++◌, Some, None, Result, Ok, Err}
+use Rattle.std.specs.Prelude.{◌≡◌, ◌+◌, ◌-◌, ◌^◌, ◌⊎◌, true, min, List, [], ◌∷◌, ◌++◌, Some, None, is_some, Result, Ok, Err}
 use Rattle.bq_bpf.specs.declared.board.Call.{Call as Asked}
 use Rattle.bq_bpf.specs.Counters.{Through}
 use Rattle.bq_policies.specs.Answers.{fresh_maps}
@@ -12,7 +12,7 @@ use Rattle.bq_parts.specs.declared.refusal.Refusal.{Refusal}
 use Rattle.bq_parts.specs.declared.refusal.Refusal.TheVariants as no
 use Rattle.bq_parts.specs.declared.wakes.Placement.{Placement}
 use Rattle.bq_parts.specs.Processors.{Processor}
-use Rattle.bq_parts.specs.World.{World, processor, inbox, count_in, with_processor, with_inbox, with_seats, loads_of}
+use Rattle.bq_parts.specs.World.{World, processor, inbox, count_in, with_processor, with_inbox, with_lobby, loads_of}
 use Rattle.bq_parts.specs.Refusals.{refusal, argument_refusal}
 use Rattle.bq_parts.specs.Moves.{admitted}
 use Rattle.bq_parts.specs.Choices.{Regime}
@@ -22,9 +22,9 @@ use Rattle.bq_parts.specs.Shares.{Admits, Retires, Ticks, Drains, Blocks, Begins
 abbrev pub Performs : Regime → World → Event → List Asked → Reply → World → Type 0
 -- the task stands in the lobby
 Performs s w (Admit id nice mask slice) calls r w' =
-    (seats : List LobbyEntry) × Admits id (admitted (count_in w) id nice mask slice) w.seats (Ok r) seats × (calls ≡ []) × (w' ≡ with_seats w seats)
+    (lobby : List LobbyEntry) × Admits id (admitted (count_in w) id nice mask slice) w.lobby (Ok r) lobby × (calls ≡ []) × (w' ≡ with_lobby w lobby)
 -- it leaves the lobby for good
-Performs s w (Retire id) calls r w' = (seats : List LobbyEntry) × Retires id w.seats (Ok r) seats × (calls ≡ []) × (w' ≡ with_seats w seats)
+Performs s w (Retire id) calls r w' = (lobby : List LobbyEntry) × Retires id w.lobby (Ok r) lobby × (calls ≡ []) × (w' ≡ with_lobby w lobby)
 -- the next number is drawn, and the greatest again and again
 Performs s w Draw calls r w' = let n = min (w.drawn + 1) (2 ^ 64 - 1) in (r ≡ Drawn n) × (calls ≡ []) × (w' ≡ record w { drawn = n })
 -- a policy or none stands at the hook, with maps of its own
@@ -33,8 +33,8 @@ Performs s w (Install cpu h g policy) calls r w' =
     × (calls ≡ []) × (w' ≡ with_processor w cpu q)
 -- the task goes from the lobby to the hand, with all loads of that moment
 Performs s w (BeginWake cpu id) calls r w' =
-    (q : Processor) × (seats : List LobbyEntry) × Begins id (loads_of w.processors w.inboxes) (processor w cpu) w.seats (Ok r) q seats
-    × (calls ≡ []) × (w' ≡ with_seats (with_processor w cpu q) seats)
+    (q : Processor) × (lobby : List LobbyEntry) × Begins id (loads_of w.processors w.inboxes) (processor w cpu) w.lobby (Ok r) q lobby
+    × (calls ≡ []) × (w' ≡ with_lobby (with_processor w cpu q) lobby)
 -- the task goes from the hand to the end of the chosen processor's inbox
 Performs s w (EndWake cpu now) calls r w' =
     (x : Placement) × (q : Processor) × Places s (count_in w) cpu now (processor w cpu) calls (Some x) q
@@ -45,17 +45,17 @@ Performs s w (Drain cpu now) calls r w' =
 Performs s w (Tick cpu now) calls r w' = (q : Processor) × Ticks s cpu now (processor w cpu) calls r q × (w' ≡ with_processor w cpu q)
 -- the current task goes to the lobby, and the queue's choice runs
 Performs s w (Block cpu now) calls r w' =
-    (q : Processor) × (seats : List LobbyEntry) × Blocks s.discipline cpu now (processor w cpu) w.seats (Ok r) q seats
-    × (calls ≡ []) × (w' ≡ with_seats (with_processor w cpu q) seats)
+    (q : Processor) × (lobby : List LobbyEntry) × Blocks s.discipline cpu now (processor w cpu) w.lobby (Ok r) q lobby
+    × (calls ≡ []) × (w' ≡ with_lobby (with_processor w cpu q) lobby)
 -- a task of the other processor's queue enters this one's; where nothing runs, the choice does
 Performs s w (Pull cpu from now) calls r w' =
     (q : Processor) × (other : Processor) × Pulls s cpu from now (processor w cpu) (processor w from) calls r q other
     × (w' ≡ with_processor (with_processor w cpu q) from other)
 
--- the events that ask for memory
+-- the events that ask for memory: a task is admitted, or a policy installed
 abbrev pub TakesMemory : Event → Type 0
 TakesMemory (Admit id nice mask slice) = Unit {0}
-TakesMemory (Install cpu h g policy) = Unit {0}
+TakesMemory (Install cpu h g policy) = is_some policy ≡ true
 TakesMemory e = ⊥
 
 -- What an event does. A refusal leaves the world as it was, and so does want of memory, which Admit and Install alone may

@@ -5,17 +5,17 @@ use Rattle.bq_parts.specs.declared.lobby_entry.LobbyEntry.{LobbyEntry}
 use Rattle.bq_parts.specs.declared.lobby_entry.LobbyEntry.TheVariants.{Absent}
 use Rattle.bq_parts.specs.Processors.{Processor, opening, load_of}
 
--- the processors; the inbox of each, in the order in which tasks came; the lobby's seat of each id; and how many numbers
--- were drawn. An absent seat is not admitted; a seat that is away is admitted, and its task is with some processor
+-- the processors; the inbox of each, in the order in which tasks came; the lobby's entry of each id; and how many numbers
+-- were drawn. An absent entry is not admitted; an entry that is away is admitted, and its task is with some processor
 pub record World : Type 0 where
   pub processors : List Processor
   pub inboxes : List (List Task)
-  pub seats : List LobbyEntry
+  pub lobby : List LobbyEntry
   pub drawn : ℕ
 
 -- nothing is admitted, drawn or installed
 abbrev pub opening_world : ℕ → World
-opening_world count = record { processors = replicate count opening; inboxes = replicate count []; seats = replicate 1024 Absent; drawn = 0 }
+opening_world count = record { processors = replicate count opening; inboxes = replicate count []; lobby = replicate 1024 Absent; drawn = 0 }
 
 abbrev pub count_in : World → ℕ
 count_in w = length w.processors
@@ -26,8 +26,8 @@ processor w cpu = slice_index_or w.processors cpu opening
 abbrev pub inbox : World → ℕ → List Task
 inbox w cpu = slice_index_or w.inboxes cpu []
 
-abbrev pub seat : World → ℕ → LobbyEntry
-seat w id = slice_index_or w.seats id Absent
+abbrev pub entry : World → ℕ → LobbyEntry
+entry w id = slice_index_or w.lobby id Absent
 
 abbrev pub with_processor : World → ℕ → Processor → World
 with_processor w cpu p = record w { processors = slice_set w.processors cpu p }
@@ -35,8 +35,8 @@ with_processor w cpu p = record w { processors = slice_set w.processors cpu p }
 abbrev pub with_inbox : World → ℕ → List Task → World
 with_inbox w cpu tasks = record w { inboxes = slice_set w.inboxes cpu tasks }
 
-abbrev pub with_seats : World → List LobbyEntry → World
-with_seats w seats = record w { seats = seats }
+abbrev pub with_lobby : World → List LobbyEntry → World
+with_lobby w lobby = record w { lobby = lobby }
 
 -- the load of each processor
 abbrev pub loads_of : List Processor → List (List Task) → List ℕ

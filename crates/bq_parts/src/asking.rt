@@ -11,26 +11,26 @@ ghost use Rattle.bq_hooks.specs.Settled.{settled};
 ghost use Rattle.bq_disc.specs.Movable.{movable_to};
 ghost use Rattle.bq_disc.specs.Queues.{HasDistinctIds};
 ghost use Rattle.bq_disc.specs.OneProcessor.{present_at};
-ghost use Rattle.bq_parts.specs.Processors.{HasEachOnce, HasSeatedIds, size_of};
+ghost use Rattle.bq_parts.specs.Processors.{HasEachOnce, HasLobbyIds, size_of};
 ghost use Rattle.bq_parts.specs.Choices.{policies, place_bytes, SettlesPlace, SettlesPreempt, decided_by};
 
-use crate::{By, Carried, Cpu, Hook, Outcome, Scratch};
+use crate::{By, Carried, Cpu, Decision, Hook, Scratch};
 use bq_bpf::Board;
 use bq_disc::RunQueue;
-use bq_hooks::place::{Place, place_ctx, wide_place_ctx};
-use bq_hooks::preempt::{Preempt, preempt_ctx};
-use bq_hooks::pull::{Pull, pull_ctx};
+use bq_hooks::place::{PLACE_LENGTH, Place, WIDE_PLACE_LENGTH, place_ctx, wide_place_ctx};
+use bq_hooks::preempt::{PREEMPT_LENGTH, Preempt, preempt_ctx};
+use bq_hooks::pull::{PULL_LENGTH, Pull, pull_ctx};
 use bq_hooks::{Choice, own_place, settle_place, settle_preempt, settle_pull};
 use bq_interp::{Done, Env};
 use bq_policies::Version;
 
-impl<T> Outcome<T> {
+impl<T> Decision<T> {
     /// What the discipline chose where no policy was asked.
     #[inline(always)]
-    pub(crate) fn unasked(choice: T) -> Outcome<T>
+    pub(crate) fn unasked(choice: T) -> Decision<T>
         ensures { result ≡ record { choice = choice; by = By.Discipline; steps = 0 } }
     {
-        Outcome {
+        Decision {
             choice,
             by: By::Discipline,
             steps: 0,
@@ -39,10 +39,10 @@ impl<T> Outcome<T> {
 
     /// What was chosen after a policy took so many steps.
     #[inline(always)]
-    pub(crate) fn after(chosen: Choice<T>, steps: u32) -> Outcome<T>
+    pub(crate) fn after(chosen: Choice<T>, steps: u32) -> Decision<T>
         ensures { result ≡ record { choice = chosen.value; by = chosen.by; steps = steps } }
     {
-        Outcome {
+        Decision {
             choice: chosen.value,
             by: chosen.by,
             steps,
@@ -70,7 +70,7 @@ impl<Q: RunQueue> Cpu<Q> {
         carried: &Carried,
         scratch: &mut Scratch,
         board: &mut B,
-    ) -> Outcome<u8>
+    ) -> Decision<u8>
         requires few { count ≤ 64 }
         requires usable { HasPlace count carried.now.task }
         requires unasked { scratch.old ≡ [] }
@@ -81,7 +81,7 @@ impl<Q: RunQueue> Cpu<Q> {
         let task = &carried.task.node().entity;
         let own = own_place(count, &carried.loads, task);
         let Some(version) = self.hooks.version(Hook::Place) else {
-            return Outcome::unasked(own);
+            return Decision::unasked(own);
         };
         let facts = Place {
             task,
@@ -91,7 +91,7 @@ impl<Q: RunQueue> Cpu<Q> {
             loads: &carried.loads,
         };
         let done = self.ask_place(processor, version, &facts, scratch, board);
-        Outcome::after(settle_place(Some(done.r0), count, task, own), done.steps)
+        Decision::after(settle_place(Some(done.r0), count, task, own), done.steps)
     }
 
     /// What the place policy, whose image has that version, answers to these facts.
@@ -113,12 +113,12 @@ impl<Q: RunQueue> Cpu<Q> {
         let env = self.env(processor);
         match version {
             Version::First => {
-                let mut context = [0; 104];
+                let mut context = [0; PLACE_LENGTH];
                 place_ctx(facts, &mut context);
                 self.hooks.ask(Hook::Place, &context, env, scratch, board)
             }
             Version::Second => {
-                let mut context = [0; 296];
+                let mut context = [0; WIDE_PLACE_LENGTH];
                 wide_place_ctx(facts, &mut context);
                 self.hooks.ask(Hook::Place, &context, env, scratch, board)
             }
@@ -131,7 +131,7 @@ impl<Q: RunQueue> Cpu<Q> {
         processor: u8,
         scratch: &mut Scratch,
         board: &mut B,
-    ) -> Outcome<bool>
+    ) -> Decision<bool>
         requires distinct { HasDistinctIds self.old.running.queue }
         requires few { length self.old.running.queue < 2 ^ 32 }
         requires unasked { scratch.old ≡ [] }
@@ -140,11 +140,11 @@ impl<Q: RunQueue> Cpu<Q> {
         ensures board { Through B.leads board.old scratch.new board.new }
     {
         let Some(current) = &self.current else {
-            return Outcome::unasked(false);
+            return Decision::unasked(false);
         };
         let own = self.queue.wants_preempt(current.node());
         let Some(_) = self.hooks.version(Hook::Preempt) else {
-            return Outcome::unasked(own);
+            return Decision::unasked(own);
         };
         let facts = Preempt {
             processor,
@@ -152,14 +152,14 @@ impl<Q: RunQueue> Cpu<Q> {
             current: &current.node().entity,
             own,
         };
-        let mut context = [0; 56];
+        let mut context = [0; PREEMPT_LENGTH];
         preempt_ctx(&facts, &mut context);
         let env = Env {
             now: self.last,
             processor: u32::from(processor),
         };
         let done = self.hooks.ask(Hook::Preempt, &context, env, scratch, board);
-        Outcome::after(settle_preempt(Some(done.r0), own), done.steps)
+        Decision::after(settle_preempt(Some(done.r0), own), done.steps)
     }
 
     /// It is decided who runs. Where nothing runs the queue's choice does, unasked.
@@ -168,9 +168,9 @@ impl<Q: RunQueue> Cpu<Q> {
         processor: u8,
         scratch: &mut Scratch,
         board: &mut B,
-    ) -> Outcome<bool>
+    ) -> Decision<bool>
         requires once { HasEachOnce (present_at self.old.running) }
-        requires seated { HasSeatedIds (present_at self.old.running) }
+        requires ids { HasLobbyIds (present_at self.old.running) }
         requires unasked { scratch.old ≡ [] }
         ensures settled { SettlesPreempt (policies Q.R.discipline) processor self.old self.old.running.current (record { choice = as_number result.choice; by = result.by; steps = result.steps; calls = scratch.new; attached = self.new.hooks.preempt }) }
         ensures decided { self.new ≡ decided_by (policies Q.R.discipline) self.old (record { choice = as_number result.choice; by = result.by; steps = result.steps; calls = scratch.new; attached = self.new.hooks.preempt }) }
@@ -199,7 +199,7 @@ impl<Q: RunQueue> Cpu<Q> {
         source: u8,
         puller_size: u32,
         own: Option<u16>,
-        context: &mut [u8; 160],
+        context: &mut [u8; PULL_LENGTH],
     )
         requires inside { puller < 64 }
         requires few { size_of self.now < 2 ^ 32 }
@@ -221,7 +221,7 @@ impl<Q: RunQueue> Cpu<Q> {
     pub fn ask_pull<B: Board>(
         &mut self,
         processor: u8,
-        context: &[u8; 160],
+        context: &[u8; PULL_LENGTH],
         scratch: &mut Scratch,
         board: &mut B,
     ) -> Done

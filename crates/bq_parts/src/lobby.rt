@@ -8,10 +8,10 @@ use bq_disc::limits::TASKS;
 use std::alloc::{AllocError, Global};
 use std::marker::Model;
 
-/// The seat of each id. So a task is found by its id at once.
+/// The entry of each id. So a task is found by its id at once.
 #[derive(Drop)]
 pub struct Lobby {
-    seats: Vec<LobbyEntry>,
+    entries: Vec<LobbyEntry>,
 }
 
 impl Model for Lobby {
@@ -20,21 +20,21 @@ impl Model for Lobby {
 
     ghost Value = { List LobbyEntry };
 
-    ghost view = { λ l. l.seats.items };
+    ghost view = { λ l. l.entries.items };
 
-    ghost invariant = { λ l. length l.seats.items ≡ 1024 };
+    ghost invariant = { λ l. length l.entries.items ≡ 1024 };
 }
 
 impl Lobby {
-    /// Takes the memory for all seats.
+    /// Takes the memory for all entries.
     pub fn new(alloc: Global) -> Result<Lobby, AllocError>
         ensures { IfOk result (λ l. l ≡ replicate 1024 Absent) }
     {
-        let mut seats = Vec::with_capacity(alloc, usize::from(TASKS))?;
-        'seats: for _ in 0..usize::from(TASKS) {
-            seats.push(LobbyEntry::Absent)?;
+        let mut entries = Vec::with_capacity(alloc, usize::from(TASKS))?;
+        'entries: for _ in 0..usize::from(TASKS) {
+            entries.push(LobbyEntry::Absent)?;
         }
-        Ok(Lobby { seats })
+        Ok(Lobby { entries })
     }
 
     /// Whether an id is not admitted.
@@ -42,7 +42,7 @@ impl Lobby {
         requires { id < 1024 }
         ensures { result ≡ is_absent (slice_index_or self.now id Absent) }
     {
-        matches!(self.seats[usize::from(id)], LobbyEntry::Absent)
+        matches!(self.entries[usize::from(id)], LobbyEntry::Absent)
     }
 
     /// Whether the task of an id is with a processor.
@@ -50,34 +50,34 @@ impl Lobby {
         requires { id < 1024 }
         ensures { result ≡ is_away (slice_index_or self.now id Absent) }
     {
-        matches!(self.seats[usize::from(id)], LobbyEntry::Away)
+        matches!(self.entries[usize::from(id)], LobbyEntry::Away)
     }
 
-    /// A task comes to a seat.
-    pub fn seat(&mut self, id: u16, task: Unlinked)
+    /// A task comes into the lobby.
+    pub fn enter(&mut self, id: u16, task: Unlinked)
         requires { id < 1024 }
         ensures { self.new ≡ slice_set self.old id (Blocked task) }
     {
-        self.seats[usize::from(id)] = LobbyEntry::Blocked(task);
+        self.entries[usize::from(id)] = LobbyEntry::Blocked(task);
     }
 
-    /// A seat is given up for good.
+    /// An entry is given up for good.
     pub fn clear(&mut self, id: u16)
         requires { id < 1024 }
         ensures { self.new ≡ slice_set self.old id Absent }
     {
-        self.seats[usize::from(id)] = LobbyEntry::Absent;
+        self.entries[usize::from(id)] = LobbyEntry::Absent;
     }
 
-    /// The sleeping task of a seat goes to a processor.
+    /// The sleeping task of an entry goes to a processor.
     pub fn send(&mut self, id: u16) -> Unlinked
-        requires seat { id < 1024 }
+        requires below { id < 1024 }
         requires there { is_absent (slice_index_or self.old id Absent) ≡ false }
         requires here { is_away (slice_index_or self.old id Absent) ≡ false }
         ensures task { slice_index_or self.old id Absent ≡ Blocked result }
-        ensures seats { self.new ≡ slice_set self.old id Away }
+        ensures lobby { self.new ≡ slice_set self.old id Away }
     {
-        match std::mem::replace(&mut self.seats[usize::from(id)], LobbyEntry::Away) {
+        match std::mem::replace(&mut self.entries[usize::from(id)], LobbyEntry::Away) {
             LobbyEntry::Blocked(task) => task,
             LobbyEntry::Absent | LobbyEntry::Away => unreachable!(),
         }

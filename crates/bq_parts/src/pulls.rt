@@ -5,14 +5,15 @@ ghost use Rattle.bq_disc.specs.Tasks.{id_of, with_id};
 ghost use Rattle.bq_disc.specs.OneProcessor.{present_at};
 ghost use Rattle.bq_bpf.specs.Counters.{Through};
 ghost use Rattle.bq_hooks.specs.Permitted.{task_numbered};
-ghost use Rattle.bq_parts.specs.Processors.{HasEachOnce, HasSeatedIds, size_of};
+ghost use Rattle.bq_parts.specs.Processors.{HasEachOnce, HasLobbyIds, size_of};
 ghost use Rattle.bq_parts.specs.Choices.{policies, SettlesPull};
 ghost use Rattle.bq_parts.specs.Moves.{taken_from, without_task, with_pulled, started_if_idle};
 ghost use Rattle.bq_parts.specs.Shares.{Pulls};
 
-use crate::{Cpu, Outcome, Reply, Scratch};
+use crate::{Cpu, Decision, Reply, Scratch};
 use bq_bpf::Board;
 use bq_disc::RunQueue;
+use bq_hooks::PULL_LENGTH;
 
 impl<Q: RunQueue> Cpu<Q> {
     /// The processor takes a task from the queue of another: the one that its policy names, where that is permitted, and else
@@ -28,7 +29,7 @@ impl<Q: RunQueue> Cpu<Q> {
     ) -> Reply
         requires inside { processor < 64 }
         requires once { HasEachOnce (present_at self.old.running ++ present_at source.old.running) }
-        requires seated { HasSeatedIds (present_at self.old.running ++ present_at source.old.running) }
+        requires ids { HasLobbyIds (present_at self.old.running ++ present_at source.old.running) }
         requires unasked { scratch.old ≡ [] }
         ensures share { Pulls (policies Q.R.discipline) processor from now self.old source.old scratch.new result self.new source.new }
         ensures board { Through B.leads board.old scratch.new board.new }
@@ -53,7 +54,7 @@ impl<Q: RunQueue> Cpu<Q> {
         from: u8,
         scratch: &mut Scratch,
         board: &mut B,
-    ) -> Outcome<Option<u16>>
+    ) -> Decision<Option<u16>>
         requires inside { processor < 64 }
         requires few { size_of self.old ≤ 1024 }
         requires few_from { size_of source.now ≤ 1024 }
@@ -66,13 +67,13 @@ impl<Q: RunQueue> Cpu<Q> {
         let size = self.size();
         let own = source.own_pull(processor, size);
         if !self.asks_pull() {
-            return Outcome::after(source.settle_pull(None, processor, own), 0);
+            return Decision::after(source.settle_pull(None, processor, own), 0);
         }
-        let mut context = [0; 160];
+        let mut context = [0; PULL_LENGTH];
         source.pull_context(processor, from, size as u32, own, &mut context);
         let done = self.ask_pull(processor, &context, scratch, board);
         let chosen = source.settle_pull(Some(done.r0), processor, own);
-        Outcome::after(chosen, done.steps)
+        Decision::after(chosen, done.steps)
     }
 
     /// A task of the other's queue, if any, comes here; where nothing runs here, the choice does. Answers who runs here.

@@ -2,7 +2,7 @@
 ghost use Rattle.std.specs.Prelude.{◌≡◌, ◌≤◌, ◌<◌, ◌++◌, [], None, IfOk};
 ghost use Rattle.bq_bpf.specs.Counters.{Through};
 ghost use Rattle.bq_disc.specs.OneProcessor.{present_at};
-ghost use Rattle.bq_parts.specs.Processors.{HasEachOnce, HasSeatedIds};
+ghost use Rattle.bq_parts.specs.Processors.{HasEachOnce, HasLobbyIds};
 ghost use Rattle.bq_parts.specs.Refusals.{argument_refusal};
 ghost use Rattle.bq_parts.specs.Choices.{policies};
 ghost use Rattle.bq_parts.specs.Moves.{admitted};
@@ -36,19 +36,19 @@ pub fn new_task(
 impl Lobby {
     /// A new task stands in the lobby.
     pub fn admit(&mut self, id: u16, task: Unlinked) -> Result<Reply, Refusal>
-        requires seat { id < 1024 }
+        requires below { id < 1024 }
         ensures share { Admits id task self.old result self.new }
     {
         if !self.is_absent(id) {
             return Err(Refusal::TaskExists);
         }
-        self.seat(id, task);
+        self.enter(id, task);
         Ok(Reply::Admitted)
     }
 
     /// A sleeping task leaves the lobby for good.
     pub fn retire(&mut self, id: u16) -> Result<Reply, Refusal>
-        requires seat { id < 1024 }
+        requires below { id < 1024 }
         ensures share { Retires id self.old result self.new }
     {
         if self.is_absent(id) {
@@ -72,7 +72,7 @@ impl<Q: RunQueue> Cpu<Q> {
         board: &mut B,
     ) -> Reply
         requires once { HasEachOnce (present_at self.old.running) }
-        requires seated { HasSeatedIds (present_at self.old.running) }
+        requires ids { HasLobbyIds (present_at self.old.running) }
         requires unasked { scratch.old ≡ [] }
         ensures share { Ticks (policies Q.R.discipline) processor now self.old scratch.new result self.new }
         ensures board { Through B.leads board.old scratch.new board.new }
@@ -96,7 +96,7 @@ impl<Q: RunQueue> Cpu<Q> {
         board: &mut B,
     ) -> Reply
         requires once { HasEachOnce (present_at self.old.running ++ inbox.old) }
-        requires seated { HasSeatedIds (present_at self.old.running ++ inbox.old) }
+        requires ids { HasLobbyIds (present_at self.old.running ++ inbox.old) }
         requires unasked { scratch.old ≡ [] }
         ensures share { Drains (policies Q.R.discipline) processor now self.old inbox.old scratch.new result self.new }
         ensures emptied { inbox.new ≡ [] }
@@ -117,7 +117,7 @@ impl<Q: RunQueue> Cpu<Q> {
 
     /// Its running task goes to the lobby.
     pub fn block(&mut self, lobby: &mut Lobby, processor: u8, now: u64) -> Result<Reply, Refusal>
-        requires { HasSeatedIds (present_at self.old.running) }
+        requires { HasLobbyIds (present_at self.old.running) }
         ensures share { Blocks Q.R.discipline processor now self.old lobby.old result self.new lobby.new }
     {
         if self.current().is_none() {
@@ -130,7 +130,7 @@ impl<Q: RunQueue> Cpu<Q> {
         self.start();
         let run = self.run();
         let id = task.id();
-        lobby.seat(id, task);
+        lobby.enter(id, task);
         Ok(Reply::Blocked { task: id, run })
     }
 }

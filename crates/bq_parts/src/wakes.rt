@@ -27,7 +27,7 @@ impl<Q: RunQueue> Cpu<Q> {
         task: u16,
         loads: &Loads,
     ) -> Result<Reply, Refusal>
-        requires seat { task < 1024 }
+        requires below { task < 1024 }
         ensures share { Begins task loads.now self.old lobby.old result self.new lobby.new }
     {
         self.begin_with(lobby, task, loads.copy())
@@ -40,7 +40,7 @@ impl<Q: RunQueue> Cpu<Q> {
         task: u16,
         loads: Loads,
     ) -> Result<Reply, Refusal>
-        requires seat { task < 1024 }
+        requires below { task < 1024 }
         ensures share { Begins task loads self.old lobby.old result self.new lobby.new }
     {
         if lobby.is_absent(task) {

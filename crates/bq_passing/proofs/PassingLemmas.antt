@@ -66,9 +66,9 @@ tick_share_leaves d p q cpu now calls run steps h =
     let by : h.0.by ≡ who.Discipline = let it = h.3 in cc in
     ap (λ (x : Processor). x.running) h.1.1 ∙ own_decision (policies d) cpu c c.running.current h.0 h.1.0 by
 
-block_share_leaves : (d : Discipline) (p q : Processor) (cpu now : ℕ) (seats seats' : List LobbyEntry) (reply : Reply) →
-    Blocks d cpu now p seats (Ok reply) q seats' → q.running ≡ after_block d p.running now
-block_share_leaves d p q cpu now seats seats' reply h = ap (λ (x : Processor). x.running) h.1.1
+block_share_leaves : (d : Discipline) (p q : Processor) (cpu now : ℕ) (lobby lobby' : List LobbyEntry) (reply : Reply) →
+    Blocks d cpu now p lobby (Ok reply) q lobby' → q.running ≡ after_block d p.running now
+block_share_leaves d p q cpu now lobby lobby' reply h = ap (λ (x : Processor). x.running) h.1.1
 
 -- Of the world
 
@@ -93,7 +93,7 @@ block_leaves : (d : Discipline) (w w' : World) (cpu now : ℕ) (calls : List Ask
     WorldStep (policies d) w (Block cpu now) calls (Ok (Went task run)) w' → (processor w' cpu).running ≡ after_block d (processor w cpu).running now
 block_leaves d w w' cpu now calls task run h =
     let k = h.1 in
-    ap (λ (x : Processor). x.running) (written w w' _ cpu k.0 _ h.0 k.4 refl) ∙ block_share_leaves d (processor w cpu) k.0 cpu now w.seats k.1 (Went task run) k.2
+    ap (λ (x : Processor). x.running) (written w w' _ cpu k.0 _ h.0 k.4 refl) ∙ block_share_leaves d (processor w cpu) k.0 cpu now w.lobby k.1 (Went task run) k.2
 
 -- under any discipline
 pub discipline_passes : DisciplinePasses
@@ -118,7 +118,7 @@ blocked : (w w' : World) (cpu now : ℕ) (calls : List Asked) (answer : Result R
 blocked w w' cpu now calls (Ok r) l h =
     let p = (processor w cpu).running in
     let k = h.1 in
-    let left = ap (λ (x : Processor). x.running) (written w w' _ cpu k.0 _ h.0 k.4 refl) ∙ block_share_leaves cfs (processor w cpu) k.0 cpu now w.seats k.1 r k.2 in
+    let left = ap (λ (x : Processor). x.running) (written w w' _ cpu k.0 _ h.0 k.4 refl) ∙ block_share_leaves cfs (processor w cpu) k.0 cpu now w.lobby k.1 r k.2 in
     left ∙ sym (departs p now p.current k.2.0 _ k.2.1.0)
 blocked w w' cpu now calls (Err r) l h =
     let p = (processor w cpu).running in

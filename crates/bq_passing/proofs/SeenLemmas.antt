@@ -88,9 +88,9 @@ drain_seen d at cpu now p q tasks calls r h alone same =
     let e = record c { running = enter_all d c.running tasks } in
     ap (λ (x : Processor). x.running) h.1.1 ∙ own_decision (policies d) cpu e e.running.current settled h.1.0 own ∙ events_are_steps.drain d p.running now tasks
 
-block_seen : (d : Discipline) (w : World) (cpu now : ℕ) (q : Processor) (seats : List LobbyEntry) (r : Reply) → IsOrderly w → Blocks d cpu now (processor w cpu) w.seats (Ok r) q seats →
+block_seen : (d : Discipline) (w : World) (cpu now : ℕ) (q : Processor) (lobby : List LobbyEntry) (r : Reply) → IsOrderly w → Blocks d cpu now (processor w cpu) w.lobby (Ok r) q lobby →
     q.running ≡ after d (running_at w cpu) (own_steps d w (Block cpu now) r)
-block_seen d w cpu now q seats r o h =
+block_seen d w cpu now q lobby r o h =
     let t : Task = h.0 in
     subst (λ x. q.running ≡ after d (running_at w cpu) (own_steps d w (Block cpu now) x)) (sym h.1.2)
     (ap (λ (x : Processor). x.running) h.1.1 ∙ events_are_steps.block d (running_at w cpu) now t (distinct_at w cpu o) h.1.0)

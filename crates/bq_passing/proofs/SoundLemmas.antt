@@ -19,7 +19,7 @@ use Rattle.bq_parts.specs.declared.reply.Reply.{Reply}
 use Rattle.bq_parts.specs.declared.refusal.Refusal.TheVariants as no
 use Rattle.bq_parts.specs.Processors.{Processor, opening}
 use Rattle.bq_parts.specs.Refusals.{refusal, argument_refusal}
-use Rattle.bq_parts.specs.World.{World, opening_world, processor, inbox, seat, count_in, with_processor, with_inbox, with_seats}
+use Rattle.bq_parts.specs.World.{World, opening_world, processor, inbox, entry, count_in, with_processor, with_inbox, with_lobby}
 use Rattle.bq_parts.specs.Choices.{Regime, Decision}
 use Rattle.bq_parts.specs.Moves.{taken_from, without_task, with_pulled, started_if_idle, admitted}
 use Rattle.bq_parts.specs.Shares.{Decides, after_time, remarked}
@@ -150,7 +150,7 @@ pub record IsSoundWorld (P : Task → Type 0) (w : World) : Type 0 where
   pub running : (cpu : ℕ) → Holds P (processor w cpu).running
   pub hand : (cpu : ℕ) (c : Carried) → (processor w cpu).hand ≡ Some c → HasWeight c.task
   pub placed : (cpu : ℕ) → Each HasWeight (inbox w cpu)
-  pub lobby : (id : ℕ) (t : Task) → seat w id ≡ Blocked t → HasWeight t
+  pub lobby : (id : ℕ) (t : Task) → entry w id ≡ Blocked t → HasWeight t
 
 abbrev HandIsSound : Processor → Type 0
 HandIsSound q = (c : Carried) → q.hand ≡ Some c → HasWeight c.task
@@ -167,17 +167,17 @@ sound_inbox : (P : Task → Type 0) (w : World) (cpu : ℕ) (tasks : List Task) 
 sound_inbox P w cpu tasks s h =
     record { running = s.running; hand = s.hand; placed = at_set (λ n (ts : List Task). Each HasWeight ts) w.inboxes cpu tasks [] h s.placed; lobby = s.lobby }
 
-abbrev SeatIsSound : LobbyEntry → Type 0
-SeatIsSound x = (t : Task) → x ≡ Blocked t → HasWeight t
+abbrev EntryIsSound : LobbyEntry → Type 0
+EntryIsSound x = (t : Task) → x ≡ Blocked t → HasWeight t
 
-sound_seat : (P : Task → Type 0) (w : World) (id : ℕ) (x : LobbyEntry) → IsSoundWorld P w → SeatIsSound x → IsSoundWorld P (with_seats w (set w.seats id x))
-sound_seat P w id x s h =
-    record { running = s.running; hand = s.hand; placed = s.placed; lobby = at_set (λ n (y : LobbyEntry). SeatIsSound y) w.seats id x Absent h s.lobby }
+sound_entry : (P : Task → Type 0) (w : World) (id : ℕ) (x : LobbyEntry) → IsSoundWorld P w → EntryIsSound x → IsSoundWorld P (with_lobby w (set w.lobby id x))
+sound_entry P w id x s h =
+    record { running = s.running; hand = s.hand; placed = s.placed; lobby = at_set (λ n (y : LobbyEntry). EntryIsSound y) w.lobby id x Absent h s.lobby }
 
 sound_drawn : (P : Task → Type 0) (w : World) (n : ℕ) → IsSoundWorld P w → IsSoundWorld P (record w { drawn = n })
 sound_drawn P w n s = record { running = s.running; hand = s.hand; placed = s.placed; lobby = s.lobby }
 
-blocked_is : (t : Task) → HasWeight t → SeatIsSound (Blocked t)
+blocked_is : (t : Task) → HasWeight t → EntryIsSound (Blocked t)
 blocked_is t h = λ u e. let same : t ≡ u = cc in subst HasWeight same h
 
 -- The table of weights
@@ -210,8 +210,8 @@ pub performs_sound : (s : Regime) (P : Task → Type 0) → IsKept s.discipline 
 performs_sound s P k w (event.Admit id nice mask slice) calls r w' y free h =
     let arguments = by_arguments (argument_refusal (count_in w) (event.Admit id nice mask slice)) _ free in
     let f = passed (not (is_nice nice)) no.Nice _ (passed (mask % 2 ^ count_in w == 0) no.EmptyMask _ (passed (nat_le 1024 id) no.NoTask _ arguments).1).1 in
-    rw (h.3, h.1.2) (sound_seat P w id (Blocked (admitted (count_in w) id nice mask slice)) y (blocked_is _ (nice_weight nice f.0)))
-performs_sound s P k w (event.Retire id) calls r w' y free h = rw (h.3, h.1.2) (sound_seat P w id Absent y (λ t e. cc))
+    rw (h.3, h.1.2) (sound_entry P w id (Blocked (admitted (count_in w) id nice mask slice)) y (blocked_is _ (nice_weight nice f.0)))
+performs_sound s P k w (event.Retire id) calls r w' y free h = rw (h.3, h.1.2) (sound_entry P w id Absent y (λ t e. cc))
 performs_sound s P k w event.Draw calls r w' y free h = rw h.2 (sound_drawn P w _ y)
 performs_sound s P k w (event.Install cpu hook g policy) calls r w' y free h =
     rw (h.3, h.1.2) (sound_processor P w cpu _ y (y.running cpu) (y.hand cpu))
@@ -219,7 +219,7 @@ performs_sound s P k w (event.BeginWake cpu id) calls r w' y free h =
     let b = h.2 in
     let t : Task = b.0 in
     let one = sound_processor P w cpu (record (processor w cpu) { hand = Some (record { task = t; loads = _ }) }) y (y.running cpu) (λ c e. subst HasWeight (held_task _ c e) (y.lobby id t b.2)) in
-    rw (h.4, b.4, b.5) (sound_seat P _ id Away one (λ t e. cc))
+    rw (h.4, b.4, b.5) (sound_entry P _ id Away one (λ t e. cc))
 performs_sound s P k w (event.EndWake cpu now) calls r w' y free h =
     let b = h.2 in
     let carried : Carried = b.0 in
@@ -247,7 +247,7 @@ performs_sound s P k w (event.Block cpu now) calls r w' y free h =
     let gone : Running = record c.running { current = None } in
     let left = holds_start d P gone (record { current = λ u e. cc; queue = charged.queue }) in
     let one = sound_processor P w cpu h.0 y (rw b.1.1 left) (rw b.1.1 (y.hand cpu)) in
-    rw (h.4, b.1.3) (sound_seat P (with_processor w cpu h.0) t.id _ one (blocked_is _ (k.weight t (charged.current t b.1.0))))
+    rw (h.4, b.1.3) (sound_entry P (with_processor w cpu h.0) t.id _ one (blocked_is _ (k.weight t (charged.current t b.1.0))))
 performs_sound s P k w (event.Pull cpu from now) calls r w' y free h =
     let d = s.discipline in
     let x = h.2 in

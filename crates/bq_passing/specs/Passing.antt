@@ -27,8 +27,8 @@ after_block d p now = start d (record (charge d p now) { current = None })
 pub record DisciplinePasses : Type 0 where
   pub tick_share : (d : Discipline) (p q : Processor) (cpu now : ℕ) (calls : List Asked) (run : Option ℕ) (steps : ℕ) →
       Ticks (policies d) cpu now p calls (Ticked run who.Discipline steps) q → q.running ≡ ticked d p.running now
-  pub block_share : (d : Discipline) (p q : Processor) (cpu now : ℕ) (seats seats' : List LobbyEntry) (reply : Reply) →
-      Blocks d cpu now p seats (Ok reply) q seats' → q.running ≡ after_block d p.running now
+  pub block_share : (d : Discipline) (p q : Processor) (cpu now : ℕ) (lobby lobby' : List LobbyEntry) (reply : Reply) →
+      Blocks d cpu now p lobby (Ok reply) q lobby' → q.running ≡ after_block d p.running now
   pub tick : (d : Discipline) (w w' : World) (cpu now : ℕ) (calls : List Asked) (run : Option ℕ) (steps : ℕ) →
       WorldStep (policies d) w (Tick cpu now) calls (Ok (Ticked run who.Discipline steps)) w' → (processor w' cpu).running ≡ ticked d (processor w cpu).running now
   pub block : (d : Discipline) (w w' : World) (cpu now : ℕ) (calls : List Asked) (task : ℕ) (run : Option ℕ) →

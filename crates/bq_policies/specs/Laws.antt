@@ -1,23 +1,12 @@
 -- Laws of policies: what an accepted one answers rests on what it is shown alone, and comes within its budget.
-use Rattle.std.specs.Prelude.{◌≡◌, ℕ, ◌^◌, ◌<◌, List, length, slice_index}
-use Rattle.bq_bpf.specs.Memory.{HaveShapes}
+use Rattle.std.specs.Prelude.{◌≡◌, ℕ, List}
 use Rattle.bq_bpf.specs.declared.board.Call.{Call as Asked}
 use Rattle.bq_interp.specs.Laws.{AnswerAlike}
 use Rattle.bq_verify.specs.Accepted.{Accepted}
-use Rattle.bq_bpf.specs.Hooks.{context_length_of}
 use Rattle.bq_policies.specs.Answers.{Answers, IsWithin}
-use Rattle.bq_policies.specs.Standing.{WasAccepted}
+use Rattle.bq_policies.specs.Standing.{IsAsked}
 
--- a policy was accepted, and is shown a context of its length, maps of its shapes, a clock reading and a processor's number
-pub record IsAsked (policy : Accepted) (context : List ℕ) (maps : List (List ℕ)) (now processor : ℕ) : Type 0 where
-  pub accepted : WasAccepted policy
-  pub long : length context ≡ context_length_of policy.hook policy.version
-  pub bytes : (i : ℕ) → slice_index context i < 256
-  pub shapes : HaveShapes policy.shapes maps
-  pub now_fits : now < 2 ^ 64
-  pub processor_fits : processor < 2 ^ 32
-
--- then it answers within its budget, with sixteen calls of counters at most
+-- a policy that is asked answers within its budget, with sixteen calls of counters at most
 abbrev pub AnswersWithin : Type 0
 AnswersWithin =
     (policy : Accepted) (context : List ℕ) (maps maps' : List (List ℕ)) (now processor r0 steps : ℕ) (calls : List Asked) →

@@ -1,5 +1,5 @@
 -- What may stand at a hook: nothing, or a policy that was accepted for it, with maps of its shapes.
-use Rattle.std.specs.Prelude.{◌≡◌, ℕ, List, length, Option, Some, None}
+use Rattle.std.specs.Prelude.{◌≡◌, ℕ, ◌^◌, ◌<◌, List, length, slice_index, Option, Some, None}
 use Rattle.bq_bpf.specs.Memory.{HaveShapes}
 use Rattle.bq_bpf.specs.declared.hook.Hook.{Hook}
 use Rattle.bq_verify.specs.Accepted.{Accepted, IsAccepted}
@@ -26,7 +26,16 @@ MayStand hook attached = IsFor hook attached.policy × IsEquipped attached.polic
 abbrev pub AreReady : Attachments → Type 0
 AreReady hooks = (hook : Hook) → MayStand hook (at_hook hook hooks)
 
--- a run of the policy on a context of its length and on maps of its shapes gives that answer, in so many steps
+-- a policy was accepted, and is shown a context of its length, maps of its shapes, a clock reading and a processor's number
+pub record IsAsked (policy : Accepted) (context : List ℕ) (maps : List (List ℕ)) (now processor : ℕ) : Type 0 where
+  pub accepted : WasAccepted policy
+  pub long : length context ≡ context_length_of policy.hook policy.version
+  pub bytes : (i : ℕ) → slice_index context i < 256
+  pub shapes : HaveShapes policy.shapes maps
+  pub now_fits : now < 2 ^ 64
+  pub processor_fits : processor < 2 ^ 32
+
+-- a run of the policy on what it is shown gives that answer, in so many steps
 pub record HasAnswered (policy : Accepted) (done : Done) : Type 0 where
   pub context : List ℕ
   pub maps : List (List ℕ)
@@ -34,8 +43,7 @@ pub record HasAnswered (policy : Accepted) (done : Done) : Type 0 where
   pub now : ℕ
   pub processor : ℕ
   pub calls : List Asked
-  pub long : length context ≡ context_length_of policy.hook policy.version
-  pub shapes : HaveShapes policy.shapes maps
+  pub asked : IsAsked policy context maps now processor
   pub answers : Answers policy context maps now processor done.r0 left done.steps calls
   pub within : IsWithin policy done.steps calls
 

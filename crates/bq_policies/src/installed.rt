@@ -1,5 +1,5 @@
 //! What stands at one hook.
-ghost use Rattle.std.specs.Prelude.{◌≡◌, true, length, Some, None, IfOk, IfSome, is_some};
+ghost use Rattle.std.specs.Prelude.{◌≡◌, true, length, Some, None, IfErr, IfOk, IfSome, is_some};
 ghost use Rattle.std.specs.Option.{option_map};
 ghost use Rattle.bq_bpf.specs.Counters.{Through};
 ghost use Rattle.bq_bpf.specs.Hooks.{context_length_of};
@@ -47,13 +47,15 @@ impl Installed {
         }
     }
 
-    /// A policy or none, as this generation, with maps of zeros. Want of memory for the maps is the only error.
+    /// A policy or none, as this generation, with maps of zeros. Want of memory for the maps is the only error, so nothing that
+    /// is no policy is refused.
     pub fn new(
         alloc: Global,
         policy: Option<Policy>,
         generation: u64,
     ) -> Result<Installed, AllocError>
-        ensures { IfOk result (λ i. i ≡ record { policy = policy; generation = generation; maps = fresh_maps policy }) }
+        ensures installed { IfOk result (λ i. i ≡ record { policy = policy; generation = generation; maps = fresh_maps policy }) }
+        ensures want { IfErr result (λ e. is_some policy ≡ true) }
     {
         let equipped = match policy {
             None => None,

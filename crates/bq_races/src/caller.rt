@@ -67,7 +67,7 @@ const OTHERS: [Request; 7] = [
 
 /// A seat with the receipts that it got.
 #[derive(Drop)]
-pub struct Caller<'a, N: Naming + Counting, R: Wait> {
+pub struct Player<'a, N: Naming + Counting, R: Wait> {
     pub rt: &'a R,
     pub alloc: Global,
     pub machine: &'a Raced<N>,
@@ -75,7 +75,7 @@ pub struct Caller<'a, N: Naming + Counting, R: Wait> {
     pub receipts: Vec<Receipt<Record>>,
 }
 
-impl<'a, N: Naming + Counting, R: Wait> Caller<'a, N, R> {
+impl<'a, N: Naming + Counting, R: Wait> Player<'a, N, R> {
     fn keep(&mut self, receipt: Receipt<Record>) -> Result<(), Refusal> {
         match self.receipts.push(receipt) {
             Ok(()) => Ok(()),

@@ -2,13 +2,13 @@
 
 use crate::images::{ADDS, READS};
 use crate::play::{Play, Script};
-use crate::script::{Outcome, run_script};
+use crate::script::{AllPlayed, run_script};
 use bq_bpf::Call;
 use std::alloc::Global;
 use std::process::Abort;
 
 /// Whether the answers to the adds of 5 are 0, 5, 10 and so on, so many, each once, and the one read answers their sum.
-fn adds_up(rt: &impl Abort, alloc: Global, outcome: &Outcome, adds: usize, sum: u64) -> bool {
+fn adds_up(rt: &impl Abort, alloc: Global, outcome: &AllPlayed, adds: usize, sum: u64) -> bool {
     let mut seen = vec![in alloc; false; adds].expect(rt, "memory");
     let mut found = 0usize;
     let mut reads = 0u32;
@@ -60,7 +60,7 @@ fn adding(rt: &impl Abort, alloc: Global) -> Script {
 }
 
 /// 4 times 1,000 ticks added 5 each.
-fn counts_once(rt: &impl Abort, alloc: Global, outcome: &Outcome) {
+fn counts_once(rt: &impl Abort, alloc: Global, outcome: &AllPlayed) {
     assert_eq!(rt; outcome.read, 20_000);
     assert_eq!(rt; outcome.closed.counters[3], 20_000);
     assert!(rt; adds_up(rt, alloc, outcome, 4000, 20_000));

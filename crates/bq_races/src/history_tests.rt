@@ -1,14 +1,14 @@
 //! Four seats on four threads share one history. The numbers follow from how many calls there are.
 
 use crate::play::{Play, Script};
-use crate::script::{Outcome, run_script};
+use crate::script::{AllPlayed, run_script};
 use bq_cells::Answer;
 use bq_parts::{Event, Reply};
 use std::alloc::Global;
 use std::process::Abort;
 
 /// How many events are ticks.
-fn ticks(outcome: &Outcome) -> u64 {
+fn ticks(outcome: &AllPlayed) -> u64 {
     let mut count = 0u64;
     for place in 0..outcome.closed.len() {
         if let Some((Event::Tick { .. }, _, _)) = outcome.closed.logged(place) {
@@ -19,7 +19,7 @@ fn ticks(outcome: &Outcome) -> u64 {
 }
 
 /// Whether the readings of each processor's events are 1, 2, 3 and so on up to this one, in the order of the history.
-fn readings_rise(outcome: &Outcome, greatest: u64) -> bool {
+fn readings_rise(outcome: &AllPlayed, greatest: u64) -> bool {
     let mut readings = [0u64; 4];
     for place in 0..outcome.closed.len() {
         let Some((event, _, _)) = outcome.closed.logged(place) else {
@@ -58,7 +58,7 @@ fn lives(rt: &impl Abort, alloc: Global) -> Script {
 
 /// Of each seat an admit, both halves of a wake, a drain and 1,000 ticks; the clock is read at the end of a wake, a drain and
 /// each tick.
-fn is_whole(rt: &impl Abort, outcome: &Outcome) {
+fn is_whole(rt: &impl Abort, outcome: &AllPlayed) {
     assert_eq!(rt; outcome.closed.len(), 4016);
     assert_eq!(rt; ticks(outcome), 4000);
     assert_eq!(rt; outcome.confirmed(), 4016);
@@ -66,7 +66,7 @@ fn is_whole(rt: &impl Abort, outcome: &Outcome) {
 }
 
 /// Once each seat has a receipt of another reply, that one is not confirmed.
-fn bent_receipts_are_not_confirmed(rt: &impl Abort, outcome: &mut Outcome) {
+fn bent_receipts_are_not_confirmed(rt: &impl Abort, outcome: &mut AllPlayed) {
     for list in &mut outcome.receipts {
         let first = list.get_mut(0).expect(rt, "a receipt of each seat");
         first.entry.reply = Answer::of(&Ok(Reply::Retired));

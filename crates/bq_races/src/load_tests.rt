@@ -2,13 +2,13 @@
 
 use crate::images::{ADDS, ZERO};
 use crate::play::{Play, Script};
-use crate::script::{Outcome, run_script};
+use crate::script::{AllPlayed, run_script};
 use bq_parts::{Event, Hook, Refusal, Reply};
 use std::process::Abort;
 
 /// How many events are draws, installs of the first number, and of the second. An install of the first may be refused as older; there
 /// is no other event.
-fn counted(rt: &impl Abort, outcome: &Outcome) -> (u32, u32, u32) {
+fn counted(rt: &impl Abort, outcome: &AllPlayed) -> (u32, u32, u32) {
     let closed = &outcome.closed;
     let (mut draws, mut first, mut second) = (0u32, 0u32, 0u32);
     for place in 0..closed.len() {
@@ -29,7 +29,7 @@ fn counted(rt: &impl Abort, outcome: &Outcome) -> (u32, u32, u32) {
 }
 
 /// Each of the four processors has the policy of the second number.
-fn is_newer_everywhere(rt: &impl Abort, outcome: &Outcome) {
+fn is_newer_everywhere(rt: &impl Abort, outcome: &AllPlayed) {
     let core = &outcome.closed.core;
     assert_eq!(rt; core.processors(), 4);
     for processor in 0..core.processors() {

@@ -1,7 +1,7 @@
 //! Scripts, and what comes of them.
 ghost use Rattle.std.specs.Prelude.{◌≡◌, ◌^◌, [], All, IfOk, length, vec_len};
 
-use crate::caller::{Caller, Raced};
+use crate::caller::{Player, Raced};
 use crate::counting_clock::CountingClock;
 use crate::gate::Gate;
 use crate::held_queue::HeldQueue;
@@ -31,13 +31,13 @@ pub struct Played<N: Naming + Counting> {
 
 /// What came of all plays: the machine's end, the receipts of each play, and what was read last of counter 3.
 #[derive(Drop)]
-pub struct Outcome {
+pub struct AllPlayed {
     pub closed: Closed<HeldQueue, 4>,
     pub receipts: Vec<Vec<Receipt<Record>>>,
     pub read: u64,
 }
 
-impl Outcome {
+impl AllPlayed {
     /// How many receipts stand in the history.
     pub fn confirmed(&self) -> u64 {
         let mut count = 0u64;
@@ -60,7 +60,7 @@ fn work<N: Naming + Counting, R: Wait>(
     job: Job<N>,
 ) -> Result<Played<N>, Refusal> {
     let Job { seat, play } = job;
-    let mut caller = Caller {
+    let mut caller = Player {
         rt,
         alloc,
         machine,
@@ -68,7 +68,7 @@ fn work<N: Naming + Counting, R: Wait>(
         receipts: Vec::new(alloc),
     };
     let read = caller.play(play)?;
-    let Caller { seat, receipts, .. } = caller;
+    let Player { seat, receipts, .. } = caller;
     Ok(Played {
         seat,
         receipts,
@@ -141,7 +141,7 @@ fn play_all<N: Naming + Counting + Send + Sync, R: Abort + Threads + Wait + Sync
     unnamed: Unnamed,
     parts: Parts,
     script: Script,
-) -> Outcome
+) -> AllPlayed
     requires name { prepared.0 ≡ N.table }
     requires counters { unnamed.0 ≡ N.counters }
     requires counts { (prepared.1.about ≡ 4) × (prepared.1.callers ≡ length script.at_once.items) × (unnamed.1 ≡ length script.at_once.items) }
@@ -180,7 +180,7 @@ fn play_all<N: Naming + Counting + Send + Sync, R: Abort + Threads + Wait + Sync
         panic!(rt; "a seat is missing")
     }
     let closed = machine.close(seats);
-    Outcome {
+    AllPlayed {
         closed,
         receipts,
         read,
@@ -211,7 +211,7 @@ pub fn run_script<R: Abort + Threads + Wait + Sync>(
     at_clock: Option<Arc<Gate, Global>>,
     at_queue: Option<Arc<Gate, Global>>,
     script: Script,
-) -> Outcome {
+) -> AllPlayed {
     let clock = CountingClock::new(alloc, 4, at_clock).expect(rt, "memory");
     let Ok(queues) = queues(alloc, 4, at_queue) else {
         panic!(rt; "memory")

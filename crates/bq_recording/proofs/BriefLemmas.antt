@@ -12,19 +12,19 @@ use Rattle.bq_policies.specs.Attachments.{Attached}
 use Rattle.bq_bpf.specs.declared.hook.Hook.{Hook}
 
 -- no admission is answered by loads
-pub admits_brief : (id : ℕ) (t : Task) (seats : List LobbyEntry) (a : Result Reply Refusal) (seats' : List LobbyEntry) → Admits id t seats a seats' → has_loads a ≡ false
-admits_brief id t seats (Ok r) seats' s = ap (λ (x : Reply). has_loads (Ok x)) s.1
-admits_brief id t seats (Err e) seats' s = refl
+pub admits_brief : (id : ℕ) (t : Task) (lobby : List LobbyEntry) (a : Result Reply Refusal) (lobby' : List LobbyEntry) → Admits id t lobby a lobby' → has_loads a ≡ false
+admits_brief id t lobby (Ok r) lobby' s = ap (λ (x : Reply). has_loads (Ok x)) s.1
+admits_brief id t lobby (Err e) lobby' s = refl
 
 -- no retirement is answered by loads
-pub retires_brief : (id : ℕ) (seats : List LobbyEntry) (a : Result Reply Refusal) (seats' : List LobbyEntry) → Retires id seats a seats' → has_loads a ≡ false
-retires_brief id seats (Ok r) seats' s = ap (λ (x : Reply). has_loads (Ok x)) s.1
-retires_brief id seats (Err e) seats' s = refl
+pub retires_brief : (id : ℕ) (lobby : List LobbyEntry) (a : Result Reply Refusal) (lobby' : List LobbyEntry) → Retires id lobby a lobby' → has_loads a ≡ false
+retires_brief id lobby (Ok r) lobby' s = ap (λ (x : Reply). has_loads (Ok x)) s.1
+retires_brief id lobby (Err e) lobby' s = refl
 
 -- no block is answered by loads
-pub blocks_brief : (d : Discipline) (cpu now : ℕ) (p : Processor) (seats : List LobbyEntry) (a : Result Reply Refusal) (q : Processor) (seats' : List LobbyEntry) → Blocks d cpu now p seats a q seats' → has_loads a ≡ false
-blocks_brief d cpu now p seats (Ok r) q seats' s = ap (λ (x : Reply). has_loads (Ok x)) s.1.2
-blocks_brief d cpu now p seats (Err e) q seats' s = refl
+pub blocks_brief : (d : Discipline) (cpu now : ℕ) (p : Processor) (lobby : List LobbyEntry) (a : Result Reply Refusal) (q : Processor) (lobby' : List LobbyEntry) → Blocks d cpu now p lobby a q lobby' → has_loads a ≡ false
+blocks_brief d cpu now p lobby (Ok r) q lobby' s = ap (λ (x : Reply). has_loads (Ok x)) s.1.2
+blocks_brief d cpu now p lobby (Err e) q lobby' s = refl
 
 -- no installation of a policy is answered by loads
 pub installs_brief : (h : Hook) (drawn : ℕ) (p : Processor) (new : Attached) (a : Result Reply Refusal) (q : Processor) → Installs h drawn p new a q → has_loads a ≡ false

@@ -70,7 +70,7 @@ module _ {A B : Type 0} (s : List LobbyEntry) (xs : List A) (ys : List B) (at : 
   parts = all_parts s xs ys as_cpu as_inbox
 
   -- the world has the lobby
-  pub lobby_there : (w : World) → Each (HasPart w) parts → w.seats ≡ s
+  pub lobby_there : (w : World) → Each (HasPart w) parts → w.lobby ≡ s
   lobby_there w h = h.0
 
   -- the world has each processor at its number
@@ -100,8 +100,8 @@ module _ {A B : Type 0} (s : List LobbyEntry) (xs : List A) (ys : List B) (at : 
       omega (arith, o, a, b, c)
 
   -- the world is what its parts make
-  pub is_world : (w : World) (cs : List Processor) (is : List (List Task)) (drawn : ℕ) → Each (HasPart w) parts → cs ≡ w.processors → is ≡ w.inboxes → w.drawn ≡ drawn → record { processors = cs; inboxes = is; seats = s; drawn = drawn } ≡ w
-  is_world w cs is drawn h processors inboxes last = λ i. record { processors = processors i; inboxes = inboxes i; seats = sym h.0 i; drawn = sym last i }
+  pub is_world : (w : World) (cs : List Processor) (is : List (List Task)) (drawn : ℕ) → Each (HasPart w) parts → cs ≡ w.processors → is ≡ w.inboxes → w.drawn ≡ drawn → record { processors = cs; inboxes = is; lobby = s; drawn = drawn } ≡ w
+  is_world w cs is drawn h processors inboxes last = λ i. record { processors = processors i; inboxes = inboxes i; lobby = sym h.0 i; drawn = sym last i }
 
 -- a holder of the items of some parts has no other items
 pub parts_are : (v : List ItemOf) (ps : List Part) → v ≡ map part_item ps → parts_of v ≡ ps

@@ -29,6 +29,6 @@ pub use locked_parts::{PartLocks, part_locks};
 pub use opening::Opening;
 pub use prepared::{Prepared, prepare};
 pub use queues::no_tasks;
-pub use recorder::{Caller, CpuCell, Recorder, Seat, lock, need_own};
+pub use recorder::{CpuCell, Recorder, Seat, WorkingSeat, lock, need_own};
 pub use rooms::{BeginRooms, EventRooms, LoadRooms};
 pub use waking::Placing;

@@ -6,7 +6,7 @@ ghost use Rattle.bq_parts.specs.Refusals.{argument_refusal};
 ghost use Rattle.bq_parts.specs.declared.reply.Reply.TheVariants.{Drawn};
 ghost use Rattle.bq_cells.specs.Parts.{told_calls};
 
-use crate::recorder::{Caller, Recorder};
+use crate::recorder::{Recorder, WorkingSeat};
 use crate::told::{answer_twice, both_records, no_calls, quiet_twice};
 use bq_cells::{NumberedCpu, Record, UnderLock, policy_again};
 use bq_disc::RunQueue;
@@ -65,7 +65,7 @@ impl<Q: RunQueue + Drop, N: Naming + Counting> Recorder<Q, N> {
     pub fn draw<R: Wait>(
         &self,
         rt: &R,
-        working: &mut Caller<N>,
+        working: &mut WorkingSeat<N>,
         room: &mut Room<Record>,
     ) -> (Receipt<Record>, u64)
         requires ready { room.old ≡ true }
@@ -99,7 +99,7 @@ impl<Q: RunQueue + Drop, N: Naming + Counting> Recorder<Q, N> {
     pub fn install<R: Wait>(
         &self,
         rt: &R,
-        working: &mut Caller<N>,
+        working: &mut WorkingSeat<N>,
         place: &mut UnderLock<NumberedCpu<Q>, N>,
         hook: Hook,
         spare: Spare,

@@ -5,7 +5,7 @@ ghost use Rattle.bq_parts.specs.Refusals.{argument_refusal};
 ghost use Rattle.bq_parts.specs.Moves.{admitted};
 ghost use Rattle.bq_cells.specs.Parts.{told_calls};
 
-use crate::recorder::{Caller, Recorder};
+use crate::recorder::{Recorder, WorkingSeat};
 use crate::told::quiet_twice;
 use bq_cells::{OneLobby, Record, UnderLock};
 use bq_disc::RunQueue;
@@ -47,7 +47,7 @@ impl<Q: RunQueue + Drop, N: Naming + Counting> Recorder<Q, N> {
     pub fn admit<R: Wait>(
         &self,
         rt: &R,
-        working: &mut Caller<N>,
+        working: &mut WorkingSeat<N>,
         place: &mut UnderLock<OneLobby, N>,
         admission: Admission,
         new: Unlinked,
@@ -82,7 +82,7 @@ impl<Q: RunQueue + Drop, N: Naming + Counting> Recorder<Q, N> {
     pub fn retire<R: Wait>(
         &self,
         rt: &R,
-        working: &mut Caller<N>,
+        working: &mut WorkingSeat<N>,
         place: &mut UnderLock<OneLobby, N>,
         task: u16,
         room: &mut Room<Record>,

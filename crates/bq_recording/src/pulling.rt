@@ -3,7 +3,7 @@ ghost use Rattle.std.specs.Prelude.{◌≡◌, ◌≢◌, ◌∷◌, ◌++◌, [
 ghost use Rattle.bq_seats.specs.Calls.{account_of};
 ghost use Rattle.bq_cells.specs.Parts.{told_calls};
 
-use crate::recorder::{Caller, Recorder};
+use crate::recorder::{Recorder, WorkingSeat};
 use crate::rooms::EventRooms;
 use crate::told::told_twice;
 use bq_cells::{NumberedCpu, Record, UnderLock, hold_calls};
@@ -19,7 +19,7 @@ impl<Q: RunQueue + Drop, N: Naming + Counting> Recorder<Q, N> {
     pub fn pull<R: Wait>(
         &self,
         rt: &R,
-        working: &mut Caller<N>,
+        working: &mut WorkingSeat<N>,
         place: &mut UnderLock<NumberedCpu<Q>, N>,
         source: &mut UnderLock<NumberedCpu<Q>, N>,
         now: u64,

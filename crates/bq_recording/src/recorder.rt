@@ -13,7 +13,7 @@ use std::sync::{Mutex, MutexGuard, Wait};
 pub type Seat<N> = bq_seats::Seat<Record, Part, Kept, N>;
 
 /// What a seat has while an event is under way.
-pub type Caller<N> = Working<Record, Part, Kept, N>;
+pub type WorkingSeat<N> = Working<Record, Part, Kept, N>;
 
 /// A processor whose lock is held: its hand may be full.
 pub type CpuCell<Q, N> = Cell<NumberedCpu<Q>, Record, Part, Kept, N>;

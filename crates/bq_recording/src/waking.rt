@@ -11,7 +11,7 @@ ghost use Rattle.bq_parts.specs.declared.refusal.Refusal.TheVariants as no;
 ghost use Rattle.bq_cells.specs.Parts.{cpu_part, told_calls};
 ghost use Rattle.bq_recording.specs.Placing.{IsPlaced};
 
-use crate::recorder::{Caller, CpuCell, Recorder, need_own};
+use crate::recorder::{CpuCell, Recorder, WorkingSeat, need_own};
 use crate::rooms::{BeginRooms, EventRooms};
 use crate::told::{both_records, event_twice, no_calls, told_twice};
 use bq_cells::{Answer, NumberedCpu, NumberedInbox, OneLobby, Record, UnderLock, hold_calls};
@@ -40,13 +40,13 @@ impl<Q: RunQueue + Drop, N: Naming + Counting> Recorder<Q, N> {
     pub fn begin_wake<R: Wait>(
         &self,
         rt: &R,
-        working: &mut Caller<N>,
+        working: &mut WorkingSeat<N>,
         cell: &mut CpuCell<Q, N>,
         lobby: &mut UnderLock<OneLobby, N>,
         task: u16,
         rooms: BeginRooms<'_>,
     ) -> Receipt<Record>
-        requires seat { task < 1024 }
+        requires below { task < 1024 }
         requires ready { rooms.record.now ≡ true }
         requires tally { working.old.tally ≡ account_of told_calls working.old.caller.1 }
         requires says { cell.old.holder ≡ part_item (cpu_part cell.old.content.number cell.old.content.state) ∷ [] }
@@ -93,7 +93,7 @@ impl<Q: RunQueue + Drop, N: Naming + Counting> Recorder<Q, N> {
     pub fn end_wake<R: Wait>(
         &self,
         rt: &R,
-        working: &mut Caller<N>,
+        working: &mut WorkingSeat<N>,
         cell: &mut CpuCell<Q, N>,
         inboxes: &[Mutex<UnderLock<NumberedInbox, N>>],
         placing: Placing,
@@ -157,7 +157,7 @@ impl<Q: RunQueue + Drop, N: Naming + Counting> Recorder<Q, N> {
     /// The task in the hand is given, and it is chosen where it goes among so many processors.
     fn place_task(
         &self,
-        working: &mut Caller<N>,
+        working: &mut WorkingSeat<N>,
         content: &mut NumberedCpu<Q>,
         count: usize,
         now: u64,

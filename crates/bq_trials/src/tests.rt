@@ -80,11 +80,11 @@ fn fill<Q: RunQueue>(rt: &impl Abort, alloc: Global, queue: &mut Q, rows: &[Row]
 }
 
 /// Tasks of nice 0, which of them a queue chooses, and its mark.
-type Choice = (&'static [Row], u16, u64);
+type QueueChoice = (&'static [Row], u16, u64);
 
 /// The earliest deadline is chosen while it is eligible, and once its task is past the mean the other one is; of equal
 /// deadlines that of the lesser id. The mark is the mean, rounded down.
-static CHOICES: [Choice; 5] = [
+static CHOICES: [QueueChoice; 5] = [
     // both are at the mark
     (
         &[(1, 4294967296, 4297967296), (2, 4294967296, 4295067296)],
@@ -110,7 +110,7 @@ static CHOICES: [Choice; 5] = [
 ];
 
 /// What a queue of the tasks chooses, and its mark.
-fn chooses<Q: RunQueue>(rt: &impl Abort, alloc: Global, queue: &mut Q, choice: &Choice) {
+fn chooses<Q: RunQueue>(rt: &impl Abort, alloc: Global, queue: &mut Q, choice: &QueueChoice) {
     let (rows, chosen, mark) = *choice;
     fill(rt, alloc, queue, rows);
     is_task(rt, queue.choice(None), Some(chosen));

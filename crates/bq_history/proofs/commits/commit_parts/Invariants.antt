@@ -3,4 +3,4 @@ use Rattle.bq_history.specs.Items.{committed}
 use Rattle.bq_history.proofs.commits.commit_parts.Given as goal
 
 abbrev pub ghosts-settle : goal.ghosts-settle
-ghosts-settle g a = record { items = committed a._entry.now a._kept.now g.Q.Choice.items ((a.journal.now ++ a.caller.now) ++ a.parts.now) }
+ghosts-settle g a = record { items = committed a._entry.now a._kept.now g.Q.Holding.items ((a.journal.now ++ a.caller.now) ++ a.parts.now) }

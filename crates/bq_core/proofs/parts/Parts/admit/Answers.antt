@@ -9,9 +9,9 @@ use Rattle.bq_parts.specs.World.{World, count_in}
 use Rattle.bq_core.proofs.ShareStepLemmas.{admits_at}
 use Rattle.bq_core.proofs.parts.Parts.admit.Goals as goal
 
--- an admission whose arguments are not refused is to a seat
-is_seat : (count id : ℕ) (nice : ℤ) (mask slice : ℕ) → argument_refusal count (Admit id nice mask slice) ≡ None → id < 1024
-is_seat count id nice mask slice h = grind (arith, nat_tests)
+-- an admission whose arguments are not refused is to an entry
+is_entry : (count id : ℕ) (nice : ℤ) (mask slice : ℕ) → argument_refusal count (Admit id nice mask slice) ≡ None → id < 1024
+is_entry count id nice mask slice h = grind (arith, nat_tests)
 
 pub new_task-requires-clause-few : goal.new_task-requires-clause-few
 new_task-requires-clause-few g c =
@@ -28,7 +28,7 @@ new_task-requires-clause-fits g c =
     rw (count, same) c.requires.fits
 
 pub admit-requires : goal.admit-requires
-admit-requires g c = record { seat = is_seat (count_in c.args.self.now) c.args.task c.args.nice c.args.mask c.args.slice c.requires.fits }
+admit-requires g c = record { below = is_entry (count_in c.args.self.now) c.args.task c.args.nice c.args.mask c.args.slice c.requires.fits }
 
 pub returns : goal.returns
 returns g c =
@@ -38,8 +38,8 @@ returns g c =
     let fits : FitsSigned w8 c.args.nice = search rules in
     let same = to_z-of_z w8 c.args.nice fits in
     let made : c.in-Ok.new ≡ admitted (count_in w) c.args.task c.args.nice c.args.mask c.args.slice = rw (count, same) at c.in-Ok.ensures in
-    let step = admits_at g.Q.R.Discipline.discipline w _ c.args.task c.args.nice c.args.mask c.args.slice c.in-Ok.new c.admit.result _ c.admit.new.self c.requires.fits made (ap (λ (v : World). v.seats) c.self.view_is) c.admit.ensures.share
-    (ap (λ (v : World). record v { seats = c.admit.new.self }) c.self.view_is) in
+    let step = admits_at g.Q.R.Discipline.discipline w _ c.args.task c.args.nice c.args.mask c.args.slice c.in-Ok.new c.admit.result _ c.admit.new.self c.requires.fits made (ap (λ (v : World). v.lobby) c.self.view_is) c.admit.ensures.share
+    (ap (λ (v : World). record v { lobby = c.admit.new.self }) c.self.view_is) in
     record { step = step }
 
 pub returns-in_default : goal.returns-in_default

@@ -12,8 +12,8 @@ loads_of-loads-requires-clause-small g c = λ i.
     let w = c.args.self.now in
     let processors = c.as_slice.ensures.value ∙ ap (λ (v : World). v.processors) c.self.view_is in
     let boxes = c.as_slice-2.ensures.value ∙ ap (λ (v : World). v.inboxes) c.self.view_is in
-    let seats : length w.seats ≡ 1024 = ap (λ (v : World). length v.seats) (sym c.self.view_is) ∙ c.self.invariant.2 in
-    rw (processors, boxes) (omega (arith, few_at w i seats c.requires.orderly))
+    let lobby : length w.lobby ≡ 1024 = ap (λ (v : World). length v.lobby) (sym c.self.view_is) ∙ c.self.invariant.2 in
+    rw (processors, boxes) (omega (arith, few_at w i lobby c.requires.orderly))
 
 pub loads_of-loads-requires-clause-same : goal.loads_of-loads-requires-clause-same
 loads_of-loads-requires-clause-same g c = ap length c.as_slice.ensures.value ∙ c.self.invariant.0 ∙ sym (ap length c.as_slice-2.ensures.value)
@@ -30,7 +30,7 @@ index_mut-cpu-requires g c =
     omega arith
 
 pub begin_with-requires : goal.begin_with-requires
-begin_with-requires g c = record { seat = c.requires.seat }
+begin_with-requires g c = record { below = c.requires.below }
 
 pub returns : goal.returns
 returns g c =
@@ -43,7 +43,7 @@ returns g c =
     let inside : cpu < length c.self.inside.cpus.items = rw items c.requires.inside in
     let at = rw c.from.ensures at c.index_mut-cpu.ensures.value in
     let place : c.index_mut-cpu.result.now ≡ processor w cpu = rw items at (get_or_read c.self.inside.cpus.items cpu c.index_mut-cpu.result.now inside at opening) in
-    let seats = ap (λ (v : World). v.seats) c.self.view_is in
-    let step = begins_at g.Q.R.Discipline.discipline w _ cpu c.args.task c.loads_of-loads.result c.begin_with.result c.begin_with.new.self _ _ c.begin_with.new.lobby c.requires.inside c.requires.seat loads place seats c.begin_with.ensures.share
+    let lobby = ap (λ (v : World). v.lobby) c.self.view_is in
+    let step = begins_at g.Q.R.Discipline.discipline w _ cpu c.args.task c.loads_of-loads.result c.begin_with.result c.begin_with.new.self _ _ c.begin_with.new.lobby c.requires.inside c.requires.below loads place lobby c.begin_with.ensures.share
     (write_back_lobby _ w _ cpu c.begin_with.new.self c.begin_with.new.lobby c.self.view_is c.from.ensures) in
     record { step = step }

@@ -21,8 +21,8 @@ drain-requires-clause-once g c =
     let box : c.index_mut-inbox.result.now ≡ inbox w cpu = rw boxes at (get_or_read c.self.inside.inboxes.items cpu c.index_mut-inbox.result.now inside_boxes at_box []) in
     rw (place, box) (each_once_runnable w cpu c.requires.orderly)
 
-pub drain-requires-clause-seated : goal.drain-requires-clause-seated
-drain-requires-clause-seated g c =
+pub drain-requires-clause-ids : goal.drain-requires-clause-ids
+drain-requires-clause-ids g c =
     let w = c.args.self.now in
     let cpu = c.args.processor in
     let items = ap (λ (v : World). v.processors) c.self.view_is in
@@ -33,8 +33,8 @@ drain-requires-clause-seated g c =
     let inside_boxes : cpu < length c.self.inside.inboxes.items = omega (arith, inside, c.self.invariant.0, c.self.invariant.1) in
     let at_box = rw c.from.ensures at c.index_mut-inbox.ensures.value in
     let box : c.index_mut-inbox.result.now ≡ inbox w cpu = rw boxes at (get_or_read c.self.inside.inboxes.items cpu c.index_mut-inbox.result.now inside_boxes at_box []) in
-    let seats : length w.seats ≡ 1024 = ap (λ (v : World). length v.seats) (sym c.self.view_is) ∙ c.self.invariant.2 in
-    rw (place, box) (λ id h. none_beyond_at w cpu id seats c.requires.orderly h)
+    let lobby : length w.lobby ≡ 1024 = ap (λ (v : World). length v.lobby) (sym c.self.view_is) ∙ c.self.invariant.2 in
+    rw (place, box) (λ id h. none_beyond_at w cpu id lobby c.requires.orderly h)
 
 pub returns-clause-step : goal.returns-clause-step
 returns-clause-step g c =

@@ -28,9 +28,9 @@ push-requires g c =
     let n : c.len-count.result ≡ length c.self.inside.cpus.items = omega arith in
     let to = c.from-2.result in
     let inside_boxes : to < length c.self.inside.inboxes.items = omega (arith, c.from-2.ensures, c.in-Some.ensures.below, n, c.self.invariant.0, c.self.invariant.1) in
-    let seats : length w.seats ≡ 1024 = ap (λ (v : World). length v.seats) (sym c.self.view_is) ∙ c.self.invariant.2 in
+    let lobby : length w.lobby ≡ 1024 = ap (λ (v : World). length v.lobby) (sym c.self.view_is) ∙ c.self.invariant.2 in
     let box : c.index_mut.result.now ≡ inbox w to = rw boxes at (get_or_read c.self.inside.inboxes.items to c.index_mut.result.now inside_boxes c.index_mut.ensures.value []) in
-    rw box (omega (arith, few_at w to seats c.requires.orderly))
+    rw box (omega (arith, few_at w to lobby c.requires.orderly))
 
 pub returns-clause-step : goal.returns-clause-step
 returns-clause-step g c =

@@ -35,7 +35,7 @@ installs_at d w w' cpu n drawn h o new r p q fits same number place share e =
     rw e (installs_step d w cpu n h o r q fits (rw (number, place, same) at share))
 
 pub returns-in_default : goal.returns-in_default
-returns-in_default g c = record { step = (refl, refl, inr (tt, c.requires.fits, refl)) }
+returns-in_default g c = record { step = (refl, refl, inr (c.in_default.ensures.want, c.requires.fits, refl)) }
 
 pub index_mut-requires : goal.index_mut-requires
 index_mut-requires g c =
@@ -46,7 +46,7 @@ index_mut-requires g c =
 
 pub replace-requires : goal.replace-requires
 replace-requires g c =
-    subst (λ (o : Option Accepted). IsFor c.args.hook o) (sym (ap (λ (a : Attached). a.policy) c.in-Ok.ensures))
+    subst (λ (o : Option Accepted). IsFor c.args.hook o) (sym (ap (λ (a : Attached). a.policy) c.in-Ok.ensures.installed))
     (install_suits (count_in c.args.self.now) c.args.processor c.args.generation c.args.hook c.args.policy c.requires.fits)
 
 pub invariant_of-self : goal.invariant_of-self
@@ -62,6 +62,6 @@ returns g c =
     let at = rw c.from.ensures at c.index_mut.ensures.value in
     let place : c.index_mut.result.now ≡ processor w cpu = rw items at (get_or_read c.self.inside.cpus.items cpu c.index_mut.result.now inside at opening) in
     let number = ap (λ (v : World). v.drawn) c.self.view_is in
-    let step = installs_at g.Q.R.Discipline.discipline w _ cpu c.args.generation c.self.inside.drawn c.args.hook c.args.policy c.in-Ok.installed c.replace.result c.index_mut.result.now c.replace.new.self c.requires.fits c.in-Ok.ensures number place c.replace.ensures.share
+    let step = installs_at g.Q.R.Discipline.discipline w _ cpu c.args.generation c.self.inside.drawn c.args.hook c.args.policy c.in-Ok.installed c.replace.result c.index_mut.result.now c.replace.new.self c.requires.fits c.in-Ok.ensures.installed number place c.replace.ensures.share
     (write_back _ w _ cpu c.replace.new.self c.self.view_is c.from.ensures) in
     record { step = step }

@@ -20,9 +20,9 @@ filled : {X : Type 0} (xs : List X) (n p : ℕ) (x : X) → xs ≡ replicate n x
 filled xs n p x h e = ap length h ∙ length-replicate n x ∙ e
 
 -- the world of such lists
-opened : (n m p many : ℕ) (cpus : List Processor) (boxes : List (List Task)) (seats : List LobbyEntry) → cpus ≡ replicate n opening → boxes ≡ replicate m [] → seats ≡ replicate many Absent → n ≡ p → m ≡ p →
-    ◌≡◌ {A = World} (record { processors = cpus; inboxes = boxes; seats = seats; drawn = 0 }) (record { processors = replicate p opening; inboxes = replicate p []; seats = replicate many Absent; drawn = 0 })
-opened n m p many cpus boxes seats h k l e f = rw (h, k, l, e, f) refl
+opened : (n m p many : ℕ) (cpus : List Processor) (boxes : List (List Task)) (lobby : List LobbyEntry) → cpus ≡ replicate n opening → boxes ≡ replicate m [] → lobby ≡ replicate many Absent → n ≡ p → m ≡ p →
+    ◌≡◌ {A = World} (record { processors = cpus; inboxes = boxes; lobby = lobby; drawn = 0 }) (record { processors = replicate p opening; inboxes = replicate p []; lobby = replicate many Absent; drawn = 0 })
+opened n m p many cpus boxes lobby h k l e f = rw (h, k, l, e, f) refl
 
 pub processors-init : goal.processors-init
 processors-init g c = c.in_ok-cpus.ensures.items

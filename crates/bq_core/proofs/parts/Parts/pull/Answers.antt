@@ -1,6 +1,6 @@
 use Rattle.std.proofs.Common.{◌≡◌, length, ap, sym, ◌∙◌, arith}
 use Rattle.bq_parts.specs.World.{World}
-use Rattle.bq_parts.proofs.OnceLemmas.{each_once_two, seated_two}
+use Rattle.bq_parts.proofs.OnceLemmas.{each_once_two, ids_two}
 use Rattle.bq_core.proofs.StepLemmas.{written_over, write_back_processors}
 use Rattle.bq_core.proofs.ShareStepLemmas.{pulls_at}
 use Rattle.bq_core.proofs.parts.Parts.pull.Goals as goal
@@ -11,12 +11,12 @@ pull_between-requires-clause-once g c =
     let cpus = c.as_mut_slice-cpus.ensures.value ∙ ap (λ (v : World). v.processors) c.self.view_is in
     rw cpus (each_once_two w c.args.processor c.args.from c.requires.apart c.requires.orderly)
 
-pub pull_between-requires-clause-seated : goal.pull_between-requires-clause-seated
-pull_between-requires-clause-seated g c =
+pub pull_between-requires-clause-ids : goal.pull_between-requires-clause-ids
+pull_between-requires-clause-ids g c =
     let w = c.args.self.now in
     let cpus = c.as_mut_slice-cpus.ensures.value ∙ ap (λ (v : World). v.processors) c.self.view_is in
-    let seats : length w.seats ≡ 1024 = ap (λ (v : World). length v.seats) (sym c.self.view_is) ∙ c.self.invariant.2 in
-    rw cpus (seated_two w c.args.processor c.args.from seats c.requires.orderly)
+    let lobby : length w.lobby ≡ 1024 = ap (λ (v : World). length v.lobby) (sym c.self.view_is) ∙ c.self.invariant.2 in
+    rw cpus (ids_two w c.args.processor c.args.from lobby c.requires.orderly)
 
 pub pull_between-requires-clause-few : goal.pull_between-requires-clause-few
 pull_between-requires-clause-few g c = rw (ap length c.as_mut_slice-cpus.ensures.value ∙ c.self.invariant.0) c.self.invariant.1

@@ -24,11 +24,11 @@ none_refused count n e e' r f g h k = ap (λ (m : ℕ). argument_refusal m e') (
 one_refused : (w : World) (e : Event) (n : ℕ) (o : Option Refusal) (r : Refusal) → o ≡ argument_refusal n e → o ≡ Some r → n ≡ count_in w → refusal w e ≡ Some r
 one_refused w e n o r f g h = ap (λ (x : Option Refusal). either x (state_refusal w e)) (ap (λ (m : ℕ). argument_refusal m e) (sym h) ∙ sym f ∙ g)
 
--- the task that retires has a seat
-retires_seated : (count id : ℕ) → argument_refusal count (Retire id) ≡ None → id < 1024
-retires_seated count id h = below_from_not_at_most id 1024 (passed (nat_le 1024 id) no.NoTask None h).0
+-- the task that retires has an entry
+retires_entry : (count id : ℕ) → argument_refusal count (Retire id) ≡ None → id < 1024
+retires_entry count id h = below_from_not_at_most id 1024 (passed (nat_le 1024 id) no.NoTask None h).0
 
--- the processor where a wake begins is there, and the task has a seat
+-- the processor where a wake begins is there, and the task has an entry
 begins_inside : (count cpu id : ℕ) → argument_refusal count (BeginWake cpu id) ≡ None → (cpu < count) × (id < 1024)
 begins_inside count cpu id h =
     let f = there count cpu _ h in
@@ -83,7 +83,7 @@ returns-in-Admit-clause-board g c = none_asked g.B.Board.leads c.args.board.now 
 pub retire-requires : goal.retire-requires
 retire-requires g c =
     let none = none_refused (count_in c.args.self.now) c.processors.result c.args.event _ c.argument_refusal.result c.argument_refusal.ensures c.in_default.is c.processors.ensures.value c.in-Retire.is in
-    record { seat = retires_seated (count_in c.args.self.now) c.in-Retire.task none }
+    record { below = retires_entry (count_in c.args.self.now) c.in-Retire.task none }
 
 pub returns-in-Retire-clause-step : goal.returns-in-Retire-clause-step
 returns-in-Retire-clause-step g c =
@@ -115,7 +115,7 @@ pub begin_wake-requires : goal.begin_wake-requires
 begin_wake-requires g c =
     let none = none_refused (count_in c.args.self.now) c.processors.result c.args.event _ c.argument_refusal.result c.argument_refusal.ensures c.in_default.is c.processors.ensures.value c.in-BeginWake.is in
     let inside = begins_inside (count_in c.args.self.now) c.in-BeginWake.processor c.in-BeginWake.task none in
-    record { orderly = c.requires.orderly; inside = inside.0; seat = inside.1 }
+    record { orderly = c.requires.orderly; inside = inside.0; below = inside.1 }
 
 pub returns-in-BeginWake-clause-step : goal.returns-in-BeginWake-clause-step
 returns-in-BeginWake-clause-step g c =

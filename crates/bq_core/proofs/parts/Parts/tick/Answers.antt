@@ -10,7 +10,7 @@ use Rattle.bq_parts.specs.World.{World, processor, count_in, with_processor}
 use Rattle.bq_parts.specs.Choices.{policies}
 use Rattle.bq_parts.specs.Shares.{Ticks}
 use Rattle.bq_parts.specs.Steps.{WorldStep}
-use Rattle.bq_parts.proofs.OnceLemmas.{each_once_running, seated_running}
+use Rattle.bq_parts.proofs.OnceLemmas.{each_once_running, ids_running}
 use Rattle.bq_core.proofs.ShareStepLemmas.{ticks_step}
 use Rattle.bq_core.proofs.parts.Parts.tick.Goals as goal
 
@@ -37,16 +37,16 @@ tick-requires-clause-once g c =
     let place : c.index_mut-cpu.result.now ≡ processor w cpu = rw items at (get_or_read c.self.inside.cpus.items cpu c.index_mut-cpu.result.now inside at opening) in
     rw place (each_once_running w cpu c.requires.orderly)
 
-pub tick-requires-clause-seated : goal.tick-requires-clause-seated
-tick-requires-clause-seated g c =
+pub tick-requires-clause-ids : goal.tick-requires-clause-ids
+tick-requires-clause-ids g c =
     let w = c.args.self.now in
     let cpu = c.args.processor in
     let items = ap (λ (v : World). v.processors) c.self.view_is in
     let inside : cpu < length c.self.inside.cpus.items = rw items c.requires.inside in
     let at = rw c.from.ensures at c.index_mut-cpu.ensures.value in
     let place : c.index_mut-cpu.result.now ≡ processor w cpu = rw items at (get_or_read c.self.inside.cpus.items cpu c.index_mut-cpu.result.now inside at opening) in
-    let seats : length w.seats ≡ 1024 = ap (λ (v : World). length v.seats) (sym c.self.view_is) ∙ c.self.invariant.2 in
-    rw place (seated_running w cpu seats c.requires.orderly)
+    let lobby : length w.lobby ≡ 1024 = ap (λ (v : World). length v.lobby) (sym c.self.view_is) ∙ c.self.invariant.2 in
+    rw place (ids_running w cpu lobby c.requires.orderly)
 
 pub tick-requires-clause-unasked : goal.tick-requires-clause-unasked
 tick-requires-clause-unasked g c = c.requires.unasked

@@ -19,10 +19,10 @@ decide-preempted-requires-clause-once g c =
     rw (c.enter_all.ensures, c.charge.ensures, c.take_all-tasks.ensures.tasks)
     (λ id. omega (arith, c.requires.once id, count_of-append id (present_at p) xs, keeps_charge id d p c.args.now, count_of-enter_all id d (charge d p c.args.now) xs))
 
-pub decide-preempted-requires-clause-seated : goal.decide-preempted-requires-clause-seated
-decide-preempted-requires-clause-seated g c =
+pub decide-preempted-requires-clause-ids : goal.decide-preempted-requires-clause-ids
+decide-preempted-requires-clause-ids g c =
     let d = g.Q.R.Discipline.discipline in
     let p = c.args.self.now.running in
     let xs = c.args.inbox.now in
     rw (c.enter_all.ensures, c.charge.ensures, c.take_all-tasks.ensures.tasks)
-    (λ id h. omega (arith, c.requires.seated id h, count_of-append id (present_at p) xs, keeps_charge id d p c.args.now, count_of-enter_all id d (charge d p c.args.now) xs))
+    (λ id h. omega (arith, c.requires.ids id h, count_of-append id (present_at p) xs, keeps_charge id d p c.args.now, count_of-enter_all id d (charge d p c.args.now) xs))

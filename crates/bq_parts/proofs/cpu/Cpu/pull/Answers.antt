@@ -1,13 +1,13 @@
 use Rattle.std.proofs.Common.{ap, ◌∙◌}
 use Rattle.bq_parts.specs.Processors.{Processor}
-use Rattle.bq_parts.proofs.PullingLemmas.{puller_within_seats, source_within_seats, source_distinct, taken_fresh}
+use Rattle.bq_parts.proofs.PullingLemmas.{puller_within_lobby, source_within_lobby, source_distinct, taken_fresh}
 use Rattle.bq_parts.proofs.cpu.Cpu.pull.Goals as goal
 
 pub choose_pull-pulled-requires-clause-few : goal.choose_pull-pulled-requires-clause-few
-choose_pull-pulled-requires-clause-few g c = rw c.charge.ensures (puller_within_seats g.Q.R.Discipline.discipline c.args.self.now.running c.args.source.now.running c.args.now c.requires.once c.requires.seated)
+choose_pull-pulled-requires-clause-few g c = rw c.charge.ensures (puller_within_lobby g.Q.R.Discipline.discipline c.args.self.now.running c.args.source.now.running c.args.now c.requires.once c.requires.ids)
 
 pub choose_pull-pulled-requires-clause-few_from : goal.choose_pull-pulled-requires-clause-few_from
-choose_pull-pulled-requires-clause-few_from g c = rw c.remark.ensures (source_within_seats c.args.self.now.running c.args.source.now.running c.requires.once c.requires.seated)
+choose_pull-pulled-requires-clause-few_from g c = rw c.remark.ensures (source_within_lobby c.args.self.now.running c.args.source.now.running c.requires.once c.requires.ids)
 
 pub choose_pull-pulled-requires-clause-distinct : goal.choose_pull-pulled-requires-clause-distinct
 choose_pull-pulled-requires-clause-distinct g c = rw c.remark.ensures (source_distinct c.args.self.now.running c.args.source.now.running c.requires.once)

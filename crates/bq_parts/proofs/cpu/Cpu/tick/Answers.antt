@@ -5,6 +5,6 @@ use Rattle.bq_parts.proofs.cpu.Cpu.tick.Goals as goal
 pub decide-preempted-requires-clause-once : goal.decide-preempted-requires-clause-once
 decide-preempted-requires-clause-once g c = rw c.charge.ensures (HasEachOnce-charge g.Q.R.Discipline.discipline c.args.self.now.running c.args.now c.requires.once)
 
-pub decide-preempted-requires-clause-seated : goal.decide-preempted-requires-clause-seated
-decide-preempted-requires-clause-seated g c =
-    rw c.charge.ensures (λ id h. omega (arith, c.requires.seated id h, keeps_charge id g.Q.R.Discipline.discipline c.args.self.now.running c.args.now))
+pub decide-preempted-requires-clause-ids : goal.decide-preempted-requires-clause-ids
+decide-preempted-requires-clause-ids g c =
+    rw c.charge.ensures (λ id h. omega (arith, c.requires.ids id h, keeps_charge id g.Q.R.Discipline.discipline c.args.self.now.running c.args.now))

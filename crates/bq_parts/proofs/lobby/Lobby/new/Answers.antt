@@ -4,5 +4,5 @@ use Rattle.bq_parts.proofs.lobby.Lobby.new.Goals as goal
 
 pub returns : goal.returns
 returns c =
-    let all : c.seats.counter ≡ 1024 = omega arith in
-    c.seats.invariant ∙ ap (λ n. replicate n Absent) all
+    let all : c.entries.counter ≡ 1024 = omega arith in
+    c.entries.invariant ∙ ap (λ n. replicate n Absent) all

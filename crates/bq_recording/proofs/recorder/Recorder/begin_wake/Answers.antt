@@ -20,7 +20,7 @@ commit_two-requires-clause-moves g c =
       c.requires.says,
       c.lobby.invariant.0,
       rw (c.both_records-logged.ensures.entry, c.event_twice-events.ensures.entry, c.with_room-2.ensures, c.no_calls.ensures.entry)
-          (begin_moves d n own.number c.args.task own.state b.new.self hall b.new.lobby k b.result c.requires.seat share),
+          (begin_moves d n own.number c.args.task own.state b.new.self hall b.new.lobby k b.result c.requires.below share),
     )
 
 pub commit_two-requires-clause-told : goal.commit_two-requires-clause-told

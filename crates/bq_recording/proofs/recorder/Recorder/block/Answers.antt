@@ -1,7 +1,7 @@
 use Rattle.std.proofs.Common.{◌≡◌, ◌∙◌}
 use Rattle.bq_history.specs.Items.{kept_after}
 use Rattle.bq_cells.specs.Parts.{cpu_part, lobby_part, kept_by_block}
-use Rattle.bq_cells.proofs.LookLemmas.{Seen, seen_seated}
+use Rattle.bq_cells.proofs.LookLemmas.{Seen, seen_ids}
 use Rattle.bq_cells.proofs.CallStepLemmas.{block_moves}
 use Rattle.bq_recording.proofs.BriefLemmas.{blocks_brief}
 use Rattle.bq_recording.proofs.recorder.Recorder.block.Goals as goal
@@ -13,7 +13,7 @@ block-reply-requires g c =
     let own = c.place.inside.cell.content in
     let here = c.place.view_is ∙ c.look.ensures.same in
     let seen : Seen d n own.number own.state = rw here c.look.ensures.world in
-    seen_seated d n own.number own.state seen
+    seen_ids d n own.number own.state seen
 
 pub commit_two-requires-clause-moves : goal.commit_two-requires-clause-moves
 commit_two-requires-clause-moves g c =

@@ -1,6 +1,6 @@
 use Rattle.std.proofs.Common.{Ok, ◌≡◌, ℕ, ap, sym, subst, ◌∙◌}
 use Rattle.bq_cells.specs.Parts.{cpu_part, inbox_part, HasPart}
-use Rattle.bq_cells.proofs.LookLemmas.{SeenBoth, both_once, both_seated}
+use Rattle.bq_cells.proofs.LookLemmas.{SeenBoth, both_once, both_ids}
 use Rattle.bq_cells.proofs.CallStepLemmas.{drain_moves}
 use Rattle.bq_recording.proofs.AheadLemmas.{ahead_of}
 use Rattle.bq_cells.specs.Brief.{has_loads}
@@ -21,8 +21,8 @@ drain-reply-requires-clause-once g c =
     let seen : SeenBoth d n own.number own.state box.state = rw (here, there) both in
     both_once d n own.number own.state box.state seen
 
-pub drain-reply-requires-clause-seated : goal.drain-reply-requires-clause-seated
-drain-reply-requires-clause-seated g c =
+pub drain-reply-requires-clause-ids : goal.drain-reply-requires-clause-ids
+drain-reply-requires-clause-ids g c =
     let d = g.Q.R.Discipline.discipline in
     let n = c.args.self.now.history.about in
     let own = c.place.inside.cell.content in
@@ -34,7 +34,7 @@ drain-reply-requires-clause-seated g c =
     let k = c.look_at_both.ensures.world in
     let both : SeenBoth d n P.number P.state B.state = (k.0, k.1, k.2, subst (λ (x : ℕ). HasPart k.0 (inbox_part x B.state)) c.requires.own k.3) in
     let seen : SeenBoth d n own.number own.state box.state = rw (here, there) both in
-    both_seated d n own.number own.state box.state seen
+    both_ids d n own.number own.state box.state seen
 
 pub commit_two-requires-clause-moves : goal.commit_two-requires-clause-moves
 commit_two-requires-clause-moves g c =

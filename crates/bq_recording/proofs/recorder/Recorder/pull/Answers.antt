@@ -2,7 +2,7 @@ use Rattle.std.proofs.Common.{Ok, ◌≡◌, ◌≢◌, ap, ◌∙◌, arith}
 use Rattle.bq_history.specs.Items.{kept_after}
 use Rattle.bq_cells.specs.Parts.{cpu_part, kept_by_pull}
 use Rattle.bq_cells.proofs.ReachedLemmas.{reached_sound}
-use Rattle.bq_cells.proofs.LookLemmas.{SeenTwo, two_once, two_seated}
+use Rattle.bq_cells.proofs.LookLemmas.{SeenTwo, two_once, two_ids}
 use Rattle.bq_cells.proofs.PullStepLemmas.{pull_moves}
 use Rattle.bq_recording.proofs.AheadLemmas.{ahead_of}
 use Rattle.bq_cells.specs.Brief.{has_loads}
@@ -31,8 +31,8 @@ pull-reply-requires-clause-once g c =
     let seen : SeenTwo d n own.number other.number own.state other.state apart = rw (here, there) c.look_at_both.ensures.world in
     two_once d n own.number other.number own.state other.state apart seen
 
-pub pull-reply-requires-clause-seated : goal.pull-reply-requires-clause-seated
-pull-reply-requires-clause-seated g c =
+pub pull-reply-requires-clause-ids : goal.pull-reply-requires-clause-ids
+pull-reply-requires-clause-ids g c =
     let d = g.Q.R.Discipline.discipline in
     let n = c.args.self.now.history.about in
     let own = c.place.inside.cell.content in
@@ -41,7 +41,7 @@ pull-reply-requires-clause-seated g c =
     let there = c.source.view_is ∙ c.look_at_both.ensures.b in
     let apart : own.number ≢ other.number = rw (here, there) c.requires.apart in
     let seen : SeenTwo d n own.number other.number own.state other.state apart = rw (here, there) c.look_at_both.ensures.world in
-    two_seated d n own.number other.number own.state other.state apart seen
+    two_ids d n own.number other.number own.state other.state apart seen
 
 pub commit_two-requires-clause-moves : goal.commit_two-requires-clause-moves
 commit_two-requires-clause-moves g c =

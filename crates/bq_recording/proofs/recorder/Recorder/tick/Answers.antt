@@ -1,6 +1,6 @@
 use Rattle.std.proofs.Common.{◌∙◌, sym, ap}
 use Rattle.bq_cells.specs.Parts.{cpu_part}
-use Rattle.bq_cells.proofs.LookLemmas.{Seen, seen_once, seen_seated}
+use Rattle.bq_cells.proofs.LookLemmas.{Seen, seen_once, seen_ids}
 use Rattle.bq_cells.proofs.CallStepLemmas.{tick_moves}
 use Rattle.bq_recording.proofs.AheadLemmas.{ahead_of}
 use Rattle.bq_recording.proofs.recorder.Recorder.tick.Goals as goal
@@ -14,14 +14,14 @@ tick-reply-requires-clause-once g c =
     let seen : Seen d n own.number own.state = rw here c.look.ensures.world in
     seen_once d n own.number own.state seen
 
-pub tick-reply-requires-clause-seated : goal.tick-reply-requires-clause-seated
-tick-reply-requires-clause-seated g c =
+pub tick-reply-requires-clause-ids : goal.tick-reply-requires-clause-ids
+tick-reply-requires-clause-ids g c =
     let d = g.Q.R.Discipline.discipline in
     let n = c.args.self.now.history.about in
     let own = c.place.inside.cell.content in
     let here = c.place.view_is ∙ c.look.ensures.same in
     let seen : Seen d n own.number own.state = rw here c.look.ensures.world in
-    seen_seated d n own.number own.state seen
+    seen_ids d n own.number own.state seen
 
 pub commit_one-requires-clause-moves : goal.commit_one-requires-clause-moves
 commit_one-requires-clause-moves g c =
