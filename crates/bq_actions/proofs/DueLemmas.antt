@@ -283,11 +283,11 @@ number-is p time (Some t) low is = ap (λ (n : ℕ). Some n) (let e : t ≡ time
 -- what is first in the agenda comes first by the accounts
 pub first-next : (end : ℕ) (a : Accounts) (x : List ℕ) (time place : ℕ) (due : Due) → IsFirst x time place → due_at place ≡ Some due → Agrees end a x → IsNext end a due time
 first-next end a x time place due first at h =
-    let seat : Stands place due = stands place due at in
-    let low : place_of due < 1216 = place-low due seat.0 in
-    let taken : at_place x (place_of due) ≡ time * 2048 + place_of due = subst (λ (n : ℕ). at_place x n ≡ time * 2048 + n) (sym seat.1) first.taken in
+    let stand : Stands place due = stands place due at in
+    let low : place_of due < 1216 = place-low due stand.0 in
+    let taken : at_place x (place_of due) ≡ time * 2048 + place_of due = subst (λ (n : ℕ). at_place x n ≡ time * 2048 + n) (sym stand.1) first.taken in
     let bound : (other : Due) → IsDue other → time * 2048 + place_of due ≤ at_place x (place_of other) =
-    λ other there. let few : place_of other < 1216 = place-low other there in subst (λ (n : ℕ). time * 2048 + n ≤ at_place x (place_of other)) (sym seat.1) (first.bound (place_of other) (omega arith)) in
+    λ other there. let few : place_of other < 1216 = place-low other there in subst (λ (n : ℕ). time * 2048 + n ≤ at_place x (place_of other)) (sym stand.1) (first.bound (place_of other) (omega arith)) in
     let least : (other : Due) (t : ℕ) → comes_at end a other ≡ Some t → IsBefore t other time due → ⊥ =
     λ other t comes before.
     let there : IsDue other = (h.all other).there t comes in
@@ -295,7 +295,7 @@ first-next end a x time place due first at h =
     let stood : at_place x (place_of other) ≡ t * 2048 + place_of other = (h.all other).at there ∙ ap (number_of (place_of other)) comes in
     let more : time * 2048 + place_of due ≤ at_place x (place_of other) = bound other there in
     elim before [ inl early ↦ omega arith | inr same ↦ omega (arith, same.0, same.1) ] in
-    record { comes = number-is (place_of due) time (comes_at end a due) low (sym ((h.all due).at seat.0) ∙ taken); first = least }
+    record { comes = number-is (place_of due) time (comes_at end a due) low (sym ((h.all due).at stand.0) ∙ taken); first = least }
 
 -- where nothing is due in the agenda nothing comes by the accounts
 pub none-next : (end : ℕ) (a : Accounts) (x : List ℕ) → AreNever x → Agrees end a x → NothingComes end a

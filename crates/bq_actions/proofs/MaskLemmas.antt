@@ -1,22 +1,11 @@
 -- The processors of a mask.
-use Rattle.std.proofs.Common.{◌≡◌, ℕ, zero, suc, ◌+◌, ◌/◌, ◌%◌, ◌^◌, ◌<◌, ◌≤◌, ◌||◌, Bool, false, true, Option, None, Some, is_some, IfSome, get_or, refl, sym, ap, ◌∙◌, subst, ⊎_elim, arith}
+use Rattle.std.proofs.Common.{◌≡◌, ℕ, zero, suc, ◌+◌, ◌<◌, ◌≤◌, ◌||◌, Bool, false, true, Option, None, Some, is_some, IfSome, get_or, refl, sym, ap, ◌∙◌, subst, ⊎_elim, arith}
 use Rattle.std.specs.List.{list_any, range_with_len}
-use Rattle.std.specs.Prelude.{◌==◌}
-use Rattle.std.proofs.Math.Nat.{pow-le-pow_right}
 use Rattle.std.proofs.lemmas.Bool.{cases_lt, false≢true}
 use Rattle.std.proofs.lemmas.List.Folds.{list_any_at}
 use Rattle.std.proofs.lemmas.List.FromFn.{get_or-range_with_len, length-range_with_len}
-use Rattle.std.proofs.lemmas.Nat.{div_below}
 use Rattle.bq_actions.specs.Soundness.{IsFirstAllowed, allows_one}
-use Rattle.bq_hooks.specs.OwnPlace.{allows}
-
--- a mask of 64 bits has no processor beyond them
-pub allows-late : (mask p : ℕ) → mask < 2 ^ 64 → 64 ≤ p → allows mask p ≡ false
-allows-late mask p low late =
-    let grows : 2 ^ 64 ≤ 2 ^ p = pow-le-pow_right (omega arith) late in
-    let below : mask / 2 ^ p < 1 = div_below mask (2 ^ p) 1 (omega (arith, grows)) (omega (arith, low, grows)) in
-    let none : mask / 2 ^ p ≡ 0 = omega (arith, below) in
-    ap (λ (q : ℕ). q % 2 == 1) none
+use Rattle.bq_disc.specs.Masks.{allows}
 
 -- none of so many processors, and not the next
 pub none-more : (mask count : ℕ) → ((lower : ℕ) → lower < count → allows mask lower ≡ false) → allows mask count ≡ false → (lower : ℕ) → lower < count + 1 → allows mask lower ≡ false

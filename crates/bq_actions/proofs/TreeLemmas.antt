@@ -69,19 +69,19 @@ never-places xs is place h = all-never xs is (2048 + place) (omega arith)
 pub nothing-due : (xs : List ℕ) → HasMinima xs → HasPlaces xs → get_or xs 1 0 ≡ never → AreNever xs
 nothing-due xs m places root place h =
     let up : get_or xs 1 0 ≤ get_or xs (2048 + place) 0 = root-bounds 4096 (2048 + place) xs m (omega arith) (omega arith) (omega arith) in
-    elim (places place h) [ inl none ↦ none | inr (seat, small) ↦ absurd (omega (arith, up, root, small)) ]
+    elim (places place h) [ inl none ↦ none | inr (stand, small) ↦ absurd (omega (arith, up, root, small)) ]
 
 -- where the root is due, it has the time and the place of what is due first
 pub first-due : (xs : List ℕ) → HasMinima xs → HasPlaces xs → get_or xs 1 0 ≢ never → IsFirst xs (get_or xs 1 0 / 2048) (get_or xs 1 0 % 2048)
 first-due xs m places due =
     let leaf : (place : ℕ) × (place < 2048) × (get_or xs (2048 + place) 0 ≡ get_or xs 1 0) = leaf-of 4096 1 xs m (omega arith) (omega arith) (omega arith) in
-    let seat : get_or xs 1 0 % 2048 ≡ leaf.0 = elim (places leaf.0 leaf.1) [
+    let stand : get_or xs 1 0 % 2048 ≡ leaf.0 = elim (places leaf.0 leaf.1) [
       | inl none ↦ absurd (due (sym leaf.2 ∙ none))
       | inr (here, small) ↦ sym (ap (λ n. n % 2048) leaf.2) ∙ here
     ] in
     record {
-      seated = omega arith;
-      taken = let e : get_or xs (2048 + get_or xs 1 0 % 2048) 0 ≡ get_or xs (2048 + leaf.0) 0 = ap (λ i. get_or xs (2048 + i) 0) seat in omega (arith, e, leaf.2);
+      within = omega arith;
+      taken = let e : get_or xs (2048 + get_or xs 1 0 % 2048) 0 ≡ get_or xs (2048 + leaf.0) 0 = ap (λ i. get_or xs (2048 + i) 0) stand in omega (arith, e, leaf.2);
       bound = λ other h. let up : get_or xs 1 0 ≤ get_or xs (2048 + other) 0 = root-bounds 4096 (2048 + other) xs m (omega arith) (omega arith) (omega arith) in omega (arith, up);
     }
 

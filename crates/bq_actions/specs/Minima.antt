@@ -39,6 +39,6 @@ AreNever xs = (place : ℕ) → place < 2048 → at_place xs place ≡ never
 
 -- what stands at the place is due then, and nothing is due before it
 pub record IsFirst (xs : List ℕ) (time place : ℕ) : Type 0 where
-  pub seated : place < 2048
+  pub within : place < 2048
   pub taken : at_place xs place ≡ time * 2048 + place
   pub bound : (other : ℕ) → other < 2048 → time * 2048 + place ≤ at_place xs other

@@ -10,7 +10,7 @@ use Rattle.bq_actions.specs.declared.workload.TaskKind.{TaskKind}
 use Rattle.bq_actions.specs.declared.workload.Workload.{Workload}
 use Rattle.bq_actions.specs.Kinds.{tasks_in}
 use Rattle.bq_actions.specs.Lengths.{is_length, is_long, longest, takes_time}
-use Rattle.bq_hooks.specs.OwnPlace.{allows}
+use Rattle.bq_disc.specs.Masks.{allows}
 use Rattle.bq_weights.specs.VirtualTime.{is_nice}
 use Rattle.bq_words.specs.Sizes.{processors_in}
 

@@ -1,24 +1,25 @@
 //! Which workloads can be followed.
 ghost use Rattle.std.specs.Prelude.{◌≡◌, false, IfNone, IfSome, slice_get};
 ghost use Rattle.std.specs.Result.{result_err};
-ghost use Rattle.bq_hooks.specs.OwnPlace.{allows};
+ghost use Rattle.bq_disc.specs.Masks.{allows};
 ghost use Rattle.bq_actions.specs.Lengths.{is_long};
 ghost use Rattle.bq_actions.specs.Soundness.{IsFirstAllowed, allows_one, first_flaw, flaws_of_doing, flaws_of_kind, flaws_of_machine, has_name, has_numbers, is_action};
 
 use crate::limits::{LONGEST, LONGEST_NAME};
 use crate::{Action, Setup, TaskKind, Workload, take_time};
 use bq_disc::limits::{GREATEST_SLICE, LEAST_SLICE, TASKS};
+use bq_disc::mask::allows;
 use bq_weights::is_nice;
 use thiserror::Error;
 
 /// Why a workload cannot be followed. Kinds of tasks and their actions are numbered from 0.
 #[derive(Clone, Copy, Debug, Drop, Error)]
 pub enum Unsound {
-    #[error("machine: a time is not from 1 to 281474976710655 ns")]
+    #[error("machine: a time is not from 1 to {longest} ns", longest = LONGEST)]
     Machine,
-    #[error("more than 1024 tasks")]
+    #[error("more than {tasks} tasks", tasks = TASKS)]
     Tasks,
-    #[error("task {0}: its name has more than 1024 bytes")]
+    #[error("task {0}: its name has more than {bytes} bytes", bytes = LONGEST_NAME)]
     Name(usize),
     #[error("task {0}: a number is out of its range")]
     Kind(usize),
@@ -137,16 +138,9 @@ pub fn first_of_mask(mask: u64, processors: u8) -> Option<u8>
     ensures none { IfNone result (allows_one processors mask ≡ false) }
 {
     'processors: for processor in 0..processors {
-        if is_allowed(mask, processor) {
+        if allows(mask, processor) {
             return Some(processor);
         }
     }
     None
-}
-
-/// Whether a processor is one of a mask.
-fn is_allowed(mask: u64, processor: u8) -> bool
-    ensures { result ≡ allows mask processor }
-{
-    processor < 64 && (mask >> processor) % 2 == 1
 }

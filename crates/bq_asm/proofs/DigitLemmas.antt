@@ -9,8 +9,8 @@ use Rattle.std.specs.Str.Parse.{digits_value, AllDigits}
 use Rattle.std.proofs.lemmas.Fmt.{decimal_is_IsNumeral, decimal_by_steps, decimal_digit, decimal_step}
 use Rattle.std.proofs.lemmas.Bool.{and_from, and_parts, and_right, and_left, lt-ltb, le-leb, ne_eqb, leb-true, cases_lt}
 use Rattle.std.proofs.lemmas.Int.{ints}
-use Rattle.bq_words.specs.Numbers.{number_of, below}
-use Rattle.bq_asm.specs.Numbers.{magnitude_of, negative, imm_of, offset_of, distance_of, wide_of, register_of}
+use Rattle.bq_words.specs.Numbers.{number_of, below, value_of}
+use Rattle.bq_asm.specs.Numbers.{negative, imm_of, offset_of, distance_of, wide_of, register_of}
 use Rattle.bq_asm.specs.Text.{signed_text}
 
 -- `0` to `9`
@@ -73,8 +73,8 @@ no_prefix (b ∷ c ∷ bs) h =
     and_right (nat_eq 48 b) (nat_eq 120 c && true) (and_left (nat_eq 120 c) true (ne_eqb 120 c (λ e. omega arith)))
 
 -- so they are where a prefix of hex digits could stand
-pub magnitude_of-decimal : (n : ℕ) → n < 2 ^ 64 → magnitude_of (decimal n) ≡ Some n
-magnitude_of-decimal n h =
+pub value_of-decimal : (n : ℕ) → n < 2 ^ 64 → value_of (decimal n) ≡ Some n
+value_of-decimal n h =
     ap (λ b. if b then number_of 16 (drop 2 (decimal n)) else number_of 10 (decimal n)) (no_prefix (decimal n) (decimal_digits n h)) ∙ number_of-decimal n h
 
 first_no_sign : (bs : List ℕ) (s : ℕ) → 0 < length bs → list_all is_digit bs ≡ true → s < 48 → starts_with nat_eq bs (s ∷ []) ≡ false
@@ -93,35 +93,35 @@ pub imm_of-signed : (z : ℤ) → FitsSigned w32 z → imm_of (signed_decimal z)
 imm_of-signed (pos n) h =
     let lt : n < 2 ^ 31 = omega (arith, ints, h) in
     let word = decimal n in
-    ap (λ b. if b then option_map negative (below (2 ^ 31 + 1) (magnitude_of (drop 1 word))) else option_map (λ n. pos n) (below (2 ^ 31) (magnitude_of word))) (decimal_no_sign n 45 (omega arith) (omega arith))
-    ∙ ap (option_map (λ n. pos n)) (below_is (2 ^ 31) n (magnitude_of word) (magnitude_of-decimal n (omega arith)) lt)
+    ap (λ b. if b then option_map negative (below (2 ^ 31 + 1) (value_of (drop 1 word))) else option_map (λ n. pos n) (below (2 ^ 31) (value_of word))) (decimal_no_sign n 45 (omega arith) (omega arith))
+    ∙ ap (option_map (λ n. pos n)) (below_is (2 ^ 31) n (value_of word) (value_of-decimal n (omega arith)) lt)
 imm_of-signed (negsuc n) h =
     let lt : suc n < 2 ^ 31 + 1 = omega (arith, ints, h) in
-    ap (option_map negative) (below_is (2 ^ 31 + 1) (suc n) (magnitude_of (decimal (suc n))) (magnitude_of-decimal (suc n) (omega arith)) lt)
+    ap (option_map negative) (below_is (2 ^ 31 + 1) (suc n) (value_of (decimal (suc n))) (value_of-decimal (suc n) (omega arith)) lt)
 
 -- a number of 16 bits with its sign is read as itself where an offset stands
 pub offset_of-signed : (z : ℤ) → FitsSigned w16 z → offset_of (signed_text z) ≡ Some z
 offset_of-signed (pos n) h =
     let lt : n < 2 ^ 15 = omega (arith, ints, h) in
-    ap (option_map (λ n. pos n)) (below_is (2 ^ 15) n (magnitude_of (decimal n)) (magnitude_of-decimal n (omega arith)) lt)
+    ap (option_map (λ n. pos n)) (below_is (2 ^ 15) n (value_of (decimal n)) (value_of-decimal n (omega arith)) lt)
 offset_of-signed (negsuc n) h =
     let lt : suc n < 2 ^ 15 + 1 = omega (arith, ints, h) in
-    ap (option_map negative) (below_is (2 ^ 15 + 1) (suc n) (magnitude_of (decimal (suc n))) (magnitude_of-decimal (suc n) (omega arith)) lt)
+    ap (option_map negative) (below_is (2 ^ 15 + 1) (suc n) (value_of (decimal (suc n))) (value_of-decimal (suc n) (omega arith)) lt)
 
 -- a number of 32 bits with its sign is read as itself where a distance stands
 pub distance_of-signed : (z : ℤ) → FitsSigned w32 z → distance_of (signed_text z) ≡ Some z
 distance_of-signed (pos n) h =
     let lt : n < 2 ^ 31 = omega (arith, ints, h) in
-    ap (option_map (λ n. pos n)) (below_is (2 ^ 31) n (magnitude_of (decimal n)) (magnitude_of-decimal n (omega arith)) lt)
+    ap (option_map (λ n. pos n)) (below_is (2 ^ 31) n (value_of (decimal n)) (value_of-decimal n (omega arith)) lt)
 distance_of-signed (negsuc n) h =
     let lt : suc n < 2 ^ 31 + 1 = omega (arith, ints, h) in
-    ap (option_map negative) (below_is (2 ^ 31 + 1) (suc n) (magnitude_of (decimal (suc n))) (magnitude_of-decimal (suc n) (omega arith)) lt)
+    ap (option_map negative) (below_is (2 ^ 31 + 1) (suc n) (value_of (decimal (suc n))) (value_of-decimal (suc n) (omega arith)) lt)
 
 -- a number below 2^64 in decimal is read as itself where a wide number stands
 pub wide_of-decimal : (n : ℕ) → n < 2 ^ 64 → wide_of (decimal n) ≡ Some n
 wide_of-decimal n h =
     let word = decimal n in
-    ap (λ b. if b then below 1 (magnitude_of (drop 1 word)) else magnitude_of word) (decimal_no_sign n 45 h (omega arith)) ∙ magnitude_of-decimal n h
+    ap (λ b. if b then below 1 (value_of (drop 1 word)) else value_of word) (decimal_no_sign n 45 h (omega arith)) ∙ value_of-decimal n h
 
 -- a register
 register_digit : (r : ℕ) → r < 10 → register_of (codes "r" ++ ((48 + r) ∷ [])) ≡ Some r

@@ -7,8 +7,8 @@ use Rattle.std.specs.Str.Parse.{digits_value}
 use Rattle.std.specs.Char.{digit_value}
 use Rattle.std.proofs.lemmas.Bool.Decides.{nat_tests}
 use Rattle.std.proofs.lemmas.Int.{ints}
-use Rattle.bq_words.specs.Numbers.{number_of, below}
-use Rattle.bq_asm.specs.Numbers.{magnitude_of, negative, imm_of, offset_of, distance_of, wide_of, register_of}
+use Rattle.bq_words.specs.Numbers.{number_of, below, value_of}
+use Rattle.bq_asm.specs.Numbers.{negative, imm_of, offset_of, distance_of, wide_of, register_of}
 
 below_limit : (limit : ℕ) (o : Option ℕ) → IfSome (below limit o) (λ n. n < limit)
 below_limit limit None = tt
@@ -42,16 +42,16 @@ either P false x y h k = k
 -- what is read as an immediate fits 32 bits with a sign
 pub imm_fits : (w : List ℕ) → IfSome (imm_of w) (FitsSigned w32)
 imm_fits w =
-    let minus = below (2 ^ 31 + 1) (magnitude_of (drop 1 w)) in
-    let plain = below (2 ^ 31) (magnitude_of w) in
+    let minus = below (2 ^ 31 + 1) (value_of (drop 1 w)) in
+    let plain = below (2 ^ 31) (value_of w) in
     either (FitsSigned w32) (starts_with nat_eq w (codes "-")) (option_map negative minus) (option_map (λ n. pos n) plain)
-    (mapped (λ n. n < 2 ^ 31 + 1) (FitsSigned w32) negative negative_fits minus (below_limit (2 ^ 31 + 1) (magnitude_of (drop 1 w))))
-    (mapped (λ n. n < 2 ^ 31) (FitsSigned w32) (λ n. pos n) positive_fits plain (below_limit (2 ^ 31) (magnitude_of w)))
+    (mapped (λ n. n < 2 ^ 31 + 1) (FitsSigned w32) negative negative_fits minus (below_limit (2 ^ 31 + 1) (value_of (drop 1 w))))
+    (mapped (λ n. n < 2 ^ 31) (FitsSigned w32) (λ n. pos n) positive_fits plain (below_limit (2 ^ 31) (value_of w)))
 
 -- what is read as a distance fits 32 bits with a sign
 pub distance_fits : (w : List ℕ) → IfSome (distance_of w) (FitsSigned w32)
 distance_fits w =
-    let size = magnitude_of (drop 1 w) in
+    let size = value_of (drop 1 w) in
     let minus = below (2 ^ 31 + 1) size in
     let plus = below (2 ^ 31) size in
     let signed = if starts_with nat_eq w (codes "+") then option_map (λ n. pos n) plus else None in
@@ -62,7 +62,7 @@ distance_fits w =
 -- what is read as an offset fits 16 bits with a sign
 pub offset_fits : (w : List ℕ) → IfSome (offset_of w) (FitsSigned w16)
 offset_fits w =
-    let size = magnitude_of (drop 1 w) in
+    let size = value_of (drop 1 w) in
     let minus = below (2 ^ 15 + 1) size in
     let plus = below (2 ^ 15) size in
     let signed = if starts_with nat_eq w (codes "+") then option_map (λ n. pos n) plus else None in
@@ -79,8 +79,8 @@ number_fits radix w = by (nat_lt 0 (length w)) (list_all (λ c. nat_lt (digit_va
     by true false c e = tt
     by false b c e = tt
 
-magnitude_fits : (w : List ℕ) → IfSome (magnitude_of w) (λ n. n < 2 ^ 64)
-magnitude_fits w = either (λ n. n < 2 ^ 64) (starts_with nat_eq w (codes "0x")) (number_of 16 (drop 2 w)) (number_of 10 w) (number_fits 16 (drop 2 w)) (number_fits 10 w)
+value_fits : (w : List ℕ) → IfSome (value_of w) (λ n. n < 2 ^ 64)
+value_fits w = either (λ n. n < 2 ^ 64) (starts_with nat_eq w (codes "0x")) (number_of 16 (drop 2 w)) (number_of 10 w) (number_fits 16 (drop 2 w)) (number_fits 10 w)
 
 at_most : (o : Option ℕ) → IfSome (below 1 o) (λ n. n < 1) → IfSome (below 1 o) (λ n. n < 2 ^ 64)
 at_most o h = by (below 1 o) h
@@ -91,7 +91,7 @@ at_most o h = by (below 1 o) h
 
 -- what is read as a wide number fits 64 bits
 pub wide_fits : (w : List ℕ) → IfSome (wide_of w) (λ n. n < 2 ^ 64)
-wide_fits w = either (λ n. n < 2 ^ 64) (starts_with nat_eq w (codes "-")) (below 1 (magnitude_of (drop 1 w))) (magnitude_of w) (at_most (magnitude_of (drop 1 w)) (below_limit 1 (magnitude_of (drop 1 w)))) (magnitude_fits w)
+wide_fits w = either (λ n. n < 2 ^ 64) (starts_with nat_eq w (codes "-")) (below 1 (value_of (drop 1 w))) (value_of w) (at_most (value_of (drop 1 w)) (below_limit 1 (value_of (drop 1 w)))) (value_fits w)
 
 one_digit : (r d : ℕ) → IfSome (register_of (r ∷ d ∷ [])) (λ n. n ≤ 10)
 one_digit r d = by (r == 114) (nat_le 48 d) (nat_le d 57) refl

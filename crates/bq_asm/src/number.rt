@@ -1,18 +1,9 @@
 //! The numbers and registers that words write.
 ghost use Rattle.std.specs.Prelude.{◌≡◌, ◌+◌, ◌^◌, option_map, pos};
-ghost use Rattle.bq_words.specs.Numbers.{below};
-ghost use Rattle.bq_asm.specs.Numbers.{magnitude_of, negative, imm_of, offset_of, distance_of, wide_of, register_of, begins_number};
+ghost use Rattle.bq_words.specs.Numbers.{below, value_of};
+ghost use Rattle.bq_asm.specs.Numbers.{negative, imm_of, offset_of, distance_of, wide_of, register_of, begins_number};
 
-use bq_words::number;
-
-fn magnitude_of(word: &[u8]) -> Option<u64>
-    ensures { result ≡ magnitude_of word.now }
-{
-    match word.strip_prefix(b"0x") {
-        Some(digits) => number(digits, 16),
-        None => number(word, 10),
-    }
-}
+use bq_words::value;
 
 /// A number from -2^31 to 2^31 - 1.
 pub fn imm_of(word: &[u8]) -> Option<i32>
@@ -26,9 +17,9 @@ pub fn imm_of(word: &[u8]) -> Option<i32>
 
 /// The number that digits write after a `-`, down to -2^31.
 fn below_zero(digits: &[u8]) -> Option<i32>
-    ensures { result ≡ option_map negative (below (2 ^ 31 + 1) (magnitude_of digits.now)) }
+    ensures { result ≡ option_map negative (below (2 ^ 31 + 1) (value_of digits.now)) }
 {
-    let size = magnitude_of(digits)?;
+    let size = value(digits)?;
     if size > 0x8000_0000 {
         return None;
     }
@@ -37,9 +28,9 @@ fn below_zero(digits: &[u8]) -> Option<i32>
 
 /// The number that digits write without a `-`, up to 2^31 - 1.
 fn from_zero(digits: &[u8]) -> Option<i32>
-    ensures { result ≡ option_map (λ n. pos n) (below (2 ^ 31) (magnitude_of digits.now)) }
+    ensures { result ≡ option_map (λ n. pos n) (below (2 ^ 31) (value_of digits.now)) }
 {
-    i32::try_from(magnitude_of(digits)?).ok()
+    i32::try_from(value(digits)?).ok()
 }
 
 /// A number with a sign, from -2^15 to 2^15 - 1.
@@ -47,14 +38,14 @@ pub fn offset_of(word: &[u8]) -> Option<i16>
     ensures { result ≡ offset_of word.now }
 {
     if let Some(digits) = word.strip_prefix(b"-") {
-        let size = magnitude_of(digits)?;
+        let size = value(digits)?;
         if size > 0x8000 {
             return None;
         }
         return Some((-(size as i64)) as i16);
     }
     let digits = word.strip_prefix(b"+")?;
-    i16::try_from(magnitude_of(digits)?).ok()
+    i16::try_from(value(digits)?).ok()
 }
 
 /// A number with a sign, from -2^31 to 2^31 - 1.
@@ -73,13 +64,13 @@ pub fn wide_of(word: &[u8]) -> Option<u64>
 {
     match word.strip_prefix(b"-") {
         Some(digits) => {
-            let size = magnitude_of(digits)?;
+            let size = value(digits)?;
             if size > 0 {
                 return None;
             }
             Some(size)
         }
-        None => magnitude_of(word),
+        None => value(word),
     }
 }
 

@@ -1,6 +1,7 @@
 -- What is known of a processor's tasks without a look at each.
-use Rattle.std.specs.Prelude.{ℕ, ◌-◌, ◌*◌, ◌/◌, ◌≤◌, List, ◌∷◌, Option, Some}
+use Rattle.std.specs.Prelude.{ℕ, ◌-◌, ◌≤◌, List, ◌∷◌, Option, Some}
 use Rattle.std.specs.List.{AllByRecursion}
+use Rattle.bq_weights.specs.VirtualTime.{time_of}
 use Rattle.bq_disc.specs.Tasks.{Task}
 use Rattle.bq_bounds.specs.declared.stretch.Stretch.{Stretch}
 use Rattle.bq_bounds.specs.declared.glance.Glance.{Glance}
@@ -18,4 +19,4 @@ IsGlance g s xs = ⊥
 
 -- none of them is owed more than this
 abbrev pub at_most_owed : Glance → Stretch → ℕ
-at_most_owed g s = s.heaviest * (g.mean - g.least) / 1024
+at_most_owed g s = time_of (g.mean - g.least) s.heaviest

@@ -1,6 +1,7 @@
 -- What tasks are owed under EEVDF while none comes and none goes at their processor, and how much that may be.
 use Rattle.std.specs.Prelude.{ℕ, ◌+◌, ◌-◌, ◌*◌, ◌/◌, ◌^◌, min, max, List, [], ◌∷◌, length, Option, Some, None, unwrap_or}
 use Rattle.std.specs.Option.{option_map_or}
+use Rattle.bq_weights.specs.VirtualTime.{time_of}
 use Rattle.bq_disc.specs.Tasks.{Task}
 use Rattle.bq_disc.specs.Totals.{total_weight, mean_of}
 use Rattle.bq_bounds.specs.declared.charge.Charge.{Charge}
@@ -16,9 +17,9 @@ abbrev pub furthest : ℕ → List Task → ℕ
 furthest mean [] = 0
 furthest mean (t ∷ xs) = max (t.v - mean) (furthest mean xs)
 
--- what a task is owed where the mean is this: nanoseconds, of which 1024 take as much virtual time as its weight says
+-- what a task is owed where the mean is this: the time that takes the virtual time by which it is behind
 abbrev pub owed : ℕ → Task → ℕ
-owed mean t = t.weight * (mean - t.v) / 1024
+owed mean t = time_of (mean - t.v) t.weight
 
 -- What one of n tasks may be owed, whose weight is w, and that of all together W: where at the start none was further ahead than a,
 -- and the clock rises by at most r between two decisions. It is n - 2 rises and its own share of one, and for the others a

@@ -5,7 +5,7 @@ ghost use Rattle.bq_bounds.specs.Charges.{charge_of, charge_from};
 
 use crate::running_task::RunningTask;
 use bq_cfs::GRANULARITY;
-use bq_weights::GREATEST;
+use bq_weights::{GREATEST, NICE_0_WEIGHT};
 use bq_words::Rule;
 
 /// How far the task that ran was beyond where its rule measures from when its time was charged, and how far it may be: virtual
@@ -51,6 +51,6 @@ fn virtual_time(time: u64, weight: u32) -> u64
     requires { IsWeight weight }
     ensures { result ≡ min (vdelta_of time weight) (2 ^ 64 - 1) }
 {
-    let whole = u128::from(time) * 1024 / u128::from(weight);
+    let whole = u128::from(time) * u128::from(NICE_0_WEIGHT) / u128::from(weight);
     u64::try_from(whole).unwrap_or(u64::MAX)
 }

@@ -9,6 +9,7 @@ use crate::glance::Glance;
 use crate::totals::totals;
 use crate::watch::greater;
 use bq_disc::Entity;
+use bq_weights::{NICE_0_WEIGHT, time_of};
 
 /// A stretch as it goes on. Under EEVDF no task gets further ahead of the mean in it than one was at its beginning, but for one
 /// rise of the clock between two decisions; so none is owed more than the others can be ahead by together.
@@ -91,8 +92,7 @@ impl Stretch {
         ensures { result ≡ min (at_most_owed glance self.now) (2 ^ 64 - 1) }
     {
         let behind = glance.mean.saturating_sub(glance.least);
-        let owed = u128::from(self.heaviest) * u128::from(behind) / 1024;
-        u64::try_from(owed).unwrap_or(u64::MAX)
+        u64::try_from(time_of(behind, self.heaviest)).unwrap_or(u64::MAX)
     }
 
     /// What one of some tasks is owed, and what it may be.
@@ -103,7 +103,7 @@ impl Stretch {
         ensures { result ≡ lag_by self.now group.now.mean group.now.count group.now.weight task.now }
     {
         let behind = group.mean.saturating_sub(task.v());
-        let owed = u128::from(task.weight()) * u128::from(behind) / 1024;
+        let owed = time_of(behind, task.weight());
         Charge {
             difference: u64::try_from(owed).unwrap_or(u64::MAX),
             bound: self.allowed(group, task.weight()),
@@ -123,8 +123,8 @@ impl Stretch {
         let others = u128::from(group.weight.saturating_sub(weight))
             * u128::from(self.ahead)
             * whole;
-        let own = 1024 * u128::from(self.most) * u128::from(weight);
-        let together = rises + (others + own) / (1024 * whole);
+        let own = u128::from(NICE_0_WEIGHT) * u128::from(self.most) * u128::from(weight);
+        let together = rises + (others + own) / (u128::from(NICE_0_WEIGHT) * whole);
         u64::try_from(together).unwrap_or(u64::MAX)
     }
 }

@@ -14,6 +14,20 @@ pub enum Hook {
     Pull,
 }
 
+/// A text with the words of hooks in it.
+#[macro_export]
+macro_rules! with_hooks {
+    ($before:literal) => {
+        with_hooks!($before, "")
+    };
+    ($before:literal, $behind:literal) => {
+        concat!($before, "place, preempt or pull", $behind)
+    };
+}
+
+/// What a word that `Hook::of_word` does not take is said to be.
+pub const NO_HOOK: &str = with_hooks!("is no hook (", ")");
+
 impl Hook {
     /// The word that names it in traces, options and marks: `place`, `preempt` or `pull`.
     pub fn word(self) -> &'static str
@@ -50,6 +64,20 @@ pub enum Version {
     /// The context of a placement has 296 bytes.
     Second,
 }
+
+/// A text with the words of versions in it.
+#[macro_export]
+macro_rules! with_versions {
+    ($before:literal) => {
+        with_versions!($before, "")
+    };
+    ($before:literal, $behind:literal) => {
+        concat!($before, "1 or 2", $behind)
+    };
+}
+
+/// What a word that `Version::of_word` does not take is said to be.
+pub const NO_VERSION: &str = with_versions!("is no format (", ")");
 
 impl Version {
     /// Its number: 1 or 2.

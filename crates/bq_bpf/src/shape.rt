@@ -4,6 +4,37 @@ ghost use Rattle.std.specs.Prelude.{◌≡◌, ◌≤◌, ◌%◌, ◌↔◌, Is
 /// How many maps a program has at most.
 pub const MAPS: usize = 8;
 
+/// How many bytes the value of a map has at least, and of how many it has a multiple.
+pub const LEAST_SIZE: u16 = 8;
+
+/// How many bytes the value of a map has at most.
+pub const GREATEST_SIZE: u16 = 256;
+
+/// How many entries a map has at most.
+pub const ENTRIES: u16 = 256;
+
+/// Which sizes a value may have, in words.
+pub const SIZE_WORDS: &str = "8 to 256, a multiple of 8";
+
+/// How many entries there may be, in words.
+pub const ENTRIES_WORDS: &str = "1 to 256";
+
+/// A text with the same words in it, and how many maps a program has at most.
+#[macro_export]
+macro_rules! with_map_limits {
+    ($size:literal, $entries:literal, $maps:literal, $behind:literal) => {
+        concat!(
+            $size,
+            "8 to 256, a multiple of 8",
+            $entries,
+            "1 to 256",
+            $maps,
+            "8",
+            $behind
+        )
+    };
+}
+
 /// How many bytes a value has, and how many entries there are.
 ///
 /// A value has 8 to 256 bytes, in eights, and there are 1 to 256 entries.
@@ -30,10 +61,10 @@ impl MapShape {
         ensures entries { IfSome result (λ s. s.entries ≡ entries) }
         ensures none { IfNone result (IsShape value_size entries → ⊥) }
     {
-        if value_size < 8 || value_size > 256 || value_size % 8 != 0 {
+        if value_size < LEAST_SIZE || value_size > GREATEST_SIZE || value_size % LEAST_SIZE != 0 {
             return None;
         }
-        if entries < 1 || entries > 256 {
+        if entries < 1 || entries > ENTRIES {
             return None;
         }
         Some(MapShape {

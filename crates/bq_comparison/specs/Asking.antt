@@ -7,10 +7,10 @@ use Rattle.bq_timeline.specs.declared.form_names.FormName.{FormName}
 use Rattle.bq_timeline.specs.declared.form_names.FormName.TheVariants as form
 use Rattle.bq_timeline.specs.declared.settings.Settings.{Settings}
 use Rattle.bq_timeline.specs.declared.settings.Words.{Words}
-use Rattle.bq_study.specs.declared.asked.AskedFault.{AskedFault}
-use Rattle.bq_study.specs.declared.asked.AskedFault.TheVariants as fault
 use Rattle.bq_study.specs.declared.command.StudyWords.{StudyWords}
 use Rattle.bq_comparison.specs.declared.asked.Comparing.{Comparing}
+use Rattle.bq_comparison.specs.declared.asked.ComparingFault.{ComparingFault}
+use Rattle.bq_comparison.specs.declared.asked.ComparingFault.TheVariants as fault
 use Rattle.bq_comparison.specs.declared.asked.TableForm.{TableForm}
 use Rattle.bq_comparison.specs.declared.asked.TableForm.TheVariants as table
 
@@ -57,12 +57,11 @@ AskFor words None = AskForNone words
 AskFor words (Some c) = (¬ AskForNone words) × AskToCompare words c
 
 -- the word that the fault names is none of its kind: no number of seeds, no form of a table, or none of what a timeline shows
-abbrev pub HasNoWord : StudyWords → AskedFault → Type 0
+abbrev pub HasNoWord : StudyWords → ComparingFault → Type 0
 HasNoWord words fault.Seeds = seeds_asked words.seeds ≡ None
-HasNoWord words fault.TableForm = table_asked words.shown ≡ None
+HasNoWord words fault.Form = table_asked words.shown ≡ None
 HasNoWord words (fault.Settings why) = IsNoSettings words.shown why
-HasNoWord words other = ⊥
 
 -- a comparison is asked for, and the word that the fault names is none of its kind
-abbrev pub IsNoComparison : StudyWords → AskedFault → Type 0
+abbrev pub IsNoComparison : StudyWords → ComparingFault → Type 0
 IsNoComparison words why = (¬ AskForNone words) × HasNoWord words why

@@ -1,13 +1,14 @@
 //! What is asked for, by the words of the command.
 ghost use Rattle.std.specs.Prelude.{◌≡◌, ◌≤◌, ◌↔◌, IfErr, IfOk, IfSome, IsErrOf, None};
 ghost use Rattle.bq_comparison.specs.Asking.{AskFor, AskForNone, IsNoComparison, seeds_asked, seeds_in, table_of};
-ghost use Rattle.bq_study.specs.declared.asked.AskedFault.TheVariants as why;
+ghost use Rattle.bq_comparison.specs.declared.asked.ComparingFault.TheVariants as why;
 
 use bq_forms::Window;
-use bq_study::{AskedFault, StudyWords};
+use bq_study::StudyWords;
 use bq_timeline::form_names::FormName;
 use bq_timeline::{Settings, SettingsFault};
 use std::alloc::Global;
+use thiserror::Error;
 
 /// The most seeds.
 pub const MOST_SEEDS: u64 = 1000;
@@ -31,8 +32,22 @@ pub struct Comparing {
     pub form: TableForm,
 }
 
+/// Why words ask for no comparison.
+#[derive(Clone, Copy, Debug, PartialEq, Eq, Error)]
+pub enum ComparingFault {
+    #[error("--seeds: a number of seeds is from 1 to {most}", most = MOST_SEEDS)]
+    Seeds,
+    #[error("--as: with --seeds or --against a form is report, csv or json")]
+    Form,
+    #[error("{0}")]
+    Settings(SettingsFault),
+}
+
 /// What the words ask for, if they ask for several seeds or for something to compare with. Without `--seeds` it is one seed.
-pub fn asked_comparison(alloc: Global, words: &StudyWords) -> Result<Option<Comparing>, AskedFault>
+pub fn asked_comparison(
+    alloc: Global,
+    words: &StudyWords,
+) -> Result<Option<Comparing>, ComparingFault>
     // Nothing where the words ask for neither, and else so many seeds as they say, in the window and the form that they name.
     ensures asked { IfOk result (AskFor words.now) }
     ensures bound { IfOk result (λ asked. IfSome asked (λ c. (1 ≤ c.seeds) × (c.seeds ≤ 1000))) }
@@ -47,15 +62,15 @@ pub fn asked_comparison(alloc: Global, words: &StudyWords) -> Result<Option<Comp
         return Ok(None);
     }
     let seeds = match &words.seeds {
-        Some(word) => seeds_of(word.as_str()).ok_or(AskedFault::Seeds)?,
+        Some(word) => seeds_of(word.as_str()).ok_or(ComparingFault::Seeds)?,
         None => 1,
     };
     let settings = match Settings::of(alloc, &words.shown) {
         Ok(settings) => settings,
-        Err(SettingsFault::Form) => return Err(AskedFault::TableForm),
-        Err(fault) => return Err(AskedFault::Settings(fault)),
+        Err(SettingsFault::Form) => return Err(ComparingFault::Form),
+        Err(fault) => return Err(ComparingFault::Settings(fault)),
     };
-    let form = table_form(settings.form).ok_or(AskedFault::TableForm)?;
+    let form = table_form(settings.form).ok_or(ComparingFault::Form)?;
     let window = settings.window;
     Ok(Some(Comparing {
         seeds,

@@ -26,7 +26,7 @@ mod values;
 mod writing;
 
 pub use all::{MachineSize, all_figures};
-pub use asked::{Comparing, TableForm, asked_comparison};
+pub use asked::{Comparing, ComparingFault, TableForm, asked_comparison};
 pub use difference::Difference;
 pub use fault::SeedsFault;
 pub use gathering::Gatherer;

@@ -1,8 +1,6 @@
 -- Words that are one thing, or none.
-use Rattle.std.proofs.Common.{◌≡◌, ℕ, suc, ◌<◌, ◌^◌, Bor, List, [], ◌∷◌, ◌++◌, Option, Some, None, MatchOption, codes, inl, inr, refl, sym, subst, ◌∙◌, arith}
-use Rattle.std.specs.Char.{digit_value}
-use Rattle.std.specs.Str.Parse.{AllDigits, IsNumeral, digits_value, without_leading_plus}
-use Rattle.bq_console.specs.Words.{IsCut, IsFreeOf, IsHexNumber, IsNumber, IsNumberIn, IsValue}
+use Rattle.std.proofs.Common.{◌≡◌, ℕ, suc, ◌<◌, Bor, List, [], ◌∷◌, ◌++◌, Option, Some, None, MatchOption, refl, sym, subst, ◌∙◌, arith}
+use Rattle.bq_console.specs.Words.{IsCut, IsFreeOf, IsNumber, IsValue}
 
 -- a text with the mark in it is not free of it
 pub free_uncut : (mark : ℕ) (before behind : List ℕ) → ¬ IsFreeOf mark (before ++ (mark ∷ behind))
@@ -29,35 +27,13 @@ cut_once mark text a b c d one two = parts_once mark a b c d (sym one.splits ∙
 pub free_cut : (mark : ℕ) (text a b : List ℕ) → IsFreeOf mark text → ¬ IsCut mark text a b
 free_cut mark text a b free cut = free_uncut mark a b (subst (IsFreeOf mark) cut.splits free)
 
--- a word writes one number in a base
-pub number_once : (base : ℕ) (word : List ℕ) (m n : ℕ) → IsNumberIn base word m → IsNumberIn base word n → m ≡ n
-number_once base word m n one two = one.value ∙ sym two.value
-
--- where the word is no numeral of a number of 64 bits it writes none
-pub no_number : (base : ℕ) (word : List ℕ) → ¬ (IsNumeral base (without_leading_plus word) × (digits_value base (without_leading_plus word) < 2 ^ 64)) → (number : ℕ) → number < 2 ^ 64 → ¬ IsNumberIn base word number
-no_number base word none number fits is = none (is.numeral, subst (λ (n : ℕ). n < 2 ^ 64) is.value fits)
-
--- what begins with `0x` is no number in decimal
-pub hex_undecimal : (word digits : List ℕ) (m : ℕ) → word ≡ codes "0x" ++ digits → ¬ IsNumber word m
-hex_undecimal word digits m is number =
-    let all : AllDigits 10 (without_leading_plus (48 ∷ 120 ∷ digits)) = (subst (λ (w : List ℕ). IsNumeral 10 (without_leading_plus w)) is number.numeral).1 in
-    let second : digit_value 120 < 10 = all.1.0 in
-    absurd (omega (arith, second))
+-- a word writes one number
+pub number_once : (word : List ℕ) (m n : ℕ) → IsNumber word m → IsNumber word n → m ≡ n
+number_once word m n one two = let same : Some m ≡ Some n = sym one ∙ two in cc
 
 -- a word writes one value
 pub value_once : (word : List ℕ) (m n : ℕ) → IsValue word m → IsValue word n → m ≡ n
-value_once word m n (inl a) (inl b) = number_once 10 word m n a b
-value_once word m n (inl a) (inr b) = absurd (hex_undecimal word b.0 m b.1 a)
-value_once word m n (inr a) (inl b) = absurd (hex_undecimal word a.0 n a.1 b)
-value_once word m n (inr a) (inr b) =
-    let whole : 48 ∷ 120 ∷ a.0 ≡ 48 ∷ 120 ∷ b.0 = sym a.1 ∙ b.1 in
-    let same : a.0 ≡ b.0 = cc in
-    number_once 16 b.0 m n (subst (λ (digits : List ℕ). IsNumberIn 16 digits m) same a.2) b.2
-
--- a word that writes no number in decimal, and none in hex, writes no value
-pub no_value : (word : List ℕ) (number : ℕ) → ¬ IsNumber word number → ¬ IsHexNumber word number → ¬ IsValue word number
-no_value word number none other (inl a) = none a
-no_value word number none other (inr b) = other b
+value_once word m n one two = let same : Some m ≡ Some n = sym one ∙ two in cc
 
 -- the parts around the mark, if it stands there, are those of a cut
 pub cut_parts : (mark : ℕ) (text : List ℕ) (r : Option (Bor (List ℕ) × Bor (List ℕ))) → MatchOption r (IsFreeOf mark text) (λ x. (text ≡ x.0.now ++ (mark ∷ x.1.now)) × IsFreeOf mark x.0.now) → MatchOption r (IsFreeOf mark text) (λ x. IsCut mark text x.0.now x.1.now)

@@ -1,9 +1,9 @@
 -- The words of a command: their parts, the numbers that they write, and what it means that they are refused.
-use Rattle.std.specs.Prelude.{◌≡◌, ◌≢◌, ◌==◌, ℕ, ◌<◌, List, ◌∷◌, ◌++◌, ◌⊎◌, Option, Some, None, Result, Ok, Err, String, codes, string_bytes, length, slice_index}
+use Rattle.std.specs.Prelude.{◌≡◌, ◌≢◌, ◌==◌, ℕ, ◌<◌, List, ◌∷◌, ◌++◌, Option, Some, None, Result, Ok, Err, String, string_bytes, length, slice_index}
 use Rattle.std.specs.List.{slice_split}
-use Rattle.std.specs.Str.Parse.{IsNumeral, digits_value, without_leading_plus}
 use Rattle.std.specs.declared.alloc.AllocError.{AllocError}
 use Rattle.std.specs.declared.alloc.Global.{Global}
+use Rattle.bq_words.specs.Numbers.{number_of, value_of}
 use Rattle.bq_console.specs.declared.fault.WordsFault.{WordsFault}
 use Rattle.bq_console.specs.declared.fault.WordsFault.TheVariants as fault
 
@@ -41,19 +41,10 @@ pub record IsCut (mark : ℕ) (text before behind : List ℕ) : Type 0 where
 abbrev pub parts : List ℕ → List (List ℕ)
 parts text = slice_split (λ b. b == 44) text
 
--- the word writes the number in that base
-pub record IsNumberIn (base : ℕ) (word : List ℕ) (number : ℕ) : Type 0 where
-  pub numeral : IsNumeral base (without_leading_plus word)
-  pub value : number ≡ digits_value base (without_leading_plus word)
-
--- in decimal
+-- the word writes the number in decimal
 abbrev pub IsNumber : List ℕ → ℕ → Type 0
-IsNumber word number = IsNumberIn 10 word number
-
--- in hex, after `0x`
-abbrev pub IsHexNumber : List ℕ → ℕ → Type 0
-IsHexNumber word number = (digits : List ℕ) × (word ≡ codes "0x" ++ digits) × IsNumberIn 16 digits number
+IsNumber word number = number_of 10 word ≡ Some number
 
 -- in decimal, or in hex after `0x`
 abbrev pub IsValue : List ℕ → ℕ → Type 0
-IsValue word number = IsNumber word number ⊎ IsHexNumber word number
+IsValue word number = value_of word ≡ Some number

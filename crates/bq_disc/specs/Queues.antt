@@ -1,6 +1,7 @@
 -- Queues: sets of tasks with distinct ids, as the list of their tasks by rising (v, id), with the mark that is kept.
-use Rattle.std.specs.Prelude.{◌≡◌, ℕ, ◌<◌, ◌^◌, List, [], ◌∷◌, Option, Some, None, refl, Bool, true, ◌/◌, ◌%◌, ◌==◌}
+use Rattle.std.specs.Prelude.{◌≡◌, ℕ, ◌<◌, ◌^◌, List, [], ◌∷◌, Option, Some, None, refl, Bool, true}
 use Rattle.std.specs.Coded.{Coded, code_by, coded×, coded_ℕ, coded_list}
+use Rattle.bq_disc.specs.Masks.{allows}
 use Rattle.bq_disc.specs.Tasks.{Task, coded_task, comes_before, with_id}
 
 -- the tasks that wait, and the mark of virtual time that is kept for them
@@ -37,4 +38,4 @@ follows (Some last) t = comes_after last.0 last.1 t
 
 -- whether a task may use a processor
 abbrev pub can_use : ℕ → Task → Bool
-can_use processor t = t.mask / 2 ^ processor % 2 == 1
+can_use processor t = allows t.mask processor

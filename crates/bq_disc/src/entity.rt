@@ -7,6 +7,7 @@ ghost use Rattle.bq_disc.specs.Totals.{is_at_most_mean};
 ghost use Rattle.bq_disc.specs.Queues.{can_use, key_of};
 
 use crate::Due;
+use crate::mask::allows;
 use std::marker::Model;
 
 /// A task's figures.
@@ -148,7 +149,7 @@ impl Entity {
         requires { processor < 64 }
         ensures { result ≡ can_use processor self.now }
     {
-        (self.mask >> processor) % 2 == 1
+        allows(self.mask, processor)
     }
 
     /// Where it stands in the order: its (v, id).

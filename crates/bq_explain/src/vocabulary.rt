@@ -1,7 +1,7 @@
 //! The first words of the assembler's language, and the one that a wrong word may mean.
 use bq_asm::{mnemonics, named};
+use bq_words::Near;
 use std::alloc::{AllocError, Global};
-use strsim::levenshtein;
 
 /// A text that ends with what the helpers do, by their numbers.
 #[macro_export]
@@ -13,9 +13,6 @@ macro_rules! with_helpers {
         )
     };
 }
-
-/// From so many letters on a word is none that was meant.
-const FAR: usize = 3;
 
 /// Whether an instruction begins with the word.
 pub(crate) fn is_word(word: &str) -> bool {
@@ -44,11 +41,9 @@ pub(crate) fn nearest(alloc: Global, word: &str) -> Result<Option<&'static str>,
 /// The nearest of the known words, if one is near.
 fn nearest_known(alloc: Global, word: &str) -> Result<Option<&'static str>, AllocError> {
     let mut best: Option<&'static str> = None;
-    let mut least = FAR;
+    let mut near = Near::of(word);
     for (known, _) in mnemonics() {
-        let far = levenshtein(alloc, word, known)?;
-        if far < least {
-            least = far;
+        if near.takes(alloc, word, known)? {
             best = Some(known);
         }
     }

@@ -1,18 +1,14 @@
 -- What a comment names, found one part after another.
-use Rattle.std.proofs.Common.{◌≡◌, ℕ, ◌-◌, true, false, List, [], ◌∷◌, ◌++◌, length, take, drop, Option, Some, None, IfNone, Result, Ok, Err, is_ok, MatchResult, refl, sym, ap, ◌∙◌, subst, arith, true≢false, inl, inr}
+use Rattle.std.proofs.Common.{◌≡◌, ℕ, ◌-◌, true, false, List, [], ◌∷◌, ◌++◌, length, take, drop, Option, Some, None, IfNone, Result, Ok, Err, is_ok, MatchResult, refl, sym, ap, ◌∙◌, subst, arith, true≢false}
 use Rattle.std.specs.Prelude.{codes, position, ◌==◌, nat_eq}
 use Rattle.std.specs.Cmp.Lexicographic.{pointwise, bytes_decides}
 use Rattle.std.specs.Result.{result_ok}
-use Rattle.std.specs.Str.{IsTrimAscii, IsUtf8, IsAscii, trim}
-use Rattle.std.specs.Str.Parse.{IsNumeral, AllDigits, ParsesUnsigned, digits_value, without_leading_plus}
-use Rattle.std.proofs.lemmas.Bool.{cases_eq}
+use Rattle.std.specs.Str.{IsTrimAscii, IsUtf8, trim}
 use Rattle.std.proofs.lemmas.List.{take-append-drop, length-take-le, length-drop, take_all}
 use Rattle.std.proofs.lemmas.List.Quantifiers.{position-Some}
 use Rattle.std.proofs.lemmas.Option.{same_Some, none-some}
-use Rattle.std.proofs.lemmas.Str.{IsUtf8-from_ascii}
-use Rattle.std.proofs.lemmas.Str.Ascii.{trim_ascii_is, IsAscii-nil, IsAscii-cons, IsAscii-from_reads}
-use Rattle.std.proofs.lemmas.Str.Parse.{digit_at, without_leading_plus_none}
-use Rattle.bq_forms.specs.Names.{IsNaming, IsNumber}
+use Rattle.std.proofs.lemmas.Str.Ascii.{trim_ascii_is}
+use Rattle.bq_forms.specs.Names.{IsNaming, task_number}
 
 -- a comment names no task, where nothing was found
 pub names_none : {A : Type 0} (comment : List ℕ) (o : Option A) → ((task : ℕ) (name : List ℕ) → IsNaming comment task name → ⊥)
@@ -94,7 +90,7 @@ module _ (comment line name : List ℕ) (task : ℕ) (l : IsLine comment line) (
 
 -- what stands before the first space and behind it names a task, where the one is a number and the other is text
 pub names_task : (comment line name : List ℕ) (task : ℕ) → IsLine comment line → (found : Option ℕ) (end : ℕ) → found ≡ first_space line
-    → found ≡ Some end → IsNumber (take end line) task → IsUtf8 (drop end line) → name ≡ trim (drop end line) → IsNaming comment task name
+    → found ≡ Some end → task_number (take end line) ≡ Some task → IsUtf8 (drop end line) → name ≡ trim (drop end line) → IsNaming comment task name
 names_task comment line name task l found end is at number text named =
     let whole = take-append-drop end line in
     let within = (position-Some (λ byte. byte == 32) line end 0 (sym is ∙ at)).0 in
@@ -123,18 +119,6 @@ pub at_ok : {A E : Type 0} (P : A → Type 0) (Q : E → Type 0) (r : Result A E
 at_ok P Q (Ok y) x h is = subst P (sym (same_Some x y is)) h
 at_ok P Q (Err e) x h is = absurd (none-some x (sym is))
 
--- a number that is refused is none
-pub no_number : {E : Type 0} (text : List ℕ) (r : Result ℕ E) (task : ℕ) → ParsesUnsigned 16 10 text r → false ≡ is_ok r → IsNumber text task → ⊥
-no_number text (Ok x) task h is n = absurd (true≢false (sym is))
-no_number text (Err e) task h is n = h (n.digits, omega (arith, n.value, n.fits))
-
--- and one that is read is this
-pub is_number : {E : Type 0} (text : List ℕ) (r : Result ℕ E) (task : ℕ) → ParsesUnsigned 16 10 text r → Some task ≡ result_ok r → IsNumber text task
-is_number text (Ok n) task h is =
-    let same = same_Some task n is in
-    record { digits = h.0.0; value = same ∙ h.1; fits = omega (arith, h.0.1, h.1, same) }
-is_number text (Err e) task h is = absurd (none-some task (sym is))
-
 -- the line, as it is come to
 pub is_line : (comment t first u second line : List ℕ) → IsTrimAscii comment t → pointwise nat_eq (take 1 t) (codes "#") ≡ true → first ≡ drop 1 t
     → IsTrimAscii first u → pointwise nat_eq (take 5 u) (codes "task ") ≡ true → second ≡ drop 5 u → IsTrimAscii second line → IsLine comment line
@@ -161,27 +145,12 @@ no_word comment t first u name task trimmed begins behind trimmed_again not_ther
     let says : true ≡ pointwise nat_eq (take 5 u) (codes "task ") = ap (λ s. pointwise nat_eq (take 5 s) (codes "task ")) (one_trim first _ u word trimmed_again) in
     true≢false (says ∙ not_there)
 
--- a number is text
-digits_ascii : (ds : List ℕ) → AllDigits 10 ds → IsAscii ds
-digits_ascii ds h = IsAscii-from_reads ds (length ds) (omega arith) (λ k lt. let d = digit_at ds k h lt in omega (arith, d.1))
-
-number_ascii : (text : List ℕ) → IsNumeral 10 (without_leading_plus text) → IsAscii text
-number_ascii [] h = IsAscii-nil
-number_ascii (c ∷ cs) h = elim (cases_eq c 43) [
-  | inl plus ↦ IsAscii-cons c cs (omega (arith, plus)) (digits_ascii cs (subst (λ c. IsNumeral 10 (without_leading_plus (c ∷ cs))) plus h).1)
-  | inr other ↦ digits_ascii (c ∷ cs) (subst (IsNumeral 10) (without_leading_plus_none (c ∷ cs) other) h).1
-]
-
--- a text that is a number is UTF-8
-pub number_utf8 : (text : List ℕ) → IsNumeral 10 (without_leading_plus text) → IsUtf8 text
-number_utf8 text h = IsUtf8-from_ascii text (number_ascii text h)
-
 -- a comment names one task, and gives it one name
 pub one_naming : (comment : List ℕ) (t u : ℕ) (a b : List ℕ) → IsNaming comment t a → IsNaming comment u b → (t ≡ u) × (a ≡ b)
 one_naming comment t u a b n m =
     let line : IsLine comment (n.number ++ n.text) = record { first = n.behind_mark; second = n.behind_word; mark = n.mark; word = n.word; rest = n.parts } in
     let number = sym (before_end n.number n.text) ∙ number_is comment (n.number ++ n.text) b u line m _ (length n.number) refl n.first_space in
     let text = sym (behind_end n.number n.text) ∙ text_is comment (n.number ++ n.text) b u line m _ (length n.number) refl n.first_space in (
-      n.is_number.value ∙ ap (λ s. digits_value 10 (without_leading_plus s)) number ∙ sym m.is_number.value,
+      same_Some t u (sym n.is_number ∙ ap task_number number ∙ m.is_number),
       n.is_name ∙ ap trim text ∙ sym m.is_name,
     )

@@ -1,10 +1,10 @@
 -- The names that a trace's comments give to its tasks.
-use Rattle.std.specs.Prelude.{◌≡◌, ℕ, ◌<◌, ◌^◌, List, ◌++◌, Option, Some, length, position, ◌==◌, codes}
+use Rattle.std.specs.Prelude.{◌≡◌, ℕ, ◌^◌, List, ◌++◌, Option, Some, length, position, ◌==◌, codes}
 use Rattle.std.specs.BTreeMap.{is_at}
 use Rattle.std.specs.Map.{lookup}
 use Rattle.std.specs.Ordering.{nat_cmp}
 use Rattle.std.specs.Str.{IsTrimAscii, IsUtf8, trim}
-use Rattle.std.specs.Str.Parse.{IsNumeral, digits_value, without_leading_plus}
+use Rattle.bq_words.specs.Numbers.{below, number_of}
 
 -- tasks by their numbers, each with its name
 abbrev pub Naming : Type 0
@@ -14,11 +14,9 @@ Naming = List (ℕ × List ℕ)
 abbrev pub name_of : Naming → ℕ → Option (List ℕ)
 name_of names task = lookup (is_at (nat_cmp task)) names
 
--- a text is a number of 16 bits, in decimal digits, and a `+` may stand in front
-pub record IsNumber (text : List ℕ) (n : ℕ) : Type 0 where
-  pub digits : IsNumeral 10 (without_leading_plus text)
-  pub value : n ≡ digits_value 10 (without_leading_plus text)
-  pub fits : n < 2 ^ 16
+-- the number of a task, of 16 bits, in decimal
+abbrev pub task_number : List ℕ → Option ℕ
+task_number word = below (2 ^ 16) (number_of 10 word)
 
 -- a comment names a task: it is `# task N NAME`, a space behind `task` and behind the number, and more white space may stand around
 -- each of the four; the name is all that stands behind the number
@@ -31,7 +29,7 @@ pub record IsNaming (comment : List ℕ) (task : ℕ) (name : List ℕ) : Type 0
   pub word : IsTrimAscii behind_mark (codes "task " ++ behind_word)
   pub parts : IsTrimAscii behind_word (number ++ text)
   pub first_space : position (λ byte. byte == 32) (number ++ text) ≡ Some (length number)
-  pub is_number : IsNumber number task
+  pub is_number : task_number number ≡ Some task
   pub is_text : IsUtf8 text
   pub is_name : name ≡ trim text
 

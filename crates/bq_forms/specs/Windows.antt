@@ -1,14 +1,14 @@
 -- What is shown of a schedule.
-use Rattle.std.specs.Prelude.{◌≡◌, ℕ, ◌<◌, ◌≤◌, max, min, ◌⊎◌, [], Contains, Option, Some, None}
+use Rattle.std.specs.Prelude.{◌≡◌, ℕ, ◌<◌, ◌≤◌, max, min, ◌⊎◌, [], Contains, Option, Some, None, IsTrue}
 use Rattle.std.specs.Option.{SomeIff}
-use Rattle.std.specs.Int.{bit_at}
+use Rattle.bq_disc.specs.Masks.{allows}
 use Rattle.bq_schedule.specs.declared.slice.Slice.{Slice}
 use Rattle.bq_forms.specs.declared.window.Window.{Window}
 
--- a processor is among some that are given by bits: its bit is set
+-- a processor is among some that are given by bits
 pub record IsIn (processors p : ℕ) : Type 0 where
   pub is_number : p < 64
-  pub is_chosen : bit_at processors p ≡ 1
+  pub is_chosen : IsTrue (allows processors p)
 
 -- a processor is shown
 abbrev pub ShowsProcessor : Window → ℕ → Type 0

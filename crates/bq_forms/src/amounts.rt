@@ -1,8 +1,23 @@
 //! Times as text.
 ghost use Rattle.std.specs.Prelude.{◌≡◌, nat_lt, if◌then◌else◌, Some};
-ghost use Rattle.bq_forms.specs.Amounts.{thousandths, millis_text, micros_text, moment_text};
+ghost use Rattle.bq_forms.specs.Amounts.{three_decimals, thousandths, millis_text, micros_text, moment_text};
 
 use std::fmt;
+
+/// The three decimals of a number of thousandths.
+#[derive(Clone, Copy)]
+pub(crate) struct Decimals(pub(crate) u64);
+
+impl fmt::Display for Decimals {
+    ghost output = { λ n. Some (three_decimals n.0) };
+
+    fn fmt<W: fmt::Write>(&self, f: &mut fmt::Formatter<W>) -> fmt::Result {
+        let tenths = self.0 / 100 % 10;
+        let hundredths = self.0 / 10 % 10;
+        let last = self.0 % 10;
+        write!(f, "{tenths}{hundredths}{last}")
+    }
+}
 
 /// A number of thousandths, with three decimals.
 #[derive(Clone, Copy)]
@@ -13,10 +28,8 @@ impl fmt::Display for Thousandths {
 
     fn fmt<W: fmt::Write>(&self, f: &mut fmt::Formatter<W>) -> fmt::Result {
         let whole = self.0 / 1000;
-        let tenths = self.0 / 100 % 10;
-        let hundredths = self.0 / 10 % 10;
-        let last = self.0 % 10;
-        write!(f, "{whole}.{tenths}{hundredths}{last}")
+        let decimals = Decimals(self.0);
+        write!(f, "{whole}.{decimals}")
     }
 }
 

@@ -78,7 +78,7 @@ impl Map {
         let count = extent.length().div_ceil(step.max(1));
         write_ruler(self.alloc, extent, step, count, text)?;
         for (number, row) in self.rows.iter().enumerate() {
-            if self.shows_row(number) {
+            if self.window.shows_row(number) {
                 write!(text, "cpu {number:<4}")?;
                 self.write_row(row.as_slice(), extent, step, columns, text)?;
                 text.push_str("\n")?;
@@ -94,13 +94,6 @@ impl Map {
         u16::try_from(self.width.saturating_sub(MARGIN))
             .unwrap_or(u16::MAX)
             .max(1)
-    }
-
-    fn shows_row(&self, number: usize) -> bool {
-        match u8::try_from(number) {
-            Ok(number) => self.window.shows_processor(number),
-            Err(_) => false,
-        }
     }
 
     /// The columns of a processor, whose runs these are.

@@ -1,7 +1,8 @@
 //! The names that a trace's comments give to its tasks.
 ghost use Rattle.std.specs.Prelude.{◌≡◌, ℕ, List, IfSome, IfNone, OnOk, OnErr, option_map};
-ghost use Rattle.bq_forms.specs.Names.{IsNaming, Learns, name_of};
+ghost use Rattle.bq_forms.specs.Names.{IsNaming, Learns, name_of, task_number};
 
+use bq_words::number;
 use std::alloc::{AllocError, Global};
 use std::collections::BTreeMap;
 use std::marker::Model;
@@ -67,9 +68,16 @@ fn naming(comment: &[u8]) -> Option<(u16, &str)>
     let rest = rest.trim_ascii().strip_prefix(b"task ")?;
     let rest = rest.trim_ascii();
     let end = rest.iter().position(|byte| *byte == b' ')?;
-    let task = str::from_utf8(&rest[..end]).ok()?.parse::<u16>().ok()?;
+    let task = task_number(&rest[..end])?;
     let name = str::from_utf8(&rest[end..]).ok()?.trim();
     Some((task, name))
+}
+
+/// The number of a task, in decimal.
+fn task_number(word: &[u8]) -> Option<u16>
+    ensures { result ≡ task_number word.now }
+{
+    u16::try_from(number(word, 10)?).ok()
 }
 
 /// A task by its name, or by its number where it has none.

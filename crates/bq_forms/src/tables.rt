@@ -2,6 +2,7 @@
 ghost use Rattle.std.specs.Prelude.{◌≡◌, ◌++◌, OnOk, string_bytes};
 ghost use Rattle.bq_forms.specs.Columns.{task_columns, millis_column, latency_column, latency_columns, task_line, latency_line, processor_line, hook_line_if, hook_lines, nearest};
 
+use crate::amounts::Decimals;
 use crate::percent::Percent;
 use bq_schedule::{HookFigures, PARTS, Percentiles, ProcessorFigures, TaskFigures};
 use std::alloc::AllocError;
@@ -33,10 +34,8 @@ pub fn write_millis(text: &mut String, time: u64) -> Result<(), AllocError>
 {
     let thousandths = time / 1000;
     let whole = thousandths / 1000;
-    let tenths = thousandths / 100 % 10;
-    let hundredths = thousandths / 10 % 10;
-    let last = thousandths % 10;
-    write!(text, " {whole:>8}.{tenths}{hundredths}{last}")
+    let decimals = Decimals(thousandths);
+    write!(text, " {whole:>8}.{decimals}")
 }
 
 /// A latency in microseconds, in 12 columns, so too; `-` where there is none.
@@ -46,10 +45,8 @@ fn write_latency(text: &mut String, latency: Option<u64>) -> Result<(), AllocErr
     match latency {
         Some(latency) => {
             let whole = latency / 1000;
-            let tenths = latency / 100 % 10;
-            let hundredths = latency / 10 % 10;
-            let last = latency % 10;
-            write!(text, " {whole:>7}.{tenths}{hundredths}{last}")
+            let decimals = Decimals(latency);
+            write!(text, " {whole:>7}.{decimals}")
         }
         None => text.push_str("           -"),
     }

@@ -2,6 +2,7 @@
 ghost use Rattle.std.specs.Prelude.{◌≡◌, ◌++◌, ◌/◌, OnOk, string_bytes};
 ghost use Rattle.bq_forms.specs.Columns.{moment_columns, run_columns, thousandths_cell};
 
+use crate::amounts::Decimals;
 use crate::form::Form;
 use crate::names::Names;
 use crate::tables::write_task;
@@ -85,9 +86,9 @@ fn write_run(text: &mut String, start: &Start, at: u64, name: &str) -> Result<()
 {
     write_moment(text, at, start.processor)?;
     write_task(text, start.task, name)?;
-    write_millis(text, start.waited)?;
-    write_millis(text, start.latency.unwrap_or(0))?;
-    write_millis(text, at.saturating_sub(start.at))
+    write_short_millis(text, start.waited)?;
+    write_short_millis(text, start.latency.unwrap_or(0))?;
+    write_short_millis(text, at.saturating_sub(start.at))
 }
 
 /// A moment in seconds, and a processor.
@@ -108,15 +109,13 @@ fn write_named(text: &mut String, task: u16, names: &Names) -> Result<(), AllocE
 }
 
 /// A time in milliseconds, in 11 columns: more where it is longer, with a space before it at all times.
-fn write_millis(text: &mut String, time: u64) -> Result<(), AllocError>
+fn write_short_millis(text: &mut String, time: u64) -> Result<(), AllocError>
     ensures { OnOk result (string_bytes text.new ≡ string_bytes text.old ++ thousandths_cell 6 (time / 1000)) }
 {
     let thousandths = time / 1000;
     let whole = thousandths / 1000;
-    let tenths = thousandths / 100 % 10;
-    let hundredths = thousandths / 10 % 10;
-    let last = thousandths % 10;
-    write!(text, " {whole:>6}.{tenths}{hundredths}{last}")
+    let decimals = Decimals(thousandths);
+    write!(text, " {whole:>6}.{decimals}")
 }
 
 impl Form for Timehist {

@@ -1,9 +1,10 @@
 //! What is shown of a schedule.
 ghost use Rattle.std.specs.Prelude.{◌≡◌, ◌-◌, ◌^◌, ◌↔◌, [], IsTrue};
 ghost use Rattle.std.specs.Option.{SomeIff};
-ghost use Rattle.bq_forms.specs.Windows.{IsIn, ShowsProcessor, ShowsTask, Shows, ShowsPart, IsShownPart, part_of};
+ghost use Rattle.bq_forms.specs.Windows.{ShowsProcessor, ShowsTask, Shows, ShowsPart, IsShownPart, part_of};
 
 use bq_disc::limits::PROCESSORS;
+use bq_disc::mask::allows;
 use bq_schedule::Slice;
 use std::alloc::Global;
 
@@ -39,7 +40,17 @@ impl Window {
     pub fn shows_processor(&self, processor: u8) -> bool
         ensures { IsTrue result ↔ ShowsProcessor self.now processor }
     {
-        is_in(self.processors, processor)
+        processor < PROCESSORS && allows(self.processors, processor)
+    }
+
+    /// Whether the row of a processor is shown, by its number among all rows.
+    pub fn shows_row(&self, number: usize) -> bool
+        ensures { IsTrue result ↔ ShowsProcessor self.now number }
+    {
+        match u8::try_from(number) {
+            Ok(number) => self.shows_processor(number),
+            Err(_) => false,
+        }
     }
 
     /// Whether a task is shown.
@@ -78,11 +89,4 @@ impl Window {
             None => None,
         }
     }
-}
-
-/// Whether a processor is among these, which are given by bits.
-pub fn is_in(processors: u64, processor: u8) -> bool
-    ensures { IsTrue result ↔ IsIn processors processor }
-{
-    processor < PROCESSORS && (processors >> processor) % 2 == 1
 }

@@ -7,6 +7,12 @@ use crate::fields::{NOBODY, put_u32, put_u64};
 use bq_disc::Entity;
 use std::marker::Model;
 
+/// How many bytes the place context of an image of version 1 has.
+pub const PLACE_LENGTH: usize = 104;
+
+/// How many bytes the place context of an image of version 2 has.
+pub const WIDE_PLACE_LENGTH: usize = 296;
+
 /// A woken task, the processor that wakes it, how many processors there are, the discipline's own choice, and their loads.
 #[derive(Drop)]
 pub struct Place<'a> {
@@ -26,14 +32,14 @@ impl<'a> Model for Place<'a> {
 }
 
 /// Fills the place context of an image of version 1, which shows the first 16 processors. It takes no memory.
-pub fn place_ctx(facts: &Place, context: &mut [u8; 104])
+pub fn place_ctx(facts: &Place, context: &mut [u8; PLACE_LENGTH])
     ensures bytes { context.new ≡ place_bytes_first facts.now }
 {
     fill(facts, 16, context);
 }
 
 /// Fills the place context of an image of version 2, which shows 64 processors. It takes no memory.
-pub fn wide_place_ctx(facts: &Place, context: &mut [u8; 296])
+pub fn wide_place_ctx(facts: &Place, context: &mut [u8; WIDE_PLACE_LENGTH])
     ensures bytes { context.new ≡ place_bytes_second facts.now }
 {
     fill(facts, 64, context);

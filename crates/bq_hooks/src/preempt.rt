@@ -9,6 +9,9 @@ use crate::fields::{NOBODY, put_task, put_u32, put_u64};
 use bq_disc::{Entity, Node, RunQueue};
 use std::marker::Model;
 
+/// How many bytes a preempt context has.
+pub const PREEMPT_LENGTH: usize = 56;
+
 /// A processor's queue and its current task, and whether that gives way by the discipline's own choice.
 #[derive(Drop)]
 pub struct Preempt<'a, Q: RunQueue> {
@@ -27,7 +30,7 @@ impl<'a, Q: RunQueue> Model for Preempt<'a, Q> {
 }
 
 /// Fills the context of a preempt policy. It takes no memory.
-pub fn preempt_ctx<Q: RunQueue>(facts: &Preempt<Q>, context: &mut [u8; 56])
+pub fn preempt_ctx<Q: RunQueue>(facts: &Preempt<Q>, context: &mut [u8; PREEMPT_LENGTH])
     requires distinct { HasDistinctIds facts.now.queue }
     requires few { length facts.now.queue < 2 ^ 32 }
     ensures bytes { context.new ≡ preempt_bytes facts.now }

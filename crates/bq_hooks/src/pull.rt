@@ -10,8 +10,11 @@ ghost use Rattle.bq_hooks.specs.Contexts.{pull_bytes, or_nobody};
 use crate::fields::{NOBODY, put_task, put_u32};
 use bq_disc::{Node, RunQueue};
 
-/// How many movable tasks are shown.
-const SHOWN: usize = 8;
+/// How many bytes a pull context has.
+pub const PULL_LENGTH: usize = 160;
+
+/// How many movable tasks a pull context shows at most.
+pub const SHOWN: usize = 8;
 
 /// A processor that may take a task, the other from whose queue it would be taken, how many tasks run or wait at each, and
 /// the discipline's own choice.
@@ -26,7 +29,7 @@ pub struct Pull<'a, Q: RunQueue> {
 }
 
 /// Fills the context of a pull policy. It takes no memory.
-pub fn pull_ctx<Q: RunQueue>(facts: &Pull<Q>, context: &mut [u8; 160])
+pub fn pull_ctx<Q: RunQueue>(facts: &Pull<Q>, context: &mut [u8; PULL_LENGTH])
     requires inside { facts.now.puller < 64 }
     requires distinct { HasDistinctIds (Q.members facts.now.queue.now) }
     ensures bytes { context.new ≡ pull_bytes (record {

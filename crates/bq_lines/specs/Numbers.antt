@@ -1,7 +1,7 @@
 -- The numbers that words write: each has to fit its type.
 use Rattle.std.specs.Prelude.{ℕ, ◌^◌, List, drop, Option, if◌then◌else◌, codes, nat_eq, ℤ, pos, neg_ℤ, option_map}
 use Rattle.std.specs.List.{starts_with}
-use Rattle.bq_words.specs.Numbers.{number_of, below}
+use Rattle.bq_words.specs.Numbers.{below, number_of, value_of}
 
 -- generations, slices and clock readings
 abbrev pub decimal_of : List ℕ → Option ℕ
@@ -15,7 +15,7 @@ task_of word = below (2 ^ 16) (decimal_of word)
 
 -- decimal, or hex digits of either case after `0x`
 abbrev pub mask_of : List ℕ → Option ℕ
-mask_of word = if starts_with nat_eq word (codes "0x") then number_of 16 (drop 2 word) else decimal_of word
+mask_of word = value_of word
 
 -- decimal from -128 to 127
 abbrev pub nice_of : List ℕ → Option ℤ

@@ -3,7 +3,7 @@ ghost use Rattle.std.specs.Prelude.{◌≡◌};
 ghost use Rattle.bq_lines.specs.Lines.{size_of};
 ghost use Rattle.bq_lines.specs.Numbers.{decimal_of, processor_of, task_of, mask_of, nice_of};
 
-use bq_words::{ProcessorCount, number, with_sizes};
+use bq_words::{ProcessorCount, number, value, with_sizes};
 
 /// A generation, a slice or a clock reading: decimal, below 2^64.
 pub fn decimal(word: &[u8]) -> Option<u64>
@@ -40,10 +40,7 @@ pub fn task(word: &[u8]) -> Option<u16>
 pub fn mask(word: &[u8]) -> Option<u64>
     ensures { result ≡ mask_of word.now }
 {
-    match word.strip_prefix(b"0x") {
-        Some(digits) => number(digits, 16),
-        None => decimal(word),
-    }
+    value(word)
 }
 
 /// A nice value: decimal, from -128 to 127.

@@ -2,23 +2,15 @@
 use Rattle.std.specs.Prelude.{◌≡◌, ℕ, ◌*◌, List, ◌++◌, length, codes}
 use Rattle.std.specs.Fmt.{decimal}
 use Rattle.bq_disc.specs.Discipline.{Discipline}
-use Rattle.bq_cfs.specs.Cfs.{cfs}
-use Rattle.bq_eevdf.specs.Eevdf.{eevdf}
 use Rattle.bq_tie.specs.Whole.{total, Each}
 use Rattle.bq_history.specs.History.{EachOnce, Leaves, AreReceiptsOf}
 use Rattle.bq_history.specs.declared.law.Receipt.{Receipt}
 use Rattle.bq_parts.specs.World.{World, opening_world}
 use Rattle.bq_cells.specs.Parts.{RecordStep}
 use Rattle.bq_cells.specs.declared.record.Record.{Record}
-use Rattle.bq_words.specs.declared.rule.Rule.{Rule}
-use Rattle.bq_words.specs.declared.rule.Rule.TheVariants.{Cfs, Eevdf}
 use Rattle.bq_par.specs.Shifts.{IsShift}
 use Rattle.bq_par.specs.Ticks.{ticks_in}
 use Rattle.bq_par.specs.declared.summary.Summary.{Summary}
-
-abbrev pub discipline_of : Rule → Discipline
-discipline_of Cfs = cfs
-discipline_of Eevdf = eevdf
 
 -- Some history of so many processors under the discipline, each asked for so many ticks, has these numbers
 pub record IsSummary (d : Discipline) (processors ticks : ℕ) (s : Summary) : Type 0 where

@@ -1,46 +1,28 @@
-//! The runs, by rule and number of processors.
+//! The runs, by number of processors.
 ghost use Rattle.std.specs.Prelude.{◌≡◌, ◌<◌, ◌≤◌, [], IfOk, vec_len};
 ghost use Rattle.std.specs.List.{All};
 ghost use Rattle.bq_words.specs.Sizes.{processors_in};
 ghost use Rattle.bq_par.specs.Shifts.{IsShift};
-ghost use Rattle.bq_par.specs.Summaries.{IsSummary, discipline_of};
+ghost use Rattle.bq_par.specs.Summaries.{IsSummary};
 
 use crate::metronome::Metronome;
 use crate::shift::{Done, drive};
 use crate::summary::{Summary, finish};
-use bq_cfs::CfsQueue;
 use bq_disc::RunQueue;
-use bq_eevdf::EevdfQueue;
 use bq_machine::{Machine, Prepared, Seat, Unnamed, prepare};
 use bq_parts::Refusal;
 use bq_seats::Counting;
 use bq_tie::Naming;
-use bq_words::{ProcessorCount, Rule};
+use bq_words::ProcessorCount;
 use std::alloc::{AllocError, Global};
 use std::marker::Brand;
 use std::sync::Wait;
 use std::thread::{Threads, map_vec};
 
-/// Runs so many processors under a rule, each by a thread of its own (where none can be made, in turn): its task, whose id
-/// is its number, is admitted, woken and drained there, and then it ticks so often. Answers how long their one history is,
-/// how many of its events are ticks, and how many receipts stand in it, which is all. Want of memory is the only error.
-pub fn run<T: Threads + Wait + Sync>(
-    rt: &T,
-    alloc: Global,
-    rule: Rule,
-    size: ProcessorCount,
-    ticks: u32,
-) -> Result<Summary, AllocError>
-    ensures { IfOk result (IsSummary (discipline_of rule) (processors_in size) ticks) }
-{
-    match rule {
-        Rule::Cfs => run_under::<CfsQueue, T>(rt, alloc, size, ticks),
-        Rule::Eevdf => run_under::<EevdfQueue, T>(rt, alloc, size, ticks),
-    }
-}
-
-/// Runs under the rule of a kind of queue.
-fn run_under<Q: RunQueue + Drop + Send, T: Threads + Wait + Sync>(
+/// Runs so many processors under the rule of a kind of queue, each by a thread of its own (where none can be made, in turn): its
+/// task, whose id is its number, is admitted, woken and drained there, and then it ticks so often. Answers how long their one
+/// history is, how many of its events are ticks, and how many receipts stand in it, which is all. Want of memory is the only error.
+pub fn run<Q: RunQueue + Drop + Send, T: Threads + Wait + Sync>(
     rt: &T,
     alloc: Global,
     size: ProcessorCount,

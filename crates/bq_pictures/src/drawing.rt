@@ -118,7 +118,7 @@ impl Drawing {
     ) -> Result<usize, AllocError> {
         let mut top = TOP;
         for (number, row) in self.rows.iter_mut().enumerate() {
-            if shows_row(window, number) {
+            if window.shows_row(number) {
                 row.waits.sort_unstable();
                 let lanes = row.write(self.alloc, number, top, scale, shades, text)?;
                 top = top
@@ -144,13 +144,6 @@ fn write_all(
     text.push_str(rows)?;
     write_legend(shades, bottom, text)?;
     write_end(text)
-}
-
-fn shows_row(window: &Window, number: usize) -> bool {
-    match u8::try_from(number) {
-        Ok(number) => window.shows_processor(number),
-        Err(_) => false,
-    }
 }
 
 impl Row {

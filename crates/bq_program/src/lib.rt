@@ -43,4 +43,4 @@ pub use policy_listing::{instruction_text, policy_text};
 pub use policy_marks::{marks, marks_text, more_maps};
 pub use policy_source::PolicySource;
 pub use reading::{read_head, read_policy};
-pub use shapes_text::shapes_of;
+pub use shapes_text::{SHAPES_FORM, shapes_of};

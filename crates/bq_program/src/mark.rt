@@ -16,6 +16,34 @@ pub enum Key {
     Format,
 }
 
+impl Key {
+    /// The word that names it in marks and options.
+    pub fn word(self) -> &'static str
+        ensures { result.now ≡ key_word self }
+    {
+        match self {
+            Key::Hook => "hook",
+            Key::Maps => "maps",
+            Key::Format => "format",
+        }
+    }
+
+    /// The key that a word names, if it names one.
+    fn of_word(word: &[u8]) -> Option<Key>
+        ensures { MatchOption result (is_key word.now ≡ false) (λ key. word.now ≡ key_word key) }
+    {
+        if word == b"hook".as_slice() {
+            Some(Key::Hook)
+        } else if word == b"maps".as_slice() {
+            Some(Key::Maps)
+        } else if word == b"format".as_slice() {
+            Some(Key::Format)
+        } else {
+            None
+        }
+    }
+}
+
 /// What one line is: no mark, a mark that is none of those known, or a key and its value.
 #[derive(Clone, Copy)]
 pub enum Mark<'a> {
@@ -40,23 +68,8 @@ pub fn mark_of(line: &[u8]) -> Mark<'_>
     if next_word(rest).is_some() {
         return Mark::Unknown;
     }
-    match key_of(word) {
+    match Key::of_word(word) {
         Some(key) => Mark::Says(key, value),
         None => Mark::Unknown,
-    }
-}
-
-/// The key of that name.
-fn key_of(word: &[u8]) -> Option<Key>
-    ensures { MatchOption result (is_key word.now ≡ false) (λ key. word.now ≡ key_word key) }
-{
-    if word == b"hook".as_slice() {
-        Some(Key::Hook)
-    } else if word == b"maps".as_slice() {
-        Some(Key::Maps)
-    } else if word == b"format".as_slice() {
-        Some(Key::Format)
-    } else {
-        None
     }
 }

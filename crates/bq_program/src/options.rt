@@ -6,6 +6,7 @@ ghost use Rattle.bq_program.specs.Forms.{AsksFor, HasOptionsFault, RefusesOption
 use crate::Answer;
 use crate::form::Form;
 use crate::image_form::ImageForm;
+use crate::mark::Key;
 use crate::shapes_text::shapes_of;
 use bq_load::{Hook, Version};
 use std::alloc::{AllocError, Global};
@@ -37,8 +38,8 @@ pub enum OptionsFault {
 impl fmt::Display for OptionsFault {
     fn fmt<W: fmt::Write>(&self, f: &mut fmt::Formatter<W>) -> fmt::Result {
         f.write_str(match self {
-            OptionsFault::Maps => "maps",
-            OptionsFault::Format => "format",
+            OptionsFault::Maps => Key::Maps.word(),
+            OptionsFault::Format => Key::Format.word(),
             OptionsFault::OutOfMemory => "out of memory",
         })
     }
@@ -99,8 +100,8 @@ pub fn refused_options(alloc: Global, fault: OptionsFault) -> Result<Answer, All
     ensures refused { IfOk result (λ a. a.accepted ≡ false) }
 {
     match fault {
-        OptionsFault::Maps => Answer::refused(alloc, "maps"),
-        OptionsFault::Format => Answer::refused(alloc, "format"),
+        OptionsFault::Maps => Answer::refused(alloc, Key::Maps.word()),
+        OptionsFault::Format => Answer::refused(alloc, Key::Format.word()),
         OptionsFault::OutOfMemory => Err(AllocError),
     }
 }

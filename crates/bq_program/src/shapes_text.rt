@@ -3,9 +3,17 @@ ghost use Rattle.std.specs.Prelude.{◌≡◌, ◌∷◌, IfOk, IfSome, IfNone, 
 ghost use Rattle.bq_bpf.specs.declared.shape.MapShape.{MapShape as Shape};
 ghost use Rattle.bq_program.specs.ShapesText.{IsPartLen, NamesNoShapes, NamesShapes, number_of, numbers_in, numbers_of, parts, parts_after};
 
-use bq_bpf::MapShape;
 use bq_bpf::shape::MAPS;
+use bq_bpf::{MapShape, with_map_limits};
 use std::alloc::{AllocError, Global};
+
+/// What a text of shapes is, in words.
+pub const SHAPES_FORM: &str = with_map_limits!(
+    "a map is the size of a value, ",
+    ", a colon and the number of entries, ",
+    ", as 8:2; a program has at most ",
+    ", with commas between and no blanks"
+);
 
 /// The shapes that the text names, as `8:2,16:4` does: the size of a value and the number of entries. None where it
 /// names more than 8, or one that is not within its limits, or is of another form.

@@ -2,13 +2,16 @@
 #![tactic(auto)]
 
 ghost use Rattle.std.specs.Prelude.{◌≡◌, ◌+◌, ◌-◌, ◌*◌, ◌/◌, ◌<◌, ◌≤◌, ◌^◌, pos, negsuc, ◌≤ℤ◌, IsTrue, slice_index};
-ghost use Rattle.bq_weights.specs.VirtualTime.{is_nice, weights, weight_of, IsWeight, vdelta_of, advance_of, shift_of, held_within, distance_of};
+ghost use Rattle.bq_weights.specs.VirtualTime.{is_nice, weights, weight_of, IsWeight, vdelta_of, time_of, advance_of, shift_of, held_within, distance_of};
 
 /// The greatest virtual time.
 pub const GREATEST: u64 = 1 << 62;
 
 /// How far from the mark a task that leaves is remembered to be.
 pub const FARTHEST: u64 = 1 << 30;
+
+/// The weight of nice value 0, at which virtual time passes as fast as the clock.
+pub const NICE_0_WEIGHT: u64 = 1024;
 
 /// The least nice value, which has the greatest weight.
 pub const LEAST_NICE: i64 = -20;
@@ -57,7 +60,15 @@ pub fn vdelta(d: u64, w: u32) -> u64
     ensures value { result ≡ vdelta_of d w }
     ensures bound { result ≤ d * 1024 }
 {
-    d * 1024 / u64::from(w)
+    d * NICE_0_WEIGHT / u64::from(w)
+}
+
+/// The time that takes a virtual time at weight `w`, in nanoseconds, rounded down: so much a task of that weight is owed that is
+/// so far behind the mean.
+pub fn time_of(virtual_time: u64, w: u32) -> u128
+    ensures { result ≡ time_of virtual_time w }
+{
+    u128::from(w) * u128::from(virtual_time) / u128::from(NICE_0_WEIGHT)
 }
 
 /// `v` after `d` at weight `w`.

@@ -1,5 +1,6 @@
 -- The tasks of a processor, as a choice sees them.
-use Rattle.std.specs.Prelude.{ℕ, ◌+◌, ◌-◌, ◌*◌, ◌/◌, List, unwrap_or}
+use Rattle.std.specs.Prelude.{ℕ, ◌+◌, ◌-◌, List, unwrap_or}
+use Rattle.bq_weights.specs.VirtualTime.{time_of}
 use Rattle.bq_disc.specs.Tasks.{Task}
 use Rattle.bq_disc.specs.Totals.{total_weight, weighted_sum, is_at_most_mean, mean_of}
 use Rattle.bq_why.specs.declared.table.Row.{Row}
@@ -8,11 +9,11 @@ use Rattle.bq_why.specs.declared.table.Row.{Row}
 abbrev pub apart : ℕ → ℕ → ℕ
 apart m n = (m - n) + (n - m)
 
--- A task's row, by the weight, the sum of weight times v, and the mean v of all. What it is owed, or has had too much, is its
--- distance from the mean, by its weight: virtual time passes 1024 / weight times as fast as the clock
+-- A task's row, by the weight, the sum of weight times v, and the mean v of all. What it is owed, or has had too much, is the
+-- time that takes its distance from the mean
 abbrev pub row_by : ℕ → ℕ → ℕ → Task → Row
 row_by weight sum mean t =
-    record { task = t.id; weight = t.weight; v = t.v; deadline = t.deadline; is_eligible = is_at_most_mean weight sum t; lag = t.weight * apart t.v mean / 1024 }
+    record { task = t.id; weight = t.weight; v = t.v; deadline = t.deadline; is_eligible = is_at_most_mean weight sum t; lag = time_of (apart t.v mean) t.weight }
 
 -- a task's row among all
 abbrev pub row_of : List Task → Task → Row

@@ -4,6 +4,7 @@ ghost use Rattle.bq_why.specs.Rows.{row_of, row_by};
 
 use bq_bounds::totals::totals;
 use bq_disc::Entity;
+use bq_weights::time_of;
 use std::alloc::{AllocError, Global};
 
 /// A task as a choice saw it.
@@ -51,6 +52,6 @@ fn row_among(task: &Entity, weight: u64, moment: u128, mean: u64) -> Row
         v: task.v(),
         deadline: task.deadline(),
         is_eligible: task.is_at_most_mean(weight, moment),
-        lag: u128::from(task.weight()) * u128::from(distance) / 1024,
+        lag: time_of(distance, task.weight()),
     }
 }

@@ -18,7 +18,7 @@ use std::alloc::{AllocError, Global};
 
 /// A choice of the task that runs at a processor.
 #[derive(Clone, Copy)]
-struct Choice {
+struct RunChoice {
     processor: u8,
     run: Option<u16>,
     by: By,
@@ -190,7 +190,7 @@ impl Why {
                 write_place(text, names, *task, *to, *by, &asked)
             }
             Reply::Drained { run, by, steps, .. } | Reply::Ticked { run, by, steps } => {
-                let choice = Choice {
+                let choice = RunChoice {
                     processor,
                     run: *run,
                     by: *by,
@@ -253,7 +253,7 @@ impl Why {
         processor: u8,
         run: Option<u16>,
     ) -> Result<(), AllocError> {
-        let choice = Choice {
+        let choice = RunChoice {
             processor,
             run,
             by: By::Discipline,
@@ -268,7 +268,7 @@ impl Why {
         text: &mut String,
         names: &Names,
         machine: &AnyCore,
-        choice: &Choice,
+        choice: &RunChoice,
     ) -> Result<(), AllocError> {
         let rule = machine.rule();
         let (mark, tasks) = match machine.seen(choice.processor) {
@@ -329,7 +329,7 @@ impl Why {
         &self,
         text: &mut String,
         names: &Names,
-        choice: &Choice,
+        choice: &RunChoice,
         reason: Reason,
         rows: &[Row],
     ) -> Result<(), AllocError> {

@@ -2,3 +2,4 @@ pub mod Numbers
 pub mod Units
 pub mod Words
 pub mod Sizes
+pub mod Nearness

@@ -1,10 +1,11 @@
-//! The words of a line, the numbers that words write, and what words and numbers name: rules and sizes.
+//! The words of a line, the numbers that words write, what words and numbers name: rules and sizes; and how near a misspelling is to a word.
 //! Promises that a line falls into exactly the words between its blanks, whatever counts as a blank, that a word is taken
-//! for a number only where it is one that fits 64 bits, and that words and numbers name exactly the schedulers that can be
-//! asked for. Traces, marks, options and assembler text share these.
+//! for a number only where it is one that fits 64 bits, that words and numbers name exactly the schedulers that can be
+//! asked for, and that a word which was perhaps meant is near. Traces, marks, options and assembler text share these.
 #![tactic(auto)]
 
 pub mod blanks;
+pub mod near;
 pub mod numbers;
 pub mod processor_count;
 pub mod rule;
@@ -12,7 +13,8 @@ pub mod units;
 pub mod words;
 
 pub use blanks::{Blank, Spaces};
-pub use numbers::number;
+pub use near::Near;
+pub use numbers::{number, value};
 pub use processor_count::ProcessorCount;
 pub use rule::Rule;
 pub use units::nanoseconds;

@@ -1,6 +1,6 @@
 //! The numbers that words write.
 ghost use Rattle.std.specs.Prelude.{◌≡◌, ◌≤◌};
-ghost use Rattle.bq_words.specs.Numbers.{number_of};
+ghost use Rattle.bq_words.specs.Numbers.{number_of, value_of};
 
 /// The number that the word writes in this base, or `None` where it has no digit, has another byte, or does not fit 64 bits.
 pub fn number(word: &[u8], base: u32) -> Option<u64>
@@ -19,4 +19,14 @@ pub fn number(word: &[u8], base: u32) -> Option<u64>
             .checked_add(u64::from(digit))?;
     }
     Some(value)
+}
+
+/// The number that the word writes in decimal, or in hex digits of either case after `0x`.
+pub fn value(word: &[u8]) -> Option<u64>
+    ensures { result ≡ value_of word.now }
+{
+    match word.strip_prefix(b"0x") {
+        Some(digits) => number(digits, 16),
+        None => number(word, 10),
+    }
 }

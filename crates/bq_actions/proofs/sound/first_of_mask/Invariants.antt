@@ -1,5 +1,5 @@
 use Rattle.std.proofs.Common.{◌≡◌, ◌<◌, ℕ, false}
-use Rattle.bq_hooks.specs.OwnPlace.{allows}
+use Rattle.bq_disc.specs.Masks.{allows}
 use Rattle.bq_actions.proofs.sound.first_of_mask.Given as goal
 
 abbrev pub invariant-processors : goal.invariant-processors

@@ -1,4 +1,4 @@
-use Rattle.bq_par.proofs.runs.run_under.Given as goal
+use Rattle.bq_par.proofs.runs.run.Given as goal
 
 abbrev pub ghosts-run_sized-N-Naming : goal.ghosts-run_sized-N-Naming
 ghosts-run_sized-N-Naming g a = record { table = a.prepared.0 }

@@ -1,0 +1,12 @@
+//! Sets of processors: bit k of a mask is processor k.
+ghost use Rattle.std.specs.Prelude.{◌≡◌};
+ghost use Rattle.bq_disc.specs.Masks.{allows};
+
+use crate::limits::PROCESSORS;
+
+/// Whether a mask has this processor. None has a number that is no processor's.
+pub fn allows(mask: u64, processor: u8) -> bool
+    ensures { result ≡ allows mask processor }
+{
+    processor < PROCESSORS && (mask >> processor) % 2 == 1
+}
