@@ -3,9 +3,10 @@ use Rattle.std.specs.Prelude.{◌≡◌, ℕ, Bool, true, List, Option, ◌⊎�
 use Rattle.std.specs.Io.KnownBytes.{Appends, Keeps}
 use Rattle.bq_streams.specs.Writing.{AppendsPart}
 use Rattle.bq_filters.specs.Filtering.{Filters, FiltersInPart}
+use Rattle.bq_trace.specs.Machines.{discipline_of}
 use Rattle.bq_trace.specs.Replaying.{Replays, ReplaysInPart}
 use Rattle.bq_words.specs.Sizes.{processors_in}
-use Rattle.bq_par.specs.Summaries.{IsSummary, summary_line, discipline_of}
+use Rattle.bq_par.specs.Summaries.{IsSummary, summary_line}
 use Rattle.bq_par.specs.declared.summary.Summary.{Summary}
 use Rattle.bq_cli.specs.declared.asked.Parallel.{Parallel}
 use Rattle.bq_cli.specs.declared.asked.Job.{Job}

@@ -2,13 +2,20 @@
 ghost use Rattle.std.specs.Prelude.{◌≡◌, true, IfOk, IfErr, OnOk, OnErr};
 ghost use Rattle.bq_streams.specs.Counts.{inner_of, calls_of, failures_of};
 ghost use Rattle.bq_streams.specs.Faults.{IsFault, IsWriteFault};
+ghost use Rattle.bq_par.specs.Summaries.{IsSummary};
+ghost use Rattle.bq_trace.specs.Machines.{discipline_of};
+ghost use Rattle.bq_words.specs.Sizes.{processors_in};
 ghost use Rattle.bq_cli.specs.Performing.{Performs, PerformsInPart, WritesPar, WritesParInPart};
 
 use crate::asked::{Job, Parallel};
+use bq_cfs::CfsQueue;
+use bq_eevdf::EevdfQueue;
 use bq_filters::run_filter;
+use bq_par::{Summary, run};
 use bq_streams::{Counted, StreamFault};
 use bq_trace::replay;
-use std::alloc::Global;
+use bq_words::Rule;
+use std::alloc::{AllocError, Global};
 use std::io::{Read, Write};
 use std::sync::Wait;
 use std::thread::Threads;
@@ -50,8 +57,23 @@ fn perform_par<T: Threads + Wait + Sync, W: Write>(
     ensures part { OnErr result (WritesParInPart parallel.now (W.contents (inner_of output.old)) (W.contents (inner_of output.new))) }
     ensures fault { IfErr result (λ e. IsWriteFault e (failures_of output.old) (failures_of output.new)) }
 {
-    let summary = bq_par::run(rt, alloc, parallel.rule, parallel.size, parallel.ticks)?;
+    let summary = run_as_asked(rt, alloc, parallel)?;
     let line = summary.line(alloc)?;
     output.write_text(line.as_bytes())?;
     Ok(true)
+}
+
+/// Runs processors under the rule that is asked for.
+fn run_as_asked<T: Threads + Wait + Sync>(
+    rt: &T,
+    alloc: Global,
+    parallel: &Parallel,
+) -> Result<Summary, AllocError>
+    ensures { IfOk result (IsSummary (discipline_of parallel.now.rule) (processors_in parallel.now.size) parallel.now.ticks) }
+{
+    let Parallel { rule, size, ticks } = *parallel;
+    match rule {
+        Rule::Cfs => run::<CfsQueue, T>(rt, alloc, size, ticks),
+        Rule::Eevdf => run::<EevdfQueue, T>(rt, alloc, size, ticks),
+    }
 }

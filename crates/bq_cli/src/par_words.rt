@@ -9,22 +9,21 @@ ghost use Rattle.bq_lines.specs.Lines.{size_of};
 ghost use Rattle.bq_cli.specs.declared.asked.Parallel.{Parallel as Asked};
 ghost use Rattle.bq_cli.specs.Jobs.{IsParallel, ticks_of};
 
-use crate::asked::Parallel;
+use crate::asked::{MOST_TICKS, Parallel};
+use crate::with_ticks;
 use bq_console::WordsFault;
 use bq_lines::numbers;
 use bq_options::{refused_value, value};
-use bq_words::{ProcessorCount, Rule};
+use bq_words::{ProcessorCount, Rule, with_rules, with_sizes};
 use clap::ArgMatches;
 use std::alloc::Global;
 
-/// How often a processor may tick.
-const MOST: u64 = 1_000_000;
 /// The values of `--rule`, as its refusal lists them.
-const RULES: &str = "cfs, eevdf";
+const RULES: &str = with_rules!("");
 /// The values of `--processors`, as its refusal lists them.
-const SIZES: &str = "1, 2, 4, 8, 16, 32, 64";
+const SIZES: &str = with_sizes!("");
 /// The values of `--ticks`, as its refusal lists them.
-const TICKS: &str = "0 to 1000000";
+const TICKS: &str = with_ticks!("");
 
 /// The options of `par`. A value that names nothing is refused.
 pub(crate) fn parallel(alloc: Global, matches: &ArgMatches<'_>) -> Result<Parallel, WordsFault>
@@ -84,7 +83,7 @@ fn ticks_named(word: &[u8]) -> Option<u32>
     ensures { result ≡ ticks_of word.now }
 {
     let ticks = numbers::decimal(word)?;
-    if ticks > MOST {
+    if ticks > u64::from(MOST_TICKS) {
         return None;
     }
     Some(ticks as u32)

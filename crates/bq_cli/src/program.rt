@@ -3,6 +3,7 @@ ghost use Rattle.std.specs.Prelude.{◌≡◌, IfOk};
 ghost use Rattle.clap.specs.Words.{app_of};
 ghost use Rattle.bq_cli.specs.Program.{program};
 
+use crate::with_ticks;
 use bq_filters::ASM;
 use bq_options::{CommandText, Given, OptionText, texts, with_commands};
 use bq_words::{with_rules, with_sizes};
@@ -16,16 +17,19 @@ static COMMANDS: [CommandText<'static>; 9] = [
     CommandText {
         name: "check",
         about: texts::CHECK,
+        usage: None,
         options: &[],
     },
     CommandText {
         name: "dis",
         about: texts::DIS,
+        usage: None,
         options: &[],
     },
     CommandText {
         name: "par",
         about: "Runs as many processors by threads of their own, and says how long their one history is",
+        usage: None,
         options: &[&[
             OptionText {
                 name: "rule",
@@ -35,38 +39,49 @@ static COMMANDS: [CommandText<'static>; 9] = [
             OptionText {
                 name: "processors",
                 given: Given::Needed("PROCESSORS"),
-                help: with_sizes!("How many processors there are: "),
+                help: with_sizes!(
+                    "How many processors there are: ",
+                    " (a mask has a bit for each, 64 in all)"
+                ),
             },
             OptionText {
                 name: "ticks",
                 given: Given::Needed("TICKS"),
-                help: "How often each of them ticks: 0 to 1000000",
+                help: with_ticks!(
+                    "How often each of them ticks: ",
+                    " (the history keeps each tick)"
+                ),
             },
         ]],
     },
     CommandText {
         name: "replay",
         about: "Reads a trace, from the file that is named or from standard input, and writes its reply lines to standard output",
+        usage: Some("bqsim replay [FILE]"),
         options: &[],
     },
     CommandText {
         name: "timeline",
         about: texts::TIMELINE,
+        usage: None,
         options: &[],
     },
     CommandText {
         name: "simulate",
         about: texts::SIMULATE,
+        usage: None,
         options: &[],
     },
     CommandText {
         name: "run",
         about: texts::RUN,
+        usage: None,
         options: &[],
     },
     CommandText {
         name: "import",
         about: texts::IMPORT,
+        usage: None,
         options: &[],
     },
 ];

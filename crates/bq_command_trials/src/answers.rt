@@ -112,7 +112,7 @@ static CHECKED: [CheckRow; 12] = [
         "",
         "",
         "",
-        "W --hook Place: there is no such hook; hooks are place, preempt and pull",
+        "W --hook Place is no hook (place, preempt or pull)",
     ),
     (
         COUNTS,
@@ -214,7 +214,7 @@ type RunRow = (
 );
 
 /// Policies, and what is told of their runs.
-static RUN: [RunRow; 10] = [
+static RUN: [RunRow; 14] = [
     // Of words for the same field, counter or entry the last counts.
     (
         KEEP_HOME,
@@ -318,7 +318,89 @@ static RUN: [RunRow; 10] = [
         "0",
         "W --repeat 0: a number of runs is wanted, from 1 to 4294967295",
     ),
+    // nobody is 2^32 - 1, where there may be nobody
+    (
+        KEEP_HOME,
+        "mask=0x6,processors=4,previous=none",
+        "",
+        "",
+        "",
+        "",
+        "",
+        "D r0 4294967295 (0xffffffff)  not permitted: the machine has 4 processors  steps 2 of 2\n",
+    ),
+    (
+        KEEP_HOME,
+        "task=none",
+        "",
+        "",
+        "",
+        "",
+        "",
+        "W --set task=none: none is no number of 64 bits",
+    ),
+    (
+        COUNTS,
+        "",
+        "",
+        "0=abc",
+        "",
+        "",
+        "",
+        "W --counter 0=abc: what is behind = is no number of 64 bits; a counter is set as 3=10",
+    ),
+    (
+        COUNTS,
+        "",
+        "",
+        "1x=1",
+        "",
+        "",
+        "",
+        "W --counter 1x=1: what is before = is no number; a counter is set as 3=10",
+    ),
 ];
+
+/// Words of `--time`, and what is told of a policy that answers it.
+static AT: [(&str, &str); 6] = [
+    ("5ms", "D r0 5000000 (0x4c4b40)  "),
+    ("2us", "D r0 2000 (0x7d0)  "),
+    ("1500", "D r0 1500 (0x5dc)  "),
+    ("+7", "D r0 7 (0x7)  "),
+    (
+        "5 ms",
+        "W --time 5 ms: a time is a whole number of nanoseconds below 2^64, or one with ns, us, ms or s, as 1500 or 5ms",
+    ),
+    (
+        "18446744073709551616",
+        "W --time 18446744073709551616: a time is a whole number of nanoseconds below 2^64, or one with ns, us, ms or s, as 1500 or 5ms",
+    ),
+];
+
+/// What `run` tells of a policy that answers the time, at that time.
+fn ran_at(alloc: Global, clock: &Ticking, time: &str) -> Result<String, AllocError> {
+    let mut words = no_words(alloc);
+    words.time = text_of(alloc, time)?;
+    let answer = run(alloc, clock, &words, b";@ hook preempt\ncall 5\nexit\n")?;
+    told(alloc, &answer)
+}
+
+#[test]
+fn a_time_may_have_a_unit(rt: HostRuntime) -> Result<(), Fail> {
+    let clock = Ticking {
+        readings: Cell::new(0),
+    };
+    for (time, begins) in &AT {
+        let answer = ran_at(rt.alloc(), &clock, time)?;
+        holds(
+            &rt,
+            answer.as_str().starts_with(*begins),
+            answer.as_str(),
+            begins,
+        );
+    }
+    Ok(())
+}
 
 /// No words for `run`.
 fn no_words(alloc: Global) -> RunWords {

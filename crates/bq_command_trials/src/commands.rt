@@ -56,7 +56,7 @@ static TOLD: [(&str, &str); 29] = [
     ("asm --hook tick", "invalid value 'tick' for '--hook'"),
     (
         "asm --hook Place",
-        "\n  [possible values: place, preempt, pull]\n",
+        "\n  [possible values: place, preempt or pull]\n",
     ),
     ("asm --hook", "error: "),
     (
@@ -74,7 +74,7 @@ static TOLD: [(&str, &str); 29] = [
     ),
     (
         "par --rule cfs --processors 3 --ticks 10",
-        "invalid value '3' for '--processors'\n  [possible values: 1, 2, 4, 8, 16, 32, 64]\n",
+        "invalid value '3' for '--processors'\n  [possible values: 1, 2, 4, 8, 16, 32 or 64]\n",
     ),
     (
         "par --rule cfs --processors 4 --ticks 1000001",

@@ -2,13 +2,13 @@
 
 use crate::answers::{KEEP_HOME, check_words};
 use crate::done::holds;
-use bq_policy_commands::{Answered, CheckWords, check, options_complaint};
+use bq_policy_commands::{Answered, CheckWords, asm_note, check, options_complaint};
 use bq_program::{Hook, Options, Version};
 use std::alloc::{AllocError, Global};
 use std::test::Fail;
 
 /// Texts of `--maps`, and what is wrong with them. A value has 8 to 256 bytes in eights, a map 1 to 256 entries, a program 8 maps at most.
-static MAPS: [(&str, &str); 15] = [
+static MAPS: [(&str, &str); 16] = [
     (
         "7:2",
         "--maps: part 1 \"7:2\": the size of a value is 8 to 256, a multiple of 8 (got 7)",
@@ -32,7 +32,11 @@ static MAPS: [(&str, &str); 15] = [
     ),
     (
         "+8:1",
-        "--maps: part 1 \"+8:1\": the size of a value is 8 to 256, a multiple of 8 (got +8)",
+        "--maps: part 1 \"+8:1\": the size of a value is 8 to 256, a multiple of 8 (got +8, which is no number)",
+    ),
+    (
+        "8:two",
+        "--maps: part 1 \"8:two\": the number of entries is 1 to 256 (got two, which is no number)",
     ),
     (
         ":2",
@@ -88,6 +92,92 @@ fn complained(
         Some(why) => Ok(why),
         None => Ok(String::new(alloc)),
     }
+}
+
+/// What `asm` says of the marks that it leaves.
+const MAPS_LEFT: &str =
+    "the text says maps, and the image has none: asm takes them from --maps alone\n";
+
+/// The same, of the version.
+const FORMAT_LEFT: &str =
+    "the text says format 2, and the image has version 1: asm takes it from --format alone\n";
+
+/// The words of `--maps` and whether a hook is named, a text, and how what `asm` says of its marks begins, and ends.
+static LEFT: [(Option<&str>, bool, &str, &str, &str); 9] = [
+    (None, true, "mov64 r0, 0\nexit\n", "", ""),
+    (
+        None,
+        true,
+        ";@ hook place\n;@ maps 8:1\nmov64 r0, 0\nexit\n",
+        MAPS_LEFT,
+        MAPS_LEFT,
+    ),
+    (
+        None,
+        true,
+        ";@ maps 8:1\n;@ format 2\nmov64 r0, 0\nexit\n",
+        MAPS_LEFT,
+        FORMAT_LEFT,
+    ),
+    // they agree
+    (
+        Some("8:1"),
+        true,
+        ";@ hook place\n;@ maps 8:1\n;@ format 1\nmov64 r0, 0\nexit\n",
+        "",
+        "",
+    ),
+    // a program alone has no marks
+    (None, false, ";@ maps 8:1\n;@ hok\nexit\n", "", ""),
+    // a mark that is none
+    (
+        None,
+        true,
+        "exit\n;@ hok place\n",
+        "line 2: ",
+        "; asm goes by its options alone\n",
+    ),
+    (
+        Some("8:1"),
+        true,
+        ";@ maps 8:7777\nexit\n",
+        "line 1: maps: part 1 \"8:7777\"",
+        "; asm goes by its options alone\n",
+    ),
+    // what the assembler refuses is told by itself
+    (None, true, ";@ maps 8:1\nfoo\n", "", ""),
+    (None, true, "00", "", ""),
+];
+
+/// What `asm` says of the marks of a text that it leaves, with a hook or without.
+fn left(
+    alloc: Global,
+    maps: Option<&str>,
+    has_hook: bool,
+    text: &str,
+) -> Result<String, AllocError> {
+    let maps = match maps {
+        Some(maps) => Some(String::from_str(alloc, maps)?),
+        None => None,
+    };
+    let options = Options {
+        hook: has_hook.then_some(Hook::Place),
+        maps,
+        format: None,
+    };
+    asm_note(alloc, &options, text.as_bytes())
+}
+
+#[test]
+fn marks_that_asm_leaves_are_told(rt: HostRuntime) -> Result<(), Fail> {
+    for (maps, has_hook, text, begins, ends) in &LEFT {
+        let told = left(rt.alloc(), *maps, *has_hook, text)?;
+        let note = told.as_str();
+        holds(&rt, note.starts_with(*begins), note, begins);
+        holds(&rt, note.ends_with(*ends), note, ends);
+        holds(&rt, !begins.is_empty() || note.is_empty(), note, text);
+    }
+    Ok(())
 }
 
 /// The words of `check` with these maps.

@@ -170,7 +170,7 @@ fn refusals_say_what_helps(rt: HostRuntime) -> Result<(), Fail> {
 }
 
 /// Texts that do not assemble, and what is said of them.
-static COMPLAINED: [(&str, &str); 14] = [
+static COMPLAINED: [(&str, &str); 15] = [
     (
         "mov r0, 1\nexit\n",
         "line 1: unknown word \"mov\", did you mean \"mov64\"?\n",
@@ -216,6 +216,11 @@ static COMPLAINED: [(&str, &str); 14] = [
     (
         "foreach\nexit\n",
         "line 1: unknown word \"foreach\"; docs/ASSEMBLER.md has those that there are\n",
+    ),
+    // more edits away from ja than it has letters
+    (
+        "x\nexit\n",
+        "line 1: unknown word \"x\"; docs/ASSEMBLER.md has those that there are\n",
     ),
     (
         "end: exit\n",

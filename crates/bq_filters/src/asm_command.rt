@@ -6,8 +6,9 @@ ghost use Rattle.bq_filters.specs.Asked.{AreOptions};
 ghost use Rattle.bq_program.specs.declared.options.Options.{Options as Chosen};
 
 use crate::asm_words::options;
+use bq_bpf::with_hooks;
 use bq_console::WordsFault;
-use bq_options::{CommandText, Given, OptionText, matches_of, texts, with_hooks};
+use bq_options::{CommandText, Given, OptionText, matches_of, texts};
 use bq_program::Options;
 use std::alloc::Global;
 
@@ -15,6 +16,7 @@ use std::alloc::Global;
 pub const ASM: CommandText<'static> = CommandText {
     name: "asm",
     about: "Reads an assembler text, from the file that is named first or last or from standard input, and writes the hex of its program",
+    usage: Some("bqsim asm [OPTIONS] [FILE]"),
     options: &[&[
         OptionText {
             name: "hook",

@@ -9,6 +9,7 @@ ghost use Rattle.bq_bpf.specs.declared.hook.Version.{Version as Number};
 ghost use Rattle.bq_console.specs.Words.{SaysWord};
 ghost use Rattle.bq_filters.specs.Asked.{AreOptions};
 
+use bq_bpf::{with_hooks, with_versions};
 use bq_console::WordsFault;
 use bq_options::{refused_value, value, word};
 use bq_program::{Hook, Options, Version};
@@ -27,9 +28,9 @@ pub fn options(alloc: Global, matches: &ArgMatches<'_>) -> Result<Options, Words
 }
 
 /// The values of `--hook`, as its refusal lists them.
-const HOOKS: &str = "place, preempt, pull";
+const HOOKS: &str = with_hooks!("");
 /// The values of `--format`, as its refusal lists them.
-const FORMATS: &str = "1, 2";
+const FORMATS: &str = with_versions!("");
 
 /// The hook that a word names, if there is one.
 fn hook_in(alloc: Global, word: Option<&str>) -> Result<Option<Hook>, WordsFault>

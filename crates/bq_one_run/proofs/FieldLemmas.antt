@@ -104,7 +104,7 @@ none_by_digits hook stem digits none field has =
 pub none_by_number : (hook : Hook) (stem digits : List ℕ) (row : NamedField) (number : ℕ) → row_named (fields_of hook) stem ≡ Some row → IsNumber digits number → ((field : Field) → field.at < 2 ^ 64 → ¬ IsNumbered row number field) → (field : Field) → field.at < 2 ^ 64 → ¬ HasNumber hook stem digits field
 none_by_number hook stem digits row number named is none field small has =
     let same : has.row ≡ row = cc (has.named, named) in
-    let one : has.number ≡ number = number_once 10 digits has.number number has.is_number is in
+    let one : has.number ≡ number = number_once digits has.number number has.is_number is in
     none field small (subst (λ (n : ℕ). IsNumbered row n field) one (subst (λ (r : NamedField). IsNumbered r has.number field) same has.numbered))
 
 -- a name without a dot goes by a name, if for any field
@@ -131,7 +131,7 @@ goes_once hook name f g (inr a) (inr b) =
     let stems : a.stem ≡ b.stem = once.0 in
     let named : row_named (fields_of hook) b.stem ≡ Some a.has.row = ap (λ (s : List ℕ). row_named (fields_of hook) s) (sym stems) ∙ a.has.named in
     let same : a.has.row ≡ b.has.row = cc (named, b.has.named) in
-    let number : a.has.number ≡ b.has.number = number_once 10 b.digits a.has.number b.has.number (subst (λ (d : List ℕ). IsNumber d a.has.number) once.1 a.has.is_number) b.has.is_number in (
+    let number : a.has.number ≡ b.has.number = number_once b.digits a.has.number b.has.number (subst (λ (d : List ℕ). IsNumber d a.has.number) once.1 a.has.is_number) b.has.is_number in (
       a.has.numbered.at ∙ ap (λ (r : NamedField). r.at + a.has.number * r.apart) same ∙ ap (λ (n : ℕ). b.has.row.at + n * b.has.row.apart) number ∙ sym b.has.numbered.at,
       a.has.numbered.width ∙ ap (λ (r : NamedField). r.width) same ∙ sym b.has.numbered.width,
     )

@@ -8,7 +8,7 @@ use Rattle.std.proofs.lemmas.Nat.{mod-pow-add, div-mul-add}
 use Rattle.byteorder.specs.Endian.{little_number}
 use Rattle.byteorder.specs.Numbers.{little_number-reads_back}
 use Rattle.bq_hooks.specs.Contexts.{PlaceFacts, place_bytes_below, place_header}
-use Rattle.bq_hooks.specs.OwnPlace.{allows}
+use Rattle.bq_disc.specs.Masks.{allows}
 use Rattle.bq_hooks.specs.Permitted.{may_place, may_preempt}
 use Rattle.bq_one_run.specs.declared.permitted.Word.TheVariants.{Permitted, NotPermitted}
 use Rattle.bq_one_run.specs.PermittingLaw.{IsWordOn}

@@ -1,8 +1,9 @@
 -- Words that make no step.
-use Rattle.std.proofs.Common.{◌≡◌, ◌≢◌, ℕ, ◌<◌, ◌≤◌, ◌^◌, List, length, get_or, Option, Some, Ok, refl, sym, subst, ap, ◌∙◌, arith, slice_get, slice_set, IfNone, None, String, string_bytes}
+use Rattle.std.proofs.Common.{◌≡◌, ◌≢◌, ℕ, ◌<◌, ◌≤◌, ◌^◌, List, [], ◌∷◌, length, get_or, Option, Some, Ok, true, codes, inl, inr, refl, sym, subst, ap, ◌∙◌, arith, slice_get, slice_set, IfNone, None, String, string_bytes}
 use Rattle.std.specs.declared.alloc.Global.{Global}
 use Rattle.std.specs.Int.{bytes_low_first}
 use Rattle.std.specs.Option.{option_zip}
+use Rattle.bq_words.specs.Numbers.{value_of}
 use Rattle.hex.specs.Hex.{decode_of}
 use Rattle.bq_maps.specs.Arrays.{Arrays, HasEntry, entries_in, first_of, value_size_of, with_bytes}
 use Rattle.bq_maps.proofs.ShapeLemmas.{length-overwrite}
@@ -15,7 +16,7 @@ use Rattle.bq_one_run.specs.declared.fields.Field.{Field}
 use Rattle.bq_one_run.specs.declared.fields.Width.{Width}
 use Rattle.bq_one_run.specs.declared.fields.Width.TheVariants.{Four, Eight}
 use Rattle.bq_one_run.specs.Fields.{IsField, IsPasted, IsPut, bytes_in}
-use Rattle.bq_one_run.specs.Naming.{NamesCounter, NamesEntry, SetsCounter, SetsEntry, SetsField, SetsFields, TextsInTurn, padded}
+use Rattle.bq_one_run.specs.Naming.{IsFieldWord, NamesCounter, NamesEntry, SetsCounter, SetsEntry, SetsField, SetsFields, TextsInTurn, padded, shows_nobody}
 use Rattle.bq_console.specs.Words.{IsCut, IsFreeOf, IsNumber, IsValue, SaysNone, parts}
 use Rattle.bq_one_run.proofs.FieldLemmas.{goes_once}
 use Rattle.bq_one_run.proofs.InTurnLemmas.{IsSeen, turn_refused, turns_seen}
@@ -26,11 +27,34 @@ word_small : (width : Width) (word : ℕ) → word < 256 ^ bytes_in width → wo
 word_small Four word fits = omega arith
 word_small Eight word fits = omega arith
 
--- what is no number of 64 bits is set nowhere
-pub no_field_value : (hook : Hook) (version : Version) (part before name text : List ℕ) → IsCut 61 part name text → ((number : ℕ) → number < 2 ^ 64 → ¬ IsValue text number) → (after : List ℕ) → ¬ SetsField hook version part before after
+-- `none` writes no number
+none_unnumbered : (text : List ℕ) (word : ℕ) → text ≡ codes "none" → ¬ IsValue text word
+none_unnumbered text word is value =
+    let both : None ≡ Some word = subst (λ (w : List ℕ). value_of w ≡ Some word) is value in
+    absurd (cc)
+
+-- a text writes one word for a field
+field_word_once : (hook : Hook) (name text : List ℕ) (m n : ℕ) → IsFieldWord hook name text m → IsFieldWord hook name text n → m ≡ n
+field_word_once hook name text m n (inl a) (inl b) = value_once text m n a b
+field_word_once hook name text m n (inl a) (inr b) = absurd (none_unnumbered text m b.0 a)
+field_word_once hook name text m n (inr a) (inl b) = absurd (none_unnumbered text n a.0 b)
+field_word_once hook name text m n (inr a) (inr b) = a.2 ∙ sym b.2
+
+-- what is no number, and not `none` for a field that may show nobody, writes no word for the field
+pub no_field_word : (hook : Hook) (name text : List ℕ) → ((word : ℕ) → word < 2 ^ 64 → ¬ IsValue text word) → ¬ ((text ≡ codes "none") × (shows_nobody hook name ≡ true)) → (word : ℕ) → word < 2 ^ 64 → ¬ IsFieldWord hook name text word
+no_field_word hook name text no_number named word fits (inl number) = no_number word fits number
+no_field_word hook name text no_number named word fits (inr nobody) = named (nobody.0, nobody.1)
+
+-- a word of the same text for a field of the same name
+same_word : (hook : Hook) (name text other again : List ℕ) (word : ℕ) → name ≡ other → text ≡ again → IsFieldWord hook name text word → IsFieldWord hook other again word
+same_word hook name text other again word names texts is =
+    subst (λ (t : List ℕ). IsFieldWord hook other t word) texts (subst (λ (n : List ℕ). IsFieldWord hook n text word) names is)
+
+-- what writes no word for the field is set nowhere
+pub no_field_value : (hook : Hook) (version : Version) (part before name text : List ℕ) → IsCut 61 part name text → ((word : ℕ) → word < 2 ^ 64 → ¬ IsFieldWord hook name text word) → (after : List ℕ) → ¬ SetsField hook version part before after
 no_field_value hook version part before name text cut none after sets =
     let once = cut_once 61 part sets.name sets.text name text sets.splits cut in
-    none sets.word (word_small sets.field.width sets.word sets.put.fits) (subst (λ (t : List ℕ). IsValue t sets.word) once.1 sets.is_word)
+    none sets.word (word_small sets.field.width sets.word sets.put.fits) (same_word hook sets.name sets.text name text sets.word once.0 once.1 sets.is_word)
 
 -- what names no field sets none
 pub no_field_named : (hook : Hook) (version : Version) (part before name text : List ℕ) → IsCut 61 part name text → ((field : Field) → ¬ IsField hook version name field) → (after : List ℕ) → ¬ SetsField hook version part before after
@@ -46,10 +70,10 @@ put_same f g word before after at width put = record {
 }
 
 -- a word that cannot be put into the field is not set
-pub no_field_put : (hook : Hook) (version : Version) (part before name text : List ℕ) (word : ℕ) (field : Field) → IsCut 61 part name text → IsValue text word → IsField hook version name field → ((after : List ℕ) → ¬ IsPut field word before after) → (after : List ℕ) → ¬ SetsField hook version part before after
+pub no_field_put : (hook : Hook) (version : Version) (part before name text : List ℕ) (word : ℕ) (field : Field) → IsCut 61 part name text → IsFieldWord hook name text word → IsField hook version name field → ((after : List ℕ) → ¬ IsPut field word before after) → (after : List ℕ) → ¬ SetsField hook version part before after
 no_field_put hook version part before name text word field cut is_word is_field none after sets =
     let once = cut_once 61 part sets.name sets.text name text sets.splits cut in
-    let same : sets.word ≡ word = value_once text sets.word word (subst (λ (t : List ℕ). IsValue t sets.word) once.1 sets.is_word) is_word in
+    let same : sets.word ≡ word = field_word_once hook name text sets.word word (same_word hook sets.name sets.text name text sets.word once.0 once.1 sets.is_word) is_word in
     let goes = goes_once hook name sets.field field (subst (λ (n : List ℕ). IsField hook version n sets.field) once.0 sets.is_field).named is_field.named in
     none after (subst (λ (w : ℕ). IsPut field w before after) same (put_same sets.field field sets.word before after goes.0 goes.1 sets.put))
 
@@ -94,7 +118,7 @@ text_refused step seen is texts i item bytes first now e h item_is bytes_is same
 entry_once : (place : List ℕ) (m n entry other : ℕ) → NamesEntry place m entry → NamesEntry place n other → (m ≡ n) × (entry ≡ other)
 entry_once place m n entry other one two =
     let once = cut_once 58 place one.number one.place two.number two.place one.splits two.splits in
-    (number_once 10 two.number m n (subst (λ (w : List ℕ). IsNumber w m) once.0 one.is_map) two.is_map, number_once 10 two.place entry other (subst (λ (w : List ℕ). IsNumber w entry) once.1 one.is_entry) two.is_entry)
+    (number_once two.number m n (subst (λ (w : List ℕ). IsNumber w m) once.0 one.is_map) two.is_map, number_once two.place entry other (subst (λ (w : List ℕ). IsNumber w entry) once.1 one.is_entry) two.is_entry)
 
 -- the number of an entry that is there is small
 entry_small : (shape : Option MapShape) (entry : ℕ) → entry < entries_in shape → entry < 2 ^ 32
@@ -165,7 +189,7 @@ no_counter_named text before none after sets =
 pub no_counter_there : (text before : List ℕ) (counter word : ℕ) → NamesCounter text counter word → 64 ≤ counter → (after : List ℕ) → ¬ SetsCounter text before after
 no_counter_there text before counter word names past after sets =
     let once = cut_once 61 text sets.names.number sets.names.value names.number names.value sets.names.splits names.splits in
-    let same : sets.counter ≡ counter = number_once 10 names.number sets.counter counter (subst (λ (n : List ℕ). IsNumber n sets.counter) once.0 sets.names.is_counter) names.is_counter in
+    let same : sets.counter ≡ counter = number_once names.number sets.counter counter (subst (λ (n : List ℕ). IsNumber n sets.counter) once.0 sets.names.is_counter) names.is_counter in
     let below = sets.below in
     omega (arith, same, below, past)
 
@@ -205,7 +229,7 @@ no_entry_number text number place cut none m entry small names =
 pub no_entry_small : (text number place : List ℕ) (wide : ℕ) → IsCut 58 text number place → IsNumber place wide → 2 ^ 32 ≤ wide → (m entry : ℕ) → entry < 2 ^ 32 → ¬ NamesEntry text m entry
 no_entry_small text number place wide cut is past m entry small names =
     let once = cut_once 58 text names.number names.place number place names.splits cut in
-    let same : entry ≡ wide = number_once 10 place entry wide (subst (λ (p : List ℕ). IsNumber p entry) once.1 names.is_entry) is in
+    let same : entry ≡ wide = number_once place entry wide (subst (λ (p : List ℕ). IsNumber p entry) once.1 names.is_entry) is in
     omega (arith, same, small, past)
 
 -- a text without a colon names no entry

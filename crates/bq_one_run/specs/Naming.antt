@@ -1,10 +1,12 @@
 -- What the words of a command make of the inputs of a run.
-use Rattle.std.specs.Prelude.{◌≡◌, ℕ, ◌-◌, ◌^◌, ◌<◌, ◌≤◌, List, [], ◌∷◌, ◌++◌, length, replicate, Option, Some, None, Ok, String, slice_index, slice_set, string_bytes}
+use Rattle.std.specs.Prelude.{◌≡◌, ℕ, ◌-◌, ◌^◌, ◌<◌, ◌≤◌, ◌⊎◌, ◌||◌, Bool, true, List, [], ◌∷◌, ◌++◌, length, replicate, Option, Some, None, Ok, String, codes, slice_index, slice_set, string_bytes}
+use Rattle.std.specs.Str.{bytes_eq}
 use Rattle.std.specs.declared.alloc.Global.{Global}
 use Rattle.hex.specs.Hex.{decode_of}
 use Rattle.bq_maps.specs.Arrays.{Arrays, HasEntry, bytes_of, first_of, value_size_of, with_bytes}
 use Rattle.bq_bpf.specs.declared.shape.MapShape.{MapShape}
 use Rattle.bq_bpf.specs.declared.hook.Hook.{Hook}
+use Rattle.bq_bpf.specs.declared.hook.Hook.TheVariants.{Place, Preempt, Pull}
 use Rattle.bq_bpf.specs.declared.hook.Version.{Version}
 use Rattle.bq_one_run.specs.declared.fields.Field.{Field}
 use Rattle.bq_one_run.specs.Fields.{IsField, IsPut}
@@ -19,6 +21,16 @@ InTurn {W} {S} step (word ∷ words) before after = (between : S) × step word b
 abbrev pub TextsInTurn : {S : Type 0} → (List ℕ → S → S → Type 0) → List (String Global) → S → S → Type 0
 TextsInTurn step texts before after = InTurn (λ (t : String Global). step (string_bytes t)) texts before after
 
+-- the field of that name may show that there is nobody, by the word that all bits of it are
+abbrev pub shows_nobody : Hook → List ℕ → Bool
+shows_nobody Place name = bytes_eq name (codes "waker") || (bytes_eq name (codes "previous") || bytes_eq name (codes "own"))
+shows_nobody Preempt name = bytes_eq name (codes "next")
+shows_nobody Pull name = bytes_eq name (codes "own")
+
+-- a number, or `none` where the field may show nobody
+abbrev pub IsFieldWord : Hook → List ℕ → List ℕ → ℕ → Type 0
+IsFieldWord hook name text word = IsValue text word ⊎ ((text ≡ codes "none") × (shows_nobody hook name ≡ true) × (word ≡ 2 ^ 32 - 1))
+
 -- as `task=3`: the number stands in the field of that name, and no other byte changes
 pub record SetsField (hook : Hook) (version : Version) (part before after : List ℕ) : Type 0 where
   pub name : List ℕ
@@ -27,7 +39,7 @@ pub record SetsField (hook : Hook) (version : Version) (part before after : List
   pub field : Field
   pub is_field : IsField hook version name field
   pub word : ℕ
-  pub is_word : IsValue text word
+  pub is_word : IsFieldWord hook name text word
   pub put : IsPut field word before after
 
 -- as `task=3,mask=0x6`

@@ -39,7 +39,7 @@ impl Inputs {
         ensures env { self.new.env ≡ self.old.env }
     {
         let Some((number, word)) = counter_named(text) else {
-            return Err(refused(alloc, "counter", text, "a counter is set as 3=10"));
+            return Err(refused(alloc, "counter", text, flaw_of(text)));
         };
         if number >= COUNTERS {
             return Err(refused(alloc, "counter", text, "there are the counters 0 to 63"));
@@ -56,6 +56,17 @@ fn counter_named(text: &str) -> Option<(usize, u64)>
 {
     let (number, word) = cut(text, '=')?;
     decimal(number).zip(value(word))
+}
+
+/// What is wrong with a text that names no counter and value.
+fn flaw_of(text: &str) -> &'static str {
+    match cut(text, '=') {
+        None => "a counter is set as 3=10",
+        Some((number, _)) if decimal(number).is_none() => {
+            "what is before = is no number; a counter is set as 3=10"
+        }
+        Some(_) => "what is behind = is no number of 64 bits; a counter is set as 3=10",
+    }
 }
 
 /// Makes a counter that word, whatever it was.

@@ -5,13 +5,16 @@ ghost use Rattle.bq_bpf.specs.Hooks.{context_length_of};
 ghost use Rattle.bq_bpf.specs.declared.hook.Version.{Version as OfVersion};
 
 use bq_bpf::Hook;
+use bq_disc::limits::PROCESSORS;
+use bq_disc::mask::allows;
+use bq_hooks::PULL_LENGTH;
 use byteorder::{ByteOrder, LittleEndian};
 
 /// The answer of a pull policy that takes no task.
-const NOBODY: u64 = 0xffff_ffff;
+const NOBODY: u64 = bq_hooks::NOBODY as u64;
 
 /// How many movable tasks a pull context has room for.
-const SHOWN: u32 = 8;
+const SHOWN: u32 = bq_hooks::SHOWN as u32;
 
 /// What the rule says of an answer.
 #[derive(Clone, Copy)]
@@ -50,7 +53,7 @@ fn place_permits(context: &[u8], r0: u64) -> bool
 {
     let count = number_at(context, 32);
     let mask = LittleEndian::read_u64(&context[8..16]);
-    r0 < u64::from(count) && r0 < 64 && (mask >> r0) % 2 == 1
+    r0 < u64::from(count) && r0 < u64::from(PROCESSORS) && allows(mask, r0 as u8)
 }
 
 fn preempt_word(r0: u64) -> Word
@@ -69,7 +72,7 @@ fn pull_word(context: &[u8], r0: u64) -> Word
     if r0 == NOBODY {
         return Word::Permitted;
     }
-    if context.len() < 160 {
+    if context.len() < PULL_LENGTH {
         return Word::NotPermitted;
     }
     if shows_task(context, r0) {

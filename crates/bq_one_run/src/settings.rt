@@ -1,8 +1,8 @@
 //! Fields of the context from the words of a command.
-ghost use Rattle.std.specs.Prelude.{◌≡◌, [], IfErr, IsOk};
+ghost use Rattle.std.specs.Prelude.{◌≡◌, ◌<◌, ◌↔◌, ◌^◌, ℕ, [], IfErr, IfNone, IfSome, IsOk, IsTrue, codes, true};
 ghost use Rattle.std.specs.Result.{OnOk};
 ghost use Rattle.bq_console.specs.Words.{SaysNone};
-ghost use Rattle.bq_one_run.specs.Naming.{SetsField, SetsFields, TextsInTurn};
+ghost use Rattle.bq_one_run.specs.Naming.{IsFieldWord, SetsField, SetsFields, TextsInTurn, shows_nobody};
 
 use crate::faults::refused;
 use crate::fields::{field_named, field_names, put};
@@ -10,6 +10,7 @@ use crate::inputs::Inputs;
 use bq_bpf::{Hook, Version};
 use bq_console::words::{cut, value};
 use bq_console::{WordsFault, words_fault};
+use bq_hooks::NOBODY;
 use std::alloc::Global;
 
 impl Inputs {
@@ -88,7 +89,7 @@ fn put_field(
     let Some((name, text)) = cut(part, '=') else {
         return Err(refused(alloc, "set", part, "a field is set as task=3"));
     };
-    let Some(word) = value(text) else {
+    let Some(word) = field_word(hook, name, text) else {
         return Err(unfit(alloc, part, text, "is no number of 64 bits"));
     };
     let Some(field) = field_named(hook, version, name) else {
@@ -98,6 +99,36 @@ fn put_field(
         return Err(unfit(alloc, part, text, "does not fit the field"));
     }
     Ok(())
+}
+
+/// The word that a text writes for the field of that name: a number, or `none` where the field may show that there is nobody.
+fn field_word(hook: Hook, name: &str, text: &str) -> Option<u64>
+    ensures some { IfSome result (IsFieldWord hook name.now text.now) }
+    ensures none { IfNone result ((word : ℕ) → word < 2 ^ 64 → ¬ IsFieldWord hook name.now text.now word) }
+{
+    match value(text) {
+        Some(word) => Some(word),
+        None if is_nobody(hook, name, text) => Some(u64::from(NOBODY)),
+        None => None,
+    }
+}
+
+/// Whether a text is `none`, and the field of that name may show that there is nobody.
+fn is_nobody(hook: Hook, name: &str, text: &str) -> bool
+    ensures { IsTrue result ↔ ((text.now ≡ codes "none") × (shows_nobody hook name.now ≡ true)) }
+{
+    text == "none" && shows_nobody(hook, name)
+}
+
+/// Whether the field of that name may show that there is nobody.
+fn shows_nobody(hook: Hook, name: &str) -> bool
+    ensures { result ≡ shows_nobody hook name.now }
+{
+    match hook {
+        Hook::Place => name == "waker" || name == "previous" || name == "own",
+        Hook::Preempt => name == "next",
+        Hook::Pull => name == "own",
+    }
 }
 
 /// The fault of a part whose value is of no use, with what is wrong with that.

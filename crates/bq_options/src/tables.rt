@@ -37,6 +37,8 @@ pub struct OptionText {
 pub struct CommandText<'a> {
     pub name: &'static str,
     pub about: &'static str,
+    /// Its usage line, where clap does not know of all words that it takes; else clap's own.
+    pub usage: Option<&'static str>,
     /// Its options, table after table.
     pub options: &'a [&'a [OptionText]],
 }
@@ -97,7 +99,10 @@ fn command<'a>(alloc: Global, text: &CommandText<'_>) -> Result<Command<'a>, All
     ensures local { IfOk result (λ c. (fields_of c).has_globals ≡ false) }
 {
     let command = Command::new(alloc, text.name).about(text.about);
-    with_tables(alloc, command, text.options)
+    match text.usage {
+        Some(line) => with_tables(alloc, command.override_usage(line), text.options),
+        None => with_tables(alloc, command, text.options),
+    }
 }
 
 /// A program with these commands more.

@@ -27,25 +27,3 @@ pub const MAPS: &str = "The value size and the entries of each map, as in 8:2,16
 
 /// `--format` of a command that writes a program.
 pub const FORMAT: &str = "The version of the image: 1, which it is without this, or 2";
-
-/// A text with the words of hooks in it.
-#[macro_export]
-macro_rules! with_hooks {
-    ($before:literal) => {
-        with_hooks!($before, "")
-    };
-    ($before:literal, $behind:literal) => {
-        concat!($before, "place, preempt or pull", $behind)
-    };
-}
-
-/// A text with the words of versions in it.
-#[macro_export]
-macro_rules! with_versions {
-    ($before:literal) => {
-        with_versions!($before, "")
-    };
-    ($before:literal, $behind:literal) => {
-        concat!($before, "1 or 2", $behind)
-    };
-}

@@ -1,20 +1,23 @@
 -- The limits that the words of a command set.
-use Rattle.std.specs.Prelude.{◌≡◌, ℕ, ◌^◌, ℤ, List, [], ◌∷◌, FitsSigned}
-use Rattle.std.specs.Int.{w32}
-use Rattle.std.specs.List.{AllZip}
-use Rattle.std.specs.Str.Parse.{IsNumeral, signed_digits_value, without_leading_sign}
+use Rattle.std.specs.Prelude.{◌≡◌, ℕ, ◌+◌, ◌^◌, ℤ, pos, neg_ℤ, List, [], ◌∷◌, drop, Option, Some, option_map, nat_eq, codes, if◌then◌else◌}
+use Rattle.std.specs.List.{AllZip, starts_with}
 use Rattle.std.specs.declared.alloc.Global.{Global}
 use Rattle.std.specs.declared.vec.Vec.{Vec}
+use Rattle.bq_words.specs.Numbers.{below, number_of}
 use Rattle.bq_explain.specs.declared.limits.Limits.{Limits}
 use Rattle.bq_console.specs.Words.{SaysWord, parts}
 use Rattle.bq_policy_commands.specs.declared.words.CheckWords.{CheckWords}
 use Rattle.bq_policy_commands.specs.Saying.{IsNumberBelow, option_bytes}
 
--- a number of 32 bits in decimal, where a sign may stand first
-pub record IsHelper (word : List ℕ) (helper : ℤ) : Type 0 where
-  pub numeral : IsNumeral 10 (without_leading_sign word)
-  pub value : helper ≡ signed_digits_value 10 word
-  pub fits : FitsSigned w32 helper
+-- a number of 32 bits in decimal, behind a `-` where it is below 0
+abbrev pub helper_of : List ℕ → Option ℤ
+helper_of word =
+    if starts_with nat_eq word (codes "-") then option_map (λ n. neg_ℤ (pos n)) (below (2 ^ 31 + 1) (number_of 10 (drop 1 word)))
+    else option_map (λ n. pos n) (below (2 ^ 31) (number_of 10 word))
+
+-- the word writes that helper
+abbrev pub IsHelper : List ℕ → ℤ → Type 0
+IsHelper word helper = helper_of word ≡ Some helper
 
 -- the parts between commas; an empty text has none
 abbrev pub helper_words : List ℕ → List (List ℕ)

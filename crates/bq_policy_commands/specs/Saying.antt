@@ -3,7 +3,8 @@ use Rattle.std.specs.Prelude.{◌≡◌, ℕ, ◌<◌, List, Option, Some, optio
 use Rattle.std.specs.declared.alloc.Global.{Global}
 use Rattle.bq_program.specs.declared.head.Head.{Head}
 use Rattle.bq_program.specs.Heads.{Names}
-use Rattle.bq_console.specs.Words.{IsNumber, SaysWord}
+use Rattle.bq_console.specs.Words.{SaysWord}
+use Rattle.bq_words.specs.Numbers.{number_of}
 use Rattle.bq_bpf.specs.Hooks.{hook_of, version_of}
 use Rattle.bq_policy_commands.specs.declared.answered.Answered.{Answered}
 use Rattle.bq_policy_commands.specs.declared.answered.Answered.TheVariants.{Words}
@@ -15,7 +16,7 @@ option_bytes word = option_map (λ w. string_bytes w) word
 
 -- the word writes the number in decimal, and it is below that limit
 abbrev pub IsNumberBelow : ℕ → List ℕ → ℕ → Type 0
-IsNumberBelow limit word number = IsNumber word number × (number < limit)
+IsNumberBelow limit word number = (number_of 10 word ≡ Some number) × (number < limit)
 
 -- each word says its part of the head
 pub record SaysHead (w : PolicyWords) (h : Head) : Type 0 where

@@ -51,7 +51,7 @@ fn refusal_beside(
 
 /// What the words say of the image, if they ask for one. Maps that are none are refused by `asm` itself.
 #[tactic(auto, using(crate::proofs::DifferenceLemmas::no_image, crate::proofs::DifferenceLemmas::no_maps))]
-fn head_of(alloc: Global, options: &Options) -> Result<Option<Head>, AllocError>
+pub(crate) fn head_of(alloc: Global, options: &Options) -> Result<Option<Head>, AllocError>
     ensures { IfOk result (λ said. MatchOption said ((h : Said) → ¬ SaysImage options.now h) (SaysImage options.now)) }
 {
     if options.hook.is_none() {

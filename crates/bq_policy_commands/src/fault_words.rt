@@ -4,24 +4,21 @@ ghost use Rattle.std.specs.Fmt.{decimal};
 ghost use Rattle.bq_asm.specs.Causes.{cause_number};
 ghost use Rattle.bq_load.specs.Naming.{fault_text};
 ghost use Rattle.bq_policy_commands.specs.Refusing.{fault_line};
-ghost use Rattle.bq_program.specs.Marks.{key_word};
 ghost use Rattle.bq_program.specs.Refusals.{cause_and_place, refusal};
 ghost use Rattle.bq_program.specs.declared.fault.PolicyFault.TheVariants.{OutOfMemory};
 
 use crate::image_words::{image_words, spelling_words};
 use crate::maps_words::maps_words;
 use bq_asm::Cause;
+use bq_bpf::hook::{NO_HOOK, NO_VERSION};
 use bq_explain::complaint;
 use bq_insn::fault::Cause as Spelling;
 use bq_load::LoadFault;
-use bq_program::{HeadCause, Key, PolicyFault};
+use bq_program::{HeadCause, Key, PolicyFault, SHAPES_FORM};
 use std::alloc::{AllocError, Global};
 
-/// Which hooks there are, where a word names none.
-pub(crate) const HOOKS: &str = "hooks are place, preempt and pull";
-
-/// Which versions there are, where a word names none.
-pub(crate) const FORMATS: &str = "formats are 1 and 2";
+/// What is said of a text that tells no hook.
+pub const HOOK_UNSAID: &str = "the hook is not said: write a line ;@ hook place in the text's head";
 
 /// The line that refuses the file. Want of memory is handed on as such.
 pub fn fault_line(alloc: Global, fault: PolicyFault) -> Result<String, AllocError>
@@ -37,7 +34,7 @@ pub fn fault_line(alloc: Global, fault: PolicyFault) -> Result<String, AllocErro
         PolicyFault::Program { slot, cause } => {
             loading_line(alloc, LoadFault::Decode { slot, cause })
         }
-        PolicyFault::Disagrees(key) => refused_line(alloc, key_word(key)),
+        PolicyFault::Disagrees(key) => refused_line(alloc, key.word()),
         PolicyFault::NoHook => String::from_str(alloc, "refused hook\n"),
         PolicyFault::OutOfMemory => Err(AllocError),
     }
@@ -84,10 +81,7 @@ pub fn fault_reason(alloc: Global, bytes: &[u8], fault: PolicyFault) -> Result<S
         PolicyFault::Image(fault) => String::from_str(alloc, image_words(fault)),
         PolicyFault::Program { slot, cause } => spelling_reason(alloc, slot, cause),
         PolicyFault::Disagrees(key) => difference_reason(alloc, key),
-        PolicyFault::NoHook => String::from_str(
-            alloc,
-            "the hook is not said: write a line ;@ hook place in the text's head, or give --hook place",
-        ),
+        PolicyFault::NoHook => format!(in alloc; "{HOOK_UNSAID}, or give --hook place"),
         PolicyFault::OutOfMemory => Err(AllocError),
     }
 }
@@ -100,7 +94,7 @@ fn spelling_reason(alloc: Global, slot: usize, cause: Spelling) -> Result<String
 
 /// What is wrong with words that say another thing than the file.
 fn difference_reason(alloc: Global, key: Key) -> Result<String, AllocError> {
-    let key = key_word(key);
+    let key = key.word();
     format!(in alloc; "--{key} says another {key} than the file")
 }
 
@@ -127,13 +121,22 @@ fn head_reason(
     line: usize,
     cause: HeadCause,
 ) -> Result<String, AllocError> {
-    if cause == HeadCause::Value(Key::Maps) {
-        if let Some(maps) = last_word(bytes, line) {
-            return maps_reason(alloc, line, maps);
+    if let HeadCause::Value(key) = cause {
+        if let Some(value) = last_word(bytes, line) {
+            return value_reason(alloc, line, key, value);
         }
     }
     let why = head_words(cause);
     format!(in alloc; "line {line}: {why}")
+}
+
+/// What is wrong with what a line says of a key.
+fn value_reason(alloc: Global, line: usize, key: Key, value: &str) -> Result<String, AllocError> {
+    match key {
+        Key::Hook => format!(in alloc; "line {line}: {value} {NO_HOOK}"),
+        Key::Maps => maps_reason(alloc, line, value),
+        Key::Format => format!(in alloc; "line {line}: {value} {NO_VERSION}"),
+    }
 }
 
 /// What is wrong with the maps that a line names.
@@ -153,26 +156,14 @@ fn line_at(bytes: &[u8], number: usize) -> Option<&str> {
     text.lines().nth(number.checked_sub(1)?)
 }
 
-fn key_word(key: Key) -> &'static str
-    ensures { result.now ≡ key_word key }
-{
-    match key {
-        Key::Hook => "hook",
-        Key::Maps => "maps",
-        Key::Format => "format",
-    }
-}
-
 fn head_words(cause: HeadCause) -> &'static str {
     match cause {
         HeadCause::Unknown => {
             "a line that begins with ;@ says one thing: ;@ hook place, ;@ maps 8:1,16:4 or ;@ format 2"
         }
-        HeadCause::Value(Key::Hook) => HOOKS,
-        HeadCause::Value(Key::Maps) => {
-            "a map is its value size, 8 to 256 in eights, a colon, and its entries, 1 to 256, as 8:2; at most 8 of them, with commas between and no blanks"
-        }
-        HeadCause::Value(Key::Format) => FORMATS,
+        HeadCause::Value(Key::Hook) => NO_HOOK,
+        HeadCause::Value(Key::Maps) => SHAPES_FORM,
+        HeadCause::Value(Key::Format) => NO_VERSION,
         HeadCause::Twice(_) => "this was said in a line before",
     }
 }

@@ -6,9 +6,9 @@ ghost use Rattle.bq_program.specs.Heads.{Names};
 ghost use Rattle.bq_bpf.specs.Hooks.{hook_of, version_of};
 
 use crate::asm_options::maps_option_words;
-use crate::fault_words::{FORMATS, HOOKS};
 use crate::words::PolicyWords;
 use bq_bpf::MapShape;
+use bq_bpf::hook::{NO_HOOK, NO_VERSION};
 use bq_console::{WordsFault, words_fault};
 use bq_load::{Hook, Version};
 use bq_program::{Head, shapes_of};
@@ -35,9 +35,7 @@ fn hook_in(alloc: Global, word: &Option<String>) -> Result<Option<Hook>, WordsFa
     };
     match Hook::of_word(word.as_bytes()) {
         Some(hook) => Ok(Some(hook)),
-        None => Err(words_fault(format!(in alloc;
-            "--hook {word}: there is no such hook; {HOOKS}"
-        ))),
+        None => Err(words_fault(format!(in alloc; "--hook {word} {NO_HOOK}"))),
     }
 }
 
@@ -51,9 +49,7 @@ fn format_in(alloc: Global, word: &Option<String>) -> Result<Option<Version>, Wo
     };
     match Version::of_word(word.as_bytes()) {
         Some(version) => Ok(Some(version)),
-        None => Err(words_fault(format!(in alloc;
-            "--format {word}: there is no such format; {FORMATS}"
-        ))),
+        None => Err(words_fault(format!(in alloc; "--format {word} {NO_VERSION}"))),
     }
 }
 

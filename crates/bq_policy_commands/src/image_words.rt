@@ -1,4 +1,5 @@
 //! What an image lacks, in words.
+use bq_bpf::with_map_limits;
 use bq_insn::fault::Cause as Spelling;
 use bq_load::LoadFault;
 
@@ -8,9 +9,12 @@ pub(crate) fn image_words(fault: LoadFault) -> &'static str {
         LoadFault::Magic => "the bytes do not begin with the letters BQPI: this is no image",
         LoadFault::Version => "the version, byte 4, is neither 1 nor 2",
         LoadFault::Hook => "the hook, byte 5, is not 0 (place), 1 (preempt) or 2 (pull)",
-        LoadFault::Shape => {
-            "there are more than 8 maps, or one whose value size is not 8 to 256 in eights, or whose entries are not 1 to 256"
-        }
+        LoadFault::Shape => with_map_limits!(
+            "the size of a value is not ",
+            ", or the number of entries is not ",
+            ", or there are more than ",
+            " maps"
+        ),
         LoadFault::Cut => "the bytes end before the image does",
         LoadFault::Rest => "bytes stand after the program",
         LoadFault::Decode { .. } => "the program's bytes are no instructions",

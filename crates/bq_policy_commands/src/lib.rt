@@ -1,5 +1,5 @@
 //! What `check` and `dis` answer to a policy's file, the words of these and of `run`, why a file is none, and what is wrong with the
-//! options of `asm`, by themselves and beside the marks of its text.
+//! options of `asm`, by themselves and beside the marks of its text, and what these leave of the marks.
 //!
 //! A command's words come as text, its file as bytes, and its answer goes back as text. So what a command does is a function of
 //! both, with a contract: the verdict, the listing. `run` is in bq_policy_runs.
@@ -7,6 +7,7 @@
 
 mod answered;
 mod asm_head;
+mod asm_notes;
 mod asm_options;
 mod checking;
 mod fault_words;
@@ -17,14 +18,17 @@ mod limits;
 mod listing;
 mod maps_words;
 mod named;
+mod numbers;
 mod words;
 
 pub use answered::Answered;
 pub use asm_head::{AsmRefusal, asm_refusal};
-pub use asm_options::options_complaint;
+pub use asm_notes::asm_note;
+pub use asm_options::{maps_option_words, options_complaint};
 pub use checking::check;
-pub use fault_words::{fault_line, fault_reason};
+pub use fault_words::{HOOK_UNSAID, fault_line, fault_reason};
 pub use given::said_by;
 pub use limits::limits_of;
 pub use listing::{list, refused_file};
+pub use numbers::small_number;
 pub use words::{CheckWords, ListWords, PolicyWords, RunWords, TellingWords};

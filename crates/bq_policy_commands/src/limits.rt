@@ -4,6 +4,7 @@ ghost use Rattle.bq_console.specs.Words.{SaysNone, SaysWord, parts};
 ghost use Rattle.bq_policy_commands.specs.Saying.{IsNumberBelow, option_bytes};
 ghost use Rattle.bq_policy_commands.specs.Limiting.{AreHelpers, HasLimits, NamesHelpers, NamesNoHelpers};
 
+use crate::numbers::{helper, small_number};
 use crate::words::CheckWords;
 use bq_console::{WordsFault, words_fault};
 use bq_explain::Limits;
@@ -27,10 +28,10 @@ fn steps_in(alloc: Global, word: &Option<String>) -> Result<Option<u32>, WordsFa
     let Some(word) = word else {
         return Ok(None);
     };
-    match word.as_str().parse::<u32>() {
-        Ok(steps) => Ok(Some(steps)),
-        Err(_) => Err(words_fault(format!(in alloc;
-            "--max-steps {word}: a limit is a number of instructions, as 100"
+    match small_number(word.as_str()) {
+        Some(steps) => Ok(Some(steps)),
+        None => Err(words_fault(format!(in alloc;
+            "--max-steps {word}: a limit is a number of instructions below 4294967296, as 100"
         ))),
     }
 }
@@ -72,9 +73,9 @@ fn push_numbers(numbers: &mut Vec<i32>, text: &str) -> Result<bool, AllocError>
     ensures { IfOk result (λ all. MatchBool all (AreHelpers (parts text.now) numbers.new.items) ((helpers : List ℤ) → ¬ AreHelpers (parts text.now) helpers)) }
 {
     for part in text.split(',') {
-        match part.parse::<i32>() {
-            Ok(number) => numbers.push(number)?,
-            Err(_) => return Ok(false),
+        match helper(part.as_bytes()) {
+            Some(helper) => numbers.push(helper)?,
+            None => return Ok(false),
         }
     }
     Ok(true)

@@ -1,4 +1,5 @@
 //! What is wrong with a text of maps, in words.
+use bq_bpf::shape::{ENTRIES_WORDS, MAPS, SIZE_WORDS};
 use bq_program::shapes_of;
 use std::alloc::{AllocError, Global};
 
@@ -19,7 +20,7 @@ pub(crate) fn maps_words(alloc: Global, text: &str) -> Result<String, AllocError
 
 /// What is wrong with so many maps, each of which is one.
 fn many_words(alloc: Global, number: usize) -> Result<String, AllocError> {
-    format!(in alloc; "{number} maps; a program has 8 at most")
+    format!(in alloc; "{number} maps; a program has {MAPS} at most")
 }
 
 /// Whether a text names maps.
@@ -61,17 +62,23 @@ fn pair_words(alloc: Global, size: &str, entries: &str) -> Result<String, AllocE
 
 /// What is wrong with a text that is the size of no value.
 fn size_words(alloc: Global, size: &str) -> Result<String, AllocError> {
-    let got = got(size);
-    format!(in alloc; "the size of a value is 8 to 256, a multiple of 8 (got {got})")
+    let got = got(alloc, size)?;
+    format!(in alloc; "the size of a value is {SIZE_WORDS} (got {got})")
 }
 
 /// What is wrong with a text that is no number of entries.
 fn entries_words(alloc: Global, entries: &str) -> Result<String, AllocError> {
-    let got = got(entries);
-    format!(in alloc; "the number of entries is 1 to 256 (got {got})")
+    let got = got(alloc, entries)?;
+    format!(in alloc; "the number of entries is {ENTRIES_WORDS} (got {got})")
 }
 
-/// A number as it was given.
-fn got(word: &str) -> &str {
-    if word.is_empty() { "nothing" } else { word }
+/// A word as it was given, and whether it is no number.
+fn got(alloc: Global, word: &str) -> Result<String, AllocError> {
+    if word.is_empty() {
+        return String::from_str(alloc, "nothing");
+    }
+    if word.as_bytes().iter().all(|byte| byte.is_ascii_digit()) {
+        return String::from_str(alloc, word);
+    }
+    format!(in alloc; "{word}, which is no number")
 }

@@ -4,7 +4,7 @@ use bq_console::status::BAD_INPUT;
 use bq_console::{ended, say_out_of_memory, waiting_input, whole_input, written};
 use bq_explain::complaint;
 use bq_filters::{Filtering, run_filter};
-use bq_policy_commands::{AsmRefusal, asm_refusal, options_complaint};
+use bq_policy_commands::{AsmRefusal, asm_note, asm_refusal, options_complaint};
 use bq_program::Options;
 use bq_streams::{Counted, Kept};
 use std::io::Read;
@@ -46,7 +46,7 @@ fn assemble_input(
         Err(code) => return code,
     };
     match asm_refusal(rt.alloc(), options, text.as_slice()) {
-        Ok(None) => assemble(rt, filtering, text.as_slice()),
+        Ok(None) => assemble(rt, filtering, options, text.as_slice()),
         Ok(Some(refusal)) => refuse(rt, &refusal),
         Err(_) => say_out_of_memory(rt),
     }
@@ -59,11 +59,16 @@ fn refuse(rt: &HostRuntime, refusal: &AsmRefusal) -> ExitCode {
     written(rt, refusal.line.as_str(), ExitCode::from(BAD_INPUT))
 }
 
-/// Assembles a text, and says beside the answer what is wrong with it.
-fn assemble(rt: &HostRuntime, filtering: &Filtering, text: &[u8]) -> ExitCode {
+/// Assembles a text, and says beside the answer what is wrong with it, and what the answer leaves of its marks.
+fn assemble(rt: &HostRuntime, filtering: &Filtering, options: &Options, text: &[u8]) -> ExitCode {
     let code = filter_from(rt, filtering, text);
     if let Ok(Some(why)) = complaint(rt.alloc(), text) {
         let _ = eprint!(rt; "bqsim: {why}");
+    }
+    if let Ok(note) = asm_note(rt.alloc(), options, text) {
+        for line in note.lines() {
+            let _ = eprintln!(rt; "bqsim: {line}");
+        }
     }
     code
 }

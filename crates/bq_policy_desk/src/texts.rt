@@ -1,6 +1,7 @@
 //! What help pages tell of the commands on policies.
 
-use bq_options::{CommandText, Given, OptionText, texts, with_hooks, with_versions};
+use bq_bpf::{with_hooks, with_versions};
+use bq_options::{CommandText, Given, OptionText, texts};
 
 /// The options that name a policy and say what its file does not. Each command has them first.
 const POLICY_OPTIONS: [OptionText; 4] = [
@@ -34,6 +35,7 @@ pub(crate) static COMMANDS: [CommandText<'static>; 3] = [
     CommandText {
         name: "check",
         about: texts::CHECK,
+        usage: None,
         options: &[
             &POLICY_OPTIONS,
             &[
@@ -63,6 +65,7 @@ pub(crate) static COMMANDS: [CommandText<'static>; 3] = [
     CommandText {
         name: "run",
         about: texts::RUN,
+        usage: None,
         options: &[
             &POLICY_OPTIONS,
             &[
@@ -74,7 +77,7 @@ pub(crate) static COMMANDS: [CommandText<'static>; 3] = [
                 OptionText {
                     name: "set",
                     given: Given::Often("FIELDS"),
-                    help: "Fields of the context by their names, as in task=3,mask=0x6,load.1=2; others keep their bytes",
+                    help: "Fields of the context by their names, as in task=3,mask=0x6,previous=none; others keep their bytes",
                 },
                 OptionText {
                     name: "map",
@@ -84,7 +87,7 @@ pub(crate) static COMMANDS: [CommandText<'static>; 3] = [
                 OptionText {
                     name: "time",
                     given: Given::Once("T"),
-                    help: "The time in nanoseconds, which helper 5 answers",
+                    help: "The time, which helper 5 answers: in nanoseconds, or with a unit, as in 5ms",
                 },
                 OptionText {
                     name: "processor",
@@ -112,6 +115,7 @@ pub(crate) static COMMANDS: [CommandText<'static>; 3] = [
     CommandText {
         name: "dis",
         about: texts::DIS,
+        usage: None,
         options: &[
             &POLICY_OPTIONS,
             &[OptionText {

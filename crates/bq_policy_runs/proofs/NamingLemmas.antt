@@ -1,5 +1,5 @@
 -- Words that name no inputs, and inputs that fit the program.
-use Rattle.std.proofs.Common.{◌≡◌, ℕ, ◌≤◌, ◌^◌, List, length, replicate, Option, Some, None, sym, subst, ap, ◌∙◌, arith, String, string_bytes}
+use Rattle.std.proofs.Common.{◌≡◌, ℕ, ◌≤◌, ◌^◌, List, length, replicate, Option, Some, None, inl, inr, sym, subst, ap, ◌∙◌, arith, String, string_bytes}
 use Rattle.std.specs.declared.alloc.Global.{Global}
 use Rattle.std.proofs.lemmas.List.{length-replicate}
 use Rattle.bq_bpf.specs.Hooks.{context_length_of}
@@ -11,14 +11,17 @@ use Rattle.bq_one_run.specs.Runs.{Fits}
 use Rattle.bq_one_run.proofs.InTurnLemmas.{IsSeen, turns_seen}
 use Rattle.bq_one_run.proofs.RefusalLemmas.{entry_seen, fields_seen, texts_seen}
 use Rattle.bq_policy_commands.specs.declared.words.RunWords.{RunWords}
-use Rattle.bq_policy_runs.specs.Running.{HasInputs, IsNumberOrZero, SetsParts}
+use Rattle.bq_words.specs.Numbers.{number_of}
+use Rattle.bq_workload.specs.Durations.{duration_of}
+use Rattle.bq_policy_runs.specs.Running.{HasInputs, IsNumberOrZero, SetsParts, WritesTime}
 use Rattle.bq_policy_commands.specs.Saying.{option_bytes}
 
 -- a number that is too large for a processor names none
 pub no_processor : (word : Option (List ℕ)) (n : ℕ) → IsNumberOrZero (2 ^ 64) word n → 2 ^ 32 ≤ n → (k : ℕ) → ¬ IsNumberOrZero (2 ^ 32) word k
 no_processor None n zero past k other = omega (arith, zero, past)
 no_processor (Some word) n is past k other =
-    let same : k ≡ n = other.0.value ∙ sym is.0.value in
+    let both : Some k ≡ Some n = sym other.0 ∙ is.0 in
+    let same : k ≡ n = cc in
     let below = other.1 in
     omega (arith, same, below, past)
 
@@ -26,6 +29,11 @@ no_processor (Some word) n is past k other =
 pub wider : (word : Option (List ℕ)) (k : ℕ) → IsNumberOrZero (2 ^ 32) word k → IsNumberOrZero (2 ^ 64) word k
 wider None k zero = zero
 wider (Some word) k is = let below = is.1 in (is.0, omega (arith, below))
+
+-- what is no number of 64 bits, and no number with a unit, writes no time
+pub no_time : (word : List ℕ) → duration_of word ≡ None → number_of 10 word ≡ None → (time : ℕ) → ¬ WritesTime word time
+no_time word none other time (inl is) = let both : None ≡ Some time = sym other ∙ is.0 in absurd (cc)
+no_time word none other time (inr is) = let both : None ≡ Some time = sym none ∙ is in absurd (cc)
 
 -- the context that words begin with is one
 begin_once : (word : Option (List ℕ)) (len : ℕ) (a b : List ℕ) → BeginsWith word len a → BeginsWith word len b → a ≡ b

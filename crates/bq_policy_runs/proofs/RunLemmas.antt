@@ -1,5 +1,5 @@
 -- A run after others, on what they left.
-use Rattle.std.proofs.Common.{◌≡◌, ℕ, Bool, List, length, Option, Some, IfSome, sym, subst, refl, String, string_bytes}
+use Rattle.std.proofs.Common.{◌≡◌, ℕ, Bool, false, List, [], length, Option, Some, IfSome, sym, subst, refl, String, string_bytes}
 use Rattle.bq_maps.specs.Arrays.{Arrays}
 use Rattle.bq_one_run.specs.Changes.{changes_text, with_all}
 use Rattle.std.specs.declared.alloc.Global.{Global}
@@ -24,8 +24,8 @@ pub changes_same : (first now : Arrays) (bytes : List (List ℕ)) → now.shapes
 changes_same first now bytes shapes same = λ i. changes_text (record { shapes = shapes i; bytes = same i }) (record { shapes = shapes i; bytes = now.bytes })
 
 -- the runs before leave context, time and processor as they are, so the last has those of the first
-pub has_run : (traced : Bool) (others : ℕ) (program : Accepted) (inputs between : Inputs) (moments : List Moment) (steps answer : ℕ) (calls : List Asked) (after : Kept) (text : String Global) (executed : List ℕ) → AreRuns program inputs.context.items inputs.env.now inputs.env.processor others (kept_in inputs) (kept_in between) → between.context ≡ inputs.context → between.env ≡ inputs.env → IsRun program between.context.items between.env.now between.env.processor (kept_in between) steps calls answer after → AreMoments (setting_of program between.context.items between.env.now between.env.processor) (start between.maps.bytes) calls 0 moments → length moments ≡ steps → TellsSteps traced program moments executed → TellsRun program between.context.items answer steps executed (changed_text inputs.maps after.maps calls) (string_bytes text) → HasRun traced others program inputs (Done text)
-has_run traced others program inputs between moments steps answer calls after text executed runs context env run are each steps_told told = record {
+pub has_run : (traced timed : Bool) (others : ℕ) (program : Accepted) (inputs between : Inputs) (moments : List Moment) (steps answer : ℕ) (calls : List Asked) (after : Kept) (text : String Global) (executed timing : List ℕ) → AreRuns program inputs.context.items inputs.env.now inputs.env.processor others (kept_in inputs) (kept_in between) → between.context ≡ inputs.context → between.env ≡ inputs.env → IsRun program between.context.items between.env.now between.env.processor (kept_in between) steps calls answer after → AreMoments (setting_of program between.context.items between.env.now between.env.processor) (start between.maps.bytes) calls 0 moments → length moments ≡ steps → TellsSteps traced program moments executed → (timed ≡ false → timing ≡ []) → TellsRun program between.context.items answer steps executed (changed_text inputs.maps after.maps calls) timing (string_bytes text) → HasRun traced timed others program inputs (Done text)
+has_run traced timed others program inputs between moments steps answer calls after text executed timing runs context env run are each steps_told untimed told = record {
   steps = steps;
   calls = calls;
   answer = answer;
@@ -40,5 +40,7 @@ has_run traced others program inputs between moments steps answer calls after te
   is = refl;
   executed = executed;
   steps_told = steps_told;
+  timing = timing;
+  untimed = untimed;
   told = rw (sym context) told;
 }

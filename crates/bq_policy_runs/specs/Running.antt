@@ -1,5 +1,5 @@
 -- What `run` answers to a policy's file.
-use Rattle.std.specs.Prelude.{◌≡◌, ℕ, ◌+◌, ◌^◌, Bool, false, List, ◌++◌, length, replicate, ◌⊎◌, Option, Some, None, String, codes, string_bytes}
+use Rattle.std.specs.Prelude.{◌≡◌, ℕ, ◌+◌, ◌^◌, Bool, false, List, [], ◌++◌, is_some, length, replicate, ◌⊎◌, Option, Some, None, String, codes, string_bytes}
 use Rattle.std.specs.declared.alloc.Global.{Global}
 use Rattle.std.specs.Fmt.{decimal, digits}
 use Rattle.bq_insn.specs.Slots.{spread}
@@ -31,6 +31,7 @@ use Rattle.bq_policy_commands.specs.declared.words.RunWords.{RunWords}
 use Rattle.bq_policy_runs.specs.Judging.{TellsWord}
 use Rattle.bq_policy_commands.specs.Refusing.{IsRefusedFile}
 use Rattle.bq_policy_runs.specs.Tracing.{TellsSteps}
+use Rattle.bq_workload.specs.Durations.{duration_of}
 use Rattle.bq_policy_commands.specs.Saying.{IsNumberBelow, IsWordsFault, SaysHead, option_bytes}
 
 -- without a word the number is 0, and it is below that limit
@@ -38,9 +39,18 @@ abbrev pub IsNumberOrZero : ℕ → Option (List ℕ) → ℕ → Type 0
 IsNumberOrZero limit None n = n ≡ 0
 IsNumberOrZero limit (Some word) n = IsNumberBelow limit word n
 
+-- the word writes so many nanoseconds: a number, or one with a unit, and it is below 2^64
+abbrev pub WritesTime : List ℕ → ℕ → Type 0
+WritesTime word n = IsNumberBelow (2 ^ 64) word n ⊎ (duration_of word ≡ Some n)
+
+-- without a word the time is 0
+abbrev pub IsTime : Option (List ℕ) → ℕ → Type 0
+IsTime None n = n ≡ 0
+IsTime (Some word) n = WritesTime word n
+
 -- the time, of 64 bits, and the processor, of 32, are those that the words name
 pub record HasClock (w : RunWords) (env : Env) : Type 0 where
-  pub now : IsNumberOrZero (2 ^ 64) (option_bytes w.time) env.now
+  pub now : IsTime (option_bytes w.time) env.now
   pub processor : IsNumberOrZero (2 ^ 32) (option_bytes w.processor) env.processor
 
 -- the context is all 0, or the bytes that a word names, with each field that words name in its turn
@@ -79,11 +89,10 @@ abbrev pub changed_text : Arrays → List (List ℕ) → List Asked → List ℕ
 changed_text maps now calls = changes_text maps (with_all maps now) ++ calls_text calls
 
 -- the first line tells the answer of a run on that context, with the rule's word on it; then the steps are told, and what changed; how
--- long runs take may stand last
-pub record TellsRun (program : Accepted) (context : List ℕ) (answer steps : ℕ) (executed changed text : List ℕ) : Type 0 where
+-- long runs take stands last
+pub record TellsRun (program : Accepted) (context : List ℕ) (answer steps : ℕ) (executed changed timing text : List ℕ) : Type 0 where
   pub judged : List ℕ
   pub word : TellsWord (word_of program.hook context answer) judged
-  pub timing : List ℕ
   pub text_is : text ≡ answer_line answer judged steps program.budget ++ (executed ++ (changed ++ timing))
 
 -- of so many runs as the word says, all but the last
@@ -93,8 +102,8 @@ IsBefore (Some word) n = IsNumberBelow (2 ^ 32) word (n + 1)
 
 -- so many runs of the program on those inputs, one after another, lead to maps and counters from which there is a run more, whose steps, with its
 -- own calls of counters, begin from these moments of the machine: its answer is told, its steps where that is asked for, each entry of
--- the maps that all these runs changed, and its calls
-pub record HasRun (traced : Bool) (others : ℕ) (program : Accepted) (inputs : Inputs) (told_as : Answered) : Type 0 where
+-- the maps that all these runs changed, and its calls; and nothing of how long runs take where no number of them is asked for
+pub record HasRun (traced timed : Bool) (others : ℕ) (program : Accepted) (inputs : Inputs) (told_as : Answered) : Type 0 where
   pub steps : ℕ
   pub calls : List Asked
   pub answer : ℕ
@@ -109,12 +118,14 @@ pub record HasRun (traced : Bool) (others : ℕ) (program : Accepted) (inputs : 
   pub is : told_as ≡ Done text
   pub executed : List ℕ
   pub steps_told : TellsSteps traced program moments executed
-  pub told : TellsRun program inputs.context.items answer steps executed (changed_text inputs.maps after.maps calls) (string_bytes text)
+  pub timing : List ℕ
+  pub untimed : timed ≡ false → timing ≡ []
+  pub told : TellsRun program inputs.context.items answer steps executed (changed_text inputs.maps after.maps calls) timing (string_bytes text)
 
 -- on inputs that the words name; where they name none they are refused
 abbrev pub RunsInputs : RunWords → Accepted → ℕ → Answered → Type 0
 RunsInputs w program others told_as =
-    IsWordsFault (HasInputs w program) told_as ⊎ ((inputs : Inputs) × HasInputs w program inputs × HasRun w.telling.is_traced others program inputs told_as)
+    IsWordsFault (HasInputs w program) told_as ⊎ ((inputs : Inputs) × HasInputs w program inputs × HasRun w.telling.is_traced (is_some w.telling.repeat) others program inputs told_as)
 
 -- after as many others as the words name; where they name no number of runs they are refused
 abbrev pub RunsProgram : RunWords → Accepted → Answered → Type 0

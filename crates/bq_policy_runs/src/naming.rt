@@ -1,8 +1,8 @@
 //! The inputs that the words of `run` name.
-ghost use Rattle.std.specs.Prelude.{◌≡◌, ◌^◌, IfErr, IfOk, OnOk, replicate};
+ghost use Rattle.std.specs.Prelude.{◌≡◌, ◌^◌, ℕ, IfErr, IfNone, IfOk, IfSome, OnOk, replicate};
 ghost use Rattle.bq_bpf.specs.Hooks.{context_length_of};
 ghost use Rattle.bq_one_run.specs.Naming.{BeginsWith, IsClean, SetsCounter, SetsEntry, SetsFields, TextsInTurn};
-ghost use Rattle.bq_policy_runs.specs.Running.{HasClock, HasInputs, IsNumberOrZero, SetsParts};
+ghost use Rattle.bq_policy_runs.specs.Running.{HasClock, HasInputs, IsNumberOrZero, IsTime, SetsParts, WritesTime};
 ghost use Rattle.bq_console.specs.Words.{SaysNone};
 ghost use Rattle.bq_policy_commands.specs.Saying.{option_bytes};
 
@@ -11,6 +11,7 @@ use bq_interp::Env;
 use bq_one_run::{Inputs, inputs_of};
 use bq_policy_commands::RunWords;
 use bq_verify::Verified;
+use bq_workload::duration;
 use std::alloc::Global;
 
 /// The inputs that the words name; all others are 0. Words are refused only where they name none.
@@ -74,8 +75,8 @@ fn env_named(alloc: Global, words: &RunWords) -> Result<Env, WordsFault>
     ensures clock { IfOk result (HasClock words.now) }
     ensures none { IfErr result (SaysNone (HasClock words.now)) }
 {
-    let now = number(alloc, "time", &words.time)?;
-    let processor = number(alloc, "processor", &words.processor)?;
+    let now = time(alloc, &words.time)?;
+    let processor = number(alloc, &words.processor)?;
     match u32::try_from(processor) {
         Ok(processor) => Ok(Env { now, processor }),
         Err(_) => Err(words_fault(String::from_str(
@@ -85,16 +86,46 @@ fn env_named(alloc: Global, words: &RunWords) -> Result<Env, WordsFault>
     }
 }
 
-/// The number that a word names; 0 without a word.
-fn number(alloc: Global, option: &str, word: &Option<String>) -> Result<u64, WordsFault>
+/// The nanoseconds that a word names, by a unit or without; 0 without a word.
+fn time(alloc: Global, word: &Option<String>) -> Result<u64, WordsFault>
+    ensures time { IfOk result (IsTime (option_bytes word.now)) }
+    ensures none { IfErr result (SaysNone (IsTime (option_bytes word.now))) }
+{
+    let Some(word) = word else {
+        return Ok(0);
+    };
+    match time_in(word.as_str()) {
+        Some(time) => Ok(time),
+        None => Err(words_fault(format!(in alloc;
+            "--time {word}: a time is a whole number of nanoseconds below 2^64, or one with ns, us, ms or s, as 1500 or 5ms"
+        ))),
+    }
+}
+
+/// The nanoseconds that a word writes: a whole number, with a unit or without.
+#[tactic(auto, using(crate::proofs::NamingLemmas::no_time))]
+fn time_in(word: &str) -> Option<u64>
+    ensures some { IfSome result (WritesTime word.now) }
+    ensures none { IfNone result ((time : ℕ) → ¬ WritesTime word.now time) }
+{
+    match duration(word.as_bytes()) {
+        Some(time) => Some(time),
+        None => bq_words::number(word.as_bytes(), 10),
+    }
+}
+
+/// The number of a processor that a word names; 0 without a word.
+fn number(alloc: Global, word: &Option<String>) -> Result<u64, WordsFault>
     ensures number { IfOk result (IsNumberOrZero (2 ^ 64) (option_bytes word.now)) }
     ensures none { IfErr result (SaysNone (IsNumberOrZero (2 ^ 64) (option_bytes word.now))) }
 {
     let Some(word) = word else {
         return Ok(0);
     };
-    match word.as_str().parse::<u64>() {
-        Ok(number) => Ok(number),
-        Err(_) => Err(words_fault(format!(in alloc; "--{option} {word} is no number"))),
+    match bq_words::number(word.as_bytes(), 10) {
+        Some(number) => Ok(number),
+        None => Err(words_fault(format!(in alloc;
+            "--processor {word} is no number below 4294967296"
+        ))),
     }
 }

@@ -5,6 +5,7 @@ ghost use Rattle.bq_console.specs.Words.{SaysNone};
 ghost use Rattle.bq_policy_commands.specs.Saying.{option_bytes};
 
 use bq_console::{WordsFault, words_fault};
+use bq_policy_commands::small_number;
 use std::alloc::Global;
 
 /// Of so many runs as a word says, all but the last; none without a word.
@@ -15,8 +16,8 @@ pub(crate) fn runs_before(alloc: Global, word: &Option<String>) -> Result<u32, W
     let Some(word) = word else {
         return Ok(0);
     };
-    match word.as_str().parse::<u32>() {
-        Ok(count) if count > 0 => Ok(count - 1),
+    match small_number(word.as_str()) {
+        Some(count) if count > 0 => Ok(count - 1),
         _ => Err(words_fault(format!(in alloc;
             "--repeat {word}: a number of runs is wanted, from 1 to 4294967295"
         ))),

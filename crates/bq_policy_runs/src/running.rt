@@ -1,5 +1,5 @@
 //! `run` of a policy's file.
-ghost use Rattle.std.specs.Prelude.{◌≡◌, ◌++◌, IfOk, length, map, string_bytes};
+ghost use Rattle.std.specs.Prelude.{◌≡◌, ◌++◌, [], IfOk, IsNone, is_some, length, map, string_bytes};
 ghost use Rattle.bq_bpf.specs.Hooks.{context_length_of};
 ghost use Rattle.bq_one_run.specs.Changes.{calls_text, changes_text, with_all};
 ghost use Rattle.bq_one_run.specs.Runs.{Fits};
@@ -134,8 +134,9 @@ fn run_on(
     series: &mut Series,
     line: &String,
 ) -> Result<Answered, AllocError>
-    requires { Fits verified.now series.old.inputs }
-    ensures { IfOk result (HasRun words.now.telling.is_traced series.old.before verified.now series.old.inputs) }
+    requires fits { Fits verified.now series.old.inputs }
+    requires untimed { IsNone words.now.telling.repeat → string_bytes line.now ≡ [] }
+    ensures { IfOk result (HasRun words.now.telling.is_traced (is_some words.now.telling.repeat) series.old.before verified.now series.old.inputs) }
 {
     let mut moments = Vec::new(alloc);
     let first = copied(alloc, &series.inputs.maps)?;
@@ -151,7 +152,12 @@ fn run_on(
     let is_traced = words.telling.is_traced;
     let executed = executed_text(alloc, is_traced, policy, verified, moments.as_slice())?;
     let changes = changed_text(alloc, first.as_slice(), inputs, &ran)?;
-    let text = told(alloc, verified, inputs, &ran, &executed, &changes, line)?;
+    let behind = Behind {
+        executed: &executed,
+        changes: &changes,
+        line,
+    };
+    let text = told(alloc, verified, inputs, &ran, &behind)?;
     Ok(Answered::Done(text))
 }
 
@@ -170,23 +176,36 @@ fn changed_text(
     Ok(changes)
 }
 
-/// What the run answered, what the rule says of that, how many instructions it took, and which; what changed; and the line that says
-/// how long runs take.
+/// What is told behind the answer of a run.
+#[derive(Clone, Copy)]
+struct Behind<'a> {
+    /// Which instructions it took, where that is asked for.
+    executed: &'a String,
+    /// What it changed.
+    changes: &'a String,
+    /// How long runs take, where that is asked for.
+    line: &'a String,
+}
+
+/// What the run answered, what the rule says of that, and how many instructions it took; and what is told behind that.
 fn told(
     alloc: Global,
     verified: &Verified,
     inputs: &Inputs,
     ran: &OneRun,
-    executed: &String,
-    changes: &String,
-    line: &String,
+    behind: &Behind,
 ) -> Result<String, AllocError>
     requires { length inputs.now.context.items ≡ context_length_of verified.now.hook verified.now.version }
-    ensures { IfOk result (λ text. TellsRun verified.now inputs.now.context.items ran.now.r0 ran.now.steps (string_bytes executed.now) (string_bytes changes.now) (string_bytes text)) }
+    ensures { IfOk result (λ text. TellsRun verified.now inputs.now.context.items ran.now.r0 ran.now.steps (string_bytes behind.now.executed.now) (string_bytes behind.now.changes.now) (string_bytes behind.now.line.now) (string_bytes text)) }
 {
     let r0 = ran.r0;
     let word = word_text(alloc, verified.hook(), inputs.context.as_slice(), r0)?;
     let first = answer_line(alloc, verified, r0, ran.steps, &word)?;
+    let Behind {
+        executed,
+        changes,
+        line,
+    } = behind;
     format!(in alloc; "{first}{executed}{changes}{line}")
 }
 

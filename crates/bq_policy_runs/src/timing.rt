@@ -1,4 +1,6 @@
 //! How long runs of a policy take.
+ghost use Rattle.std.specs.Prelude.{◌≡◌, [], IfOk, IsNone, string_bytes};
+
 use crate::naming::inputs_named;
 use crate::repeats::runs_before;
 use bq_one_run::{Inputs, run_often};
@@ -7,13 +9,16 @@ use bq_verify::Verified;
 use std::alloc::{AllocError, Global};
 use std::time::Clock;
 
-/// The line that says how often the policy is run and how long a run takes on average, where the words say how often.
+/// The line that says how often the policy is run and how long a run takes on average, where the words say how often; nothing
+/// where they do not.
 pub(crate) fn time_line<C: Clock>(
     alloc: Global,
     clock: &C,
     words: &RunWords,
     verified: &Verified,
-) -> Result<String, AllocError> {
+) -> Result<String, AllocError>
+    ensures untimed { IsNone words.now.telling.repeat → IfOk result (λ text. string_bytes text ≡ []) }
+{
     if words.telling.repeat.is_none() {
         return Ok(String::new(alloc));
     }

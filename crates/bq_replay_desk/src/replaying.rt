@@ -1,14 +1,16 @@
 //! A trace is replayed, from a file or from standard input, to standard output.
 
+use crate::noticed::Noticed;
 use bq_console::{ended, say_unread, waiting_input};
 use bq_streams::{Counted, Kept};
 use bq_trace::replay;
+use std::cell::Cell;
 use std::fs;
 use std::io::Read;
 use std::process::ExitCode;
 
 /// Replays the trace in the file of that name, or on standard input. On a terminal it says that it waits. The exit status is
-/// that of `bq_console::exit_status`; where the file can't be opened it is 4.
+/// that of `bq_console::exit_status`; where the file can't be opened it is 4. Of an empty input standard error says that it is.
 pub fn replay_file(rt: &HostRuntime, name: Option<&str>) -> ExitCode {
     match name {
         Some(path) => match fs::open(rt, path) {
@@ -21,8 +23,19 @@ pub fn replay_file(rt: &HostRuntime, name: Option<&str>) -> ExitCode {
 
 /// Replays the trace that is read from there.
 fn replay_from<R: Read + Drop>(rt: &HostRuntime, name: Option<&str>, trace: R) -> ExitCode {
-    let mut input = Counted::new(Kept::new(trace));
+    let has_given = Cell::new(false);
+    let mut input = Counted::new(Kept::new(Noticed {
+        inner: trace,
+        has_given: &has_given,
+    }));
     let mut output = Counted::new(Kept::new(rt.stdout()));
     let outcome = replay(rt.alloc(), &mut input, &mut output);
+    if let Ok(true) = outcome {
+        if !has_given.get() {
+            let _ = eprintln!(rt;
+                "bqsim: the trace is empty: it begins with a line such as machine cfs 2"
+            );
+        }
+    }
     ended(rt, name, &outcome, input, output)
 }

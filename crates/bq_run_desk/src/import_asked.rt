@@ -5,8 +5,9 @@ ghost use Rattle.bq_run_desk.specs.ImportWords.{AreImportWords};
 ghost use Rattle.bq_run_desk.specs.ImportApp.{import_app};
 
 use crate::import_settings::ImportWords;
+use bq_bpf::with_hooks;
 use bq_console::WordsFault;
-use bq_options::{CommandText, Given, OptionText, matches_of, texts, with_hooks, word};
+use bq_options::{CommandText, Given, OptionText, matches_of, texts, word};
 use clap::ArgMatches;
 use std::alloc::{AllocError, Global};
 
@@ -14,6 +15,7 @@ use std::alloc::{AllocError, Global};
 static IMPORT: CommandText<'static> = CommandText {
     name: "import",
     about: texts::IMPORT,
+    usage: None,
     options: &[&[
         OptionText {
             name: "file",

@@ -5,8 +5,8 @@ ghost use Rattle.bq_policy_commands.specs.Saying.{option_bytes};
 ghost use Rattle.bq_run_desk.specs.ImportAsked.{AskFor, HasFault, version_in};
 ghost use Rattle.bq_run_desk.specs.declared.import_settings.ImportSettingsFault.TheVariants.{OutOfMemory};
 
-use bq_options::{with_hooks, with_versions};
-use bq_program::{Hook, ImageForm, Version, shapes_of};
+use bq_bpf::hook::{NO_HOOK, NO_VERSION};
+use bq_program::{Hook, ImageForm, SHAPES_FORM, Version, shapes_of};
 use std::alloc::{AllocError, Global};
 use thiserror::Error;
 
@@ -20,20 +20,14 @@ pub struct ImportWords {
     pub format: Option<String>,
 }
 
-/// What a word for the hook has to be.
-const HOOKS: &str = with_hooks!("--hook is ");
-
-/// What a word for the version has to be.
-const VERSIONS: &str = with_versions!("--format is ");
-
 /// Why the words are refused.
 #[derive(Clone, Copy, Debug, Error)]
 pub enum ImportSettingsFault {
-    #[error("{words}", words = HOOKS)]
+    #[error("--hook: the word {words}", words = NO_HOOK)]
     Hook,
-    #[error("--maps is the value size and the entries of each map, at most 8, as in 8:1,16:64")]
+    #[error("--maps: {words}", words = SHAPES_FORM)]
     Maps,
-    #[error("{words}", words = VERSIONS)]
+    #[error("--format: the word {words}", words = NO_VERSION)]
     Format,
     #[error("out of memory")]
     OutOfMemory,

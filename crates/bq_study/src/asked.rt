@@ -40,14 +40,10 @@ pub enum AskedFault {
     Discipline,
     #[error("{words}", words = SIZES)]
     Processors,
-    #[error("--duration: a duration is a whole number and ns, us, ms or s, as 500us or 2s, from 1ns to 281474976710655ns")]
+    #[error("--duration: a duration is a whole number and ns, us, ms or s, as 500us or 2s, from 1ns to {longest}ns", longest = LONGEST)]
     Duration,
     #[error("--seed: a seed is a whole number below 2^64")]
     Seed,
-    #[error("--seeds: a number of seeds is from 1 to 1000")]
-    Seeds,
-    #[error("--as: with --seeds or --against a form is report, csv or json")]
-    TableForm,
     #[error("{words}", words = FORMS)]
     Form,
     #[error("{0}")]

@@ -122,6 +122,7 @@ pub fn study_words<'a>(alloc: Global, given: &'a [&'a str]) -> Result<StudyWords
     let command = CommandText {
         name: "simulate",
         about: texts::SIMULATE,
+        usage: None,
         options: &[&MACHINE_OPTIONS, &hooks, &FORM_OPTIONS, &SHOWN_OPTIONS],
     };
     match matches_of(alloc, &command, "bqsim simulate", given) {

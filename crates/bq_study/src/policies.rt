@@ -10,15 +10,12 @@ ghost use Rattle.bq_study.specs.Taking.{IsNone, IsRead, IsTold, IsToldOf, IsTold
 
 use bq_core::{Hook, Policy};
 use bq_load::{LoadFault, load};
-use bq_policy_commands::fault_reason;
+use bq_policy_commands::{HOOK_UNSAID, fault_reason};
 use bq_program::{Head, read_policy};
 use bq_simulate::Images;
 use std::alloc::{AllocError, AllocFailed, Global};
 use std::marker::Model;
 use thiserror::Error;
-
-/// What is said of a file that tells no hook, where no option could.
-const NO_HOOK: &str = "the hook is not said: write a line ;@ hook place in the text's head";
 
 /// Why a file is no policy for a hook.
 #[derive(Debug, Drop, Error)]
@@ -185,7 +182,7 @@ fn told(alloc: Global, file: &[u8], fault: bq_program::PolicyFault) -> AttachFau
         return AttachFault::Hook;
     }
     let why = match fault {
-        bq_program::PolicyFault::NoHook => String::from_str(alloc, NO_HOOK),
+        bq_program::PolicyFault::NoHook => String::from_str(alloc, HOOK_UNSAID),
         fault => fault_reason(alloc, file, fault),
     };
     match why {

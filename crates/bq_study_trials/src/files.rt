@@ -36,7 +36,7 @@ static REFUSED: [(&str, &str); 6] = [
     ),
     (
         ";@ hook wake\nmov64 r0, 0\nexit\n",
-        "line 1: hooks are place, preempt and pull",
+        "line 1: wake is no hook (place, preempt or pull)",
     ),
     ("4g", "the file begins as hex does, and is none"),
     // r9 was never set

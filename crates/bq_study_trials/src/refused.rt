@@ -7,7 +7,7 @@ use std::alloc::Global;
 use std::test::Fail;
 
 /// A text, and what is said of it after the name of its file.
-static REFUSED: [(&str, &str); 32] = [
+static REFUSED: [(&str, &str); 37] = [
     // no task
     ("", ": [[task]] is missing"),
     // no task beside a machine
@@ -69,7 +69,32 @@ static REFUSED: [(&str, &str); 32] = [
     // a range that runs backwards
     (
         "[[task]]\nname = \"a\"\nrun = { uniform = [\"2ms\", \"1ms\"] }\n",
-        ": task 1 (a): run: a table is no length (a duration, { uniform = [LEAST, GREATEST] } or { exponential = MEAN })",
+        ": task 1 (a): run: uniform: the least, \"2ms\", is more than the greatest, \"1ms\"",
+    ),
+    // an end that is no duration
+    (
+        "[[task]]\nname = \"a\"\nrun = { uniform = [\"1ms\", \"2\"] }\n",
+        ": task 1 (a): run: uniform: \"2\" is no duration (a whole number and ns, us, ms or s)",
+    ),
+    // one end
+    (
+        "[[task]]\nname = \"a\"\nrun = \"1ms\"\nsleep = { uniform = [\"1ms\"] }\n",
+        ": task 1 (a): sleep: uniform: an array is no [LEAST, GREATEST]",
+    ),
+    // a mean that takes no time
+    (
+        "[[task]]\nname = \"a\"\nrun = { exponential = \"0ms\" }\n",
+        ": task 1 (a): run: exponential: \"0ms\" is not from 1 ns to 281474976710655 ns",
+    ),
+    // no way to draw
+    (
+        "[[task]]\nname = \"a\"\nrun = { normal = \"1ms\" }\n",
+        ": task 1 (a): run: unknown key \"normal\"; a length is drawn by uniform or exponential",
+    ),
+    // two ways to draw
+    (
+        "[[task]]\nname = \"a\"\nrun = { uniform = [\"1ms\", \"2ms\"], exponential = \"1ms\" }\n",
+        ": task 1 (a): run: a table of 2 keys is no length; it takes one, uniform or exponential",
     ),
     // a nice value
     (
@@ -89,7 +114,7 @@ static REFUSED: [(&str, &str); 32] = [
     // more tasks than there may be
     (
         "[[task]]\nname = \"a\"\ncount = 1000\nrun = \"1ms\"\n[[task]]\nname = \"b\"\ncount = 25\nrun = \"1ms\"\n",
-        ": there are more than 1024 tasks in all",
+        ": there are more than 1024 tasks in all; a machine has room for no more",
     ),
     // no task of a kind
     (
@@ -129,7 +154,7 @@ static REFUSED: [(&str, &str); 32] = [
     // two actions in one table
     (
         "[[task]]\nname = \"a\"\ndo = [{ run = \"1ms\", sleep = \"1ms\" }]\n",
-        ": task 1 (a): do 1: a table is no action (one of { run = LENGTH }, { sleep = LENGTH }, { wait = true } and { wake = TASK })",
+        ": task 1 (a): do 1: no table of one key; each action is a table of its own, as { run = LENGTH }, { sleep = LENGTH }, { wait = true } or { wake = TASK }",
     ),
     // a wait that is none
     (

@@ -321,7 +321,7 @@ const CLOCK_BACK: Reading = Reading {
     is_back: true,
 };
 
-/// A processor that is not there, and an id beyond all seats, change nothing that is there.
+/// A processor that is not there, and an id beyond all that there may be, change nothing that is there.
 static NOBODY_IS_THERE: [Step; 2] = [
     Step::Ticked(1, 1000, Some(1), By::Discipline, 0),
     Step::Admitted(1024, 0),

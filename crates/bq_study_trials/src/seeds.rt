@@ -7,8 +7,8 @@
 
 use crate::cases::holds;
 use bq_actions::Workload;
-use bq_comparison::{Comparing, Sides, asked_comparison, compare, lines, written};
-use bq_study::{AskedFault, Policies, StudyWords, study_words};
+use bq_comparison::{Comparing, ComparingFault, Sides, asked_comparison, compare, lines, written};
+use bq_study::{Policies, StudyWords, study_words};
 use bq_workload::{Changes, read};
 use std::alloc::{AllocError, Global};
 use std::test::Fail;
@@ -141,13 +141,13 @@ static WRITTEN: [(&[&str], &str); 4] = [
 ];
 
 /// Words that are refused, and why.
-static REFUSED: [(&[&str], AskedFault); 4] = [
-    (&["--seeds", "0"], AskedFault::Seeds),
-    (&["--seeds", "1001"], AskedFault::Seeds),
-    (&["--seeds", "2", "--as", "map"], AskedFault::TableForm),
+static REFUSED: [(&[&str], ComparingFault); 4] = [
+    (&["--seeds", "0"], ComparingFault::Seeds),
+    (&["--seeds", "1001"], ComparingFault::Seeds),
+    (&["--seeds", "2", "--as", "map"], ComparingFault::Form),
     (
         &["--against", "none", "--as", "trace"],
-        AskedFault::TableForm,
+        ComparingFault::Form,
     ),
 ];
 
@@ -249,7 +249,7 @@ fn tables_written(rt: HostRuntime) -> Result<(), Fail> {
 }
 
 /// Why words are refused.
-fn fault_of(alloc: Global, words: &[&str]) -> Result<Option<AskedFault>, Fail> {
+fn fault_of(alloc: Global, words: &[&str]) -> Result<Option<ComparingFault>, Fail> {
     let words = taken(alloc, words)?;
     Ok(asked_comparison(alloc, &words).err())
 }

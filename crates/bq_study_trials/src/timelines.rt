@@ -283,7 +283,7 @@ fn forms_show_choices_faults_and_bounds(rt: HostRuntime) -> Result<(), Fail> {
 }
 
 /// Bad lines, and why.
-static BAD: [(&str, &str); 8] = [
+static BAD: [(&str, &str); 13] = [
     ("tock 0 1", "tock is no command"),
     ("machine lottery 1", "lottery is no rule (cfs or eevdf)"),
     (
@@ -301,6 +301,18 @@ static BAD: [(&str, &str); 8] = [
     ),
     ("counter 64", "64 does not fit a counter's number (0 to 63)"),
     ("draw 1", "draw takes 0 words after it"),
+    // what is no number does not pass for one that is too great
+    ("tick abc 0", "abc is no number"),
+    ("tick 0 1x", "1x is no number"),
+    ("admit 1 - 1 1", "- is no number"),
+    (
+        "admit 1 0 0xg 1",
+        "0xg is no mask (decimal, or hex after 0x)",
+    ),
+    (
+        "admit 1 0 0x11112222333344445 1",
+        "0x11112222333344445 does not fit a mask (64 bits, decimal or hex after 0x)",
+    ),
 ];
 
 #[test]
@@ -360,7 +372,100 @@ fn words_are_times_sets_and_widths(rt: HostRuntime) -> Result<(), Fail> {
     }
     let is = are_one_and_four(&tasks(rt.alloc(), "1,4")?);
     holds(&rt, is, "other tasks", "1,4");
-    let is = tasks(rt.alloc(), "1,,4")?.is_none();
-    holds(&rt, is, "tasks", "none");
+    let is = are_one_and_four(&tasks(rt.alloc(), "1-1,4-4")?);
+    holds(&rt, is, "other tasks", "1-1,4-4");
+    for word in &NO_TASKS {
+        let is = tasks(rt.alloc(), word)?.is_none();
+        holds(&rt, is, "tasks", word);
+    }
+    let range = tasks(rt.alloc(), "65534-65535,0-2")?;
+    let is = range.is_some_and(|named| named.as_slice() == [65534, 65535, 0, 1, 2].as_slice());
+    holds(&rt, is, "other tasks", "65534-65535,0-2");
+    Ok(())
+}
+
+/// Words that name no tasks.
+static NO_TASKS: [&str; 5] = ["1,,4", "4-1", "1-", "-4", "65536"];
+
+/// The words of `--from`, `--cpus` and `--tasks`, a trace, and what is noted of it or why the words are refused.
+static NOTED: [(Option<&str>, Option<&str>, Option<&str>, &str, &str); 9] = [
+    // the last moment is 1 ms
+    (
+        Some("2ms"),
+        None,
+        None,
+        EEVDF,
+        "--from is after --to: nothing lies between them",
+    ),
+    (Some("1ms"), None, None, EEVDF, ""),
+    // tasks 1 and 2 are there
+    (
+        None,
+        None,
+        Some("3-9,99"),
+        EEVDF,
+        "--tasks: the trace has none of these tasks\n",
+    ),
+    (None, None, Some("2-9"), EEVDF, ""),
+    // one processor is there
+    (
+        None,
+        Some("1-63"),
+        None,
+        EEVDF,
+        "--cpus: the machine has none of these processors; how many it has: 1\n",
+    ),
+    (None, Some("0-63"), None, EEVDF, ""),
+    (
+        None,
+        Some("7"),
+        Some("7"),
+        EEVDF,
+        "--tasks: the trace has none of these tasks\n--cpus: the machine has none of these processors; how many it has: 1\n",
+    ),
+    // no machine is there
+    (
+        None,
+        None,
+        None,
+        "# a comment\n",
+        "the trace makes no machine, so there is nothing to show: it begins with a line such as machine cfs 2\n",
+    ),
+    (
+        None,
+        None,
+        Some("1"),
+        "tick 0 0\n",
+        "line 1: a trace begins with its machine line; nothing after this is done\nlines bad or refused: 1\n",
+    ),
+];
+
+/// What is noted of a trace up to 1 ms, as rows of CSV, or why the words are refused.
+fn noted(
+    alloc: Global,
+    from: Option<&str>,
+    cpus: Option<&str>,
+    tasks: Option<&str>,
+    trace: &str,
+) -> Result<String, Fail> {
+    let mut words = words_of(alloc, Some("csv"), Some("1ms"), cpus)?;
+    words.from = copied(alloc, from)?;
+    words.tasks = copied(alloc, tasks)?;
+    let settings = match Settings::of(alloc, &words) {
+        Ok(settings) => settings,
+        Err(fault) => return Ok(fault.to_string(alloc)?),
+    };
+    let mut input = Counted::new(trace.as_bytes());
+    let mut output = Counted::new(Vec::new(alloc));
+    let outcome = show(alloc, settings, &mut input, &mut output)?;
+    Ok(outcome.notes)
+}
+
+#[test]
+fn what_is_named_and_not_there_is_noted(rt: HostRuntime) -> Result<(), Fail> {
+    for (from, cpus, tasks, trace, wanted) in &NOTED {
+        let notes = noted(rt.alloc(), *from, *cpus, *tasks, trace)?;
+        holds(&rt, notes.as_str() == *wanted, notes.as_str(), wanted);
+    }
     Ok(())
 }

@@ -1,3 +1,4 @@
 pub mod NoteLemmas
+pub mod TaskLemmas
 pub mod TimeLemmas
 pub mod WatchLemmas

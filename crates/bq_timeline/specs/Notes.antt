@@ -1,7 +1,8 @@
 -- What goes to standard error once a trace is over.
-use Rattle.std.specs.Prelude.{ℕ, zero, suc, ◌==◌, List, [], ◌++◌, Option, Some, None, if◌then◌else◌, codes}
+use Rattle.std.specs.Prelude.{ℕ, zero, suc, ◌==◌, ◌%◌, ◌^◌, nat_lt, ◌&&◌, not, Bool, List, [], ◌++◌, length, Option, Some, None, if◌then◌else◌, codes}
 use Rattle.std.specs.Fmt.{decimal}
-use Rattle.bq_schedule.specs.Figures.{Figures}
+use Rattle.std.specs.List.{list_any}
+use Rattle.bq_schedule.specs.Figures.{Figures, task_of}
 use Rattle.bq_schedule.specs.Runnable.{undrained}
 
 -- the note on a task that was placed on a processor which was never drained after, if it was
@@ -15,11 +16,37 @@ unfoldable pub waiting_notes : Figures → ℕ → List ℕ
 waiting_notes s zero = []
 waiting_notes s (suc task) = waiting_notes s task ++ waiting_note task (undrained s task)
 
+-- tasks are named, and none of them was admitted
+abbrev pub lacks_tasks : Figures → List ℕ → Bool
+lacks_tasks s tasks = nat_lt 0 (length tasks) && not (list_any (λ id. (task_of s id).is_admitted) tasks)
+
+-- none of the processors that are named by bits is one of so many
+abbrev pub lacks_processors : ℕ → ℕ → Bool
+lacks_processors count processors = nat_lt count 64 && (processors % 2 ^ count == 0)
+
+-- the note on tasks that are named, where the trace has none of them
+abbrev pub tasks_note : Figures → List ℕ → List ℕ
+tasks_note s tasks = if lacks_tasks s tasks then codes "--tasks: the trace has none of these tasks\n" else []
+
+-- the note on processors that are named, where the machine has none of them
+abbrev pub processors_note : ℕ → ℕ → List ℕ
+processors_note count processors =
+    if lacks_processors count processors then codes "--cpus: the machine has none of these processors; how many it has: " ++ (decimal count ++ codes "\n") else []
+
+-- the notes on what is named and not there, once there is a machine
+abbrev pub absent_notes : Option Figures → List ℕ → ℕ → List ℕ
+absent_notes None tasks processors = []
+absent_notes (Some s) tasks processors = tasks_note s tasks ++ processors_note (length s.processors) processors
+
+-- where no line was bad or refused, and yet none made a machine
+abbrev pub unmade_note : ℕ → List ℕ
+unmade_note n = if n == 0 then codes "the trace makes no machine, so there is nothing to show: it begins with a line such as machine cfs 2\n" else []
+
 -- how many lines were bad or refused, if any were
 abbrev pub trouble_note : ℕ → List ℕ
 trouble_note n = if n == 0 then [] else codes "lines bad or refused: " ++ (decimal n ++ codes "\n")
 
 -- the last notes, at the schedule of the whole trace
 abbrev pub last_notes : Option Figures → ℕ → List ℕ
-last_notes None n = trouble_note n
+last_notes None n = unmade_note n ++ trouble_note n
 last_notes (Some s) n = waiting_notes s 1024 ++ trouble_note n

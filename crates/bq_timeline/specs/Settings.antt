@@ -1,13 +1,13 @@
 -- What the words of a timeline's options ask for.
-use Rattle.std.specs.Prelude.{◌≡◌, ℕ, Bool, not, ◌+◌, ◌*◌, ◌/◌, ◌-◌, ◌^◌, ◌&&◌, ◌||◌, ◌==◌, nat_le, nat_lt, List, [], ◌∷◌, length, take, drop, position, Option, Some, None, ⊤, String, if◌then◌else◌, codes, option_and_then, option_map, string_bytes}
+use Rattle.std.specs.Prelude.{◌≡◌, ◌<◌, ◌≤◌, ℕ, Bool, not, ◌+◌, ◌*◌, ◌/◌, ◌-◌, ◌^◌, ◌&&◌, ◌||◌, ◌==◌, nat_le, nat_lt, List, [], ◌∷◌, ◌++◌, length, take, drop, position, Option, Some, None, ⊤, String, if◌then◌else◌, codes, option_and_then, option_map, string_bytes}
 use Rattle.std.specs.Global.{Global}
 use Rattle.std.specs.Char.{digit_value, is_ascii_digit}
-use Rattle.std.specs.List.{list_all, slice_split}
+use Rattle.std.specs.List.{list_all, range_with_len, slice_split}
 use Rattle.std.specs.Str.{bytes_eq}
 use Rattle.bq_words.specs.Numbers.{below}
 use Rattle.bq_words.specs.Units.{unit_of}
 use Rattle.bq_lines.specs.Numbers.{decimal_of, task_of}
-use Rattle.bq_lines.specs.ProcessorSets.{is_comma, processors_of}
+use Rattle.bq_lines.specs.ProcessorSets.{is_comma, is_dash, processors_of}
 use Rattle.bq_timeline.specs.declared.form_names.FormName.{FormName}
 use Rattle.bq_timeline.specs.declared.form_names.FormName.TheVariants.{Report, Map, Timehist, Why, Csv, Json, Svg, Perfetto}
 use Rattle.bq_timeline.specs.declared.settings.Words.{Words}
@@ -65,10 +65,27 @@ ends_number c = not (is_ascii_digit c || is_point c)
 abbrev pub time_of : List ℕ → Option ℕ
 time_of word = time_at word (position ends_number word)
 
--- the tasks that words name, one each: none where one of them is no task
+-- the tasks from the first to the last, unless they run backwards
+abbrev pub tasks_between : ℕ → ℕ → Option (List ℕ)
+tasks_between first last = if nat_lt last first then None else Some (range_with_len first (last + 1 - first))
+
+-- one task, or where there is a dash a range
+abbrev pub tasks_at : List ℕ → Option ℕ → Option (List ℕ)
+tasks_at part None = option_map (λ only. only ∷ []) (task_of part)
+tasks_at part (Some dash) = option_and_then (λ first. option_and_then (tasks_between first) (task_of (drop (dash + 1) part))) (task_of (take dash part))
+
+-- the tasks that one part names
+abbrev pub tasks_of_part : List ℕ → Option (List ℕ)
+tasks_of_part part = tasks_at part (position is_dash part)
+
+-- the tasks that the part names stand behind those that were there
+abbrev pub AddsPart : List ℕ → List ℕ → List ℕ → Type 0
+AddsPart part old new = (more : List ℕ) × (tasks_of_part part ≡ Some more) × (new ≡ old ++ more)
+
+-- the tasks that parts name, one part after another: none where one of them names none
 abbrev pub tasks_in : List (List ℕ) → Option (List ℕ)
 tasks_in [] = Some []
-tasks_in (part ∷ parts) = option_and_then (λ task. option_map (λ tasks. task ∷ tasks) (tasks_in parts)) (task_of part)
+tasks_in (part ∷ parts) = option_and_then (λ some. option_map (λ more. some ++ more) (tasks_in parts)) (tasks_of_part part)
 
 -- the tasks that the parts between commas name
 abbrev pub tasks_of : List ℕ → Option (List ℕ)
@@ -116,15 +133,22 @@ pub record AsksFor (w : Words) (s : Settings) : Type 0 where
   pub form : form_asked w ≡ Some s.form
   pub from : from_asked w ≡ Some s.window.from
   pub to : to_asked w ≡ Some s.window.to
+  pub ordered : s.window.from ≤ s.window.to
   pub processors : processors_asked w ≡ Some s.window.processors
   pub tasks : tasks_asked w ≡ Some s.window.tasks.items
+  pub named : s.named.items ≡ s.window.tasks.items
   pub width : width_asked w ≡ Some s.width
 
--- the word that the fault names is none of its kind; memory may run out whatever the words are
+-- both moments are named, and the last is before the first
+abbrev pub RunBackwards : Words → Type 0
+RunBackwards w = (from : ℕ) × (to : ℕ) × (from_asked w ≡ Some from) × (to_asked w ≡ Some to) × (to < from)
+
+-- the word that the fault names is none of its kind, or the moments run backwards; memory may run out whatever the words are
 abbrev pub IsNoSettings : Words → SettingsFault → Type 0
 IsNoSettings w fault.Form = form_asked w ≡ None
 IsNoSettings w fault.From = from_asked w ≡ None
 IsNoSettings w fault.To = to_asked w ≡ None
+IsNoSettings w fault.Backwards = RunBackwards w
 IsNoSettings w fault.Processors = processors_asked w ≡ None
 IsNoSettings w fault.Tasks = tasks_asked w ≡ None
 IsNoSettings w fault.Width = width_asked w ≡ None

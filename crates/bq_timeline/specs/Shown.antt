@@ -35,6 +35,10 @@ window_of_rows (form.Csv window) = Some window
 window_of_rows other = None
 
 -- It is the form of that name, and its rows, where it has some, are those of the window.
-pub record IsAskedFor (s : Settings) (shown : Shown) : Type 0 where
-  pub form : name_of shown ≡ s.form
-  pub window : IfSome (window_of_rows shown) (λ w. w ≡ s.window)
+pub record IsShown (form : FormName) (window : Window) (shown : Shown) : Type 0 where
+  pub form_is : name_of shown ≡ form
+  pub window_is : IfSome (window_of_rows shown) (λ w. w ≡ window)
+
+-- It is the form that the settings ask for, of the window that they ask for.
+abbrev pub IsAskedFor : Settings → Shown → Type 0
+IsAskedFor s shown = IsShown s.form s.window shown

@@ -4,9 +4,9 @@ use bq_bounds::{Bounds, Charge, Glance, RunningTask, how_it_stands};
 use bq_core::{Event, Reply};
 use bq_disc::RunQueue;
 use bq_disc::limits::PROCESSORS;
+use bq_disc::mask::allows;
 use bq_forms::percent::Percent;
 use bq_forms::tables::write_millis;
-use bq_forms::window::is_in;
 use bq_parts::Cpu;
 use bq_schedule::Change;
 use bq_trace::{AnyCore, Seen};
@@ -91,7 +91,7 @@ impl BoundsTable {
     pub fn write(&self, processors: u64, text: &mut String) -> Result<(), AllocError> {
         let mut lines = String::new(self.alloc);
         for number in 0..PROCESSORS {
-            if is_in(processors, number) {
+            if allows(processors, number) {
                 self.write_charges(number, &mut lines)?;
                 self.write_lags(number, &mut lines)?;
             }

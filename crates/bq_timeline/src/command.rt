@@ -45,7 +45,7 @@ pub const SHOWN_OPTIONS: [OptionText; 5] = [
     OptionText {
         name: "tasks",
         given: Given::Once("LIST"),
-        help: "Shows these tasks alone, as in 1,4",
+        help: "Shows these tasks alone, as in 1-3,9",
     },
     OptionText {
         name: "width",
@@ -58,6 +58,7 @@ pub const SHOWN_OPTIONS: [OptionText; 5] = [
 static TIMELINE: CommandText<'static> = CommandText {
     name: "timeline",
     about: texts::TIMELINE,
+    usage: None,
     options: &[&FORM_OPTIONS, &SHOWN_OPTIONS],
 };
 

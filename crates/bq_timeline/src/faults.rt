@@ -1,10 +1,13 @@
 //! Why a line is bad.
+ghost use Rattle.std.specs.Prelude.{◌≡◌, ◌&&◌, length, nat_lt};
+ghost use Rattle.std.specs.Char.{is_ascii_digit};
+ghost use Rattle.std.specs.List.{list_all};
 
 use bq_bpf::board::COUNTERS;
+use bq_bpf::hook::NO_HOOK;
 use bq_core::Hook;
 use bq_lines::words::is_allowed_line;
 use bq_lines::{Keyword, numbers};
-use bq_options::with_hooks;
 use bq_words::{Rule, next_word, with_rules};
 use std::{fmt, str};
 
@@ -43,6 +46,38 @@ impl Kind {
         }
     }
 
+    /// Whether a word is written as such words are, where they are numbers: in digits, behind `-` for a nice value, or in digits of hex
+    /// behind `0x` for a mask.
+    fn has_form(self, word: &[u8]) -> bool {
+        match self {
+            Kind::Rule | Kind::ProcessorCount | Kind::Hook | Kind::Image => true,
+            Kind::Nice => match word.strip_prefix(b"-") {
+                Some(digits) => are_digits(digits),
+                None => are_digits(word),
+            },
+            Kind::Mask => match word.strip_prefix(b"0x") {
+                Some(digits) => {
+                    !digits.is_empty() && digits.iter().all(|byte| byte.is_ascii_hexdigit())
+                }
+                None => are_digits(word),
+            },
+            Kind::Processor
+            | Kind::Task
+            | Kind::Time
+            | Kind::Generation
+            | Kind::Slice
+            | Kind::Counter => are_digits(word),
+        }
+    }
+
+    /// What a word without the form is said to be.
+    fn formless(self) -> &'static str {
+        match self {
+            Kind::Mask => "is no mask (decimal, or hex after 0x)",
+            _ => "is no number",
+        }
+    }
+
     /// What a word that is not that is said to be, or not to fit.
     fn words(self) -> &'static str {
         match self {
@@ -55,7 +90,7 @@ impl Kind {
             Kind::Time => "does not fit a clock reading (0 to 2^64 - 1)",
             Kind::Generation => "does not fit a generation (0 to 2^64 - 1)",
             Kind::Slice => "does not fit a slice (0 to 2^64 - 1)",
-            Kind::Hook => with_hooks!("is no hook (", ")"),
+            Kind::Hook => NO_HOOK,
             Kind::Image => "is no image",
             Kind::Counter => "does not fit a counter's number (0 to 63)",
         }
@@ -66,6 +101,20 @@ impl fmt::Display for Kind {
     fn fmt<W: fmt::Write>(&self, f: &mut fmt::Formatter<W>) -> fmt::Result {
         f.write_str(self.words())
     }
+}
+
+/// Whether a word is digits alone, one or more.
+fn are_digits(word: &[u8]) -> bool
+    ensures { result ≡ (nat_lt 0 (length word.now) && list_all is_ascii_digit word.now) }
+{
+    !word.is_empty() && all_digits(word)
+}
+
+/// Whether a word has no other bytes than digits.
+fn all_digits(word: &[u8]) -> bool
+    ensures { result ≡ list_all is_ascii_digit word.now }
+{
+    word.iter().all(|byte| byte.is_ascii_digit())
 }
 
 /// The words that follow a keyword.
@@ -183,8 +232,12 @@ impl fmt::Display for Fault<'_> {
                 write!(f, "{name} takes {wanted} words after it")
             }
             Fault::Word { word, kind } => {
-                let word = Quoted(word);
-                write!(f, "{word} {kind}")
+                let quoted = Quoted(word);
+                if kind.has_form(word) {
+                    write!(f, "{quoted} {kind}")
+                } else {
+                    write!(f, "{quoted} {}", kind.formless())
+                }
             }
             Fault::Again => f.write_str("the machine is made already"),
             Fault::NoMachine => f.write_str(

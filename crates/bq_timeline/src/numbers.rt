@@ -1,6 +1,8 @@
 //! Times, tasks and widths as words.
-ghost use Rattle.std.specs.Prelude.{◌≡◌, ◌<◌, IfOk, IfSome, length, option_map, position};
-ghost use Rattle.bq_timeline.specs.Settings.{amount_of, ends_number, fraction_of, is_point, tasks_of, time_of, width_of};
+ghost use Rattle.std.specs.Prelude.{◌≡◌, ◌<◌, ◌≤◌, ◌+◌, ◌-◌, ◌++◌, IfOk, IfSome, MatchBool, None, OnOk, length, option_map, position};
+ghost use Rattle.std.specs.List.{range_with_len};
+ghost use Rattle.bq_timeline.specs.Settings.{AddsPart, amount_of, ends_number, fraction_of, is_point, tasks_of, tasks_of_part, time_of, width_of};
+ghost use Rattle.bq_lines.specs.ProcessorSets.{is_dash};
 
 use bq_lines::numbers::{decimal, task};
 use bq_lines::processor_sets::first_part;
@@ -87,26 +89,88 @@ fn fraction(digits: &[u8], unit: u64) -> Option<u64>
     Some(part)
 }
 
-/// The tasks that a word names: numbers with commas between them, as `1,4`.
+/// The tasks that a word names: numbers and ranges with commas between them, as `1-3,9`.
 ///
-/// None where a part between commas is no task.
+/// None where a part between commas is neither, or a range runs backwards.
+#[tactic(auto, using(crate::proofs::TaskLemmas::tasks_on, crate::proofs::TaskLemmas::tasks_none, crate::proofs::TaskLemmas::tasks_done))]
 pub fn tasks(alloc: Global, word: &str) -> Result<Option<Vec<u16>>, AllocError>
     ensures { IfOk result (λ tasks. option_map (λ t. t.items) tasks ≡ tasks_of word.now) }
 {
     let mut tasks = Vec::new(alloc);
     let mut rest = word.as_bytes();
     while let Some((part, more)) = first_part(rest) {
-        match task(part) {
-            Some(number) => tasks.push(number)?,
-            None => return Ok(None),
+        if !push_tasks(&mut tasks, part)? {
+            return Ok(None);
         }
         rest = more;
     }
-    match task(rest) {
-        Some(number) => tasks.push(number)?,
-        None => return Ok(None),
+    if !push_tasks(&mut tasks, rest)? {
+        return Ok(None);
     }
     Ok(Some(tasks))
+}
+
+/// Adds the tasks that a part names, a number or a range; whether it names some.
+fn push_tasks(tasks: &mut Vec<u16>, part: &[u8]) -> Result<bool, AllocError>
+    ensures { IfOk result (λ named. MatchBool named (AddsPart part.now tasks.old.items tasks.new.items) (tasks_of_part part.now ≡ None)) }
+{
+    match ends(part) {
+        Some((first, last)) => {
+            push_range(tasks, first, last)?;
+            Ok(true)
+        }
+        None => Ok(false),
+    }
+}
+
+/// Adds the tasks from the first to the last.
+#[tactic(auto, using(crate::proofs::TaskLemmas::range_on, crate::proofs::TaskLemmas::range_done))]
+fn push_range(tasks: &mut Vec<u16>, first: u16, last: u16) -> Result<(), AllocError>
+    requires { first ≤ last }
+    ensures { OnOk result (tasks.new.items ≡ tasks.old.items ++ range_with_len first (last + 1 - first)) }
+{
+    let mut next = first;
+    while next < last {
+        tasks.push(next)?;
+        next += 1;
+    }
+    tasks.push(last)?;
+    Ok(())
+}
+
+/// The first and the last task that a part names: the same of a number, and in order. None where it names none.
+fn ends(part: &[u8]) -> Option<(u16, u16)>
+    ensures tasks { option_map (λ e. range_with_len e.0 (e.1 + 1 - e.0)) result ≡ tasks_of_part part.now }
+    ensures order { IfSome result (λ e. e.0 ≤ e.1) }
+{
+    match dash(part) {
+        Some(dash) => {
+            let first = task(&part[..dash])?;
+            let last = task(&part[dash + 1..])?;
+            if last < first {
+                return None;
+            }
+            Some((first, last))
+        }
+        None => {
+            let only = task(part)?;
+            Some((only, only))
+        }
+    }
+}
+
+/// Where a range has its dash.
+fn dash(part: &[u8]) -> Option<usize>
+    ensures value { result ≡ position is_dash part.now }
+    ensures within { IfSome result (λ dash. dash < length part.now) }
+{
+    part.iter().position(|byte| is_dash(*byte))
+}
+
+fn is_dash(byte: u8) -> bool
+    ensures { result ≡ is_dash byte }
+{
+    byte == b'-'
 }
 
 /// The columns that a word asks for: from 20 to 10,000.

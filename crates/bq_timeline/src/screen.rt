@@ -1,6 +1,8 @@
 //! What is written of a trace: the form, with notes on its lines where a person reads it, and what goes to standard error.
-ghost use Rattle.std.specs.Prelude.{◌≡◌, ◌++◌, OnOk, Some, string_bytes};
-ghost use Rattle.bq_timeline.specs.Notes.{last_notes, trouble_note, waiting_note, waiting_notes};
+ghost use Rattle.std.specs.Prelude.{◌≡◌, ◌++◌, OnOk, None, Some, string_bytes};
+ghost use Rattle.std.specs.List.{list_any};
+ghost use Rattle.bq_timeline.specs.Notes.{absent_notes, lacks_processors, lacks_tasks, last_notes, processors_note, tasks_note, trouble_note, unmade_note, waiting_note, waiting_notes};
+ghost use Rattle.bq_schedule.specs.Figures.{task_of};
 ghost use Rattle.bq_timeline.specs.Shown.{IsAskedFor, is_read_by_lines};
 
 use crate::bounds_table::BoundsTable;
@@ -8,7 +10,7 @@ use crate::faults::{Fault, why_bad};
 use crate::settings::Settings;
 use crate::shown::Shown;
 use bq_core::{Event, Refusal, Reply};
-use bq_disc::limits::TASKS;
+use bq_disc::limits::{PROCESSORS, TASKS};
 use bq_forms::Names;
 use bq_load::LoadFault;
 use bq_schedule::{Change, Schedule};
@@ -30,6 +32,8 @@ pub struct Screen {
     near: Option<BoundsTable>,
     /// The processors that are shown, by bits.
     processors: u64,
+    /// The tasks that are named; none where all are shown.
+    tasks: Vec<u16>,
     /// What goes to the output, since it was cleared last.
     pub text: String,
     /// What goes to standard error.
@@ -41,15 +45,22 @@ impl Screen {
     pub fn new(alloc: Global, settings: Settings) -> Screen
         ensures shown { IsAskedFor settings result.shown }
         ensures notes { result.has_notes ≡ is_read_by_lines settings.form }
+        ensures named { (result.tasks ≡ settings.named) × (result.processors ≡ settings.window.processors) }
     {
-        let has_notes = settings.form.has_notes();
-        let processors = settings.window.processors;
+        let Settings {
+            form,
+            window,
+            named,
+            width,
+        } = settings;
+        let processors = window.processors;
         Screen {
             near: None,
             processors,
+            tasks: named,
             names: Names::new(alloc),
-            shown: Shown::of(alloc, settings),
-            has_notes,
+            shown: Shown::of(alloc, form, window, width),
+            has_notes: form.has_notes(),
             text: String::new(alloc),
             notes: String::new(alloc),
         }
@@ -173,22 +184,106 @@ impl Screen {
 
     /// The trace is over. So many lines were bad or refused.
     pub fn end(&mut self, schedule: &Schedule, troubles: u64) -> Result<(), AllocError>
-        ensures { OnOk result (string_bytes self.new.notes ≡ string_bytes self.old.notes ++ last_notes (Some schedule.now) troubles) }
+        ensures { OnOk result (string_bytes self.new.notes ≡ (string_bytes self.old.notes ++ absent_notes (Some schedule.now) self.old.tasks.items self.old.processors)
+            ++ last_notes (Some schedule.now) troubles) }
     {
         self.shown.end(schedule, &self.names, &mut self.text)?;
         if let Some(near) = &self.near {
             near.write(self.processors, &mut self.text)?;
         }
+        note_absent(
+            &mut self.notes,
+            schedule,
+            self.tasks.as_slice(),
+            self.processors,
+        )?;
         note_waiting(&mut self.notes, schedule)?;
-        self.sum_up(troubles)
-    }
-
-    /// Notes how many lines were bad or refused, if any were.
-    pub fn sum_up(&mut self, troubles: u64) -> Result<(), AllocError>
-        ensures { OnOk result (string_bytes self.new.notes ≡ string_bytes self.old.notes ++ trouble_note troubles) }
-    {
         note_troubles(&mut self.notes, troubles)
     }
+
+    /// The trace is over, and made no machine. So many lines were bad.
+    pub fn end_unmade(&mut self, troubles: u64) -> Result<(), AllocError>
+        ensures { OnOk result (string_bytes self.new.notes ≡ string_bytes self.old.notes ++ last_notes None troubles) }
+    {
+        note_unmade(&mut self.notes, troubles)?;
+        note_troubles(&mut self.notes, troubles)
+    }
+}
+
+/// Notes that none of the tasks or of the processors that are named is there, where that is so.
+fn note_absent(
+    notes: &mut String,
+    schedule: &Schedule,
+    tasks: &[u16],
+    processors: u64,
+) -> Result<(), AllocError>
+    ensures { OnOk result (string_bytes notes.new ≡ string_bytes notes.old ++ absent_notes (Some schedule.now) tasks.now processors) }
+{
+    note_tasks(notes, schedule, tasks)?;
+    note_processors(notes, schedule.processors(), processors)
+}
+
+/// Notes that none of the tasks that are named is there, where that is so.
+fn note_tasks(notes: &mut String, schedule: &Schedule, tasks: &[u16]) -> Result<(), AllocError>
+    ensures { OnOk result (string_bytes notes.new ≡ string_bytes notes.old ++ tasks_note schedule.now tasks.now) }
+{
+    if !lacks_tasks(schedule, tasks) {
+        return Ok(());
+    }
+    notes.push_str("--tasks: the trace has none of these tasks\n")
+}
+
+/// Whether tasks are named, and none of them was admitted.
+fn lacks_tasks(schedule: &Schedule, tasks: &[u16]) -> bool
+    ensures { result ≡ lacks_tasks schedule.now tasks.now }
+{
+    !tasks.is_empty() && !admits_any(schedule, tasks)
+}
+
+/// Whether one of some tasks was ever admitted.
+fn admits_any(schedule: &Schedule, tasks: &[u16]) -> bool
+    ensures { result ≡ list_any (λ id. (task_of schedule.now id).is_admitted) tasks.now }
+{
+    tasks.iter().any(|id| is_admitted(schedule, *id))
+}
+
+/// Whether a task was ever admitted.
+fn is_admitted(schedule: &Schedule, id: u16) -> bool
+    ensures { result ≡ (task_of schedule.now id).is_admitted }
+{
+    schedule.task(id).is_admitted
+}
+
+/// Notes that none of the processors that are named by bits is one of so many, where that is so.
+fn note_processors(notes: &mut String, count: usize, processors: u64) -> Result<(), AllocError>
+    ensures { OnOk result (string_bytes notes.new ≡ string_bytes notes.old ++ processors_note count processors) }
+{
+    if !lacks_processors(count, processors) {
+        return Ok(());
+    }
+    write!(
+        notes,
+        "--cpus: the machine has none of these processors; how many it has: {count}\n"
+    )
+}
+
+/// Whether none of the processors that are named by bits is one of so many.
+fn lacks_processors(count: usize, processors: u64) -> bool
+    ensures { result ≡ lacks_processors count processors }
+{
+    count < usize::from(PROCESSORS) && processors % (1u64 << count) == 0
+}
+
+/// Notes that no line made a machine, where none was bad.
+fn note_unmade(notes: &mut String, troubles: u64) -> Result<(), AllocError>
+    ensures { OnOk result (string_bytes notes.new ≡ string_bytes notes.old ++ unmade_note troubles) }
+{
+    if troubles != 0 {
+        return Ok(());
+    }
+    notes.push_str(
+        "the trace makes no machine, so there is nothing to show: it begins with a line such as machine cfs 2\n",
+    )
 }
 
 /// Notes each task that was placed on a processor which was never drained after.

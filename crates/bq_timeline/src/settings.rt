@@ -24,7 +24,7 @@ pub struct Words {
     pub to: Option<String>,
     /// The processors, from 0 to 63, as `0-3,8`; all where none is named.
     pub cpus: Option<String>,
-    /// The tasks, from 0 to 65535, as `1,4`; all where none is named.
+    /// The tasks, from 0 to 65535, as `1-3,9`; all where none is named.
     pub tasks: Option<String>,
     /// The columns of a map, from 20 to 10,000; 80 where none are named.
     pub width: Option<String>,
@@ -37,6 +37,8 @@ pub struct Settings {
     pub form: FormName,
     /// Which stretch of time, processors and tasks.
     pub window: Window,
+    /// The tasks of the window once more, for a note where a trace has none of them.
+    pub named: Vec<u16>,
     /// The columns of a map, from 20 to 10,000.
     pub width: usize,
 }
@@ -56,11 +58,14 @@ pub enum SettingsFault {
     /// That is no time.
     #[error("--to: a time is a number with ns, us, ms or s, as 1500, 1.5ms or 2s")]
     To,
+    /// The first moment is after the last.
+    #[error("--from is after --to: nothing lies between them")]
+    Backwards,
     /// These are no processors.
     #[error("--cpus: processors are numbers from 0 to 63 and ranges, as 0-3 or 0,2")]
     Processors,
     /// These are no tasks.
-    #[error("--tasks: tasks are numbers, as 1,4")]
+    #[error("--tasks: tasks are numbers from 0 to 65535 and ranges, as 1-3 or 1,4")]
     Tasks,
     /// That is no width.
     #[error("--width: a width is a number from 20 to 10000")]
@@ -83,7 +88,9 @@ const COLUMNS: usize = 80;
 impl Settings {
     /// What the words ask for: all of a trace, in a report, unless they say otherwise.
     ///
-    /// A fault other than `OutOfMemory` names a word that is none of its kind: a form, a time, processors, tasks or a width.
+    /// A fault other than `OutOfMemory` names a word that is none of its kind (a form, a time, processors, tasks or a width), or says
+    /// that the first moment is after the last.
+    #[tactic(auto, using(crate::proofs::TaskLemmas::runs_backwards))]
     pub fn of(alloc: Global, words: &Words) -> Result<Settings, SettingsFault>
         ensures asked { IfOk result (AsksFor words.now) }
         ensures refused { IfErr result (IsNoSettings words.now) }
@@ -92,16 +99,21 @@ impl Settings {
         let form = form_or(&words.form, FormName::Report).ok_or(SettingsFault::Form)?;
         window.from = time_or(&words.from, window.from).ok_or(SettingsFault::From)?;
         window.to = time_or(&words.to, window.to).ok_or(SettingsFault::To)?;
+        if window.to < window.from {
+            return Err(SettingsFault::Backwards);
+        }
         window.processors = processors_or(&words.cpus, window.processors).ok_or(
             SettingsFault::Processors,
         )?;
         if let Some(word) = &words.tasks {
             window.tasks = numbers::tasks(alloc, word.as_str())?.ok_or(SettingsFault::Tasks)?;
         }
+        let named = Vec::from_slice(alloc, window.tasks.as_slice())?;
         let width = width_or(&words.width, COLUMNS).ok_or(SettingsFault::Width)?;
         Ok(Settings {
             form,
             window,
+            named,
             width,
         })
     }

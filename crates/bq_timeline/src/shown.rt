@@ -1,9 +1,8 @@
 //! The forms, behind one name.
-ghost use Rattle.bq_timeline.specs.Shown.{IsAskedFor};
+ghost use Rattle.bq_timeline.specs.Shown.{IsShown};
 
 use crate::form_names::FormName;
-use crate::settings::Settings;
-use bq_forms::{Csv, Form, Json, Map, Names, Report, Timehist};
+use bq_forms::{Csv, Form, Json, Map, Names, Report, Timehist, Window};
 use bq_pictures::{Perfetto, Svg};
 use bq_schedule::{Change, Schedule};
 use bq_why::Why;
@@ -24,15 +23,10 @@ pub enum Shown {
 }
 
 impl Shown {
-    /// The form that the settings ask for, of what they show.
-    pub fn of(alloc: Global, settings: Settings) -> Shown
-        ensures { IsAskedFor settings result }
+    /// The form of that name, of what the window shows.
+    pub fn of(alloc: Global, form: FormName, window: Window, width: usize) -> Shown
+        ensures { IsShown form window result }
     {
-        let Settings {
-            form,
-            window,
-            width,
-        } = settings;
         match form {
             FormName::Report => Shown::Report(Report::new(alloc, window)),
             FormName::Map => Shown::Map(Map::new(alloc, window, width)),

@@ -1,5 +1,5 @@
 //! The sink of a timeline: the schedule that a trace tells, and the form that it is shown in.
-ghost use Rattle.bq_timeline.specs.Notes.{last_notes};
+ghost use Rattle.bq_timeline.specs.Notes.{absent_notes, last_notes};
 ghost use Rattle.bq_timeline.specs.Shown.{IsAskedFor};
 ghost use Rattle.bq_timeline.specs.Timelines.{Keeps};
 ghost use Rattle.std.specs.Prelude.{◌≡◌, ◌++◌, OnOk, string_bytes};
@@ -42,11 +42,12 @@ impl Viewer {
         ensures schedule { self.new.schedule ≡ self.old.schedule }
         ensures troubles { self.new.troubles ≡ self.old.troubles }
         ensures notes { OnOk result (string_bytes self.new.screen.notes
-            ≡ string_bytes self.old.screen.notes ++ last_notes self.old.schedule self.old.troubles) }
+            ≡ (string_bytes self.old.screen.notes ++ absent_notes self.old.schedule self.old.screen.tasks.items self.old.screen.processors)
+            ++ last_notes self.old.schedule self.old.troubles) }
     {
         match &self.schedule {
             Some(schedule) => self.screen.end(schedule, self.troubles),
-            None => self.screen.sum_up(self.troubles),
+            None => self.screen.end_unmade(self.troubles),
         }
     }
 }

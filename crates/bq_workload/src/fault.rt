@@ -7,7 +7,7 @@ ghost use Rattle.bq_workload.specs.Positions.{column_after, line_after};
 ghost use Rattle.bq_workload.specs.Workloads.{IsReadFault};
 
 use crate::blame::Location;
-use crate::near::Near;
+use crate::near::{nearest_name, nearest_word};
 use crate::why::Why;
 use std::alloc::{AllocError, Global};
 use std::fmt::Write;
@@ -102,8 +102,8 @@ pub(crate) fn meaning(
     let mut text = String::new(alloc);
     write!(text, "{place}{why}")?;
     let near = match why {
-        Why::UnknownKey { key, known } => Near::of_words(alloc, key, known)?.word(),
-        Why::UnknownTask { name, names } => Near::of_names(alloc, name, names)?.word(),
+        Why::UnknownKey { key, known } => nearest_word(alloc, key, known)?,
+        Why::UnknownTask { name, names } => nearest_name(alloc, name, names)?,
         _ => None,
     };
     if let Some(near) = near {

@@ -6,9 +6,8 @@ ghost use Rattle.bq_workload.specs.Lengths.{length_of, drawn_of, ends_of, unifor
 
 use crate::fields::span;
 use crate::tables::only;
-use crate::why::Range;
+use crate::why::PHASE;
 use bq_actions::Length;
-use bq_actions::limits::LONGEST;
 use toml::{Table, Value};
 
 /// A length: a duration, or a table that says how it is drawn.
@@ -67,11 +66,5 @@ fn between(first: &Value, last: &Value) -> Option<Length>
 fn time(value: &Value) -> Option<u64>
     ensures { result ≡ time_of (view value.now) }
 {
-    span(
-        value,
-        Range {
-            least: 1,
-            greatest: LONGEST,
-        },
-    )
+    span(value, PHASE)
 }

@@ -1,62 +1,36 @@
 //! The word that was perhaps meant.
 
+use bq_words::Near;
 use std::alloc::{AllocError, Global};
-use strsim::levenshtein;
 
-/// How many edits a misspelling may have.
-const EDITS: usize = 2;
-
-/// The nearest so far of the words that may have been meant, and how many edits away it is.
-#[derive(Clone, Copy)]
-pub(crate) struct Near<'a> {
-    best: Option<(usize, &'a str)>,
+/// The nearest of some words, if one is near.
+pub(crate) fn nearest_word(
+    alloc: Global,
+    meant: &str,
+    words: &[&'static str],
+) -> Result<Option<&'static str>, AllocError> {
+    let mut best: Option<&'static str> = None;
+    let mut near = Near::of(meant);
+    for known in words {
+        if near.takes(alloc, meant, known)? {
+            best = Some(known);
+        }
+    }
+    Ok(best)
 }
 
-impl<'a> Near<'a> {
-    /// The nearest of some words.
-    pub(crate) fn of_words(
-        alloc: Global,
-        meant: &str,
-        words: &'a [&'static str],
-    ) -> Result<Near<'a>, AllocError> {
-        let mut near = Near { best: None };
-        for known in words {
-            near.consider(alloc, meant, *known)?;
-        }
-        Ok(near)
-    }
-
-    /// The nearest of some names.
-    pub(crate) fn of_names(
-        alloc: Global,
-        meant: &str,
-        names: &'a [String],
-    ) -> Result<Near<'a>, AllocError> {
-        let mut near = Near { best: None };
-        for known in names {
-            near.consider(alloc, meant, known.as_str())?;
-        }
-        Ok(near)
-    }
-
-    /// The word, if any is near: at most two edits away, and fewer than what was written has bytes.
-    pub(crate) fn word(self) -> Option<&'a str> {
-        match self.best {
-            Some((_, word)) => Some(word),
-            None => None,
+/// The nearest of some names, if one is near.
+pub(crate) fn nearest_name<'a>(
+    alloc: Global,
+    meant: &str,
+    names: &'a [String],
+) -> Result<Option<&'a str>, AllocError> {
+    let mut best: Option<&'a str> = None;
+    let mut near = Near::of(meant);
+    for known in names {
+        if near.takes(alloc, meant, known.as_str())? {
+            best = Some(known.as_str());
         }
     }
-
-    /// Takes a word into account.
-    fn consider(&mut self, alloc: Global, meant: &str, known: &'a str) -> Result<(), AllocError> {
-        let edits = levenshtein(alloc, meant, known)?;
-        let is_nearer = match self.best {
-            Some((least, _)) => edits < least,
-            None => edits <= EDITS && edits < meant.len(),
-        };
-        if is_nearer {
-            self.best = Some((edits, known));
-        }
-        Ok(())
-    }
+    Ok(best)
 }

@@ -1,9 +1,12 @@
 //! What can be wrong with a table or a value.
 
 use crate::duration;
+use crate::fields::span;
+use crate::tables::only;
+use bq_actions::limits::LONGEST;
 use bq_lines::numbers::NO_SIZE;
 use std::fmt;
-use toml::Value;
+use toml::{Table, Value};
 
 /// A stretch of numbers, both ends included.
 #[derive(Clone, Copy)]
@@ -11,6 +14,12 @@ pub(crate) struct Range {
     pub(crate) least: u64,
     pub(crate) greatest: u64,
 }
+
+/// How long a phase may be.
+pub(crate) const PHASE: Range = Range {
+    least: 1,
+    greatest: LONGEST,
+};
 
 /// What a key takes.
 #[derive(Clone, Copy)]
@@ -109,25 +118,28 @@ impl fmt::Display for Why<'_> {
                     processors.saturating_sub(1)
                 )
             }
-            Why::TooMany => f.write_str("there are more than 1024 tasks in all"),
+            Why::TooMany => f.write_str(
+                "there are more than 1024 tasks in all; a machine has room for no more",
+            ),
         }
     }
 }
 
 /// Says that a value is not what is wanted there.
 fn misfit<W: fmt::Write>(f: &mut fmt::Formatter<W>, value: &Value, wanted: &Wanted) -> fmt::Result {
+    if let (Wanted::Length, Value::Table(table)) = (wanted, value) {
+        return no_draw(f, table);
+    }
+    if let (Wanted::Action, Value::Table(_)) = (wanted, value) {
+        return f.write_str(
+            "no table of one key; each action is a table of its own, as { run = LENGTH }, { sleep = LENGTH }, { wait = true } or { wake = TASK }",
+        );
+    }
     shown(f, value)?;
     match wanted {
         Wanted::Time(range) => no_time(f, value, range),
         Wanted::Length => match value {
-            Value::String(_) => no_time(
-                f,
-                value,
-                &Range {
-                    least: 1,
-                    greatest: bq_actions::limits::LONGEST,
-                },
-            ),
+            Value::String(_) => no_time(f, value, &PHASE),
             _ => f.write_str(
                 " is no length (a duration, { uniform = [LEAST, GREATEST] } or { exponential = MEAN })",
             ),
@@ -138,6 +150,59 @@ fn misfit<W: fmt::Write>(f: &mut fmt::Formatter<W>, value: &Value, wanted: &Want
             range.least, range.greatest
         ),
         other => write!(f, " {}", described(other)),
+    }
+}
+
+/// Says why a table draws no length.
+fn no_draw<W: fmt::Write>(f: &mut fmt::Formatter<W>, table: &Table) -> fmt::Result {
+    match only(table) {
+        Some(("uniform", ends)) => no_ends(f, ends),
+        Some(("exponential", mean)) => {
+            f.write_str("exponential: ")?;
+            no_phase(f, mean)
+        }
+        Some((key, _)) => write!(
+            f,
+            "unknown key {key:?}; a length is drawn by uniform or exponential"
+        ),
+        None => write!(
+            f,
+            "a table of {} keys is no length; it takes one, uniform or exponential",
+            table.len()
+        ),
+    }
+}
+
+/// Says why a value is no least and greatest of a length: it is no pair, an end is no duration, or they are not in order.
+fn no_ends<W: fmt::Write>(f: &mut fmt::Formatter<W>, ends: &Value) -> fmt::Result {
+    f.write_str("uniform: ")?;
+    let Some((least, greatest)) = pair(ends) else {
+        shown(f, ends)?;
+        return f.write_str(" is no [LEAST, GREATEST]");
+    };
+    if span(least, PHASE).is_none() {
+        return no_phase(f, least);
+    }
+    if span(greatest, PHASE).is_none() {
+        return no_phase(f, greatest);
+    }
+    f.write_str("the least, ")?;
+    shown(f, least)?;
+    f.write_str(", is more than the greatest, ")?;
+    shown(f, greatest)
+}
+
+/// Says that a value is no duration that a phase may have.
+fn no_phase<W: fmt::Write>(f: &mut fmt::Formatter<W>, value: &Value) -> fmt::Result {
+    shown(f, value)?;
+    no_time(f, value, &PHASE)
+}
+
+/// The two items of an array of two.
+fn pair(value: &Value) -> Option<(&Value, &Value)> {
+    match value.as_array()?.as_slice() {
+        [first, second] => Some((first, second)),
+        _ => None,
     }
 }
 

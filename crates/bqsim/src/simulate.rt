@@ -1,10 +1,14 @@
 //! `bqsim simulate`.
 
 use bq_actions::Workload;
-use bq_comparison::{Comparing, SeedsFault, asked_comparison, compare, lines, written};
+use bq_comparison::{
+    Comparing, ComparingFault, SeedsFault, asked_comparison, compare, lines, written,
+};
 use bq_console::status::{BAD_INPUT, REFUSED};
 use bq_console::{name_of, say_out_of_memory, whole_file, whole_input};
 use bq_core::Hook;
+use bq_load::LoadFault;
+use bq_program::fault_text;
 use bq_simulate::SimulateFault;
 use bq_study::{AskedFault, AttachFault, Policies, ShownAs, StudyWords, asked_changes, run_as};
 use bq_timeline::SettingsFault;
@@ -31,7 +35,7 @@ fn simulated<T: Threads + Sync>(
     threads: &T,
     words: &StudyWords,
 ) -> Result<ExitCode, ExitCode> {
-    let compared = asked_comparison(rt.alloc(), words).map_err(|fault| refused(rt, fault))?;
+    let compared = asked_comparison(rt.alloc(), words).map_err(|fault| uncompared(rt, fault))?;
     if let Some(asked) = compared {
         return side_by_side(rt, threads, words, &asked);
     }
@@ -114,6 +118,15 @@ fn refused(rt: &HostRuntime, fault: AskedFault) -> ExitCode {
     ExitCode::from(REFUSED)
 }
 
+/// Says what is wrong with the words of a comparison.
+fn uncompared(rt: &HostRuntime, fault: ComparingFault) -> ExitCode {
+    if fault == ComparingFault::Settings(SettingsFault::OutOfMemory) {
+        return say_out_of_memory(rt);
+    }
+    let _ = eprintln!(rt; "error: {fault}");
+    ExitCode::from(REFUSED)
+}
+
 /// The workload of the file that the words name.
 fn workload(rt: &HostRuntime, words: &StudyWords, changes: Changes) -> Result<Workload, ExitCode> {
     let name = name_of(&words.shown.file);
@@ -164,9 +177,21 @@ fn told(rt: &HostRuntime, path: &str, taken: Result<(), AttachFault>) -> Result<
     match taken {
         Ok(()) => Ok(()),
         Err(AttachFault::OutOfMemory) => Err(say_out_of_memory(rt)),
+        Err(AttachFault::Program(fault)) => Err(unaccepted(rt, path, fault)),
         Err(fault) => {
             let _ = eprintln!(rt; "{path}: {fault}");
             Err(ExitCode::from(BAD_INPUT))
         }
+    }
+}
+
+/// Says that a file's program is not accepted: by what `check` calls it, and what tells more.
+fn unaccepted(rt: &HostRuntime, path: &str, fault: LoadFault) -> ExitCode {
+    match fault_text(rt.alloc(), fault) {
+        Ok(named) => {
+            let _ = eprintln!(rt; "{path}: refused {named}; bqsim check --explain {path} says why");
+            ExitCode::from(BAD_INPUT)
+        }
+        Err(_) => say_out_of_memory(rt),
     }
 }

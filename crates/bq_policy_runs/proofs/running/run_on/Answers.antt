@@ -1,4 +1,5 @@
 use Rattle.std.proofs.Common.{◌≡◌, ◌∙◌, ◌++◌, ℕ, Global, ap, length, map, string_bytes, List, subst}
+use Rattle.std.specs.Prelude.{is_some}
 use Rattle.std.specs.declared.vec.Vec.{Vec}
 use Rattle.bq_interp.specs.declared.traced.Moment.{Moment}
 use Rattle.bq_one_run.specs.Changes.{calls_text}
@@ -21,10 +22,10 @@ returns c =
     let changed : string_bytes c.in_ok-changes.changes ≡ changed_text c.args.series.now.inputs.maps c.trace_once.new.inputs.maps.bytes c.in-Some-Some.ran.calls.items =
     c.in_ok-changes.ensures
     ∙ ap (λ (lines : List ℕ). lines ++ calls_text c.in-Some-Some.ran.calls.items) (changes_same c.args.series.now.inputs.maps c.trace_once.new.inputs.maps _ shapes first) in
-    let told = subst (λ (context : List ℕ). TellsRun c.args.verified.now context c.in-Some-Some.ran.r0 c.in-Some-Some.ran.steps (string_bytes c.in_ok-executed.executed) (string_bytes c.in_ok-changes.changes) (string_bytes c.in_ok-text.text))
+    let told = subst (λ (context : List ℕ). TellsRun c.args.verified.now context c.in-Some-Some.ran.r0 c.in-Some-Some.ran.steps (string_bytes c.in_ok-executed.executed) (string_bytes c.in_ok-changes.changes) (string_bytes c.args.line.now) (string_bytes c.in_ok-text.text))
     (ap (λ (context : Vec ℕ Global). context.items) c.in_ok-last.ensures.context) c.in_ok-text.ensures in
-    let told_exactly = subst (λ (lines : List ℕ). TellsRun c.args.verified.now c.run_often-others.new.inputs.context.items c.in-Some-Some.ran.r0 c.in-Some-Some.ran.steps (string_bytes c.in_ok-executed.executed) lines (string_bytes c.in_ok-text.text)) changed told in
-    has_run c.args.words.now.telling.is_traced c.args.series.now.before c.args.verified.now c.args.series.now.inputs c.run_often-others.new.inputs c.trace_once.new.moments.items c.in-Some-Some.ran.steps c.in-Some-Some.ran.r0 c.in-Some-Some.ran.calls.items (kept_in c.trace_once.new.inputs) c.in_ok-text.text (string_bytes c.in_ok-executed.executed) runs c.run_often-others.ensures.context c.run_often-others.ensures.env run moments each executed told_exactly
+    let told_exactly = subst (λ (lines : List ℕ). TellsRun c.args.verified.now c.run_often-others.new.inputs.context.items c.in-Some-Some.ran.r0 c.in-Some-Some.ran.steps (string_bytes c.in_ok-executed.executed) lines (string_bytes c.args.line.now) (string_bytes c.in_ok-text.text)) changed told in
+    has_run c.args.words.now.telling.is_traced (is_some c.args.words.now.telling.repeat) c.args.series.now.before c.args.verified.now c.args.series.now.inputs c.run_often-others.new.inputs c.trace_once.new.moments.items c.in-Some-Some.ran.steps c.in-Some-Some.ran.r0 c.in-Some-Some.ran.calls.items (kept_in c.trace_once.new.inputs) c.in_ok-text.text (string_bytes c.in_ok-executed.executed) (string_bytes c.args.line.now) runs c.run_often-others.ensures.context c.run_often-others.ensures.env run moments each executed c.requires.untimed told_exactly
 
 pub told-requires : goal.told-requires
 told-requires c =

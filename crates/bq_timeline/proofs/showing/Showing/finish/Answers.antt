@@ -3,7 +3,7 @@ use Rattle.std.specs.Prelude.{string_bytes}
 use Rattle.std.specs.Str.Lines.{lines}
 use Rattle.bq_trace.specs.Telling.{Story}
 use Rattle.bq_schedule.specs.Figures.{Figures}
-use Rattle.bq_timeline.specs.Notes.{last_notes}
+use Rattle.bq_timeline.specs.Notes.{absent_notes, last_notes}
 use Rattle.bq_timeline.specs.Timelines.{Watches}
 use Rattle.bq_timeline.specs.Watching.{schedule_after}
 use Rattle.bq_timeline.proofs.WatchLemmas.{watches}
@@ -16,7 +16,9 @@ returns-clause-told g c = λ begun stands.
     let w : Watches old.viewer new (λ told. Story old.position.progress (lines begun) told c.end.new.self.progress) =
     watches old.viewer new new (λ told. Story old.position.progress (lines begun) told c.end.new.self.progress) (c.in_ok-end.ensures begun stands) refl refl
     in
-    let before = string_bytes new.screen.notes in
+    let screen = new.screen in
+    let absent = λ (s : Option Figures). string_bytes screen.notes ++ absent_notes s screen.tasks.items screen.processors in
+    let before = absent new.schedule in
     record {
       told = w.told;
       final = c.end.new.self.progress;
