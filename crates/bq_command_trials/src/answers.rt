@@ -366,7 +366,10 @@ static AT: [(&str, &str); 6] = [
     ("5ms", "D r0 5000000 (0x4c4b40)  "),
     ("2us", "D r0 2000 (0x7d0)  "),
     ("1500", "D r0 1500 (0x5dc)  "),
-    ("+7", "D r0 7 (0x7)  "),
+    (
+        "+7",
+        "W --time +7: a time is a whole number of nanoseconds below 2^64, or one with ns, us, ms or s, as 1500 or 5ms",
+    ),
     (
         "5 ms",
         "W --time 5 ms: a time is a whole number of nanoseconds below 2^64, or one with ns, us, ms or s, as 1500 or 5ms",
