@@ -200,9 +200,6 @@ each_text_is_judged text = ⊎_elim (λ none. clean (all_clean lines (length lin
     lines : List Line
     lines = lines_of text
 
-    Judged : Type 0
-    Judged = ((insns : List Insn) × Assembles text insns) ⊎ ((line : ℕ) × (c : Cause) × Faulty (lines_of text) line c)
-
     passed : IsClean (lines_of text) → 0 < slots_in (lines_of text) → slots_in (lines_of text) ≤ 4096 → (r : Result (List Insn) ℕ) → Passes (places_from 0 (lines_of text)) 0 1 [] (lines_of text) r
         → ((insns : List Insn) × Assembles text insns) ⊎ ((line : ℕ) × (c : Cause) × Faulty (lines_of text) line c)
     passed h some few (Ok insns) p = inl (p.0, assembles_from text p.0 h some few p.2)

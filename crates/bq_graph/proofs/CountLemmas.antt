@@ -81,12 +81,6 @@ module _ (slots : List (Option Insn)) where
           let same : slot ≡ from = omega arith in
           subst (λ (s : ℕ). IsEdge slots s to → slice_index_or most s None ≡ Some n → (m : ℕ) × (slice_index_or most to None ≡ Some m) × (n + calls_of (instruction_at slots s) ≤ m)) same (here to n) edge e
 
-  pub counted_blank : (slot : ℕ) (most : List (Option ℕ)) → CountsFollowed slots slot most → slice_index_or most slot None ≡ None → CountsFollowed slots (slot + 1) most
-  counted_blank slot most old none = counted_same slot most old (λ to n edge e. absurd (some_none _ _ e none))
-
-  pub counted_apart : (slot : ℕ) (most : List (Option ℕ)) → CountsFollowed slots slot most → instruction_at slots slot ≡ None → CountsFollowed slots (slot + 1) most
-  counted_apart slot most old none = counted_same slot most old (λ to n edge e. absurd (some_none _ _ edge.here none))
-
   module _ (sound : IsSound slots) (slot : ℕ) (targets : Targets) (out : LeadsOut slots slot targets) (n count : ℕ) (count_is : count ≡ n + calls_of (instruction_at slots slot)) (old mid new : List (Option ℕ)) (first : Raises old targets.next count mid) (second : Raises mid targets.jump count new) where
     later : (to : ℕ) → IsOf targets to → slot < to
     later to of = (sound.forward slot to (out.only to of)).0

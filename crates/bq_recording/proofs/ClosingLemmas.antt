@@ -69,10 +69,6 @@ module _ {A B : Type 0} (s : List LobbyEntry) (xs : List A) (ys : List B) (at : 
   abbrev pub parts : List Part
   parts = all_parts s xs ys as_cpu as_inbox
 
-  -- the world has the lobby
-  pub lobby_there : (w : World) → Each (HasPart w) parts → w.lobby ≡ s
-  lobby_there w h = h.0
-
   -- the world has each processor at its number
   pub cpus_there : (w : World) → Each (HasPart w) parts → Each (λ (x : A). HasPart w (as_cpu x)) xs
   cpus_there w h = each_first (HasPart w) as_cpu xs (map as_inbox ys) h.1

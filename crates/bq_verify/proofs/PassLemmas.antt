@@ -4,7 +4,7 @@ use Rattle.std.specs.Prelude.{slice_index, slice_index_or}
 use Rattle.std.proofs.lemmas.Bool.Decides.{eqb_tells}
 use Rattle.std.proofs.lemmas.List.{get_or_past}
 use Rattle.bq_insn.specs.declared.Insn.{Insn}
-use Rattle.bq_insn.specs.declared.Insn.TheVariants.{Goto, Goto32, Branch, Call, Exit}
+use Rattle.bq_insn.specs.declared.Insn.TheVariants.{Goto, Goto32, Branch, Call}
 use Rattle.bq_insn.specs.declared.Width.{Width}
 use Rattle.bq_insn.specs.declared.Condition.{Condition}
 use Rattle.bq_insn.specs.declared.Source.{Source}
@@ -79,11 +79,6 @@ module _ (slots : List (Option Insn)) (shapes : List MapShape) (context_length s
         record { insn = insn; here = at; leaves = rw on.3 (straight s.slot) },
         added f on.0 (rw (← same) on.3) on.2,
       ))
-
-  pub goes_out : instruction_at slots slot ≡ Some Exit → ((f : Setting) (s : State) → Contains f view s → (answer : ℕ) × (s.register 0 ≡ Some answer)) → Goes slots shapes context_length slot view K
-  goes_out here gives f s setting same covers =
-      let given = gives f s covers in
-      inl (given.0, record { here = here_at Exit here f s setting same; answer_is = given.1; maps_are = refl })
 
   pub goes_there : (off : ℤ) (to : ℕ) → instruction_at slots slot ≡ Some (Goto off) → LeadsTo slot off to → ((f : Setting) (s : State) → s.slot ≡ to → Contains f view s → K f s) → Goes slots shapes context_length slot view K
   goes_there off to here leads added f s setting same covers =
@@ -233,14 +228,6 @@ module _ (slots : List (Option Insn)) (shapes : List MapShape) (context_length s
       here : IsKnown pending view live slot f s → s.slot ≡ slot → ⊥
       here (inl waits) same = none_waits f s (slice_index_or pending slot None) empty (waits_at_slot f s pending slot same waits)
       here (inr (e, same', covers)) same = not_true live dead e
-
-  -- no instruction begins at the slot
-  pub passes_gap : (after : AbstractState) → instruction_at slots slot ≡ None → PassesOn slots shapes context_length slot K (IsKnown pending after false (slot + 1))
-  passes_gap after gap f s setting begins known = (λ other. side (arrives f s known) other, λ same. absurd (some_none _ _ (rw same at begins.here) gap))
-    where
-      side : IsKnown pending view live slot f s → s.slot ≢ slot → IsKnown pending after false (slot + 1) f s
-      side (inl waits) other = inl waits
-      side (inr (e, same, covers)) other = absurd (other same)
 
   pub passes_by : (new : List (Option (Box AbstractState Global))) (after : AbstractState) (on : Bool) → ((f : Setting) (s : State) → WaitsBoxed f pending s → WaitsBoxed f new s) → Goes slots shapes context_length slot view (IsKnown new after on (slot + 1)) → PassesOn slots shapes context_length slot K (IsKnown new after on (slot + 1))
   passes_by new after on kept goes f s setting begins known = (λ other. side (arrives f s known) other, λ same. here (arrives f s known) same)
