@@ -15,7 +15,8 @@ use Rattle.bq_parts.specs.Refusals.{is_absent, is_away}
 use Rattle.bq_disc.specs.Movable.{is_movable_to}
 use Rattle.bq_policies.specs.Attachments.{Attachments}
 use Rattle.bq_hooks.specs.Contexts.{as_number}
-use Rattle.bq_hooks.specs.OwnPlace.{allows, HasPlace}
+use Rattle.bq_disc.specs.Masks.{allows}
+use Rattle.bq_hooks.specs.OwnPlace.{HasPlace}
 use Rattle.bq_hooks.specs.Permitted.{may_pull, task_numbered}
 use Rattle.bq_parts.specs.Choices.{Regime, Decision, decided_by}
 use Rattle.bq_parts.specs.Moves.{after_leaving, as_it_leaves, taken_from, without_task, with_pulled, started_if_idle}

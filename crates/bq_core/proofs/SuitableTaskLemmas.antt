@@ -5,7 +5,8 @@ use Rattle.std.specs.List.{AllByRecursion}
 use Rattle.std.proofs.lemmas.List.Elements.{All-from_recursion, recursion_from_All}
 use Rattle.bq_disc.specs.Tasks.{Task}
 use Rattle.bq_disc.specs.Queues.{can_use}
-use Rattle.bq_hooks.specs.OwnPlace.{allows, HasPlace}
+use Rattle.bq_disc.specs.Masks.{allows}
+use Rattle.bq_hooks.specs.OwnPlace.{HasPlace}
 use Rattle.bq_parts.proofs.TallyLemmas.{tally, worth}
 use Rattle.bq_parts.proofs.NumberTestLemmas.{below_from_test, test_from_below, differ_from_test, test_from_differ}
 

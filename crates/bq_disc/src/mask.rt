@@ -1,5 +1,5 @@
 //! Sets of processors: bit k of a mask is processor k.
-ghost use Rattle.std.specs.Prelude.{◌≡◌};
+ghost use Rattle.std.specs.Prelude.{◌≡◌, ◌<◌};
 ghost use Rattle.bq_disc.specs.Masks.{allows};
 
 use crate::limits::PROCESSORS;
@@ -8,5 +8,14 @@ use crate::limits::PROCESSORS;
 pub fn allows(mask: u64, processor: u8) -> bool
     ensures { result ≡ allows mask processor }
 {
-    processor < PROCESSORS && (mask >> processor) % 2 == 1
+    processor < PROCESSORS && has(mask, processor)
+}
+
+/// The same of a number that is a processor's.
+#[inline(always)]
+pub fn has(mask: u64, processor: u8) -> bool
+    requires { processor < 64 }
+    ensures { result ≡ allows mask processor }
+{
+    (mask >> processor) % 2 == 1
 }

@@ -5,7 +5,8 @@ use Rattle.std.specs.List.{range_with_len}
 use Rattle.std.proofs.lemmas.Bool.{cases_eq}
 use Rattle.std.proofs.lemmas.Bool.Decides.{nat_tests}
 use Rattle.bq_disc.specs.Tasks.{Task}
-use Rattle.bq_hooks.specs.OwnPlace.{place_before, allows, former_place, first_place, own_place}
+use Rattle.bq_disc.specs.Masks.{allows}
+use Rattle.bq_hooks.specs.OwnPlace.{place_before, former_place, first_place, own_place}
 use Rattle.bq_hooks.specs.PlaceLaw.{MayUse, OwnPlaceIsLawful}
 use Rattle.bq_hooks.proofs.PlaceLemmas.{IsFit, first_fits, those_fit, own_place_there}
 

@@ -6,7 +6,8 @@ use Rattle.std.proofs.lemmas.Bool.{cases_eq}
 use Rattle.std.proofs.lemmas.Bool.Decides.{nat_tests}
 use Rattle.std.proofs.lemmas.Nat.Bits.{same_from_bits_below, bit_at-zero, bit_at-lt}
 use Rattle.bq_disc.specs.Tasks.{Task}
-use Rattle.bq_hooks.specs.OwnPlace.{place_before, allows, former_place, first_place, own_place, HasPlace}
+use Rattle.bq_disc.specs.Masks.{allows}
+use Rattle.bq_hooks.specs.OwnPlace.{place_before, former_place, first_place, own_place, HasPlace}
 
 -- a processor below a bound that a mask allows
 abbrev pub IsFit : ℕ → ℕ → ℕ → Type 0

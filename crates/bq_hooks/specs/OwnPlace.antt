@@ -1,6 +1,7 @@
 -- The discipline's own choice of a place for a woken task (this project's own rule).
-use Rattle.std.specs.Prelude.{◌≢◌, ℕ, ◌<◌, ◌/◌, ◌%◌, ◌^◌, Bool, false, ◌==◌, ◌||◌, ◌&&◌, not, nat_lt, List, [], ◌∷◌, Option, Some, None, slice_index, filter, if◌then◌else◌}
+use Rattle.std.specs.Prelude.{◌≢◌, ℕ, ◌<◌, ◌^◌, Bool, false, ◌==◌, ◌||◌, ◌&&◌, not, nat_lt, List, [], ◌∷◌, Option, Some, None, slice_index, filter, if◌then◌else◌}
 use Rattle.std.specs.List.{range_with_len}
+use Rattle.bq_disc.specs.Masks.{allows}
 use Rattle.bq_disc.specs.Tasks.{Task}
 
 abbrev pub is_previous : Option ℕ → ℕ → Bool
@@ -12,10 +13,6 @@ abbrev pub place_before : List ℕ → Option ℕ → ℕ → ℕ → Bool
 place_before loads previous p q =
     nat_lt (slice_index loads p) (slice_index loads q)
     || (slice_index loads p == slice_index loads q && (is_previous previous p || (not (is_previous previous q) && nat_lt p q)))
-
--- a processor of a mask
-abbrev pub allows : ℕ → ℕ → Bool
-allows mask p = mask / 2 ^ p % 2 == 1
 
 -- p, unless the one that is given comes before it
 abbrev pub former_place : List ℕ → Option ℕ → ℕ → Option ℕ → ℕ

@@ -3,7 +3,7 @@ use Rattle.std.specs.Prelude.{ℕ, Bool, ◌==◌, ◌||◌, ◌&&◌, nat_lt, L
 use Rattle.bq_disc.specs.Tasks.{Task}
 use Rattle.bq_disc.specs.Movable.{is_movable_to}
 use Rattle.bq_hooks.specs.Contexts.{nobody}
-use Rattle.bq_hooks.specs.OwnPlace.{allows}
+use Rattle.bq_disc.specs.Masks.{allows}
 
 -- a place policy may name a processor of the task's mask
 abbrev pub may_place : ℕ → Task → ℕ → Bool

@@ -1,7 +1,8 @@
 -- The law of the discipline's own place.
 use Rattle.std.specs.Prelude.{◌≡◌, ◌≢◌, ℕ, ◌<◌, ◌≤◌, true, List, Option, Some, IsSome, IfSome, slice_index}
 use Rattle.bq_disc.specs.Tasks.{Task}
-use Rattle.bq_hooks.specs.OwnPlace.{own_place, allows, HasPlace}
+use Rattle.bq_disc.specs.Masks.{allows}
+use Rattle.bq_hooks.specs.OwnPlace.{own_place, HasPlace}
 
 -- one of the first `count` processors that a task's mask allows
 abbrev pub MayUse : ℕ → Task → ℕ → Type 0

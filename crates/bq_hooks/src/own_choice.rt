@@ -1,10 +1,12 @@
 //! The discipline's own choice of a place for a woken task.
 ghost use Rattle.std.specs.Prelude.{◌≡◌, ◌<◌, ◌≤◌, ◌-◌, Some, filter};
 ghost use Rattle.std.specs.List.{range_with_len};
-ghost use Rattle.bq_hooks.specs.OwnPlace.{own_place, first_place, place_before, allows, HasPlace};
+ghost use Rattle.bq_disc.specs.Masks.{allows};
+ghost use Rattle.bq_hooks.specs.OwnPlace.{own_place, first_place, place_before, HasPlace};
 
 use crate::Loads;
 use bq_disc::Entity;
+use bq_disc::mask::has;
 
 /// The processor of least load in the task's mask, of the first `count`; of equal loads the task's previous processor, and
 /// else the least number.
@@ -28,7 +30,7 @@ fn first_place(loads: &Loads, mask: u64, previous: Option<u8>, count: usize) -> 
     let mut first = None;
     for done in 0..count {
         let place = (count - 1 - done) as u8;
-        if (mask >> place) % 2 == 1 {
+        if has(mask, place) {
             first = Some(former(loads, previous, place, first));
         }
     }

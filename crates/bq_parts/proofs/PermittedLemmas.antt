@@ -12,7 +12,8 @@ use Rattle.bq_bpf.specs.declared.hook.Version.{Version}
 use Rattle.bq_verify.specs.Accepted.{Accepted}
 use Rattle.bq_policies.specs.Attachments.{Attached}
 use Rattle.bq_hooks.specs.Contexts.{nobody, or_nobody}
-use Rattle.bq_hooks.specs.OwnPlace.{own_place, allows, HasPlace}
+use Rattle.bq_disc.specs.Masks.{allows}
+use Rattle.bq_hooks.specs.OwnPlace.{own_place, HasPlace}
 use Rattle.bq_hooks.specs.Permitted.{may_place, may_pull, task_numbered}
 use Rattle.bq_hooks.specs.Settled.{Settled as Chosen, settled as chosen}
 use Rattle.bq_hooks.proofs.PlaceLemmas.{own_place_there}

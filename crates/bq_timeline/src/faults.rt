@@ -8,6 +8,7 @@ use bq_bpf::hook::NO_HOOK;
 use bq_core::Hook;
 use bq_lines::words::is_allowed_line;
 use bq_lines::{Keyword, numbers};
+use bq_words::numbers::hex_digits;
 use bq_words::{Rule, next_word, with_rules};
 use std::{fmt, str};
 
@@ -55,7 +56,7 @@ impl Kind {
                 Some(digits) => are_digits(digits),
                 None => are_digits(word),
             },
-            Kind::Mask => match word.strip_prefix(b"0x") {
+            Kind::Mask => match hex_digits(word) {
                 Some(digits) => {
                     !digits.is_empty() && digits.iter().all(|byte| byte.is_ascii_hexdigit())
                 }

@@ -1,5 +1,6 @@
 //! The numbers that words write.
-ghost use Rattle.std.specs.Prelude.{◌≡◌, ◌≤◌};
+ghost use Rattle.std.specs.Prelude.{◌≡◌, ◌≤◌, MatchOption, codes, drop, false, nat_eq, true};
+ghost use Rattle.std.specs.List.{starts_with};
 ghost use Rattle.bq_words.specs.Numbers.{number_of, value_of};
 
 /// The number that the word writes in this base, or `None` where it has no digit, has another byte, or does not fit 64 bits.
@@ -25,8 +26,15 @@ pub fn number(word: &[u8], base: u32) -> Option<u64>
 pub fn value(word: &[u8]) -> Option<u64>
     ensures { result ≡ value_of word.now }
 {
-    match word.strip_prefix(b"0x") {
+    match hex_digits(word) {
         Some(digits) => number(digits, 16),
         None => number(word, 10),
     }
+}
+
+/// What stands behind the `0x` of a word that begins so, as a number in hex does.
+pub fn hex_digits(word: &[u8]) -> Option<&[u8]>
+    ensures { MatchOption result (starts_with nat_eq word.now (codes "0x") ≡ false) (λ digits. (starts_with nat_eq word.now (codes "0x") ≡ true) × (digits.now ≡ drop 2 word.now)) }
+{
+    word.strip_prefix(b"0x")
 }
