@@ -55,8 +55,12 @@ FACTS = [
     ('the word of a key of marks', r'(?:=>|==) b?"(?:hook|maps|format)"', {'bq_program/src/mark.rt'}),
     ('how near a misspelling is', r'levenshtein', {'bq_words/src/near.rt'}),
     ('which words are numbers', r'\bparse::<[iu]|from_str_radix', set()),
-    ('the mark of hex digits', r'strip_prefix\(b?"0x"\)', {'bq_words/src/numbers.rt', 'bq_timeline/src/faults.rt'}),
-    ('which processors a mask has', r'>> \w+\) % 2 == 1', {'bq_disc/src/mask.rt', 'bq_hooks/src/own_choice.rt'}),
+    ('the mark of hex digits', r'strip_prefix\(b?"0x"\)', {'bq_words/src/numbers.rt'}),
+    ('which processors a mask has', r'>> \w+\) % 2 == 1', {'bq_disc/src/mask.rt'}),
+    ('from which to which nice values are, in words', r'-20 to 19', {'bq_weights/src/lib.rt'}),
+    ('which numbers processors and counters have, in words', r'\b0 to 63\b', {'bq_disc/src/limits.rt', 'bq_bpf/src/board.rt'}),
+    ('how many slots a program has at most, in words', r'\b4096 slots\b', {'bq_policy_commands/src/image_words.rt'}),
+    ('the size of the stack, in words', r'\b512 bytes\b', {'bq_bpf/src/addresses.rt'}),
     ('the three decimals of thousandths', r'/ 100 % 10\b', {'bq_forms/src/amounts.rt'}),
     ('which shapes maps have', r'8 to 256|\b1 to 256|\b(?:at most|more than|has) 8\b', {'bq_bpf/src/shape.rt'}),
     ('what a wrong hook or version is said to be', r'no such (?:hook|format)|is no hook|is no format|hooks are|formats are', {'bq_bpf/src/hook.rt'}),
@@ -69,7 +73,7 @@ FACTS = [
 DEFINED = [
     ('the order by time and id', r'nat_lt (\S+) (\S+) \|\| \(\1 == \2 && nat_lt', {'bq_disc/specs/Tasks.antt'}),
     ('which discipline a rule names', r'\bCfs = cfs\b', {'bq_trace/specs/Machines.antt'}),
-    ('which processors a mask has', r'/ 2 \^ \w+ % 2 == 1', {'bq_disc/specs/Masks.antt', 'bq_hooks/specs/OwnPlace.antt'}),
+    ('which processors a mask has', r'/ 2 \^ \w+ % 2 == 1', {'bq_disc/specs/Masks.antt'}),
     ('which words are numbers', r'codes "0x"|IsNumeral 10', {'bq_words/specs/Numbers.antt'}),
     ('which numbers are nice values', r'negsuc 19\b', {'bq_weights/specs/VirtualTime.antt'}),
 ]

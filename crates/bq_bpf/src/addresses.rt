@@ -9,6 +9,14 @@ pub const STACK_BASE: u64 = 0x2_0000_0000;
 /// How many bytes the stack has.
 pub const STACK_SIZE: u64 = 512;
 
+/// A text with the size of the stack, in bytes, in it.
+#[macro_export]
+macro_rules! with_stack_size {
+    ($before:literal, $behind:literal) => {
+        concat!($before, "512", $behind)
+    };
+}
+
 /// The first address of the values of map 0.
 pub const VALUES_BASE: u64 = 0x10_0000_0000;
 

@@ -3,6 +3,17 @@
 /// How many processors there may be: numbers are 0 to 63, the bits of a mask.
 pub const PROCESSORS: u8 = 64;
 
+/// A text with the numbers of processors in it.
+#[macro_export]
+macro_rules! with_processors {
+    ($before:literal, $behind:literal) => {
+        concat!($before, "0 to 63", $behind)
+    };
+}
+
+/// The number of the last of so many processors.
+pub const LAST_PROCESSOR: u8 = PROCESSORS - 1;
+
 /// How many tasks there may be: ids are 0 to 1023.
 pub const TASKS: u16 = 1024;
 

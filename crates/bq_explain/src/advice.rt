@@ -1,6 +1,6 @@
 //! What helps against each cause, in one sentence.
 use crate::with_helpers;
-use bq_bpf::{Hook, Version, context_length};
+use bq_bpf::{Hook, Version, context_length, with_stack_size};
 use bq_insn::{Insn, Size};
 use bq_needs::reads;
 use bq_program::PolicySource;
@@ -81,7 +81,7 @@ fn access_advice(policy: &PolicySource, view: &AbstractState, insn: Insn) -> &'s
     match pointer.kind {
         Kind::Context => context_advice(policy, pointer, insn),
         Kind::Stack => {
-            "write the bytes first on each way, at the same distance from r10; the stack is the 512 bytes below r10"
+            with_stack_size!("write the bytes first on each way, at the same distance from r10; the stack is the ", " bytes below r10")
         }
         Kind::Entry(_) => "a smaller offset or mask, or a map of larger values",
         Kind::EntryOrNull(_) => {

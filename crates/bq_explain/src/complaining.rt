@@ -7,6 +7,7 @@ ghost use Rattle.bq_explain.specs.Complaints.{ComplainsOf, NamesLine, line_words
 use crate::forms::form_of;
 use crate::vocabulary::{is_word, nearest};
 use bq_asm::{AsmFault, Cause, assemble};
+use bq_insn::SLOTS;
 use std::alloc::{AllocError, Global};
 
 /// One line on what is wrong with the text, by the number of the line at fault; None exactly where the assembler takes it.
@@ -72,7 +73,7 @@ fn reason(alloc: Global, line: &str, cause: Cause) -> Result<String, AllocError>
                 "\"{said}\" jumps to a label that is set nowhere; a label is set by a line of its own, as end:"
             )
         }
-        Cause::Slots => String::from_str(alloc, "the program has more than 4096 slots"),
+        Cause::Slots => format!(in alloc; "the program has more than {SLOTS} slots"),
     }
 }
 

@@ -1,5 +1,6 @@
 //! Why a program cannot be brought into order.
 
+use bq_insn::SLOTS;
 use std::alloc::{AllocError, AllocFailed};
 use thiserror::Error;
 
@@ -16,7 +17,7 @@ pub enum Disorder {
     #[error("slots {from} and {to}: a loop, by the jump from {from} to {to}; unroll it")]
     Loop { from: usize, to: usize },
     /// The copies take more than 4096 slots. A program of fewer than 64 slots has no such fault.
-    #[error("the program takes more than 4096 slots once every jump goes forward; make it shorter")]
+    #[error("the program takes more than {most} slots once every jump goes forward; make it shorter", most = SLOTS)]
     Long,
     /// A growth was refused.
     #[error("out of memory")]

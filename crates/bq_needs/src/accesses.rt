@@ -6,7 +6,7 @@ ghost use Rattle.bq_needs.specs.Accesses.{AreSet, Follows, GoesBeyond, IsMoved, 
 use crate::known::{kind_text, known_text};
 use crate::operands::Access;
 use bq_bpf::addresses::STACK_SIZE;
-use bq_bpf::context_length;
+use bq_bpf::{context_length, with_stack_size};
 use bq_program::PolicySource;
 use bq_ranges::Range;
 use bq_states::abstract_state::{AbstractState, AbstractValue, Kind};
@@ -241,7 +241,7 @@ pub(crate) fn lack_text(
         ),
         Lack::WritesContext => String::from_str(alloc, "the context is only read"),
         Lack::BeyondContext => context_text(alloc, policy),
-        Lack::BeyondStack => String::from_str(alloc, "the stack has the 512 bytes below r10"),
+        Lack::BeyondStack => String::from_str(alloc, with_stack_size!("the stack has the ", " bytes below r10")),
         Lack::ReadsUnset => String::from_str(
             alloc,
             "not all of these bytes were written before, on each way that leads here",

@@ -10,6 +10,7 @@ use crate::known::known_text;
 use crate::operands::Access;
 use bq_bpf::board::COUNTERS;
 use bq_bpf::helper::{ADD_COUNTER, LOOKUP, READ_COUNTER, UPDATE};
+use bq_bpf::with_counters;
 use bq_insn::Insn;
 use bq_program::PolicySource;
 use bq_states::abstract_state::{AbstractState, Kind};
@@ -141,8 +142,8 @@ fn wanted_text(wanted: Wanted) -> &'static str
         Wanted::Update => {
             "helper 2 writes an entry: r1 is a map by ldmap, r2 points to 4 written bytes with the entry's number, r3 to as many written bytes as a value has, r4 is 0"
         }
-        Wanted::Add => "helper 100 adds to a counter: r1 is its number, 0 to 63, and r2 the amount",
-        Wanted::Read => "helper 101 reads a counter: r1 is its number, 0 to 63",
+        Wanted::Add => with_counters!("helper 100 adds to a counter: r1 is its number, ", ", and r2 the amount"),
+        Wanted::Read => with_counters!("helper 101 reads a counter: r1 is its number, ", ""),
     }
 }
 

@@ -7,7 +7,7 @@ ghost use Rattle.bq_one_run.specs.Naming.{NamesCounter, SetsCounter, TextsInTurn
 use crate::faults::refused;
 use crate::inputs::Inputs;
 use bq_bpf::board::COUNTERS;
-use bq_bpf::{Board, Plain};
+use bq_bpf::{Board, Plain, with_counters};
 use bq_console::WordsFault;
 use bq_console::words::{cut, decimal, value};
 use std::alloc::Global;
@@ -42,7 +42,7 @@ impl Inputs {
             return Err(refused(alloc, "counter", text, flaw_of(text)));
         };
         if number >= COUNTERS {
-            return Err(refused(alloc, "counter", text, "there are the counters 0 to 63"));
+            return Err(refused(alloc, "counter", text, with_counters!("there are the counters ", "")));
         }
         set(&mut self.board, number as u8, word);
         Ok(())

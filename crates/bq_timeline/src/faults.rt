@@ -5,6 +5,7 @@ ghost use Rattle.std.specs.List.{list_all};
 
 use bq_bpf::board::COUNTERS;
 use bq_bpf::hook::NO_HOOK;
+use bq_bpf::with_counters;
 use bq_core::Hook;
 use bq_lines::words::is_allowed_line;
 use bq_lines::{Keyword, numbers};
@@ -93,7 +94,7 @@ impl Kind {
             Kind::Slice => "does not fit a slice (0 to 2^64 - 1)",
             Kind::Hook => NO_HOOK,
             Kind::Image => "is no image",
-            Kind::Counter => "does not fit a counter's number (0 to 63)",
+            Kind::Counter => with_counters!("does not fit a counter's number (", ")"),
         }
     }
 }

@@ -6,6 +6,7 @@ ghost use Rattle.bq_timeline.specs.declared.settings.SettingsFault.TheVariants.{
 
 use crate::form_names::FormName;
 use crate::{numbers, with_forms};
+use bq_disc::limits::LAST_PROCESSOR;
 use bq_forms::Window;
 use bq_lines::processor_sets::processors;
 use std::alloc::{AllocError, Global};
@@ -62,7 +63,7 @@ pub enum SettingsFault {
     #[error("--from is after --to: nothing lies between them")]
     Backwards,
     /// These are no processors.
-    #[error("--cpus: processors are numbers from 0 to 63 and ranges, as 0-3 or 0,2")]
+    #[error("--cpus: processors are numbers from 0 to {last} and ranges, as 0-3 or 0,2", last = LAST_PROCESSOR)]
     Processors,
     /// These are no tasks.
     #[error("--tasks: tasks are numbers from 0 to 65535 and ranges, as 1-3 or 1,4")]

@@ -19,6 +19,14 @@ pub const LEAST_NICE: i64 = -20;
 /// The greatest nice value, which has the least weight.
 pub const GREATEST_NICE: i64 = 19;
 
+/// A text with the least and the greatest nice value in it.
+#[macro_export]
+macro_rules! with_nice_values {
+    ($before:literal, $behind:literal) => {
+        concat!($before, "-20 to 19", $behind)
+    };
+}
+
 static WEIGHTS: [u32; 40] = [
     88761, 71755, 56483, 46273, 36291, 29154, 23254, 18705, 14949, 11916, 9548, 7620, 6100, 4904,
     3906, 3121, 2501, 1991, 1586, 1277, 1024, 820, 655, 526, 423, 335, 272, 215, 172, 137, 110, 87,

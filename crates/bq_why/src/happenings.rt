@@ -2,6 +2,7 @@
 
 use bq_core::{Event, Refusal};
 use bq_lines::Keyword;
+use bq_weights::with_nice_values;
 use std::fmt;
 
 /// An event, as the trace names it, without its time.
@@ -68,7 +69,7 @@ fn reason(refusal: Refusal) -> &'static str {
         Refusal::NotBlocked => "the task does not sleep",
         Refusal::TaskExists => "the task is admitted already",
         Refusal::EmptyMask => "the mask has no processor of the machine",
-        Refusal::Nice => "a nice value is from -20 to 19",
+        Refusal::Nice => with_nice_values!("a nice value is from ", ""),
         Refusal::Slice => "a slice is from 100000 to 100000000 ns",
         Refusal::Idle => "nothing runs there",
         Refusal::SameProcessor => "a processor does not pull from itself",

@@ -4,7 +4,9 @@ use crate::duration;
 use crate::fields::span;
 use crate::tables::only;
 use bq_actions::limits::LONGEST;
+use bq_disc::with_processors;
 use bq_lines::numbers::NO_SIZE;
+use bq_weights::with_nice_values;
 use std::fmt;
 use toml::{Table, Value};
 
@@ -225,11 +227,11 @@ fn no_time<W: fmt::Write>(f: &mut fmt::Formatter<W>, value: &Value, range: &Rang
 /// What a value is not, where the words are always the same.
 fn described(wanted: &Wanted) -> &'static str {
     match wanted {
-        Wanted::Nice => "is no nice value (a whole number from -20 to 19)",
+        Wanted::Nice => with_nice_values!("is no nice value (a whole number from ", ")"),
         Wanted::Rule => "is no discipline (\"cfs\" or \"eevdf\")",
         Wanted::Size => NO_SIZE,
         Wanted::Processors =>
-            "is no list of processors (numbers from 0 to 63 and ranges, as \"0-2,5\")",
+            with_processors!("is no list of processors (numbers from ", " and ranges, as \"0-2,5\")"),
         Wanted::Name => "is no name (a text with something in it)",
         Wanted::True => "is not true, which is all that it takes",
         Wanted::Action =>
