@@ -1,19 +1,51 @@
 -- Steps of the world, from what the code computes.
-use Rattle.std.proofs.Common.{◌≡◌, ℕ, ◌<◌, ◌++◌, false, List, [], length, take, drop, Option, Some, None, refl, ap, ◌∙◌, append-nil, arith, inl}
+use Rattle.std.proofs.Common.{◌≡◌, ℕ, ◌<◌, ◌++◌, false, List, [], length, get_or, take, drop, Option, Some, None, refl, ap, sym, ◌∙◌, append-nil, arith, inl}
 use Rattle.std.specs.Prelude.{Err, nat_le, is_none}
 use Rattle.std.specs.Option.{option_map}
 use Rattle.std.proofs.lemmas.Bool.Decides.{nat_tests}
-use Rattle.std.proofs.lemmas.List.{drop_all, take_all}
+use Rattle.std.proofs.lemmas.List.{drop_all, get_or_read, take_all}
 use Rattle.bq_disc.specs.Tasks.{Task}
 use Rattle.bq_disc.specs.Discipline.{Discipline}
 use Rattle.bq_parts.specs.declared.event.Event.TheVariants.{Block}
 use Rattle.bq_parts.specs.declared.refusal.Refusal.TheVariants as no
 use Rattle.bq_parts.specs.declared.lobby_entry.LobbyEntry.{LobbyEntry}
-use Rattle.bq_parts.specs.Processors.{Processor}
-use Rattle.bq_parts.specs.World.{World, processor, count_in, with_processor, with_inbox, with_lobby}
+use Rattle.bq_parts.specs.Processors.{Processor, opening}
+use Rattle.bq_parts.specs.World.{World, processor, inbox, count_in, with_processor, with_inbox, with_lobby}
 use Rattle.bq_parts.specs.Choices.{policies}
 use Rattle.bq_parts.specs.Shares.{after_time}
 use Rattle.bq_parts.specs.Steps.{WorldStep}
+
+-- what is borrowed of the parts of a world, which are v
+module _ {v w : World} (view : v ≡ w) where
+  -- a processor's number is in range of the parts
+  pub in_range : {i cpu len : ℕ} → i ≡ cpu → len ≡ length v.processors → cpu < count_in w → i < len
+  in_range e f h = rw (e, f, ap (λ (u : World). length u.processors) view) h
+
+  -- a number of the parts' processors is that of the world's
+  pub counted : {n : ℕ} → n ≡ length v.processors → n ≡ count_in w
+  counted e = e ∙ ap (λ (u : World). length u.processors) view
+
+  -- the processors that were lent
+  pub lent : {ps : List Processor} → ps ≡ v.processors → ps ≡ w.processors
+  lent e = e ∙ ap (λ (u : World). u.processors) view
+
+  -- the processor that was borrowed by its number
+  pub borrowed : {i cpu : ℕ} {p : Processor} → i ≡ cpu → cpu < count_in w → p ≡ get_or v.processors i p → p ≡ processor w cpu
+  borrowed {i} {cpu} {p} e inside at =
+      get_or_read w.processors cpu p inside (at ∙ ap (λ (u : World). get_or u.processors i p) view ∙ ap (λ (n : ℕ). get_or w.processors n p) e) opening
+
+  -- an inbox is there where the processor is
+  pub inbox_there : {to : ℕ} → length v.processors ≡ length v.inboxes → to < count_in w → to < length w.inboxes
+  inbox_there same h = rw (sym (ap (λ (u : World). length u.inboxes) view) ∙ sym same ∙ ap (λ (u : World). length u.processors) view) h
+
+  -- and the inbox that was borrowed by its number
+  pub borrowed_inbox : {i to : ℕ} {xs : List Task} → i ≡ to → to < length w.inboxes → xs ≡ get_or v.inboxes i xs → xs ≡ inbox w to
+  borrowed_inbox {i} {to} {xs} e inside at =
+      get_or_read w.inboxes to xs inside (at ∙ ap (λ (u : World). get_or u.inboxes i xs) view ∙ ap (λ (n : ℕ). get_or w.inboxes n xs) e) []
+
+  -- the lobby has an entry for each id
+  pub lobby_whole : length v.lobby ≡ 1024 → length w.lobby ≡ 1024
+  lobby_whole h = ap (λ (u : World). length u.lobby) (sym view) ∙ h
 
 -- a processor's number that is in range is not refused
 pub within : (w : World) (cpu : ℕ) → cpu < count_in w → nat_le (count_in w) cpu ≡ false

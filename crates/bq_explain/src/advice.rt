@@ -81,7 +81,10 @@ fn access_advice(policy: &PolicySource, view: &AbstractState, insn: Insn) -> &'s
     match pointer.kind {
         Kind::Context => context_advice(policy, pointer, insn),
         Kind::Stack => {
-            with_stack_size!("write the bytes first on each way, at the same distance from r10; the stack is the ", " bytes below r10")
+            with_stack_size!(
+                "write the bytes first on each way, at the same distance from r10; the stack is the ",
+                " bytes below r10"
+            )
         }
         Kind::Entry(_) => "a smaller offset or mask, or a map of larger values",
         Kind::EntryOrNull(_) => {

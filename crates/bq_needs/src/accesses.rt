@@ -241,7 +241,10 @@ pub(crate) fn lack_text(
         ),
         Lack::WritesContext => String::from_str(alloc, "the context is only read"),
         Lack::BeyondContext => context_text(alloc, policy),
-        Lack::BeyondStack => String::from_str(alloc, with_stack_size!("the stack has the ", " bytes below r10")),
+        Lack::BeyondStack => String::from_str(
+            alloc,
+            with_stack_size!("the stack has the ", " bytes below r10"),
+        ),
         Lack::ReadsUnset => String::from_str(
             alloc,
             "not all of these bytes were written before, on each way that leads here",

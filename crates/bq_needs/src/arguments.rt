@@ -142,7 +142,10 @@ fn wanted_text(wanted: Wanted) -> &'static str
         Wanted::Update => {
             "helper 2 writes an entry: r1 is a map by ldmap, r2 points to 4 written bytes with the entry's number, r3 to as many written bytes as a value has, r4 is 0"
         }
-        Wanted::Add => with_counters!("helper 100 adds to a counter: r1 is its number, ", ", and r2 the amount"),
+        Wanted::Add => with_counters!(
+            "helper 100 adds to a counter: r1 is its number, ",
+            ", and r2 the amount"
+        ),
         Wanted::Read => with_counters!("helper 101 reads a counter: r1 is its number, ", ""),
     }
 }

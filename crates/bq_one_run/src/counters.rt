@@ -42,7 +42,12 @@ impl Inputs {
             return Err(refused(alloc, "counter", text, flaw_of(text)));
         };
         if number >= COUNTERS {
-            return Err(refused(alloc, "counter", text, with_counters!("there are the counters ", "")));
+            return Err(refused(
+                alloc,
+                "counter",
+                text,
+                with_counters!("there are the counters ", ""),
+            ));
         }
         set(&mut self.board, number as u8, word);
         Ok(())

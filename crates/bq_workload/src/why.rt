@@ -230,8 +230,10 @@ fn described(wanted: &Wanted) -> &'static str {
         Wanted::Nice => with_nice_values!("is no nice value (a whole number from ", ")"),
         Wanted::Rule => "is no discipline (\"cfs\" or \"eevdf\")",
         Wanted::Size => NO_SIZE,
-        Wanted::Processors =>
-            with_processors!("is no list of processors (numbers from ", " and ranges, as \"0-2,5\")"),
+        Wanted::Processors => with_processors!(
+            "is no list of processors (numbers from ",
+            " and ranges, as \"0-2,5\")"
+        ),
         Wanted::Name => "is no name (a text with something in it)",
         Wanted::True => "is not true, which is all that it takes",
         Wanted::Action =>

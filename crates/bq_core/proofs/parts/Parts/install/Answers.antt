@@ -1,6 +1,6 @@
-use Rattle.std.proofs.Common.{◌≡◌, ℕ, ◌<◌, [], Option, None, refl, sym, ap, subst, ◌∙◌, inr, length}
+use Rattle.std.proofs.Common.{◌≡◌, ℕ, [], Option, None, refl, sym, ap, subst, ◌∙◌, inr}
 use Rattle.std.specs.Prelude.{Result}
-use Rattle.std.proofs.lemmas.List.{get_or_read, length-set}
+use Rattle.std.proofs.lemmas.List.{length-set}
 use Rattle.bq_bpf.specs.declared.hook.Hook.{Hook}
 use Rattle.bq_disc.specs.Discipline.{Discipline}
 use Rattle.bq_verify.specs.Accepted.{Accepted}
@@ -9,23 +9,16 @@ use Rattle.bq_policies.specs.Attachments.{Attached, IsFor}
 use Rattle.bq_parts.specs.declared.event.Event.TheVariants.{Install}
 use Rattle.bq_parts.specs.declared.reply.Reply.{Reply}
 use Rattle.bq_parts.specs.declared.refusal.Refusal.{Refusal}
-use Rattle.bq_parts.specs.Processors.{Processor, opening}
+use Rattle.bq_parts.specs.Processors.{Processor}
 use Rattle.bq_parts.specs.World.{World, processor, count_in, with_processor}
 use Rattle.bq_parts.specs.Refusals.{argument_refusal}
 use Rattle.bq_parts.specs.Choices.{policies}
 use Rattle.bq_parts.specs.Shares.{Installs}
 use Rattle.bq_parts.specs.Steps.{WorldStep}
+use Rattle.bq_core.proofs.StepLemmas.{borrowed, in_range, write_back_processor}
 use Rattle.bq_core.proofs.InstallLemmas.{install_there, install_suits}
 use Rattle.bq_core.proofs.ShareStepLemmas.{installs_step}
 use Rattle.bq_core.proofs.parts.Parts.install.Goals as goal
-
--- a place that is in range of the list is in range of the vector
-in_range : (i cpu len n : ℕ) → i ≡ cpu → len ≡ n → cpu < n → i < len
-in_range i cpu len n e f h = rw (e, f) h
-
--- a processor that was written back
-write_back : (v w : World) (i cpu : ℕ) (q : Processor) → v ≡ w → i ≡ cpu → with_processor v i q ≡ with_processor w cpu q
-write_back v w i cpu q e f = rw (e, f) refl
 
 -- a processor's share of an Install is the world's step, where the parts are known by equations
 installs_at : (d : Discipline) (w w' : World) (cpu n drawn : ℕ) (h : Hook) (o : Option Accepted) (new : Attached) (r : Result Reply Refusal) (p q : Processor) → argument_refusal (count_in w) (Install cpu h n o) ≡ None →
@@ -38,11 +31,7 @@ pub returns-in_default : goal.returns-in_default
 returns-in_default g c = record { step = (refl, refl, inr (c.in_default.ensures.want, c.requires.fits, refl)) }
 
 pub index_mut-requires : goal.index_mut-requires
-index_mut-requires g c =
-    let w = c.args.self.now in
-    let items = ap (λ (v : World). v.processors) c.self.view_is in
-    let inside : c.args.processor < length c.self.inside.cpus.items = rw items (install_there (count_in w) c.args.processor c.args.generation c.args.hook c.args.policy c.requires.fits) in
-    in_range c.from.result c.args.processor _ _ c.from.ensures c.self.inside.cpus.ok.0 inside
+index_mut-requires g c = in_range c.self.view_is c.from.ensures c.self.inside.cpus.ok.0 (install_there (count_in c.args.self.now) c.args.processor c.args.generation c.args.hook c.args.policy c.requires.fits)
 
 pub replace-requires : goal.replace-requires
 replace-requires g c =
@@ -57,11 +46,8 @@ pub returns : goal.returns
 returns g c =
     let w = c.args.self.now in
     let cpu = c.args.processor in
-    let items = ap (λ (v : World). v.processors) c.self.view_is in
-    let inside : cpu < length c.self.inside.cpus.items = rw items (install_there (count_in w) cpu c.args.generation c.args.hook c.args.policy c.requires.fits) in
-    let at = rw c.from.ensures at c.index_mut.ensures.value in
-    let place : c.index_mut.result.now ≡ processor w cpu = rw items at (get_or_read c.self.inside.cpus.items cpu c.index_mut.result.now inside at opening) in
+    let place = borrowed c.self.view_is c.from.ensures (install_there (count_in w) cpu c.args.generation c.args.hook c.args.policy c.requires.fits) c.index_mut.ensures.value in
     let number = ap (λ (v : World). v.drawn) c.self.view_is in
     let step = installs_at g.Q.R.Discipline.discipline w _ cpu c.args.generation c.self.inside.drawn c.args.hook c.args.policy c.in-Ok.installed c.replace.result c.index_mut.result.now c.replace.new.self c.requires.fits c.in-Ok.ensures.installed number place c.replace.ensures.share
-    (write_back _ w _ cpu c.replace.new.self c.self.view_is c.from.ensures) in
+    (write_back_processor _ w _ cpu c.replace.new.self c.self.view_is c.from.ensures) in
     record { step = step }

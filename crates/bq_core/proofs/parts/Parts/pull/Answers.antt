@@ -1,35 +1,23 @@
-use Rattle.std.proofs.Common.{◌≡◌, length, ap, sym, ◌∙◌, arith}
-use Rattle.bq_parts.specs.World.{World}
+use Rattle.std.proofs.Common.{◌≡◌, length, ap, ◌∙◌, arith}
 use Rattle.bq_parts.proofs.OnceLemmas.{each_once_two, ids_two}
-use Rattle.bq_core.proofs.StepLemmas.{written_over, write_back_processors}
+use Rattle.bq_core.proofs.StepLemmas.{lent, lobby_whole, written_over, write_back_processors}
 use Rattle.bq_core.proofs.ShareStepLemmas.{pulls_at}
 use Rattle.bq_core.proofs.parts.Parts.pull.Goals as goal
 
 pub pull_between-requires-clause-once : goal.pull_between-requires-clause-once
-pull_between-requires-clause-once g c =
-    let w = c.args.self.now in
-    let cpus = c.as_mut_slice-cpus.ensures.value ∙ ap (λ (v : World). v.processors) c.self.view_is in
-    rw cpus (each_once_two w c.args.processor c.args.from c.requires.apart c.requires.orderly)
+pull_between-requires-clause-once g c = rw (lent c.self.view_is c.as_mut_slice-cpus.ensures.value) (each_once_two c.args.self.now c.args.processor c.args.from c.requires.apart c.requires.orderly)
 
 pub pull_between-requires-clause-ids : goal.pull_between-requires-clause-ids
-pull_between-requires-clause-ids g c =
-    let w = c.args.self.now in
-    let cpus = c.as_mut_slice-cpus.ensures.value ∙ ap (λ (v : World). v.processors) c.self.view_is in
-    let lobby : length w.lobby ≡ 1024 = ap (λ (v : World). length v.lobby) (sym c.self.view_is) ∙ c.self.invariant.2 in
-    rw cpus (ids_two w c.args.processor c.args.from lobby c.requires.orderly)
+pull_between-requires-clause-ids g c = rw (lent c.self.view_is c.as_mut_slice-cpus.ensures.value) (ids_two c.args.self.now c.args.processor c.args.from (lobby_whole c.self.view_is c.self.invariant.2) c.requires.orderly)
 
 pub pull_between-requires-clause-few : goal.pull_between-requires-clause-few
 pull_between-requires-clause-few g c = rw (ap length c.as_mut_slice-cpus.ensures.value ∙ c.self.invariant.0) c.self.invariant.1
 
 pub pull_between-requires-clause-inside : goal.pull_between-requires-clause-inside
-pull_between-requires-clause-inside g c =
-    let cpus = c.as_mut_slice-cpus.ensures.value ∙ ap (λ (v : World). v.processors) c.self.view_is in
-    rw cpus c.requires.inside
+pull_between-requires-clause-inside g c = rw (lent c.self.view_is c.as_mut_slice-cpus.ensures.value) c.requires.inside
 
 pub pull_between-requires-clause-inside_from : goal.pull_between-requires-clause-inside_from
-pull_between-requires-clause-inside_from g c =
-    let cpus = c.as_mut_slice-cpus.ensures.value ∙ ap (λ (v : World). v.processors) c.self.view_is in
-    rw cpus c.requires.inside_from
+pull_between-requires-clause-inside_from g c = rw (lent c.self.view_is c.as_mut_slice-cpus.ensures.value) c.requires.inside_from
 
 pub pull_between-requires-clause-apart : goal.pull_between-requires-clause-apart
 pull_between-requires-clause-apart g c = c.requires.apart
@@ -46,7 +34,7 @@ invariant_of-self g c =
 pub returns-clause-step : goal.returns-clause-step
 returns-clause-step g c =
     let w = c.args.self.now in
-    let cpus = c.as_mut_slice-cpus.ensures.value ∙ ap (λ (v : World). v.processors) c.self.view_is in
+    let cpus = lent c.self.view_is c.as_mut_slice-cpus.ensures.value in
     let long : c.self.inside.cpus.len ≡ length c.self.inside.cpus.items = omega arith in
     let same : length c.pull_between.new.cpus ≡ length c.self.inside.cpus.items = omega (arith, ap length c.as_mut_slice-cpus.ensures.value) in
     let share = c.pull_between.ensures.share in

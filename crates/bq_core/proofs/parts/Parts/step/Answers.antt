@@ -17,8 +17,8 @@ use Rattle.bq_core.proofs.OrderLemmas.{there, passed}
 use Rattle.bq_core.proofs.parts.Parts.step.Goals as goal
 
 -- where the test of the arguments found none, none of the event that it is is refused
-none_refused : (count n : ℕ) (e e' : Event) (r : Option Refusal) → r ≡ argument_refusal n e → r ≡ None → n ≡ count → e ≡ e' → argument_refusal count e' ≡ None
-none_refused count n e e' r f g h k = ap (λ (m : ℕ). argument_refusal m e') (sym h) ∙ ap (λ (x : Event). argument_refusal n x) (sym k) ∙ sym f ∙ g
+none_refused : {count n : ℕ} {e e' : Event} {r : Option Refusal} → r ≡ argument_refusal n e → r ≡ None → n ≡ count → e ≡ e' → argument_refusal count e' ≡ None
+none_refused {count} {n} {e} {e'} f g h k = ap (λ (m : ℕ). argument_refusal m e') (sym h) ∙ ap (λ (x : Event). argument_refusal n x) (sym k) ∙ sym f ∙ g
 
 -- where it found one, the world refuses the event so
 one_refused : (w : World) (e : Event) (n : ℕ) (o : Option Refusal) (r : Refusal) → o ≡ argument_refusal n e → o ≡ Some r → n ≡ count_in w → refusal w e ≡ Some r
@@ -67,8 +67,7 @@ pub admit-requires : goal.admit-requires
 admit-requires g c =
     let fits : FitsSigned w8 c.in-Admit.nice = search rules in
     let same = to_z-of_z w8 c.in-Admit.nice fits in
-    let none = none_refused (count_in c.args.self.now) c.processors.result c.args.event _ c.argument_refusal.result c.argument_refusal.ensures c.in_default.is c.processors.ensures.value c.in-Admit.is in
-    record { fits = subst (λ (n : ℤ). argument_refusal (count_in c.args.self.now) (Admit c.in-Admit.task n c.in-Admit.mask c.in-Admit.slice) ≡ None) (sym same) none }
+    record { fits = subst (λ (n : ℤ). argument_refusal (count_in c.args.self.now) (Admit c.in-Admit.task n c.in-Admit.mask c.in-Admit.slice) ≡ None) (sym same) (none_refused c.argument_refusal.ensures c.in_default.is c.processors.ensures.value c.in-Admit.is) }
 
 pub returns-in-Admit-clause-step : goal.returns-in-Admit-clause-step
 returns-in-Admit-clause-step g c =
@@ -81,9 +80,7 @@ pub returns-in-Admit-clause-board : goal.returns-in-Admit-clause-board
 returns-in-Admit-clause-board g c = none_asked g.B.Board.leads c.args.board.now c.clear.new.self c.clear.ensures
 
 pub retire-requires : goal.retire-requires
-retire-requires g c =
-    let none = none_refused (count_in c.args.self.now) c.processors.result c.args.event _ c.argument_refusal.result c.argument_refusal.ensures c.in_default.is c.processors.ensures.value c.in-Retire.is in
-    record { below = retires_entry (count_in c.args.self.now) c.in-Retire.task none }
+retire-requires g c = record { below = retires_entry (count_in c.args.self.now) c.in-Retire.task (none_refused c.argument_refusal.ensures c.in_default.is c.processors.ensures.value c.in-Retire.is) }
 
 pub returns-in-Retire-clause-step : goal.returns-in-Retire-clause-step
 returns-in-Retire-clause-step g c =
@@ -100,9 +97,7 @@ pub returns-in-Draw-clause-board : goal.returns-in-Draw-clause-board
 returns-in-Draw-clause-board g c = none_asked g.B.Board.leads c.args.board.now c.clear.new.self c.clear.ensures
 
 pub install-requires : goal.install-requires
-install-requires g c =
-    let none = none_refused (count_in c.args.self.now) c.processors.result c.args.event _ c.argument_refusal.result c.argument_refusal.ensures c.in_default.is c.processors.ensures.value c.in-Install.is in
-    record { fits = none }
+install-requires g c = record { fits = none_refused c.argument_refusal.ensures c.in_default.is c.processors.ensures.value c.in-Install.is }
 
 pub returns-in-Install-clause-step : goal.returns-in-Install-clause-step
 returns-in-Install-clause-step g c =
@@ -113,8 +108,7 @@ returns-in-Install-clause-board g c = none_asked g.B.Board.leads c.args.board.no
 
 pub begin_wake-requires : goal.begin_wake-requires
 begin_wake-requires g c =
-    let none = none_refused (count_in c.args.self.now) c.processors.result c.args.event _ c.argument_refusal.result c.argument_refusal.ensures c.in_default.is c.processors.ensures.value c.in-BeginWake.is in
-    let inside = begins_inside (count_in c.args.self.now) c.in-BeginWake.processor c.in-BeginWake.task none in
+    let inside = begins_inside (count_in c.args.self.now) c.in-BeginWake.processor c.in-BeginWake.task (none_refused c.argument_refusal.ensures c.in_default.is c.processors.ensures.value c.in-BeginWake.is) in
     record { orderly = c.requires.orderly; inside = inside.0; below = inside.1 }
 
 pub returns-in-BeginWake-clause-step : goal.returns-in-BeginWake-clause-step
@@ -125,9 +119,7 @@ pub returns-in-BeginWake-clause-board : goal.returns-in-BeginWake-clause-board
 returns-in-BeginWake-clause-board g c = none_asked g.B.Board.leads c.args.board.now c.clear.new.self c.clear.ensures
 
 pub end_wake-requires : goal.end_wake-requires
-end_wake-requires g c =
-    let none = none_refused (count_in c.args.self.now) c.processors.result c.args.event _ c.argument_refusal.result c.argument_refusal.ensures c.in_default.is c.processors.ensures.value c.in-EndWake.is in
-    record { orderly = c.requires.orderly; inside = (there (count_in c.args.self.now) c.in-EndWake.processor None none).0; unasked = c.clear.ensures }
+end_wake-requires g c = record { orderly = c.requires.orderly; inside = (there (count_in c.args.self.now) c.in-EndWake.processor None (none_refused c.argument_refusal.ensures c.in_default.is c.processors.ensures.value c.in-EndWake.is)).0; unasked = c.clear.ensures }
 
 pub returns-in-EndWake-clause-step : goal.returns-in-EndWake-clause-step
 returns-in-EndWake-clause-step g c = step_at (policies g.Q.R.Discipline.discipline) c.args.self.now c.end_wake.new.self c.args.event _ c.end_wake.new.scratch c.end_wake.result c.in-EndWake.is c.end_wake.ensures.step
@@ -136,9 +128,7 @@ pub returns-in-EndWake-clause-board : goal.returns-in-EndWake-clause-board
 returns-in-EndWake-clause-board g c = c.end_wake.ensures.board
 
 pub drain-requires : goal.drain-requires
-drain-requires g c =
-    let none = none_refused (count_in c.args.self.now) c.processors.result c.args.event _ c.argument_refusal.result c.argument_refusal.ensures c.in_default.is c.processors.ensures.value c.in-Drain.is in
-    record { orderly = c.requires.orderly; inside = (there (count_in c.args.self.now) c.in-Drain.processor None none).0; unasked = c.clear.ensures }
+drain-requires g c = record { orderly = c.requires.orderly; inside = (there (count_in c.args.self.now) c.in-Drain.processor None (none_refused c.argument_refusal.ensures c.in_default.is c.processors.ensures.value c.in-Drain.is)).0; unasked = c.clear.ensures }
 
 pub returns-in-Drain-clause-step : goal.returns-in-Drain-clause-step
 returns-in-Drain-clause-step g c = step_at (policies g.Q.R.Discipline.discipline) c.args.self.now c.drain.new.self c.args.event _ c.drain.new.scratch c.drain.result c.in-Drain.is c.drain.ensures.step
@@ -147,9 +137,7 @@ pub returns-in-Drain-clause-board : goal.returns-in-Drain-clause-board
 returns-in-Drain-clause-board g c = c.drain.ensures.board
 
 pub tick-requires : goal.tick-requires
-tick-requires g c =
-    let none = none_refused (count_in c.args.self.now) c.processors.result c.args.event _ c.argument_refusal.result c.argument_refusal.ensures c.in_default.is c.processors.ensures.value c.in-Tick.is in
-    record { orderly = c.requires.orderly; inside = (there (count_in c.args.self.now) c.in-Tick.processor None none).0; unasked = c.clear.ensures }
+tick-requires g c = record { orderly = c.requires.orderly; inside = (there (count_in c.args.self.now) c.in-Tick.processor None (none_refused c.argument_refusal.ensures c.in_default.is c.processors.ensures.value c.in-Tick.is)).0; unasked = c.clear.ensures }
 
 pub returns-in-Tick-clause-step : goal.returns-in-Tick-clause-step
 returns-in-Tick-clause-step g c = step_at (policies g.Q.R.Discipline.discipline) c.args.self.now c.tick.new.self c.args.event _ c.tick.new.scratch c.tick.result c.in-Tick.is c.tick.ensures.step
@@ -158,9 +146,7 @@ pub returns-in-Tick-clause-board : goal.returns-in-Tick-clause-board
 returns-in-Tick-clause-board g c = c.tick.ensures.board
 
 pub block-requires : goal.block-requires
-block-requires g c =
-    let none = none_refused (count_in c.args.self.now) c.processors.result c.args.event _ c.argument_refusal.result c.argument_refusal.ensures c.in_default.is c.processors.ensures.value c.in-Block.is in
-    record { orderly = c.requires.orderly; inside = (there (count_in c.args.self.now) c.in-Block.processor None none).0 }
+block-requires g c = record { orderly = c.requires.orderly; inside = (there (count_in c.args.self.now) c.in-Block.processor None (none_refused c.argument_refusal.ensures c.in_default.is c.processors.ensures.value c.in-Block.is)).0 }
 
 pub returns-in-Block-clause-step : goal.returns-in-Block-clause-step
 returns-in-Block-clause-step g c =
@@ -171,8 +157,7 @@ returns-in-Block-clause-board g c = none_asked g.B.Board.leads c.args.board.now 
 
 pub pull-requires : goal.pull-requires
 pull-requires g c =
-    let none = none_refused (count_in c.args.self.now) c.processors.result c.args.event _ c.argument_refusal.result c.argument_refusal.ensures c.in_default.is c.processors.ensures.value c.in-Pull.is in
-    let inside = pulls_inside (count_in c.args.self.now) c.in-Pull.processor c.in-Pull.from c.in-Pull.now none in
+    let inside = pulls_inside (count_in c.args.self.now) c.in-Pull.processor c.in-Pull.from c.in-Pull.now (none_refused c.argument_refusal.ensures c.in_default.is c.processors.ensures.value c.in-Pull.is) in
     record { orderly = c.requires.orderly; inside = inside.0; inside_from = inside.1; apart = inside.2; unasked = c.clear.ensures }
 
 pub returns-in-Pull-clause-step : goal.returns-in-Pull-clause-step
