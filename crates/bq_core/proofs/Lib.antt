@@ -1,3 +1,4 @@
+pub mod LoadLemmas
 pub mod SuitableTaskLemmas
 pub mod EachProcessorLemmas
 pub mod OnTheWayLemmas

@@ -1,26 +1,26 @@
 -- What hangs from a root that makes way for a node of its higher side, and how high that is.
-use Rattle.std.proofs.Common.{◌≡◌, ℕ, ◌+◌, ◌<◌, ◌≤◌, ◌^◌, max, List, ◌∷◌, ◌++◌, length, length-append, subst, sym, ap, ◌∙◌, append_assoc, arith}
+use Rattle.std.proofs.Common.{◌≡◌, ℕ, ◌+◌, ◌<◌, ◌≤◌, ◌^◌, max, List, Option, Box, Global, ◌∷◌, ◌++◌, length, length-append, subst, sym, ap, ◌∙◌, append_assoc, arith}
 use Rattle.bq_disc.specs.Tasks.{Task}
 use Rattle.bq_disc.specs.declared.node.Node.{Node, out-Node}
-use Rattle.bq_tree.specs.Trees.{Knowledge}
+use Rattle.bq_tree.specs.Trees.{Knowledge, in_order_behind}
 
 -- a left side in front of its root: the order as it hangs from the side's own root
-pub order_from_left : (all side a b c : List Task) (x y : Task) → all ≡ side ++ y ∷ c → side ≡ a ++ x ∷ b → all ≡ a ++ x ∷ (b ++ y ∷ c)
-order_from_left all side a b c x y e f =
-    e ∙ ap (λ l. l ++ y ∷ c) f ∙ append_assoc a (x ∷ b) (y ∷ c)
+pub order_from_left : (all a b c : List Task) (side top : Option (Box Node Global)) (x y : Task) → all ≡ in_order_behind side ++ y ∷ c → side ≡ top → in_order_behind top ≡ a ++ x ∷ b → all ≡ a ++ x ∷ (b ++ y ∷ c)
+order_from_left all a b c side top x y e is f =
+    e ∙ ap (λ l. l ++ y ∷ c) (ap in_order_behind is ∙ f) ∙ append_assoc a (x ∷ b) (y ∷ c)
 
 -- a right side behind its root, likewise
-pub order_from_right : (all side a b c : List Task) (x y : Task) → all ≡ a ++ x ∷ side → side ≡ b ++ y ∷ c → all ≡ a ++ x ∷ (b ++ y ∷ c)
-order_from_right all side a b c x y e f = e ∙ ap (λ l. a ++ x ∷ l) f
+pub order_from_right : (all a b c : List Task) (side top : Option (Box Node Global)) (x y : Task) → all ≡ a ++ x ∷ in_order_behind side → side ≡ top → in_order_behind top ≡ b ++ y ∷ c → all ≡ a ++ x ∷ (b ++ y ∷ c)
+order_from_right all a b c side top x y e is f = e ∙ ap (λ l. a ++ x ∷ l) (ap in_order_behind is ∙ f)
 
 -- of three lists with a task between each, the two first taken together
 pub order_of_left : (all a b c : List Task) (x y : Task) → all ≡ a ++ x ∷ (b ++ y ∷ c) → all ≡ (a ++ x ∷ b) ++ y ∷ c
 order_of_left all a b c x y e = e ∙ sym (append_assoc a (x ∷ b) (y ∷ c))
 
 -- what lies between two tasks, cut at a task of its own
-pub order_from_middle : (all mid a b c d : List Task) (x m y : Task) → all ≡ a ++ x ∷ (mid ++ y ∷ d) → mid ≡ b ++ m ∷ c → all ≡ (a ++ x ∷ b) ++ m ∷ (c ++ y ∷ d)
-order_from_middle all mid a b c d x m y e f =
-    e ∙ ap (λ l. a ++ x ∷ (l ++ y ∷ d)) f ∙ ap (λ l. a ++ x ∷ l) (append_assoc b (m ∷ c) (y ∷ d)) ∙ sym (append_assoc a (x ∷ b) (m ∷ (c ++ y ∷ d)))
+pub order_from_middle : (all a b c d : List Task) (side middle : Option (Box Node Global)) (x m y : Task) → all ≡ a ++ x ∷ (in_order_behind side ++ y ∷ d) → side ≡ middle → in_order_behind middle ≡ b ++ m ∷ c → all ≡ (a ++ x ∷ b) ++ m ∷ (c ++ y ∷ d)
+order_from_middle all a b c d side middle x m y e is f =
+    e ∙ ap (λ l. a ++ x ∷ (l ++ y ∷ d)) (ap in_order_behind is ∙ f) ∙ ap (λ l. a ++ x ∷ l) (append_assoc b (m ∷ c) (y ∷ d)) ∙ sym (append_assoc a (x ∷ b) (m ∷ (c ++ y ∷ d)))
 
 -- of three lists with a task between each, the two first have fewer tasks than all, and the two last too
 pub few_of_three : (all a b c : List Task) (x y : Task) → all ≡ a ++ x ∷ (b ++ y ∷ c) → length all ≤ 2 ^ 16 → (length a + length b < 2 ^ 16) × (length b + length c < 2 ^ 16)

@@ -143,8 +143,7 @@ fn turned_right<S: Summary>(root: Box<Node>) -> Box<Node>
     requires few { length (in_order root.value) ≤ 2 ^ 16 }
     ensures tree { IsTree S.knows result.value }
     ensures order { in_order result.value ≡ in_order root.value }
-    ensures not_lower { left_height root.value ≤ height_of result.value }
-    ensures at_most_one_higher { height_of result.value ≤ left_height root.value + 1 }
+    ensures height { (left_height root.value ≤ height_of result.value) × (height_of result.value ≤ left_height root.value + 1) }
 {
     let (left, root, right) = parted::<S>(root);
     let Some(top) = left else { unreachable!() };
@@ -170,8 +169,7 @@ fn turned_left<S: Summary>(root: Box<Node>) -> Box<Node>
     requires few { length (in_order root.value) ≤ 2 ^ 16 }
     ensures tree { IsTree S.knows result.value }
     ensures order { in_order result.value ≡ in_order root.value }
-    ensures not_lower { right_height root.value ≤ height_of result.value }
-    ensures at_most_one_higher { height_of result.value ≤ right_height root.value + 1 }
+    ensures height { (right_height root.value ≤ height_of result.value) × (height_of result.value ≤ right_height root.value + 1) }
 {
     let (left, root, right) = parted::<S>(root);
     let Some(top) = right else { unreachable!() };

@@ -1,6 +1,6 @@
 use Rattle.std.proofs.Common.{refl, ap, sym, ◌∙◌}
 use Rattle.bq_disc.specs.Chains.{task_of}
-use Rattle.bq_tree.specs.Trees.{in_order_behind, height_behind}
+use Rattle.bq_tree.specs.Trees.{height_behind}
 use Rattle.bq_tree.proofs.TurnLemmas.{order_from_left, order_from_middle, few_of_three, few_of_pairs, knows_same, same_around, higher_side, higher_inner, single_height, double_height}
 use Rattle.bq_tree.proofs.balance.turned_right.Goals as goal
 
@@ -10,33 +10,25 @@ unreachable-requires g c =
 
 pub fork-low-requires-clause-few : goal.fork-low-requires-clause-few
 fork-low-requires-clause-few g c =
-    let side = ap in_order_behind c.in-Some.is ∙ c.opened-outer.ensures.order in
-    let all = order_from_left _ _ _ _ _ _ _ c.parted-left.ensures.order side in
+    let all = order_from_left _ _ _ _ _ _ _ _ c.parted-left.ensures.order c.in-Some.is c.opened-outer.ensures.order in
     (few_of_three _ _ _ _ _ _ all c.requires.few).1
 
 pub crown-requires-clause-knows : goal.crown-requires-clause-knows
 crown-requires-clause-knows g c =
-    let side = ap in_order_behind c.in-Some.is ∙ c.opened-outer.ensures.order in
-    let all = order_from_left _ _ _ _ _ _ _ c.parted-left.ensures.order side in
+    let all = order_from_left _ _ _ _ _ _ _ _ c.parted-left.ensures.order c.in-Some.is c.opened-outer.ensures.order in
     let task = c.take_over.ensures.task ∙ ap task_of c.deref_mut.ensures.value in
     c.take_over.ensures.knows _ (knows_same g.S.Summary.knows _ _ _ _ c.parted-left.ensures.knows c.deref.ensures (same_around _ _ _ _ _ _ _ all task refl c.fork-low.ensures.order))
 
 pub returns-then-height-clause-order : goal.returns-then-height-clause-order
 returns-then-height-clause-order g c =
-    let side = ap in_order_behind c.in-Some.is ∙ c.opened-outer.ensures.order in
-    let all = order_from_left _ _ _ _ _ _ _ c.parted-left.ensures.order side in
+    let all = order_from_left _ _ _ _ _ _ _ _ c.parted-left.ensures.order c.in-Some.is c.opened-outer.ensures.order in
     let task = c.take_over.ensures.task ∙ ap task_of c.deref_mut.ensures.value in
     c.crown.ensures.order ∙ sym (same_around _ _ _ _ _ _ _ all task refl c.fork-low.ensures.order)
 
-pub returns-then-height-clause-not_lower : goal.returns-then-height-clause-not_lower
-returns-then-height-clause-not_lower g c =
+pub returns-then-height-clause-height : goal.returns-then-height-clause-height
+returns-then-height-clause-height g c =
     let top = sym (ap height_behind c.in-Some.is) ∙ c.parted-left.ensures.left_height in
-    (single_height _ _ _ _ _ _ _ _ _ _ c.requires.higher top c.parted-left.ensures.right_height c.opened-outer.ensures.height c.height.ensures c.height-2.ensures c.if-height.true c.opened-outer.ensures.balanced.0 c.fork-low.ensures.height c.crown.ensures.height).0
-
-pub returns-then-height-clause-at_most_one_higher : goal.returns-then-height-clause-at_most_one_higher
-returns-then-height-clause-at_most_one_higher g c =
-    let top = sym (ap height_behind c.in-Some.is) ∙ c.parted-left.ensures.left_height in
-    (single_height _ _ _ _ _ _ _ _ _ _ c.requires.higher top c.parted-left.ensures.right_height c.opened-outer.ensures.height c.height.ensures c.height-2.ensures c.if-height.true c.opened-outer.ensures.balanced.0 c.fork-low.ensures.height c.crown.ensures.height).1
+    single_height _ _ _ _ _ _ _ _ _ _ c.requires.higher top c.parted-left.ensures.right_height c.opened-outer.ensures.height c.height.ensures c.height-2.ensures c.if-height.true c.opened-outer.ensures.balanced.0 c.fork-low.ensures.height c.crown.ensures.height
 
 pub unreachable-requires-in_default-inner : goal.unreachable-requires-in_default-inner
 unreachable-requires-in_default-inner g c =
@@ -44,42 +36,32 @@ unreachable-requires-in_default-inner g c =
 
 pub fork-before-requires-clause-few : goal.fork-before-requires-clause-few
 fork-before-requires-clause-few g c =
-    let side = ap in_order_behind c.in-Some.is ∙ c.opened-outer.ensures.order in
-    let all = order_from_left _ _ _ _ _ _ _ c.parted-left.ensures.order side in
-    let cut = order_from_middle _ _ _ _ _ _ _ _ _ all (ap in_order_behind c.in-Some-inner.is ∙ c.opened-near.ensures.order) in
+    let all = order_from_left _ _ _ _ _ _ _ _ c.parted-left.ensures.order c.in-Some.is c.opened-outer.ensures.order in
+    let cut = order_from_middle _ _ _ _ _ _ _ _ _ _ all c.in-Some-inner.is c.opened-near.ensures.order in
     (few_of_pairs _ _ _ _ _ _ _ _ cut c.requires.few).0
 
 pub fork-after-requires-clause-few : goal.fork-after-requires-clause-few
 fork-after-requires-clause-few g c =
-    let side = ap in_order_behind c.in-Some.is ∙ c.opened-outer.ensures.order in
-    let all = order_from_left _ _ _ _ _ _ _ c.parted-left.ensures.order side in
-    let cut = order_from_middle _ _ _ _ _ _ _ _ _ all (ap in_order_behind c.in-Some-inner.is ∙ c.opened-near.ensures.order) in
+    let all = order_from_left _ _ _ _ _ _ _ _ c.parted-left.ensures.order c.in-Some.is c.opened-outer.ensures.order in
+    let cut = order_from_middle _ _ _ _ _ _ _ _ _ _ all c.in-Some-inner.is c.opened-near.ensures.order in
     (few_of_pairs _ _ _ _ _ _ _ _ cut c.requires.few).1
 
 pub crown-requires-2-clause-knows : goal.crown-requires-2-clause-knows
 crown-requires-2-clause-knows g c =
-    let side = ap in_order_behind c.in-Some.is ∙ c.opened-outer.ensures.order in
-    let all = order_from_left _ _ _ _ _ _ _ c.parted-left.ensures.order side in
-    let cut = order_from_middle _ _ _ _ _ _ _ _ _ all (ap in_order_behind c.in-Some-inner.is ∙ c.opened-near.ensures.order) in
+    let all = order_from_left _ _ _ _ _ _ _ _ c.parted-left.ensures.order c.in-Some.is c.opened-outer.ensures.order in
+    let cut = order_from_middle _ _ _ _ _ _ _ _ _ _ all c.in-Some-inner.is c.opened-near.ensures.order in
     let task = c.take_over-2.ensures.task ∙ ap task_of c.deref_mut-2.ensures.value in
     c.take_over-2.ensures.knows _ (knows_same g.S.Summary.knows _ _ _ _ c.parted-left.ensures.knows c.deref-2.ensures (same_around _ _ _ _ _ _ _ cut task c.fork-before.ensures.order c.fork-after.ensures.order))
 
 pub returns-clause-order : goal.returns-clause-order
 returns-clause-order g c =
-    let side = ap in_order_behind c.in-Some.is ∙ c.opened-outer.ensures.order in
-    let all = order_from_left _ _ _ _ _ _ _ c.parted-left.ensures.order side in
-    let cut = order_from_middle _ _ _ _ _ _ _ _ _ all (ap in_order_behind c.in-Some-inner.is ∙ c.opened-near.ensures.order) in
+    let all = order_from_left _ _ _ _ _ _ _ _ c.parted-left.ensures.order c.in-Some.is c.opened-outer.ensures.order in
+    let cut = order_from_middle _ _ _ _ _ _ _ _ _ _ all c.in-Some-inner.is c.opened-near.ensures.order in
     let task = c.take_over-2.ensures.task ∙ ap task_of c.deref_mut-2.ensures.value in
     c.crown-2.ensures.order ∙ sym (same_around _ _ _ _ _ _ _ cut task c.fork-before.ensures.order c.fork-after.ensures.order)
 
-pub returns-clause-not_lower : goal.returns-clause-not_lower
-returns-clause-not_lower g c =
+pub returns-clause-height : goal.returns-clause-height
+returns-clause-height g c =
     let top = sym (ap height_behind c.in-Some.is) ∙ c.parted-left.ensures.left_height in
     let inner = ap height_behind c.in-Some-inner.is ∙ c.opened-near.ensures.height in
-    (double_height _ _ _ _ _ _ _ _ _ _ _ _ _ c.requires.higher top c.parted-left.ensures.right_height c.opened-outer.ensures.height c.height.ensures c.height-2.ensures c.if-height.false c.opened-outer.ensures.balanced.1 inner c.fork-before.ensures.height c.fork-after.ensures.height c.crown-2.ensures.height).0
-
-pub returns-clause-at_most_one_higher : goal.returns-clause-at_most_one_higher
-returns-clause-at_most_one_higher g c =
-    let top = sym (ap height_behind c.in-Some.is) ∙ c.parted-left.ensures.left_height in
-    let inner = ap height_behind c.in-Some-inner.is ∙ c.opened-near.ensures.height in
-    (double_height _ _ _ _ _ _ _ _ _ _ _ _ _ c.requires.higher top c.parted-left.ensures.right_height c.opened-outer.ensures.height c.height.ensures c.height-2.ensures c.if-height.false c.opened-outer.ensures.balanced.1 inner c.fork-before.ensures.height c.fork-after.ensures.height c.crown-2.ensures.height).1
+    double_height _ _ _ _ _ _ _ _ _ _ _ _ _ c.requires.higher top c.parted-left.ensures.right_height c.opened-outer.ensures.height c.height.ensures c.height-2.ensures c.if-height.false c.opened-outer.ensures.balanced.1 inner c.fork-before.ensures.height c.fork-after.ensures.height c.crown-2.ensures.height
