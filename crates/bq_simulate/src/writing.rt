@@ -15,20 +15,7 @@ use std::alloc::{AllocError, Global};
 use std::fmt::Write;
 
 /// Adds the line that asks for an event, and a line feed. An install brings this image, or `none`; no other event brings one.
-///
-/// ```
-/// use bq_core::Event;
-/// use crate::write_event;
-///
-/// let pull = Event::Pull {
-///     processor: 1,
-///     from: 0,
-///     now: 2000,
-/// };
-/// let mut text = String::new(alloc);
-/// write_event(alloc, &mut text, &pull, None)?;
-/// assert_eq!(rt; text.as_str(), "pull 1 0 2000\n");
-/// ```
+/// `Event::Pull` with processor 1, from 0 and now 2000 adds `pull 1 0 2000`.
 pub fn write_event(
     alloc: Global,
     text: &mut String,

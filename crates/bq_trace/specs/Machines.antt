@@ -28,8 +28,8 @@ discipline_of Cfs = cfs
 discipline_of Eevdf = eevdf
 
 -- what the machine's world runs under
-abbrev pub setting_of : Rule → Regime
-setting_of rule = policies (discipline_of rule)
+abbrev pub regime_of : Rule → Regime
+regime_of rule = policies (discipline_of rule)
 
 -- a machine to which nothing has happened
 abbrev pub opening_machine : Rule → ProcessorCount → Driven

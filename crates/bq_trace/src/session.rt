@@ -27,7 +27,7 @@ use std::marker::Model;
 #[derive(Drop)]
 pub struct Session {
     alloc: Global,
-    standing: TracePosition,
+    position: TracePosition,
     /// The answers to one piece, kept for its memory alone.
     answers: String,
 }
@@ -37,7 +37,7 @@ impl Model for Session {
 
     ghost Value = { TracePosition };
 
-    ghost view = { λ s. s.standing };
+    ghost view = { λ s. s.position };
 }
 
 impl Session {
@@ -51,7 +51,7 @@ impl Session {
     {
         Session {
             alloc,
-            standing: TracePosition::new(alloc),
+            position: TracePosition::new(alloc),
             answers: String::new(alloc),
         }
     }
@@ -65,7 +65,7 @@ impl Session {
         ensures fault { IfErr result (λ e. IsWriteFault e (failures_of out.old) (failures_of out.new)) }
     {
         self.answers.clear();
-        self.standing.go_on(self.alloc, piece, &mut self.answers)?;
+        self.position.go_on(self.alloc, piece, &mut self.answers)?;
         out.write_text(self.answers.as_bytes())?;
         Ok(())
     }
@@ -97,9 +97,9 @@ impl Session {
         ensures fault { IfErr result (λ e. IsWriteFault e (failures_of out.old) (failures_of out.new)) }
     {
         self.answers.clear();
-        self.standing.end(self.alloc, &mut self.answers)?;
+        self.position.end(self.alloc, &mut self.answers)?;
         out.write_text(self.answers.as_bytes())?;
-        Ok(self.standing.progress.clean)
+        Ok(self.position.progress.clean)
     }
 
     /// Runs the last line, where no line feed ended it. True where no line of the trace was bad.

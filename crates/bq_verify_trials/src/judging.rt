@@ -12,17 +12,17 @@ use bq_verify::{Program, Refused, verify};
 use std::alloc::Global;
 use std::process::Abort;
 
-/// Where a program is judged: the shapes of its maps, its hook and its version.
+/// What a program is judged with: the shapes of its maps, its hook and its version.
 #[derive(Clone, Copy)]
-pub struct Place<'a> {
+pub struct Terms<'a> {
     pub shapes: &'a [MapShape],
     pub hook: Hook,
     pub version: Version,
 }
 
 /// The hook preempt, whose context has 56 bytes, beside these maps.
-pub fn preempt(shapes: &[MapShape]) -> Place<'_> {
-    Place {
+pub fn preempt(shapes: &[MapShape]) -> Terms<'_> {
+    Terms {
         shapes,
         hook: Hook::Preempt,
         version: Version::First,
@@ -51,14 +51,14 @@ fn verdict(
     rt: &impl Abort,
     alloc: Global,
     insns: Vec<Insn>,
-    place: &Place<'_>,
+    terms: &Terms<'_>,
 ) -> Result<u32, Refused> {
-    may_be_judged(rt, insns.as_slice(), place.shapes);
+    may_be_judged(rt, insns.as_slice(), terms.shapes);
     let program = Program {
         insns,
-        shapes: place.shapes.to_vec(alloc).expect(rt, "memory"),
-        hook: place.hook,
-        version: place.version,
+        shapes: terms.shapes.to_vec(alloc).expect(rt, "memory"),
+        hook: terms.hook,
+        version: terms.version,
     };
     let verified = verify(alloc, program)?;
     Ok(verified.budget())
@@ -79,34 +79,34 @@ pub fn are_answered(
     rt: &impl Abort,
     alloc: Global,
     insns: Vec<Insn>,
-    place: &Place<'_>,
+    terms: &Terms<'_>,
     answer: &str,
     text: &str,
 ) {
-    let verdict = verdict(rt, alloc, insns, place);
+    let verdict = verdict(rt, alloc, insns, terms);
     let told = told(rt, alloc, verdict);
     is_said(rt, told.as_str(), answer, text);
 }
 
 /// The program of a text has that answer.
-pub fn is_answered(rt: &impl Abort, alloc: Global, text: &str, place: &Place<'_>, answer: &str) {
+pub fn is_answered(rt: &impl Abort, alloc: Global, text: &str, terms: &Terms<'_>, answer: &str) {
     let insns = assemble(alloc, text).expect(rt, "a program");
-    are_answered(rt, alloc, insns, place, answer, text);
+    are_answered(rt, alloc, insns, terms, answer, text);
 }
 
 /// A trial's first line is the answer to the program that the others begin, with that end.
-fn is_tried(rt: &impl Abort, alloc: Global, place: &Place<'_>, trial: &str, end: &str) {
+fn is_tried(rt: &impl Abort, alloc: Global, terms: &Terms<'_>, trial: &str, end: &str) {
     let (answer, beginning) = trial.split_once('\n').expect(rt, "no answer");
     let text = format!(in alloc; "{beginning}\n{end}").expect(rt, "memory");
-    is_answered(rt, alloc, text.as_str(), place, answer);
+    is_answered(rt, alloc, text.as_str(), terms, answer);
 }
 
 /// Each program, of such a beginning and that end, has its answer beside these maps. Between the trials stand blank lines, and a trial's
 /// first line is the answer.
 pub fn expect(rt: &impl Abort, alloc: Global, shapes: &[MapShape], trials: &str, end: &str) {
-    let place = preempt(shapes);
+    let terms = preempt(shapes);
     for trial in trials.split("\n\n") {
-        is_tried(rt, alloc, &place, trial, end);
+        is_tried(rt, alloc, &terms, trial, end);
     }
 }
 

@@ -1,6 +1,6 @@
 //! Programs that are accepted, with their budgets, and programs that are refused, with slot and cause.
 
-use crate::judging::{Place, expect, is_answered, preempt, shape};
+use crate::judging::{Terms, expect, is_answered, preempt, shape};
 use bq_bpf::{Hook, Version};
 use std::alloc::{AllocError, Global};
 use std::process::Abort;
@@ -325,12 +325,12 @@ static VERSIONS: [(&str, Version, &str); 5] = [
 
 /// A program of the hook place has that answer.
 fn is_placed(rt: &impl Abort, alloc: Global, text: &str, version: Version, answer: &str) {
-    let place = Place {
+    let terms = Terms {
         shapes: &[],
         hook: Hook::Place,
         version,
     };
-    is_answered(rt, alloc, text, &place, answer);
+    is_answered(rt, alloc, text, &terms, answer);
 }
 
 #[test]
