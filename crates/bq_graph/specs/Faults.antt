@@ -1,10 +1,12 @@
 -- The faults that a program has by its control graph and by its single instructions, and which one is named.
-use Rattle.std.specs.Prelude.{Bool, true, false, ◌≡◌, ℕ, ◌+◌, ◌<◌, ◌≤◌, ℤ, pos, List, Option, Some, None, length, ◌||◌}
+use Rattle.std.specs.Prelude.{Bool, true, false, ◌≡◌, ℕ, ◌+◌, ◌<◌, ◌≤◌, ℤ, List, Option, Some, None, length, ◌||◌}
 use Rattle.std.specs.Ordering.{int_eq}
 use Rattle.bq_insn.specs.declared.Insn.{Insn}
 use Rattle.bq_insn.specs.declared.Insn.TheVariants.{Alu, MovSx, Neg, End, Load, Imm64, MapRef, Call}
 use Rattle.bq_insn.specs.Slots.{slots_of}
 use Rattle.bq_bpf.specs.Steps.{LeadsTo, instruction_at}
+use Rattle.bq_bpf.specs.Helpers.{number_of_helper}
+use Rattle.bq_bpf.specs.declared.helper.Helper.TheVariants.{Lookup, Update, Now, Processor, AddCounter, ReadCounter}
 use Rattle.bq_graph.specs.Edges.{distance_of, goes_on, IsStart}
 use Rattle.bq_graph.specs.Paths.{Path, CallsOnWay, asks_counter}
 use Rattle.bq_graph.specs.declared.cause.GraphCause.{GraphCause}
@@ -42,9 +44,11 @@ pub record WritesFrame (slots : List (Option Insn)) (slot : ℕ) : Type 0 where
   pub here : instruction_at slots slot ≡ Some insn
   pub writes : destination_of insn ≡ Some 10
 
--- the table of helpers
+-- whether a helper has that number
 abbrev pub is_helper : ℤ → Bool
-is_helper n = int_eq n (pos 1) || int_eq n (pos 2) || int_eq n (pos 5) || int_eq n (pos 8) || int_eq n (pos 100) || int_eq n (pos 101)
+is_helper n =
+    int_eq n (number_of_helper Lookup) || int_eq n (number_of_helper Update) || int_eq n (number_of_helper Now) || int_eq n (number_of_helper Processor)
+    || int_eq n (number_of_helper AddCounter) || int_eq n (number_of_helper ReadCounter)
 
 -- a call of a helper that is not in the table
 pub record CallsUnknown (slots : List (Option Insn)) (slot : ℕ) : Type 0 where

@@ -7,6 +7,8 @@ use Rattle.bq_transfer.specs.declared.doubt.Doubt.TheVariants.{Unset, Access, Po
 use Rattle.bq_verify.specs.declared.cause.Cause.{Cause}
 use Rattle.bq_verify.specs.declared.cause.Cause.TheVariants.{State}
 use Rattle.bq_bpf.specs.declared.shape.MapShape.{MapShape}
+use Rattle.bq_bpf.specs.Helpers.{number_of_helper}
+use Rattle.bq_bpf.specs.declared.helper.Helper.TheVariants.{Lookup, Update, AddCounter, ReadCounter}
 use Rattle.bq_states.specs.Certainty.{Exact, Pointer, Scalar, StandsAt}
 use Rattle.bq_states.specs.declared.abstract_state.Kind.TheVariants.{Number, Map}
 use Rattle.bq_states.specs.declared.abstract_state.AbstractValue.{AbstractValue}
@@ -58,10 +60,10 @@ IsCounter (Some k) = (k.kind ≡ Number) × (k.offset.hi < 64)
 
 -- the helper's number
 abbrev pub helper_of : Wanted → ℤ
-helper_of wanted.LookUp = pos 1
-helper_of wanted.Update = pos 2
-helper_of wanted.Add = pos 100
-helper_of wanted.Read = pos 101
+helper_of wanted.LookUp = number_of_helper Lookup
+helper_of wanted.Update = number_of_helper Update
+helper_of wanted.Add = number_of_helper AddCounter
+helper_of wanted.Read = number_of_helper ReadCounter
 
 -- the arguments are what the helper wants
 abbrev pub AreGiven : PolicySource → AbstractState → Wanted → Type 0

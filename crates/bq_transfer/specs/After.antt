@@ -11,6 +11,8 @@ use Rattle.bq_insn.specs.declared.Size.{Size}
 use Rattle.bq_insn.specs.declared.Source.TheVariants.{Imm, Reg}
 use Rattle.bq_insn.specs.declared.Width.TheVariants.{W64}
 use Rattle.bq_bpf.specs.Steps.{LeadsTo}
+use Rattle.bq_bpf.specs.Helpers.{number_of_helper}
+use Rattle.bq_bpf.specs.declared.helper.Helper.TheVariants.{Lookup}
 use Rattle.bq_graph.specs.Faults.{destination_of}
 use Rattle.bq_states.specs.Certainty.{Scalar, Exact, Pointer, NoPointer, StandsAt, Fact, Never, AtRegister, IsSetAt, IsPlainAt, Has}
 use Rattle.bq_states.specs.Told.{IsCertain}
@@ -24,7 +26,7 @@ GivesNumber (Alu w Mov dst (Imm i)) r = dst ≡ r
 GivesNumber (Alu w Mov dst (Reg src)) r = (dst ≡ r) × (src ≢ 10)
 GivesNumber (Alu w op dst src) r = ⊥
 GivesNumber (MapRef dst index) r = ⊥
-GivesNumber (Call helper) r = (r ≡ 0) × (helper ≢ pos 1)
+GivesNumber (Call helper) r = (r ≡ 0) × (helper ≢ number_of_helper Lookup)
 GivesNumber insn r = destination_of insn ≡ Some r
 
 -- a number in the register stays a number
@@ -64,7 +66,7 @@ abbrev pub GivesPointer : Kind → ℕ → ℕ → ℕ → Insn → ℕ → Abst
 GivesPointer kind o slot k (MapRef dst index) r view = (dst ≡ r) × (m : ℕ) × (index ≡ pos m) × (kind ≡ Map m) × (o ≡ 0)
 GivesPointer kind o slot k (Alu w Mov dst (Reg src)) r view = (dst ≡ r) × (src ≡ 10) × StandsAt (Pointer kind o) view 10
 GivesPointer kind o slot k (Alu w Add dst (Imm i)) r view = (dst ≡ r) × (base : ℕ) × StandsAt (Pointer kind base) view dst × (pos o ≡ (pos base +ℤ i))
-GivesPointer kind o slot k (Call helper) r view = (r ≡ 0) × (helper ≡ pos 1) × (m : ℕ) × (kind ≡ EntryOrNull m) × (o ≡ 0) × StandsAt (Pointer (Map m) 0) view 1
+GivesPointer kind o slot k (Call helper) r view = (r ≡ 0) × (helper ≡ number_of_helper Lookup) × (m : ℕ) × (kind ≡ EntryOrNull m) × (o ≡ 0) × StandsAt (Pointer (Map m) 0) view 1
 GivesPointer kind o slot k (Branch w c dst src off) r view =
     (dst ≡ r) × (m : ℕ) × (kind ≡ Entry m) × (o ≡ 0) × StandsAt (Pointer (EntryOrNull m) 0) view dst × IsFoundSide c off slot k
 GivesPointer kind o slot k insn r view = ⊥

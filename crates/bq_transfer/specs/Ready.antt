@@ -13,6 +13,8 @@ use Rattle.bq_insn.specs.declared.Source.{Source}
 use Rattle.bq_insn.specs.declared.Width.TheVariants.{W64}
 use Rattle.bq_insn.specs.declared.Width.{Width}
 use Rattle.bq_bpf.specs.declared.shape.MapShape.{MapShape}
+use Rattle.bq_bpf.specs.Helpers.{number_of_helper}
+use Rattle.bq_bpf.specs.declared.helper.Helper.TheVariants.{Lookup, Update, Now, Processor, AddCounter, ReadCounter}
 use Rattle.bq_graph.specs.Faults.{destination_of}
 use Rattle.bq_states.specs.Certainty.{Scalar, Pointer, StandsAt, IsSetAt, IsPlainAt, Has, IsScalarOperand}
 use Rattle.bq_states.specs.AbstractStates.{bound_of, size_of_shape}
@@ -129,7 +131,7 @@ IsReady shapes context view (Goto32 imm) = Unit {0}
 IsReady shapes context view (Branch w c dst src off) =
     (dst < 10) × ((StandsAt Scalar view dst × IsScalarOperand view src) ⊎ (IsNullCheck w c src × (m : ℕ) × StandsAt (Pointer (EntryOrNull m) 0) view dst))
 IsReady shapes context view (Call helper) =
-    ((helper ≡ pos 5) ⊎ (helper ≡ pos 8)) ⊎ ((helper ≡ pos 1) × (m : ℕ) × IsNamingEntry view m) ⊎ ((helper ≡ pos 2) × (m : ℕ) × IsUpdating shapes view m)
+    ((helper ≡ number_of_helper Now) ⊎ (helper ≡ number_of_helper Processor)) ⊎ ((helper ≡ number_of_helper Lookup) × (m : ℕ) × IsNamingEntry view m) ⊎ ((helper ≡ number_of_helper Update) × (m : ℕ) × IsUpdating shapes view m)
 IsReady shapes context view Exit = StandsAt Scalar view 0
 
 -- neither a jump nor an EXIT
@@ -146,9 +148,9 @@ WritesBelowFrame insn = (r : ℕ) → destination_of insn ≡ Some r → r < 10
 
 -- a call of a counter: register 1 is one of 64, and of an add register 2 is the amount
 abbrev pub IsAsking : AbstractState → ℤ → Type 0
-IsAsking view helper = IsAtMost 63 (slice_index_or view.registers 1 None) × (helper ≡ pos 100 → StandsAt Scalar view 2)
+IsAsking view helper = IsAtMost 63 (slice_index_or view.registers 1 None) × (helper ≡ number_of_helper AddCounter → StandsAt Scalar view 2)
 
 -- what a call of a counter needs
 abbrev pub IsReadyToAsk : AbstractState → Insn → Type 0
-IsReadyToAsk view (Call helper) = ((helper ≡ pos 100) ⊎ (helper ≡ pos 101)) × IsAsking view helper
+IsReadyToAsk view (Call helper) = ((helper ≡ number_of_helper AddCounter) ⊎ (helper ≡ number_of_helper ReadCounter)) × IsAsking view helper
 IsReadyToAsk view insn = ⊥

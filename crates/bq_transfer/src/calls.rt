@@ -117,8 +117,8 @@ pub fn call(
 /// A look-up: register 1 is the reference of a map, and register 2 points to the number of an entry.
 fn look_up(view: &mut AbstractState, shapes: &[MapShape], context: usize) -> Result<(), Doubt>
     requires context { context < 2 ^ 16 }
-    ensures transfers { OnOk result (Transfers shapes.now context (Insn.Call (pos 1)) view.old view.new) }
-    ensures doubts { IfErr result (λ doubt. MayDoubt doubt (Insn.Call (pos 1))) }
+    ensures transfers { OnOk result (Transfers shapes.now context (Insn.Call LOOKUP) view.old view.new) }
+    ensures doubts { IfErr result (λ doubt. MayDoubt doubt (Insn.Call LOOKUP)) }
     ensures accepts { (m : ℕ) → IsNamingEntry view.old m → IsOk result × IsCalled (Pointer (Kind.EntryOrNull m) 0) view.old view.new }
 {
     let Some(map) = map_of(view) else {
@@ -143,8 +143,8 @@ fn look_up(view: &mut AbstractState, shapes: &[MapShape], context: usize) -> Res
 /// An update: as a look-up, and register 3 points to a value, and register 4 is 0.
 fn update(view: &mut AbstractState, shapes: &[MapShape], context: usize) -> Result<(), Doubt>
     requires context { context < 2 ^ 16 }
-    ensures transfers { OnOk result (Transfers shapes.now context (Insn.Call (pos 2)) view.old view.new) }
-    ensures doubts { IfErr result (λ doubt. MayDoubt doubt (Insn.Call (pos 2))) }
+    ensures transfers { OnOk result (Transfers shapes.now context (Insn.Call UPDATE) view.old view.new) }
+    ensures doubts { IfErr result (λ doubt. MayDoubt doubt (Insn.Call UPDATE)) }
     ensures accepts { (m : ℕ) → IsUpdating shapes.now view.old m → IsOk result × IsAnswered view.old view.new }
 {
     let Some(map) = map_of(view) else {
@@ -200,7 +200,7 @@ pub fn answer(view: &mut AbstractState, offset: Range)
 
 /// The time.
 fn now(view: &mut AbstractState)
-    ensures transfers { (shapes : List MapShape) (context_length : ℕ) → Transfers shapes context_length (Insn.Call (pos 5)) view.old view.new }
+    ensures transfers { (shapes : List MapShape) (context_length : ℕ) → Transfers shapes context_length (Insn.Call NOW) view.old view.new }
     ensures answered { IsAnswered view.old view.new }
 {
     answer(view, Range::full(Width::W64));
@@ -208,7 +208,7 @@ fn now(view: &mut AbstractState)
 
 /// The number of the processor.
 fn processor(view: &mut AbstractState)
-    ensures transfers { (shapes : List MapShape) (context_length : ℕ) → Transfers shapes context_length (Insn.Call (pos 8)) view.old view.new }
+    ensures transfers { (shapes : List MapShape) (context_length : ℕ) → Transfers shapes context_length (Insn.Call PROCESSOR) view.old view.new }
     ensures answered { IsAnswered view.old view.new }
 {
     answer(view, Range::full(Width::W32));

@@ -1,6 +1,6 @@
 //! Calls of counters.
 
-ghost use Rattle.std.specs.Prelude.{◌<◌, pos, ◌≡◌, OnOk, IsOk, IfErr, ℤ};
+ghost use Rattle.std.specs.Prelude.{◌<◌, ◌≡◌, OnOk, IsOk, IfErr, ℤ};
 ghost use Rattle.bq_transfer.specs.Doubts.{MayDoubt};
 ghost use Rattle.bq_bpf.specs.Steps.{IsCounterCall};
 ghost use Rattle.bq_transfer.specs.Ready.{IsAsking};
@@ -10,7 +10,7 @@ ghost use Rattle.bq_transfer.specs.Transfers.{AsksFrom};
 use crate::calls::{answer, is_at_most};
 use crate::doubt::Doubt;
 use bq_bpf::board::COUNTERS;
-use bq_bpf::helper::ADD_COUNTER;
+use bq_bpf::helper::{ADD_COUNTER, READ_COUNTER};
 use bq_insn::{Insn, Width};
 use bq_ranges::Range;
 use bq_states::abstract_state::AbstractState;
@@ -20,8 +20,8 @@ const LAST: u64 = COUNTERS as u64 - 1;
 
 /// An add: register 1 is a counter, and register 2 an amount.
 fn add(view: &mut AbstractState) -> Result<(), Doubt>
-    ensures asks { OnOk result (AsksFrom (Insn.Call (pos 100)) view.old view.new) }
-    ensures accepts { IsAsking view.old (pos 100) → IsOk result × IsAnswered view.old view.new }
+    ensures asks { OnOk result (AsksFrom (Insn.Call ADD_COUNTER) view.old view.new) }
+    ensures accepts { IsAsking view.old ADD_COUNTER → IsOk result × IsAnswered view.old view.new }
     ensures doubts { IfErr result (λ doubt. (helper : ℤ) → MayDoubt doubt (Insn.Call helper)) }
 {
     if !is_at_most(view, 1, LAST) {
@@ -36,8 +36,8 @@ fn add(view: &mut AbstractState) -> Result<(), Doubt>
 
 /// A read: register 1 is a counter.
 fn read(view: &mut AbstractState) -> Result<(), Doubt>
-    ensures asks { OnOk result (AsksFrom (Insn.Call (pos 101)) view.old view.new) }
-    ensures accepts { IsAsking view.old (pos 101) → IsOk result × IsAnswered view.old view.new }
+    ensures asks { OnOk result (AsksFrom (Insn.Call READ_COUNTER) view.old view.new) }
+    ensures accepts { IsAsking view.old READ_COUNTER → IsOk result × IsAnswered view.old view.new }
     ensures doubts { IfErr result (λ doubt. (helper : ℤ) → MayDoubt doubt (Insn.Call helper)) }
 {
     if !is_at_most(view, 1, LAST) {

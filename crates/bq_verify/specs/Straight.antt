@@ -14,6 +14,8 @@ use Rattle.bq_insn.specs.Slots.{byte_count}
 use Rattle.bq_bpf.specs.Meaning.{word_of}
 use Rattle.bq_bpf.specs.declared.shape.MapShape.{MapShape}
 use Rattle.bq_bpf.specs.Steps.{instruction_at}
+use Rattle.bq_bpf.specs.Helpers.{number_of_helper}
+use Rattle.bq_bpf.specs.declared.helper.Helper.TheVariants.{Lookup, Update, Now, Processor, AddCounter, ReadCounter}
 use Rattle.bq_graph.specs.Edges.{IsEdge}
 use Rattle.bq_graph.specs.Paths.{IsPath, end_of}
 use Rattle.bq_graph.specs.Faults.{IsFaultless, destination_of}
@@ -43,7 +45,7 @@ writes r (Some (Alu w Mov dst (Imm i))) = dst == r
 writes r (Some (Alu w Mov dst (Reg src))) = (dst == r) && not (src == 10)
 writes r (Some (Alu w op dst src)) = false
 writes r (Some (MapRef dst index)) = false
-writes r (Some (Call helper)) = (r == 0) && not (int_eq helper (pos 1))
+writes r (Some (Call helper)) = (r == 0) && not (int_eq helper (number_of_helper Lookup))
 writes r (Some insn) = is_register (destination_of insn) r
 
 -- the instruction leaves a written register written: what arithmetic works on stays a number
@@ -125,7 +127,7 @@ abbrev pub MakesPointer : Kind → ℕ → ℕ → ℕ → ℕ → Option Insn �
 MakesPointer kind o r slot to (Some (MapRef dst index)) Was = (dst ≡ r) × (m : ℕ) × (index ≡ pos m) × (kind ≡ Map m) × (o ≡ 0)
 MakesPointer kind o r slot to (Some (Alu w Mov dst (Reg src))) Was = (dst ≡ r) × (src ≡ 10) × (kind ≡ Stack) × (o ≡ 512)
 MakesPointer kind o r slot to (Some (Alu w Add dst (Imm i))) Was = (dst ≡ r) × (base : ℕ) × Was kind base r × (pos o ≡ (pos base +ℤ i))
-MakesPointer kind o r slot to (Some (Call helper)) Was = (r ≡ 0) × (helper ≡ pos 1) × (m : ℕ) × (kind ≡ EntryOrNull m) × (o ≡ 0) × Was (Map m) 0 1
+MakesPointer kind o r slot to (Some (Call helper)) Was = (r ≡ 0) × (helper ≡ number_of_helper Lookup) × (m : ℕ) × (kind ≡ EntryOrNull m) × (o ≡ 0) × Was (Map m) 0 1
 MakesPointer kind o r slot to (Some (Branch w c dst src off)) Was = (dst ≡ r) × (m : ℕ) × (kind ≡ Entry m) × (o ≡ 0) × Was (EntryOrNull m) 0 r × IsFoundSide c off slot to
 MakesPointer kind o r slot to _ Was = ⊥
 
@@ -211,15 +213,15 @@ pub record IsCounting (slots : List (Option Insn)) (slot : ℕ) (helper : ℤ) :
   pub counter : ℕ
   pub loaded : IsLoaded slots slot 1 counter
   pub few : counter < 64
-  pub amount : helper ≡ pos 100 → IsWritten slots slot 2
+  pub amount : helper ≡ number_of_helper AddCounter → IsWritten slots slot 2
 
 -- a call: of the time or the processor's number, of a look-up, of an update, or of a counter
 abbrev pub IsGoodCall : List (Option Insn) → List MapShape → ℕ → ℤ → Type 0
 IsGoodCall slots shapes slot helper =
-    ((helper ≡ pos 5) ⊎ (helper ≡ pos 8))
-    ⊎ ((helper ≡ pos 1) × (map : ℕ) × IsNaming slots slot map)
-    ⊎ ((helper ≡ pos 2) × (map : ℕ) × IsGiving slots shapes slot map)
-    ⊎ (((helper ≡ pos 100) ⊎ (helper ≡ pos 101)) × IsCounting slots slot helper)
+    ((helper ≡ number_of_helper Now) ⊎ (helper ≡ number_of_helper Processor))
+    ⊎ ((helper ≡ number_of_helper Lookup) × (map : ℕ) × IsNaming slots slot map)
+    ⊎ ((helper ≡ number_of_helper Update) × (map : ℕ) × IsGiving slots shapes slot map)
+    ⊎ (((helper ≡ number_of_helper AddCounter) ⊎ (helper ≡ number_of_helper ReadCounter)) × IsCounting slots slot helper)
 
 -- what an instruction needs
 abbrev pub Needs : List (Option Insn) → List MapShape → ℕ → ℕ → Insn → Type 0
