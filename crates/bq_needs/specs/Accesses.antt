@@ -5,6 +5,7 @@ use Rattle.bq_bpf.specs.Steps.{address_of}
 use Rattle.bq_ranges.specs.Within.{Within}
 use Rattle.bq_ranges.specs.declared.range.Range.{Range}
 use Rattle.bq_bpf.specs.Hooks.{context_length_of, hook_word, version_number}
+use Rattle.bq_bpf.specs.Memory.{stack_size}
 use Rattle.bq_states.specs.AbstractStates.{bound_of, size_of_shape}
 use Rattle.bq_states.specs.declared.abstract_state.Kind.{Kind}
 use Rattle.bq_states.specs.declared.abstract_state.Kind.TheVariants as kind
@@ -75,8 +76,8 @@ Lacks p view a k lack.Answer = (map : ℕ) × (k.kind ≡ kind.EntryOrNull map)
 Lacks p view a k lack.Reference = (map : ℕ) × (k.kind ≡ kind.Map map)
 Lacks p view a k lack.WritesContext = (k.kind ≡ kind.Context) × (a.writes ≡ true)
 Lacks p view a k lack.BeyondContext = (k.kind ≡ kind.Context) × (a.writes ≡ false) × GoesBeyond a k.offset (context_of p)
-Lacks p view a k lack.BeyondStack = (k.kind ≡ kind.Stack) × GoesBeyond a k.offset 512
-Lacks p view a k lack.ReadsUnset = (k.kind ≡ kind.Stack) × (a.writes ≡ false) × Stays a k.offset 512 × TouchesUnset view a k.offset
+Lacks p view a k lack.BeyondStack = (k.kind ≡ kind.Stack) × GoesBeyond a k.offset stack_size
+Lacks p view a k lack.ReadsUnset = (k.kind ≡ kind.Stack) × (a.writes ≡ false) × Stays a k.offset stack_size × TouchesUnset view a k.offset
 Lacks p view a k (lack.BeyondValue map size) = (k.kind ≡ kind.Entry map) × (size_of_shape (slice_get p.shapes.items map) ≡ Some size) × GoesBeyond a k.offset size
 Lacks p view a k lack.InNoMap = (map : ℕ) × (k.kind ≡ kind.Entry map) × (size_of_shape (slice_get p.shapes.items map) ≡ None)
 

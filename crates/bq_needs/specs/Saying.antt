@@ -2,7 +2,7 @@
 use Rattle.std.specs.Prelude.{◌≡◌, ℕ, ◌+◌, ◌%◌, ◌^◌, ◌<◌, ◌≤◌, ◌⊎◌, List, [], ◌++◌, length, codes}
 use Rattle.std.specs.Fmt.{decimal}
 use Rattle.bq_bpf.specs.declared.shape.MapShape.{MapShape}
-use Rattle.bq_bpf.specs.Memory.{reference, context_base, stack_base}
+use Rattle.bq_bpf.specs.Memory.{reference, context_base, stack_base, stack_size}
 use Rattle.bq_states.specs.AbstractStates.{IsEntryBase}
 use Rattle.bq_needs.specs.Texts.{between}
 
@@ -18,7 +18,7 @@ pub data Says : List MapShape → List ℕ → ℕ → Type 0 where
   number : (shapes : List MapShape) (lo hi word : ℕ) → lo ≤ word → word ≤ hi → Says shapes (between lo hi) word
   context : (shapes : List MapShape) (text : List ℕ) (word : ℕ) → TellsPlace text context_base word → Says shapes (codes "context" ++ text) word
   stack_begin : (shapes : List MapShape) (text : List ℕ) (word : ℕ) → TellsPlace text stack_base word → Says shapes (codes "stack begin" ++ text) word
-  stack_end : (shapes : List MapShape) (text : List ℕ) (word : ℕ) → TellsPlace text (stack_base + 512) word → Says shapes (codes "stack end" ++ text) word
+  stack_end : (shapes : List MapShape) (text : List ℕ) (word : ℕ) → TellsPlace text (stack_base + stack_size) word → Says shapes (codes "stack end" ++ text) word
   entry : (shapes : List MapShape) (text : List ℕ) (map base word : ℕ) → IsEntryBase shapes map base → TellsPlace text base word → Says shapes (codes "entry of map " ++ (decimal map ++ text)) word
   entry_or_null : (shapes : List MapShape) (text : List ℕ) (map base word : ℕ) → (base ≡ 0) ⊎ IsEntryBase shapes map base → TellsPlace text base word → Says shapes (codes "entry of map " ++ (decimal map ++ (codes " or 0" ++ (text ++ codes ", not compared")))) word
   map_reference : (shapes : List MapShape) (text : List ℕ) (map word : ℕ) → map < length shapes → TellsPlace text (reference map) word → Says shapes (codes "map " ++ (decimal map ++ text)) word

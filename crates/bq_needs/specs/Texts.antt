@@ -1,6 +1,7 @@
 -- How what is known of a word is printed.
 use Rattle.std.specs.Prelude.{ℕ, ◌-◌, ◌^◌, ◌==◌, ◌&&◌, nat_lt, List, [], ◌++◌, codes, if◌then◌else◌}
 use Rattle.std.specs.Fmt.{decimal}
+use Rattle.bq_bpf.specs.Memory.{stack_size}
 use Rattle.bq_ranges.specs.declared.range.Range.{Range}
 use Rattle.bq_states.specs.declared.abstract_state.Kind.{Kind}
 use Rattle.bq_states.specs.declared.abstract_state.Kind.TheVariants.{Number, Context, Stack, Entry, EntryOrNull, Map}
@@ -23,11 +24,11 @@ abbrev pub offset_text : Range → List ℕ
 offset_text r =
     if r.hi == 0 then [] else if nat_lt r.lo (2 ^ 63) then codes " + " ++ range_text r else codes " - " ++ between (2 ^ 64 - r.lo) (2 ^ 64 - r.hi)
 
--- a pointer into the stack of 512 bytes: how far below its end it is, unless it may be beyond
+-- a pointer into the stack: how far below its end it is, unless it may be beyond
 abbrev pub stack_text : Range → List ℕ
 stack_text r =
-    if nat_lt 512 r.hi then codes "stack begin" ++ offset_text r
-    else if r.lo == 512 then codes "stack end" else codes "stack end - " ++ between (512 - r.lo) (512 - r.hi)
+    if nat_lt stack_size r.hi then codes "stack begin" ++ offset_text r
+    else if r.lo == stack_size then codes "stack end" else codes "stack end - " ++ between (stack_size - r.lo) (stack_size - r.hi)
 
 -- a word of a kind, by the range of its offset
 abbrev pub kind_text : Kind → Range → List ℕ

@@ -146,7 +146,7 @@ fn stays(access: Access, offsets: Range, bound: usize) -> bool
 /// Whether all bytes of the stack that the access may touch are known to be set.
 fn touches_set(view: &AbstractState, access: Access, offsets: Range) -> bool
     requires few { access.bytes ≤ 256 }
-    requires inside { Stays access offsets 512 }
+    requires inside { Stays access offsets STACK_SIZE }
     ensures { MatchBool result (AreSet view.now.set (begin_of access offsets.lo) (begin_of access offsets.hi + access.bytes)) (TouchesUnset view.now access offsets) }
 {
     let first = word_at(offsets.lo, access.off) as usize;

@@ -2,7 +2,7 @@
 use Rattle.std.specs.Prelude.{Bool, ◌≡◌, ℕ, ◌+◌, ◌*◌, ◌%◌, ◌^◌, ◌<◌, ◌≤◌, true, false, List, Option, Some, None, length, slice_get, slice_set, slice_index, slice_index_or, ◌⊎◌}
 use Rattle.std.specs.Int.{byte_at}
 use Rattle.bq_bpf.specs.declared.shape.MapShape.{MapShape}
-use Rattle.bq_bpf.specs.Memory.{Setting, State, Region, Reads, InContext, InStack, InEntry, Spans, IsEntry, reference, values_base, context_base, stack_base, HaveShapes}
+use Rattle.bq_bpf.specs.Memory.{Setting, State, Region, Reads, InContext, InStack, InEntry, Spans, IsEntry, reference, values_base, context_base, stack_base, HaveShapes, stack_size}
 use Rattle.bq_bpf.specs.Steps.{IsOperand}
 use Rattle.bq_insn.specs.declared.Source.{Source}
 use Rattle.bq_ranges.specs.Within.{Within}
@@ -120,6 +120,6 @@ size_of_shape (Some shape) = Some shape.value_size
 
 abbrev pub bound_of : List MapShape → ℕ → Kind → Option ℕ
 bound_of shapes context Context = Some context
-bound_of shapes context Stack = Some 512
+bound_of shapes context Stack = Some stack_size
 bound_of shapes context (Entry m) = size_of_shape (slice_get shapes m)
 bound_of shapes context _ = None

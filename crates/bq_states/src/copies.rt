@@ -1,7 +1,7 @@
 //! Places that are known to hold one word: registers, and from 11 on slots of eight bytes of the stack.
 
 ghost use Rattle.std.specs.Prelude.{◌≡◌, ◌≢◌, ◌+◌, ◌<◌, ◌≤◌, ℕ, length, slice_index};
-ghost use Rattle.bq_bpf.specs.Memory.{State};
+ghost use Rattle.bq_bpf.specs.Memory.{State, stack_size};
 ghost use Rattle.bq_states.specs.Copies.{AreCopies, HasWord, KeepsClasses, PartsFirst, PartsSlots};
 
 /// Registers 0 to 5 are written.
@@ -18,7 +18,7 @@ pub fn part_first(classes: &mut [u8])
 pub fn part_slots(classes: &mut [u8], from: usize, to: usize)
     requires room { length classes.old ≡ 75 }
     requires order { from ≤ to }
-    requires inside { to ≤ 512 }
+    requires inside { to ≤ stack_size }
     ensures { PartsSlots classes.old classes.new from to }
 {
     for slot in from / 8..(to + 7) / 8 {

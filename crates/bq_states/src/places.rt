@@ -59,7 +59,7 @@ pub fn stays(at: Range, size: Size, bound: usize) -> bool
 /// Whether the bytes of an access at each offset of the range are set, where they are on the stack.
 pub fn is_readable(view: &AbstractState, kind: Kind, at: Range, size: Size) -> bool
     ensures stack { IsTrue result → kind ≡ Kind.Stack → (o i : ℕ) → Within at o → i < byte_count size → slice_index_or view.now.set (o + i) false ≡ true }
-    ensures found { (kind ≡ Kind.Stack → at.hi + byte_count size ≤ 512) → (kind ≡ Kind.Stack → (i : ℕ) → at.lo ≤ i → i < at.hi + byte_count size → slice_index_or view.now.set i false ≡ true) → IsTrue result }
+    ensures found { (kind ≡ Kind.Stack → at.hi + byte_count size ≤ STACK_SIZE) → (kind ≡ Kind.Stack → (i : ℕ) → at.lo ≤ i → i < at.hi + byte_count size → slice_index_or view.now.set i false ≡ true) → IsTrue result }
 {
     match kind {
         Kind::Stack => {
@@ -74,7 +74,7 @@ pub fn is_readable(view: &AbstractState, kind: Kind, at: Range, size: Size) -> b
 
 /// Whether all stack bytes of an access at each offset of the range are set.
 fn is_set(view: &AbstractState, at: Range, size: Size) -> bool
-    requires { at.hi + byte_count size ≤ 512 }
+    requires { at.hi + byte_count size ≤ STACK_SIZE }
     ensures all { IsTrue result → (o i : ℕ) → Within at o → i < byte_count size → slice_index_or view.now.set (o + i) false ≡ true }
     ensures found { ((i : ℕ) → at.lo ≤ i → i < at.hi + byte_count size → slice_index_or view.now.set i false ≡ true) → IsTrue result }
 {
@@ -105,7 +105,7 @@ pub fn reads(
 ) -> bool
     requires { context < 2 ^ 16 }
     ensures finds { IsTrue result → FindsBytes shapes.now context view.now register (byte_count size) }
-    ensures accepts { (place : ℕ) → StandsAt (Pointer Kind.Stack place) view.now register → place + byte_count size ≤ 512 → ((i : ℕ) → place ≤ i → i < place + byte_count size → slice_index_or view.now.set i false ≡ true) → IsTrue result }
+    ensures accepts { (place : ℕ) → StandsAt (Pointer Kind.Stack place) view.now register → place + byte_count size ≤ STACK_SIZE → ((i : ℕ) → place ≤ i → i < place + byte_count size → slice_index_or view.now.set i false ≡ true) → IsTrue result }
 {
     let Some(base) = known(view, register) else {
         return false;
@@ -133,7 +133,7 @@ pub fn reads_value(
     requires context { context < 2 ^ 16 }
     requires count { count ≤ 256 }
     ensures finds { IsTrue result → FindsBytes shapes.now context view.now register count }
-    ensures accepts { (place : ℕ) → StandsAt (Pointer Kind.Stack place) view.now register → place + count ≤ 512 → ((i : ℕ) → place ≤ i → i < place + count → slice_index_or view.now.set i false ≡ true) → IsTrue result }
+    ensures accepts { (place : ℕ) → StandsAt (Pointer Kind.Stack place) view.now register → place + count ≤ STACK_SIZE → ((i : ℕ) → place ≤ i → i < place + count → slice_index_or view.now.set i false ≡ true) → IsTrue result }
 {
     let Some(base) = known(view, register) else {
         return false;
@@ -154,7 +154,7 @@ pub fn reads_value(
 fn stack_is_set(view: &AbstractState, at: Range, count: usize) -> bool
     requires { count ≤ 256 }
     ensures all { IsTrue result → (o i : ℕ) → Within at o → i < count → slice_index_or view.now.set (o + i) false ≡ true }
-    ensures found { at.hi + count ≤ 512 → ((i : ℕ) → at.lo ≤ i → i < at.hi + count → slice_index_or view.now.set i false ≡ true) → IsTrue result }
+    ensures found { at.hi + count ≤ STACK_SIZE → ((i : ℕ) → at.lo ≤ i → i < at.hi + count → slice_index_or view.now.set i false ≡ true) → IsTrue result }
 {
     if at.hi > STACK_SIZE - count as u64 {
         return false;

@@ -2,7 +2,7 @@
 
 ghost use Rattle.std.specs.Prelude.{◌≡◌, ◌+◌, ◌*◌, ◌<◌, ◌≤◌, ℕ, true, false, List, None, Some, length, slice_index, slice_index_or};
 ghost use Rattle.bq_insn.specs.Slots.{byte_count};
-ghost use Rattle.bq_bpf.specs.Memory.{Setting, State, InStack, written};
+ghost use Rattle.bq_bpf.specs.Memory.{Setting, State, InStack, stack_size, written};
 ghost use Rattle.bq_bpf.specs.Steps.{next};
 ghost use Rattle.bq_ranges.specs.Within.{Within};
 ghost use Rattle.bq_states.specs.Certainty.{IsStoredAt};
@@ -16,7 +16,7 @@ use bq_ranges::Range;
 
 /// Bytes are written somewhere in the range: what was kept there is forgotten, and they are set if it is one place.
 pub fn overwrite(view: &mut AbstractState, at: Range, size: Size)
-    requires { at.hi + byte_count size ≤ 512 }
+    requires { at.hi + byte_count size ≤ stack_size }
     ensures long { length view.new.kept ≡ 64 }
     ensures stored { at.lo ≡ at.hi → IsStoredAt view.old view.new at.lo (at.hi + byte_count size) }
     ensures covers { (f : Setting) (s : State) (o : ℕ) (bytes : List ℕ) → Contains f view.old s → Within at o → length bytes ≡ byte_count size → ((k : ℕ) → k < length bytes → slice_index bytes k < 256) → Contains f view.new (next (written s InStack o bytes)) }

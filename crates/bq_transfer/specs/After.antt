@@ -13,6 +13,7 @@ use Rattle.bq_insn.specs.declared.Width.TheVariants.{W64}
 use Rattle.bq_bpf.specs.Steps.{LeadsTo}
 use Rattle.bq_bpf.specs.Helpers.{number_of_helper}
 use Rattle.bq_bpf.specs.declared.helper.Helper.TheVariants.{Lookup}
+use Rattle.bq_bpf.specs.Memory.{stack_size}
 use Rattle.bq_graph.specs.Faults.{destination_of}
 use Rattle.bq_states.specs.Certainty.{Scalar, Exact, Pointer, NoPointer, StandsAt, Fact, Never, AtRegister, IsSetAt, IsPlainAt, Has}
 use Rattle.bq_states.specs.Told.{IsCertain}
@@ -73,7 +74,7 @@ GivesPointer kind o slot k insn r view = ⊥
 
 -- the byte of the stack is one of those that the instruction stores by register 10
 abbrev pub IsStackByte : Size → ℤ → ℕ → Type 0
-IsStackByte size off i = (at : ℕ) × (pos at ≡ (pos 512 +ℤ off)) × (at ≤ i) × (i < at + byte_count size)
+IsStackByte size off i = (at : ℕ) × (pos at ≡ (pos stack_size +ℤ off)) × (at ≤ i) × (i < at + byte_count size)
 
 abbrev pub StoresByte : Insn → ℕ → Type 0
 StoresByte (StoreImm size dst off imm) i = (dst ≡ 10) × IsStackByte size off i

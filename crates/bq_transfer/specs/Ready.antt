@@ -15,6 +15,7 @@ use Rattle.bq_insn.specs.declared.Width.{Width}
 use Rattle.bq_bpf.specs.declared.shape.MapShape.{MapShape}
 use Rattle.bq_bpf.specs.Helpers.{number_of_helper}
 use Rattle.bq_bpf.specs.declared.helper.Helper.TheVariants.{Lookup, Update, Now, Processor, AddCounter, ReadCounter}
+use Rattle.bq_bpf.specs.Memory.{stack_size}
 use Rattle.bq_graph.specs.Faults.{destination_of}
 use Rattle.bq_states.specs.Certainty.{Scalar, Pointer, StandsAt, IsSetAt, IsPlainAt, Has, IsScalarOperand}
 use Rattle.bq_states.specs.AbstractStates.{bound_of, size_of_shape}
@@ -48,7 +49,7 @@ pub record IsReadable (shapes : List MapShape) (context : ℕ) (view : AbstractS
 -- a store on the stack
 pub record IsOnFrame (shapes : List MapShape) (context : ℕ) (view : AbstractState) (size : Size) (r : ℕ) (off : ℤ) : Type 0 where
   pub at : ℕ
-  pub at_is : pos at ≡ (pos 512 +ℤ off)
+  pub at_is : pos at ≡ (pos stack_size +ℤ off)
   pub placed : IsPlaced shapes context view size r off Stack at
 
 -- a store into an entry
@@ -76,15 +77,15 @@ pub record IsMoveOfPointer (view : AbstractState) (w : Width) (op : Operation) (
   pub stands : StandsAt (Pointer Stack base) view dst
   pub at : ℕ
   pub at_is : pos at ≡ (pos base +ℤ distance)
-  pub below : base ≤ 512
-  pub small : at ≤ 512
+  pub below : base ≤ stack_size
+  pub small : at ≤ stack_size
 
 -- a look-up: register 1 names a map, and register 2 points to four bytes of the stack that are set
 pub record IsNamingEntry (view : AbstractState) (map : ℕ) : Type 0 where
   pub names : StandsAt (Pointer (Map map) 0) view 1
   pub at : ℕ
   pub points : StandsAt (Pointer Stack at) view 2
-  pub inside : at + 4 ≤ 512
+  pub inside : at + 4 ≤ stack_size
   pub set : (i : ℕ) → at ≤ i → i < at + 4 → Has (IsSetAt i) view
 
 -- a number of at most so much
@@ -99,7 +100,7 @@ pub record IsUpdating (shapes : List MapShape) (view : AbstractState) (map : ℕ
   pub size_is : size_of_shape (slice_get shapes map) ≡ Some size
   pub at : ℕ
   pub points : StandsAt (Pointer Stack at) view 3
-  pub inside : at + size ≤ 512
+  pub inside : at + size ≤ stack_size
   pub set : (i : ℕ) → at ≤ i → i < at + size → Has (IsSetAt i) view
   pub flags : IsAtMost 0 (slice_index_or view.registers 4 None)
 

@@ -16,6 +16,7 @@ use Rattle.bq_bpf.specs.declared.shape.MapShape.{MapShape}
 use Rattle.bq_bpf.specs.Steps.{instruction_at}
 use Rattle.bq_bpf.specs.Helpers.{number_of_helper}
 use Rattle.bq_bpf.specs.declared.helper.Helper.TheVariants.{Lookup, Update, Now, Processor, AddCounter, ReadCounter}
+use Rattle.bq_bpf.specs.Memory.{stack_size}
 use Rattle.bq_graph.specs.Edges.{IsEdge}
 use Rattle.bq_graph.specs.Paths.{IsPath, end_of}
 use Rattle.bq_graph.specs.Faults.{IsFaultless, destination_of}
@@ -113,9 +114,9 @@ abbrev pub IsWrittenLeft : Operation → List (Option Insn) → ℕ → ℕ → 
 IsWrittenLeft Mov slots slot dst = Unit {0}
 IsWrittenLeft _ slots slot dst = IsWritten slots slot dst
 
--- all bytes of an access at that offset from register 10 lie on the stack, which has 512
+-- all bytes of an access at that offset from register 10 lie on the stack
 abbrev pub IsOnStack : Size → ℤ → Type 0
-IsOnStack size off = (at : ℕ) × (pos at ≡ (pos 512 +ℤ off)) × (at + byte_count size ≤ 512)
+IsOnStack size off = (at : ℕ) × (pos at ≡ (pos stack_size +ℤ off)) × (at + byte_count size ≤ stack_size)
 
 -- only one edge leads to the slot
 abbrev pub HasOneWay : List (Option Insn) → ℕ → Type 0
@@ -125,7 +126,7 @@ HasOneWay slots slot = (a b : ℕ) → IsEdge slots a slot → IsEdge slots b sl
 -- copy of register 10, a sum with a number, the answer of a look-up, and on the side of its test where it is not 0 an entry
 abbrev pub MakesPointer : Kind → ℕ → ℕ → ℕ → ℕ → Option Insn → (Kind → ℕ → ℕ → Type 0) → Type 0
 MakesPointer kind o r slot to (Some (MapRef dst index)) Was = (dst ≡ r) × (m : ℕ) × (index ≡ pos m) × (kind ≡ Map m) × (o ≡ 0)
-MakesPointer kind o r slot to (Some (Alu w Mov dst (Reg src))) Was = (dst ≡ r) × (src ≡ 10) × (kind ≡ Stack) × (o ≡ 512)
+MakesPointer kind o r slot to (Some (Alu w Mov dst (Reg src))) Was = (dst ≡ r) × (src ≡ 10) × (kind ≡ Stack) × (o ≡ stack_size)
 MakesPointer kind o r slot to (Some (Alu w Add dst (Imm i))) Was = (dst ≡ r) × (base : ℕ) × Was kind base r × (pos o ≡ (pos base +ℤ i))
 MakesPointer kind o r slot to (Some (Call helper)) Was = (r ≡ 0) × (helper ≡ number_of_helper Lookup) × (m : ℕ) × (kind ≡ EntryOrNull m) × (o ≡ 0) × Was (Map m) 0 1
 MakesPointer kind o r slot to (Some (Branch w c dst src off)) Was = (dst ≡ r) × (m : ℕ) × (kind ≡ Entry m) × (o ≡ 0) × Was (EntryOrNull m) 0 r × IsFoundSide c off slot to
@@ -160,7 +161,7 @@ pub record IsInEntry (slots : List (Option Insn)) (shapes : List MapShape) (slot
 -- all bytes of an access at that offset from register 10 lie on the stack, and were stored on each path to the slot
 abbrev pub IsReadBack : List (Option Insn) → ℕ → Size → ℤ → Type 0
 IsReadBack slots slot size off =
-    (at : ℕ) × (pos at ≡ (pos 512 +ℤ off)) × (at + byte_count size ≤ 512) × ((i : ℕ) → at ≤ i → i < at + byte_count size → IsByteStored slots slot i)
+    (at : ℕ) × (pos at ≡ (pos stack_size +ℤ off)) × (at + byte_count size ≤ stack_size) × ((i : ℕ) → at ≤ i → i < at + byte_count size → IsByteStored slots slot i)
 
 -- a load: of the context by register 1, of what was stored by register 10, or of an entry
 abbrev pub IsGoodLoad : List (Option Insn) → List MapShape → ℕ → ℕ → Size → ℕ → ℤ → Type 0
@@ -186,15 +187,15 @@ pub record IsMoveOnStack (slots : List (Option Insn)) (slot : ℕ) (w : Width) (
   pub from : IsPointerAt slots Stack base dst slot
   pub at : ℕ
   pub at_is : pos at ≡ (pos base +ℤ distance)
-  pub below : base ≤ 512
-  pub small : at ≤ 512
+  pub below : base ≤ stack_size
+  pub small : at ≤ stack_size
 
 -- register 1 names a map, and register 2 points to four bytes on the stack that were stored
 pub record IsNaming (slots : List (Option Insn)) (slot map : ℕ) : Type 0 where
   pub names : IsPointerAt slots (Map map) 0 1 slot
   pub at : ℕ
   pub points : IsPointerAt slots Stack at 2 slot
-  pub inside : at + 4 ≤ 512
+  pub inside : at + 4 ≤ stack_size
   pub stored : (i : ℕ) → at ≤ i → i < at + 4 → IsByteStored slots slot i
 
 -- besides, register 3 points to as many stored bytes as a value has, and register 4 is 0
@@ -204,7 +205,7 @@ pub record IsGiving (slots : List (Option Insn)) (shapes : List MapShape) (slot 
   pub known : slice_get shapes map ≡ Some shape
   pub at : ℕ
   pub points : IsPointerAt slots Stack at 3 slot
-  pub inside : at + shape.value_size ≤ 512
+  pub inside : at + shape.value_size ≤ stack_size
   pub stored : (i : ℕ) → at ≤ i → i < at + shape.value_size → IsByteStored slots slot i
   pub flags : IsLoaded slots slot 4 0
 

@@ -3,6 +3,7 @@ use Rattle.std.specs.Prelude.{Bool, ◌≡◌, ℕ, List, Option, ◌⊎◌}
 use Rattle.std.proofs.Common.{Global}
 use Rattle.std.specs.declared.boxed.Box.{Box}
 use Rattle.bq_insn.specs.declared.Insn.{Insn}
+use Rattle.bq_bpf.specs.Memory.{stack_size}
 use Rattle.bq_graph.specs.Paths.{Path}
 use Rattle.bq_states.specs.declared.abstract_state.Kind.TheVariants.{Context, Stack}
 use Rattle.bq_states.specs.declared.abstract_state.AbstractState.{AbstractState}
@@ -18,7 +19,7 @@ IsDue slots Never k = Path slots 0 k → ⊥
 IsDue slots (AtRegister Scalar r) k = IsWritten slots k r
 IsDue slots (AtRegister (Exact n) r) k = IsLoaded slots k r n
 IsDue slots (AtRegister (Pointer kind o) r) k =
-    ((kind ≡ Context) × (o ≡ 0) × (r ≡ 1) × IsContextLeft slots k) ⊎ (((kind ≡ Stack) × (o ≡ 512) × (r ≡ 10)) ⊎ IsPointerAt slots kind o r k)
+    ((kind ≡ Context) × (o ≡ 0) × (r ≡ 1) × IsContextLeft slots k) ⊎ (((kind ≡ Stack) × (o ≡ stack_size) × (r ≡ 10)) ⊎ IsPointerAt slots kind o r k)
 IsDue slots (AtRegister NoPointer r) k = ⊥
 IsDue slots (IsSetAt i) k = IsByteStored slots k i
 IsDue slots (IsPlainAt j) k = Unit {0}

@@ -110,7 +110,7 @@ pub(crate) fn pass_slot(
 pub(crate) fn start() -> AbstractState
     ensures covers { (f : Setting) (maps : List (List ℕ)) → HaveShapes f.shapes maps → Contains f result (beginning maps) }
     ensures context { StandsAt (Pointer Kind.Context 0) result 1 }
-    ensures frame { StandsAt (Pointer Kind.Stack 512) result 10 }
+    ensures frame { StandsAt (Pointer Kind.Stack STACK_SIZE) result 10 }
     ensures plain { (j : ℕ) → Has (IsPlainAt j) result }
 {
     let mut view = blank();
