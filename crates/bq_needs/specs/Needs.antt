@@ -6,6 +6,7 @@ use Rattle.bq_insn.specs.declared.Insn.TheVariants.{StoreReg, MapRef, Branch, Ca
 use Rattle.bq_transfer.specs.declared.doubt.Doubt.TheVariants.{Unset, Access, PointerUse, Argument, Answer}
 use Rattle.bq_verify.specs.declared.cause.Cause.{Cause}
 use Rattle.bq_verify.specs.declared.cause.Cause.TheVariants.{State}
+use Rattle.bq_bpf.specs.declared.board.TheConstants.{COUNTERS}
 use Rattle.bq_bpf.specs.declared.shape.MapShape.{MapShape}
 use Rattle.bq_bpf.specs.Helpers.{number_of_helper}
 use Rattle.bq_bpf.specs.declared.helper.Helper.TheVariants.{Lookup, Update, AddCounter, ReadCounter}
@@ -56,7 +57,7 @@ GivesValue p view m = NamesEntry p view m × (shape : MapShape) × (slice_get p.
 -- a number of a counter
 abbrev pub IsCounter : Option AbstractValue → Type 0
 IsCounter None = ⊥
-IsCounter (Some k) = (k.kind ≡ Number) × (k.offset.hi < 64)
+IsCounter (Some k) = (k.kind ≡ Number) × (k.offset.hi < COUNTERS)
 
 -- the helper's number
 abbrev pub helper_of : Wanted → ℤ

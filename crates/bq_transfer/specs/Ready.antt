@@ -1,5 +1,5 @@
 -- What each instruction needs of the view before it, so that nothing is left to be shown.
-use Rattle.std.specs.Prelude.{length, ◌≡◌, ◌≢◌, ℕ, ◌+◌, ◌<◌, ◌≤◌, ℤ, pos, ◌+ℤ◌, List, Option, Some, None, slice_get, slice_index_or, ◌⊎◌}
+use Rattle.std.specs.Prelude.{length, ◌≡◌, ◌≢◌, ℕ, ◌+◌, ◌-◌, ◌<◌, ◌≤◌, ℤ, pos, ◌+ℤ◌, List, Option, Some, None, slice_get, slice_index_or, ◌⊎◌}
 use Rattle.bq_insn.specs.Slots.{byte_count}
 use Rattle.bq_insn.specs.declared.Condition.TheVariants.{Equal, NotEqual}
 use Rattle.bq_insn.specs.declared.Condition.{Condition}
@@ -12,6 +12,7 @@ use Rattle.bq_insn.specs.declared.Source.TheVariants.{Imm, Reg}
 use Rattle.bq_insn.specs.declared.Source.{Source}
 use Rattle.bq_insn.specs.declared.Width.TheVariants.{W64}
 use Rattle.bq_insn.specs.declared.Width.{Width}
+use Rattle.bq_bpf.specs.declared.board.TheConstants.{COUNTERS}
 use Rattle.bq_bpf.specs.declared.shape.MapShape.{MapShape}
 use Rattle.bq_bpf.specs.Helpers.{number_of_helper}
 use Rattle.bq_bpf.specs.declared.helper.Helper.TheVariants.{Lookup, Update, Now, Processor, AddCounter, ReadCounter}
@@ -147,9 +148,9 @@ IsTransferred insn = Unit {0}
 abbrev pub WritesBelowFrame : Insn → Type 0
 WritesBelowFrame insn = (r : ℕ) → destination_of insn ≡ Some r → r < 10
 
--- a call of a counter: register 1 is one of 64, and of an add register 2 is the amount
+-- a call of a counter: register 1 is its number, and of an add register 2 is the amount
 abbrev pub IsAsking : AbstractState → ℤ → Type 0
-IsAsking view helper = IsAtMost 63 (slice_index_or view.registers 1 None) × (helper ≡ number_of_helper AddCounter → StandsAt Scalar view 2)
+IsAsking view helper = IsAtMost (COUNTERS - 1) (slice_index_or view.registers 1 None) × (helper ≡ number_of_helper AddCounter → StandsAt Scalar view 2)
 
 -- what a call of a counter needs
 abbrev pub IsReadyToAsk : AbstractState → Insn → Type 0

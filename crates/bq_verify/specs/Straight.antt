@@ -12,6 +12,7 @@ use Rattle.bq_insn.specs.declared.Width.{Width}
 use Rattle.bq_insn.specs.declared.Width.TheVariants.{W64}
 use Rattle.bq_insn.specs.Slots.{byte_count}
 use Rattle.bq_bpf.specs.Meaning.{word_of}
+use Rattle.bq_bpf.specs.declared.board.TheConstants.{COUNTERS}
 use Rattle.bq_bpf.specs.declared.shape.MapShape.{MapShape}
 use Rattle.bq_bpf.specs.Steps.{instruction_at}
 use Rattle.bq_bpf.specs.Helpers.{number_of_helper}
@@ -209,11 +210,11 @@ pub record IsGiving (slots : List (Option Insn)) (shapes : List MapShape) (slot 
   pub stored : (i : ℕ) → at ≤ i → i < at + shape.value_size → IsByteStored slots slot i
   pub flags : IsLoaded slots slot 4 0
 
--- register 1 is one of the 64 counters, and for an add register 2 was written
+-- register 1 is the number of a counter, and for an add register 2 was written
 pub record IsCounting (slots : List (Option Insn)) (slot : ℕ) (helper : ℤ) : Type 0 where
   pub counter : ℕ
   pub loaded : IsLoaded slots slot 1 counter
-  pub few : counter < 64
+  pub few : counter < COUNTERS
   pub amount : helper ≡ number_of_helper AddCounter → IsWritten slots slot 2
 
 -- a call: of the time or the processor's number, of a look-up, of an update, or of a counter
