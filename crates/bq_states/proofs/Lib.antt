@@ -1,6 +1,6 @@
 pub mod WordLemmas
 pub mod LearnLemmas
-pub mod MergeLemmas
+pub mod JoinLemmas
 pub mod AccessLemmas
 pub mod StoreLemmas
 pub mod StackLemmas

@@ -7,7 +7,7 @@
 
 pub mod abstract_state;
 pub mod copies;
-pub mod merge;
+pub mod joins;
 pub mod parts;
 pub mod places;
 pub mod registers;

@@ -8,7 +8,7 @@ ghost use Rattle.bq_states.specs.AbstractStates.{Contains};
 ghost use Rattle.bq_verify.specs.Control.{IsIn, WaitsBoxed, IsKnown};
 
 use bq_states::abstract_state::AbstractState;
-use bq_states::merge::merge;
+use bq_states::joins::join_states;
 use std::alloc::{AllocError, Global};
 
 /// No slot has a view that waits.
@@ -53,7 +53,7 @@ fn take_over(view: &mut AbstractState, live: bool, waiting: &mut Option<Box<Abst
         return live;
     };
     if live {
-        merge(view, &boxed);
+        join_states(view, &boxed);
         return true;
     }
     *view = *boxed;
@@ -86,7 +86,7 @@ fn join(
     ensures has { OnOk result ((x : Fact) → HasIn x waiting.old → Has x view.now → HasIn x waiting.new) }
 {
     if let Some(boxed) = waiting {
-        merge(boxed, view);
+        join_states(boxed, view);
         return Ok(());
     }
     *waiting = Some(Box::new(alloc, *view)?);

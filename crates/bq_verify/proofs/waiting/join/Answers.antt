@@ -7,14 +7,14 @@ use Rattle.bq_verify.proofs.waiting.join.Goals as goal
 
 pub returns-in-Some-clause-kept : goal.returns-in-Some-clause-kept
 returns-in-Some-clause-kept c = λ f s inside.
-    c.merge.ensures.left f s (rw c.deref_mut.ensures.value (subst (λ (w : Option (Box AbstractState Global)). IsIn f w s) c.in-Some.is inside))
+    c.join_states.ensures.left f s (rw c.deref_mut.ensures.value (subst (λ (w : Option (Box AbstractState Global)). IsIn f w s) c.in-Some.is inside))
 
 pub returns-in-Some-clause-added : goal.returns-in-Some-clause-added
-returns-in-Some-clause-added c = λ f s covers. c.merge.ensures.right f s covers
+returns-in-Some-clause-added c = λ f s covers. c.join_states.ensures.right f s covers
 
 pub returns-in-Some-clause-has : goal.returns-in-Some-clause-has
 returns-in-Some-clause-has c = λ x waiting viewed.
-    c.merge.ensures.stands x (rw c.deref_mut.ensures.value (subst (λ (w : Option (Box AbstractState Global)). HasIn x w) c.in-Some.is waiting)) viewed
+    c.join_states.ensures.stands x (rw c.deref_mut.ensures.value (subst (λ (w : Option (Box AbstractState Global)). HasIn x w) c.in-Some.is waiting)) viewed
 
 pub returns-clause-kept : goal.returns-clause-kept
 returns-clause-kept c = λ f s inside. absurd (subst (λ (w : Option (Box AbstractState Global)). IsIn f w s) c.in_default.is inside)

@@ -17,15 +17,15 @@ pub returns-in_default-clause-has : goal.returns-in_default-clause-has
 returns-in_default-clause-has c = λ x transferred waiting live. transferred live
 
 pub returns-then-live-clause-transferred : goal.returns-then-live-clause-transferred
-returns-then-live-clause-transferred c = λ f s live covers. (refl, c.merge.ensures.left f s covers)
+returns-then-live-clause-transferred c = λ f s live covers. (refl, c.join_states.ensures.left f s covers)
 
 pub returns-then-live-clause-waited : goal.returns-then-live-clause-waited
 returns-then-live-clause-waited c = λ f s inside.
-    (refl, c.merge.ensures.right f s (rw c.deref.ensures (subst (λ (w : Option (Box AbstractState Global)). IsIn f w s) (sym c.in-Some.ensures.value) inside)))
+    (refl, c.join_states.ensures.right f s (rw c.deref.ensures (subst (λ (w : Option (Box AbstractState Global)). IsIn f w s) (sym c.in-Some.ensures.value) inside)))
 
 pub returns-then-live-clause-has : goal.returns-then-live-clause-has
 returns-then-live-clause-has c = λ x transferred waiting live.
-    c.merge.ensures.stands x (transferred c.if-live.true) (rw c.deref.ensures (subst (λ (w : Option (Box AbstractState Global)). HasIn x w) (sym c.in-Some.ensures.value) waiting))
+    c.join_states.ensures.stands x (transferred c.if-live.true) (rw c.deref.ensures (subst (λ (w : Option (Box AbstractState Global)). HasIn x w) (sym c.in-Some.ensures.value) waiting))
 
 pub returns-clause-transferred : goal.returns-clause-transferred
 returns-clause-transferred c = λ f s live covers. absurd (false≢true (sym c.if-live.false ∙ live))

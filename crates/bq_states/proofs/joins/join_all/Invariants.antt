@@ -1,7 +1,7 @@
 use Rattle.std.proofs.Common.{◌≡◌, ◌<◌, ◌≤◌, ℕ, None, slice_index_or}
 use Rattle.bq_states.specs.AbstractStates.{Allows}
 use Rattle.bq_states.specs.Certainty.{Certainty, Stands}
-use Rattle.bq_states.proofs.merge.join_all.Given as goal
+use Rattle.bq_states.proofs.joins.join_all.Given as goal
 
 abbrev pub invariant-loop-i : goal.invariant-loop-i
 invariant-loop-i l = record {

@@ -1,6 +1,6 @@
 use Rattle.std.proofs.Common.{◌≡◌, rules}
 use Rattle.bq_states.proofs.WordLemmas.{describes_wider}
-use Rattle.bq_states.proofs.merge.join.Goals as goal
+use Rattle.bq_states.proofs.joins.join.Goals as goal
 
 pub returns-clause-right : goal.returns-clause-right
 returns-clause-right c =

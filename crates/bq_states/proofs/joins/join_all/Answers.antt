@@ -1,7 +1,7 @@
 use Rattle.std.proofs.Common.{◌<◌, length, arith}
 use Rattle.std.proofs.lemmas.Grind.{common_steps}
-use Rattle.bq_states.proofs.MergeLemmas.{stands_more, stands_all}
-use Rattle.bq_states.proofs.merge.join_all.Goals as goal
+use Rattle.bq_states.proofs.JoinLemmas.{stands_more, stands_all}
+use Rattle.bq_states.proofs.joins.join_all.Goals as goal
 
 pub loop-i-preserved : goal.loop-i-preserved
 loop-i-preserved c =

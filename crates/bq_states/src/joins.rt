@@ -1,4 +1,4 @@
-//! Where two ways meet.
+//! Where two ways meet: the join of what each knows.
 
 ghost use Rattle.std.specs.Prelude.{◌≡◌, ◌≢◌, ℕ, true, None, Some, length, slice_index_or, false};
 ghost use Rattle.bq_bpf.specs.Memory.{Setting, State};
@@ -67,8 +67,8 @@ fn keep_common(into: &mut [bool], other: &[bool])
     }
 }
 
-/// The view is right wherever it was, and wherever the other is.
-pub fn merge(into: &mut AbstractState, other: &AbstractState)
+/// The join of the two: the view is right wherever it was, and wherever the other is.
+pub fn join_states(into: &mut AbstractState, other: &AbstractState)
     ensures left { (f : Setting) (s : State) → Contains f into.old s → Contains f into.new s }
     ensures right { (f : Setting) (s : State) → Contains f other.now s → Contains f into.new s }
     ensures stands { (x : Fact) → Has x into.old → Has x other.now → Has x into.new }

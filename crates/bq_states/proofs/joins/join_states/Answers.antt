@@ -1,5 +1,5 @@
-use Rattle.bq_states.proofs.MergeLemmas.{Contains-more, Has-both}
-use Rattle.bq_states.proofs.merge.merge.Goals as goal
+use Rattle.bq_states.proofs.JoinLemmas.{Contains-more, Has-both}
+use Rattle.bq_states.proofs.joins.join_states.Goals as goal
 
 pub returns-clause-left : goal.returns-clause-left
 returns-clause-left c = λ f s covers. Contains-more f s c.args.into.now _ c.join_all.ensures.left c.keep_common.ensures.left c.join_all-2.ensures.left c.join_parts.ensures.left c.keep_same.ensures.left covers
