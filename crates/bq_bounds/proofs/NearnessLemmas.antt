@@ -3,6 +3,7 @@ use Rattle.std.proofs.Common.{◌≡◌, ℕ, ◌+◌, ◌-◌, ◌*◌, ◌^◌
 use Rattle.std.proofs.lemmas.Nat.{le-div}
 use Rattle.std.proofs.lemmas.Bool.Decides.{nat_tests}
 use Rattle.std.proofs.Math.Nat.{mul-le-mul_left}
+use Rattle.std.proofs.lemmas.Option.{same_Some}
 use Rattle.bq_disc.specs.Tasks.{Task, present}
 use Rattle.bq_disc.specs.Totals.{total_weight, weighted_sum}
 use Rattle.bq_disc.specs.Discipline.{charged}
@@ -19,15 +20,12 @@ use Rattle.bq_fair.proofs.SumLemmas.{total_weight-decided, weighted_sum-decided}
 use Rattle.bq_bounds.specs.Nearness.{CfsStaysNear, EevdfStaysNear}
 use Rattle.bq_bounds.proofs.PassLemmas.{ran_at}
 
-some_same : (a b : Task) → Some a ≡ Some b → a ≡ b
-some_same a b e = cc
-
 -- under CFS the task that runs stays near each one that waits
 pub cfs_stays_near : CfsStaysNear
 cfs_stays_near p nows j a b u distinct weight decides there runs =
     let q = stepped cfs p Decide in
     let rest = ran_at cfs q a nows decides weight.0 in
-    let same : u ≡ rest.task = some_same u rest.task (sym runs ∙ rest.runs) in
+    let same : u ≡ rest.task = same_Some u rest.task (sym runs ∙ rest.runs) in
     let near = of_some (IsNearEach (present_at p)) q.current a (runs_near_each p distinct) decides in
     let le = of_some (λ t. a.v ≤ t.v + 1000000) _ b (each-with_id (λ t. a.v ≤ t.v + 1000000) j (present_at p) near) there in
     let up = rest.v in
@@ -69,7 +67,7 @@ pub eevdf_stays_near : EevdfStaysNear
 eevdf_stays_near p now nows a u distinct weight ends decides runs =
     let q = stepped eevdf p Decide in
     let rest = ran_at eevdf q a (now ∷ nows) decides weight.0 in
-    let same : u ≡ rest.task = some_same u rest.task (sym runs ∙ rest.runs) in
+    let same : u ≡ rest.task = same_Some u rest.task (sym runs ∙ rest.runs) in
     let first = of_some (IsEarliestOf (present_at p)) q.current a (runs_earliest p distinct) decides in
     let eligible = eligible_at_most_mean (present_at p) a (earliest_is_eligible (present_at p) a distinct first) in
     let kept = at_most_of_same (total_weight (present_at p)) (total_weight (present_at q)) (weighted_sum (present_at p)) (weighted_sum (present_at q)) a.v (total_weight-decided eevdf p) (weighted_sum-decided eevdf p) eligible in

@@ -5,6 +5,7 @@ use Rattle.std.proofs.lemmas.Bool.Decides.{nat_tests}
 use Rattle.std.proofs.lemmas.List.Elements.{All-from_recursion}
 use Rattle.std.proofs.lemmas.Nat.{le-div}
 use Rattle.std.proofs.Math.Nat.{div-mul-le_self, mul-le-mul_left}
+use Rattle.std.proofs.lemmas.Option.{same_Some}
 use Rattle.bq_weights.specs.VirtualTime.{vdelta_of}
 use Rattle.bq_disc.specs.Tasks.{Task, with_id, without}
 use Rattle.bq_disc.specs.Totals.{total_weight, weighted_sum}
@@ -81,12 +82,9 @@ ahead_by E r s p now i t u w l le f (Runs c e z) =
     let more = mul-le-mul_left (weight_at p - t.weight) (vdelta_of-le (s + rise p now) r t.weight (w.weights i t f).0 le) in
     rw e (omega arith)
 
-some_same : (a b : Task) → Some a ≡ Some b → a ≡ b
-some_same a b e = cc
-
 charged_runs_by : (q : List Task) (kept : ℕ) (o : Option Task) (last now : ℕ) (u : Task) → (let p : Running = record { queue = q; kept = kept; current = o; last = last } in (charge eevdf p now).current ≡ Some u → (t : Task) × (o ≡ Some t) × (u ≡ charged eevdf t (rise p now)))
 charged_runs_by q kept None last now u e = cc
-charged_runs_by q kept (Some t) last now u e = (t, refl, sym (some_same (charged eevdf t (reading last now - last)) u e))
+charged_runs_by q kept (Some t) last now u e = (t, refl, sym (same_Some (charged eevdf t (reading last now - last)) u e))
 
 charged_runs : (p : Running) (now : ℕ) (u : Task) → (charge eevdf p now).current ≡ Some u → (t : Task) × (p.current ≡ Some t) × (u ≡ charged eevdf t (rise p now))
 charged_runs p now u e = charged_runs_by p.queue p.kept p.current p.last now u e

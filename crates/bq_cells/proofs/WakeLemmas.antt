@@ -1,6 +1,7 @@
 -- The task that a wake takes into the hand, and places, is the one that was asked for.
 use Rattle.std.proofs.Common.{◌≡◌, ℕ, List, Option, Some, sym, ap, ◌∙◌}
 use Rattle.std.specs.Prelude.{Result, Ok, Err, OnOk, slice_index_or}
+use Rattle.std.proofs.lemmas.Option.{same_Some}
 use Rattle.std.specs.Option.{option_map}
 use Rattle.bq_disc.specs.Tasks.{Task}
 use Rattle.bq_parts.specs.declared.carried.Carried.{Carried}
@@ -18,10 +19,7 @@ pub begun_hand : (id : ℕ) (loads : List ℕ) (p : Processor) (l : List LobbyEn
 begun_hand id loads p l (Ok r) q m b own = ap (λ (x : Processor). option_map (λ (c : Carried). c.task.id) x.hand) b.4 ∙ ap Some (own b.0 b.2)
 begun_hand id loads p l (Err e) q m b own = tt
 
-some_same : (a b : ℕ) → Some a ≡ Some b → a ≡ b
-some_same a b h = cc
-
 -- the task that leaves the hand has the id of the one that was there
 pub placed_own : (id : ℕ) (hand : Option Carried) (carried : Carried) (x : Placement) → option_map (λ (c : Carried). c.task.id) hand ≡ Some id → hand ≡ Some carried → x.task ≡ carried.task → id ≡ x.task.id
 placed_own id hand carried x e f g =
-    some_same id carried.task.id (sym e ∙ ap (option_map (λ (c : Carried). c.task.id)) f) ∙ ap (λ (t : Task). t.id) (sym g)
+    same_Some id carried.task.id (sym e ∙ ap (option_map (λ (c : Carried). c.task.id)) f) ∙ ap (λ (t : Task). t.id) (sym g)

@@ -1,6 +1,7 @@
 -- No share answers want of memory.
 use Rattle.std.proofs.Common.{◌≡◌, ◌≢◌, ℕ, Bool, true, false, cond, List, Option, Some, None, sym, subst}
 use Rattle.std.specs.Prelude.{Result, Ok, Err, IfErr, slice_index_or, is_some}
+use Rattle.std.proofs.lemmas.Option.{same_Some}
 use Rattle.bq_disc.specs.Tasks.{Task}
 use Rattle.bq_disc.specs.Discipline.{Discipline}
 use Rattle.bq_bpf.specs.declared.hook.Hook.{Hook}
@@ -31,10 +32,7 @@ blocks_named d c now p l (Err e) q m b = subst (λ x. x ≢ no.OutOfMemory) (sym
 
 -- nor is the first of some refusals of which none is
 first_named : (b : Bool) (x e : Refusal) (rest : Option Refusal) → x ≢ no.OutOfMemory → (rest ≡ Some e → e ≢ no.OutOfMemory) → cond b (Some x) rest ≡ Some e → e ≢ no.OutOfMemory
-first_named true x e rest n more h = subst (λ y. y ≢ no.OutOfMemory) (some_same x e h) n
-  where
-    some_same : (x y : Refusal) → Some x ≡ Some y → x ≡ y
-    some_same x y h = cc
+first_named true x e rest n more h = subst (λ y. y ≢ no.OutOfMemory) (same_Some x e h) n
 first_named false x e rest n more h = more h
 
 none_named : (e : Refusal) → None ≡ Some e → e ≢ no.OutOfMemory

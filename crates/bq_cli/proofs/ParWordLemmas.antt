@@ -1,6 +1,7 @@
 -- Where `par` was entered, the job is that of `par`.
 use Rattle.std.proofs.Common.{◌≡◌, ◌∙◌, ℕ, List, Option, Some, None, ap, sym, subst, arith}
 use Rattle.std.specs.Prelude.{option_map, codes, slice_index_or}
+use Rattle.std.proofs.lemmas.Option.{same_Some}
 use Rattle.clap.specs.Words.{Row, Text}
 use Rattle.bq_cli.specs.Jobs.{IsJobOf, IsParallel}
 use Rattle.bq_cli.specs.declared.asked.Parallel.{Parallel}
@@ -12,17 +13,14 @@ use Rattle.bq_filters.specs.declared.filtering.Filtering.TheVariants.{Asm, Check
 abbrev first : Text → ℕ
 first text = slice_index_or text 0 0
 
-some_same : {A : Type 0} (x y : A) → Some x ≡ Some y → x ≡ y
-some_same x y e = cc
-
 -- a name and its rows, of an entry that is there
 pub entered : {B : Type 0} (o : Option B) (f : B → Text) (g : B → List Row) (word name : Text) (rows rows' : List Row) → option_map f o ≡ Some word → option_map (λ (p : Text × List Row). p.1) (option_map {U = Text × List Row} (λ b. (f b, g b)) o) ≡ Some rows' → option_map {U = Text × List Row} (λ b. (f b, g b)) o ≡ Some (name, rows) → (name ≡ word) × (rows ≡ rows')
 entered None f g word name rows rows' a b e = absurd (cc)
 entered (Some x) f g word name rows rows' a b e =
-    let pair = some_same {A = Text × List Row} (f x, g x) (name, rows) e in
+    let pair = same_Some {A = Text × List Row} (f x, g x) (name, rows) e in
     let names : f x ≡ name = ap (λ (p : Text × List Row). p.0) pair in
     let same : g x ≡ rows = ap (λ (p : Text × List Row). p.1) pair in
-    (sym names ∙ some_same (f x) word a, sym same ∙ some_same (g x) rows' b)
+    (sym names ∙ same_Some (f x) word a, sym same ∙ same_Some (g x) rows' b)
 
 -- only a job of `par` has its name
 pub asked : (name : Text) (rows rows' : List Row) (job : Job) (Out : Type 0) → name ≡ codes "par" → rows ≡ rows' → IsJobOf name rows job → ((p : Parallel) → IsParallel rows' p → Out) → Out

@@ -1,5 +1,6 @@
 -- What a Tick does to each task that is present: the one that runs is charged, and the others stay as they are.
 use Rattle.std.proofs.Common.{◌≡◌, ℕ, ◌-◌, Bool, true, false, cond, eqb, List, Option, Some, None, refl, ap, sym, ◌∙◌, subst}
+use Rattle.std.proofs.lemmas.Option.{same_Some}
 use Rattle.bq_weights.specs.VirtualTime.{vdelta_of}
 use Rattle.bq_disc.specs.Tasks.{Task, with_id}
 use Rattle.bq_disc.specs.Queues.{HasDistinctIds}
@@ -17,12 +18,9 @@ pub data Change (d : Discipline) (p : Running) (now i : ℕ) (t u : Task) : Type
 abbrev pub Changed : Discipline → Running → ℕ → ℕ → Task → Option Task → Type 0
 Changed d p now i t o = (u : Task) × (o ≡ Some u) × Change d p now i t u
 
-some_same : (a b : Task) → Some a ≡ Some b → a ≡ b
-some_same a b e = cc
-
 charged_by_test : (d : Discipline) (q : List Task) (kept last now i : ℕ) (c t : Task) (b : Bool) → eqb c.id i ≡ b → cond b (Some c) (with_id i q) ≡ Some t → Changed d (record { queue = q; kept = kept; current = Some c; last = last }) now i t (cond b (Some (charged d c (reading last now - last))) (with_id i q))
 charged_by_test d q kept last now i c t true e f =
-    let same = some_same c t f in
+    let same = same_Some c t f in
     (charged d c (reading last now - last), refl, Runs f (ap (λ x. charged d x (reading last now - last)) same) (rw e (ap (λ (x : Task). vdelta_of (reading last now - last) x.weight) same)))
 charged_by_test d q kept last now i c t false e f = (t, f, Stays refl (rw e refl))
 
@@ -66,7 +64,7 @@ nobody d q kept (Some c) last now i u e f = nobody_by_test (eqb c.id i) c u (cha
 came_by : (d : Discipline) (p : Running) (now i : ℕ) (u : Task) (o : Option Task) → task_at i p ≡ o → task_at i (charge d p now) ≡ Some u → (t : Task) × (task_at i p ≡ Some t) × Change d p now i t u
 came_by d p now i u (Some t) e f =
     let c = charge_changed d p now i t e in
-    let same : c.0 ≡ u = some_same c.0 u (sym c.1 ∙ f) in
+    let same : c.0 ≡ u = same_Some c.0 u (sym c.1 ∙ f) in
     (t, e, subst (λ x. Change d p now i t x) same c.2)
 came_by d p now i u None e f = absurd (nobody d p.queue p.kept p.current p.last now i u e f)
 

@@ -9,7 +9,8 @@ use Rattle.bq_graph.specs.Edges.{IsEdge}
 use Rattle.bq_graph.specs.Paths.{IsPath, end_of, CallsOnWay, asks_counter, calls_of, calls_before_end, IsMost}
 use Rattle.bq_graph.specs.Passes.{IsSound, IsOf, LeadsOut, Raises, CountsFollowed}
 use Rattle.bq_graph.specs.declared.edges.Targets.{Targets}
-use Rattle.bq_graph.proofs.EdgeLemmas.{some_same, some_none, edge_inside, end_of-push, IsPath-push}
+use Rattle.bq_insn.proofs.OptionLemmas.{some_same, some_none}
+use Rattle.bq_graph.proofs.EdgeLemmas.{edge_inside, end_of-push, IsPath-push}
 
 raised_at : (old : List (Option ℕ)) (t g k a : ℕ) (b : Bool) → t < length old → IfSome (get_or old t None) (λ n. n ≤ g) → get_or old k None ≡ Some a → ((b ≡ true) × (k ≡ t)) ⊎ ((b ≡ false) × (k ≢ t)) → (n : ℕ) × (get_or (set old t (Some g)) k None ≡ Some n) × (a ≤ n)
 raised_at old t g k a b lt bound e (inl (_, same)) =

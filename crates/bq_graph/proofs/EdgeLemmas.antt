@@ -6,20 +6,13 @@ use Rattle.std.proofs.lemmas.List.{get_or_past}
 use Rattle.bq_insn.specs.declared.Insn.{Insn}
 use Rattle.bq_insn.specs.declared.Insn.TheVariants.{Goto, Goto32, Branch, Exit}
 use Rattle.bq_insn.specs.Slots.{slots_of}
+use Rattle.bq_insn.proofs.OptionLemmas.{some_same, some_none}
 use Rattle.bq_bpf.specs.Steps.{LeadsTo, instruction_at}
 use Rattle.bq_graph.specs.Edges.{IsEdge, IsStart, IsForward, Leaves, distance_of, goes_on}
 use Rattle.bq_graph.specs.Paths.{IsPath, end_of}
 use Rattle.bq_graph.specs.Faults.{IsBadJump}
 use Rattle.bq_graph.specs.Passes.{IsSound, IsOf, LeadsOut}
 use Rattle.bq_graph.specs.declared.edges.Targets.{Targets}
-
--- an option has one value
-pub some_same : {A : Type 0} (v : Option A) (x y : A) → v ≡ Some x → v ≡ Some y → x ≡ y
-some_same v x y e f = cc
-
--- an option with a value has one
-pub some_none : {A : Type 0} (v : Option A) (x : A) → v ≡ Some x → v ≡ None → ⊥
-some_none v x e f = cc
 
 -- an instruction stands inside the program
 inside_by : (slots : List (Option Insn)) (k : ℕ) (insn : Insn) → instruction_at slots k ≡ Some insn → (k < length slots) ⊎ (length slots ≤ k) → k < length slots

@@ -9,7 +9,8 @@ use Rattle.bq_graph.specs.Edges.{IsStart, IsWhole, Leaves, distance_of, goes_on}
 use Rattle.bq_graph.specs.Paths.{IsGreatest, CallsOnWay, asks_counter}
 use Rattle.bq_graph.specs.Faults.{IsBadJump, RunsOut, IsLateCall}
 use Rattle.bq_graph.specs.Passes.{IsSound}
-use Rattle.bq_graph.proofs.EdgeLemmas.{some_none, leads_same}
+use Rattle.bq_insn.proofs.OptionLemmas.{some_none}
+use Rattle.bq_graph.proofs.EdgeLemmas.{leads_same}
 
 -- each instruction has a slot
 pub slots_positive : (insn : Insn) → 1 ≤ slots_of insn

@@ -6,7 +6,7 @@ use Rattle.bq_insn.specs.declared.Insn.TheVariants.{Imm64, MapRef}
 use Rattle.bq_insn.specs.Slots.{slots_of, spread}
 use Rattle.bq_bpf.specs.Steps.{instruction_at}
 use Rattle.bq_graph.specs.Edges.{IsStart, IsWhole}
-use Rattle.bq_graph.proofs.EdgeLemmas.{some_same, some_none}
+use Rattle.bq_insn.proofs.OptionLemmas.{some_same, some_none}
 
 -- one more instruction adds its slots at the end
 pub spread-push : (xs : List Insn) (x : Insn) → spread (xs ++ x ∷ []) ≡ spread xs ++ (Some x ∷ replicate (slots_of x - 1) None)

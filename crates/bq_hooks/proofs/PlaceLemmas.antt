@@ -5,6 +5,7 @@ use Rattle.std.specs.Prelude.{◌/◌, ◌%◌, IfSome}
 use Rattle.std.proofs.lemmas.Bool.{cases_eq}
 use Rattle.std.proofs.lemmas.Bool.Decides.{nat_tests}
 use Rattle.std.proofs.lemmas.Nat.Bits.{same_from_bits_below, bit_at-zero, bit_at-lt}
+use Rattle.std.proofs.lemmas.Option.{same_Some}
 use Rattle.bq_disc.specs.Tasks.{Task}
 use Rattle.bq_disc.specs.Masks.{allows}
 use Rattle.bq_hooks.specs.OwnPlace.{place_before, former_place, first_place, own_place, HasPlace}
@@ -65,11 +66,8 @@ own_place_there count loads t h =
     some_first loads t.prev count t.mask (filter (allows t.mask) (range_with_len 0 count)) (those_fit count t.mask 0 count (omega arith))
     (λ e. h.1 (no_mask t.mask count h.0 e))
 
-some_same : (m n : ℕ) → Some m ≡ Some n → m ≡ n
-some_same m n h = cc
-
 -- and it is a processor of the machine
 pub own_place_below : (count : ℕ) (loads : List ℕ) (t : Task) (to : ℕ) → HasPlace count t → Some to ≡ own_place count loads t → to < count
 own_place_below count loads t to h e =
     let there = own_place_there count loads t h in
-    omega (arith, there.2, some_same to there.0 (e ∙ there.1))
+    omega (arith, there.2, same_Some to there.0 (e ∙ there.1))

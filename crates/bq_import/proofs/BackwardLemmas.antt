@@ -12,7 +12,8 @@ use Rattle.bq_insn.specs.Spelling.{is_insn, is_register}
 use Rattle.bq_insn.specs.Laws.{Fits, AllFit}
 use Rattle.bq_bpf.specs.Steps.{instruction_at}
 use Rattle.bq_graph.specs.Edges.{distance_of, goes_on, IsStart}
-use Rattle.bq_graph.proofs.EdgeLemmas.{some_none, start_inside}
+use Rattle.bq_insn.proofs.OptionLemmas.{some_none}
+use Rattle.bq_graph.proofs.EdgeLemmas.{start_inside}
 use Rattle.bq_graph.proofs.SoundLemmas.{slots_positive}
 use Rattle.bq_import.specs.Copies.{is_reference, wide_copy, copied, Stands}
 use Rattle.bq_import.specs.Backward.{AreGood, JumpsBack, GoesBack, IsPlaced, insns_of, IsBuilt, Keeps, IsLengthened, MayStand}

@@ -9,7 +9,8 @@ use Rattle.bq_bpf.specs.Memory.{Setting, State, reference}
 use Rattle.bq_bpf.specs.Steps.{Takes, Step, LeadsTo, put, IsTarget}
 use Rattle.bq_bpf.specs.Runs.{Ends}
 use Rattle.bq_graph.specs.Edges.{distance_of, goes_on}
-use Rattle.bq_graph.proofs.EdgeLemmas.{some_same, leads_same}
+use Rattle.bq_insn.proofs.OptionLemmas.{some_same}
+use Rattle.bq_graph.proofs.EdgeLemmas.{leads_same}
 use Rattle.bq_import.specs.Laws.{beside}
 use Rattle.bq_import.specs.Copies.{is_reference, wide_copy, copied, Stands, JumpsAlike, IsCopy}
 use Rattle.bq_import.proofs.StepLemmas.{moved, takes_moved}

@@ -8,7 +8,8 @@ use Rattle.bq_bpf.specs.Steps.{LeadsTo}
 use Rattle.bq_graph.specs.Edges.{IsEdge, IsStart, distance_of, goes_on}
 use Rattle.bq_graph.specs.Paths.{IsPath, PathOut, end_of}
 use Rattle.bq_graph.specs.Faults.{IsBadJump, RunsOut}
-use Rattle.bq_graph.proofs.EdgeLemmas.{some_same, leads_same, start_inside}
+use Rattle.bq_insn.proofs.OptionLemmas.{some_same}
+use Rattle.bq_graph.proofs.EdgeLemmas.{leads_same, start_inside}
 use Rattle.bq_graph.proofs.SoundLemmas.{slots_positive}
 use Rattle.bq_import.specs.Copies.{is_reference, wide_copy, copied, Stands, IsCopy}
 use Rattle.bq_import.specs.Laws.{GoesForward, SameBudget}

@@ -6,7 +6,8 @@ use Rattle.std.proofs.lemmas.List.Sums.{sum_by-set}
 use Rattle.bq_insn.specs.declared.Insn.{Insn}
 use Rattle.bq_graph.specs.Edges.{IsEdge, IsStart}
 use Rattle.bq_graph.specs.Paths.{Path}
-use Rattle.bq_graph.proofs.EdgeLemmas.{some_same, some_none, start_inside, IsPath-push, end_of-push}
+use Rattle.bq_insn.proofs.OptionLemmas.{some_same, some_none}
+use Rattle.bq_graph.proofs.EdgeLemmas.{start_inside, IsPath-push, end_of-push}
 use Rattle.bq_import.specs.Copies.{Stands}
 use Rattle.bq_import.proofs.RoomLemmas.{few_unopened, size_first, size_left}
 use Rattle.bq_import.specs.Backward.{IsBuilt, IsLengthened}

@@ -20,6 +20,7 @@ use Rattle.bq_insn.specs.Laws.{Fits, OneSpelling, OneProgram}
 use Rattle.bq_insn.proofs.FaultLemmas.{same_slot}
 use Rattle.bq_insn.proofs.EncodeLemmas.{FitRegisters, registers_fit}
 use Rattle.bq_insn.proofs.AgainLemmas.{read, head_of, after, again}
+use Rattle.bq_insn.proofs.OptionLemmas.{some_same}
 
 -- offsets and immediates of these slots fit their fields
 abbrev pub FitNumbers : List Slot → Type 0
@@ -40,10 +41,6 @@ same_front s t x y sd td so to si ti h =
     let offset : s.offset ≡ t.offset = sym (from_le_bytes-to_le_bytes_2 s.offset so) ∙ ap (from_le_bytes w16) offsets ∙ from_le_bytes-to_le_bytes_2 t.offset to in
     let imm : s.imm ≡ t.imm = sym (from_le_bytes-to_le_bytes_4 s.imm si) ∙ ap (from_le_bytes w32) imms ∙ from_le_bytes-to_le_bytes_4 t.imm ti in
     (same_slot t s.opcode s.dst s.src s.offset s.imm opcode dst src offset imm, rest)
-
--- one option holds one instruction
-some_same : (a b : Insn) (o : Option Insn) → o ≡ Some a → o ≡ Some b → a ≡ b
-some_same a b o h k = let e : Some a ≡ Some b = sym h ∙ k in cc
 
 -- an offset fits its field
 fit16 : (z : ℤ) → FitsSigned w16 z → word16 z < 2 ^ 16
@@ -105,7 +102,7 @@ pub record IsRead (slots : List Slot) (i : Insn) : Type 0 where
 
 -- equal slots are read as one instruction
 same_read : (s t : Slot) (next : Option Slot) (a b : Insn) → s ≡ t → read s next ≡ Some a → read t next ≡ Some b → a ≡ b
-same_read s t next a b e h k = some_same a b (read t next) (sym (ap (λ (u : Slot). read u next) e) ∙ h) k
+same_read s t next a b e h k = some_same (read t next) a b (sym (ap (λ (u : Slot). read u next) e) ∙ h) k
 
 -- lists of slots in front of equal bytes are read as one instruction
 unique : (la lb : List Slot) (a b : Insn) (x y : List ℕ) → IsRead la a → IsRead lb b → flat_map slot_bytes la ++ x ≡ flat_map slot_bytes lb ++ y → a ≡ b

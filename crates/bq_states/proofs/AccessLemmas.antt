@@ -15,7 +15,7 @@ use Rattle.bq_states.specs.declared.abstract_state.AbstractValue.{AbstractValue}
 use Rattle.bq_states.specs.declared.abstract_state.Kind.{Kind}
 use Rattle.bq_states.specs.declared.abstract_state.Kind.TheVariants.{Number, Context, Stack, Entry, EntryOrNull, Map}
 use Rattle.bq_states.specs.AbstractStates.{Contains, Suits, IsEntryBase, IsOfKind, Bounds, FindsBytes}
-use Rattle.bq_states.proofs.JoinLemmas.{some_same}
+use Rattle.bq_insn.proofs.OptionLemmas.{some_same}
 use Rattle.bq_states.proofs.LearnLemmas.{found_at}
 
 -- bytes that are set make a list, and a number

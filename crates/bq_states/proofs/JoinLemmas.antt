@@ -37,14 +37,6 @@ Contains-more f s v w registers set kept parts classes covers = record {
   copies = copies_kept v.classes w.classes s classes covers.copies;
 }
 
--- one option holds one value
-pub some_same : {A : Type 0} (o : Option A) (a b : A) → o ≡ Some a → o ≡ Some b → a ≡ b
-some_same o a b p q = cc
-
--- an option that holds a value is not empty
-pub some_none : {A : Type 0} (o : Option A) (a : A) → o ≡ Some a → o ≡ None → ⊥
-some_none o a p q = cc
-
 stands_by : (s : Certainty) (old now other : List (Option AbstractValue)) (i : ℕ) (x a b : Option AbstractValue) → i < length now → i < length other → a ≡ get_or now i a → b ≡ get_or other i b → get_or now i None ≡ get_or old i None → (Stands s a → Stands s b → Stands s x) → ((k : ℕ) → k < i → Stands s (get_or old k None) → Stands s (get_or other k None) → Stands s (get_or now k None)) → (k : ℕ) (t : Bool) → k < i + 1 → ((t ≡ true) × (k ≡ i)) ⊎ ((t ≡ false) × (k ≢ i)) → Stands s (get_or old k None) → Stands s (get_or other k None) → Stands s (get_or (set now i x) k None)
 stands_by s old now other i x a b lt lt' is_a is_b same both before k t le (inr (_, other_k)) p q =
     subst (λ (v : Option AbstractValue). Stands s v) (sym (get_or-set_other now i k x None other_k)) (before k (omega arith) p q)

@@ -16,7 +16,7 @@ use Rattle.bq_states.specs.declared.abstract_state.AbstractState.{AbstractState}
 use Rattle.bq_states.specs.Parts.{AllowsPart, HasBytes, HasPart, HaveParts, Outlives}
 use Rattle.bq_states.specs.AbstractStates.{Contains, IsOfKind}
 use Rattle.bq_states.proofs.StoreLemmas.{inside, stack_cases}
-use Rattle.bq_states.proofs.JoinLemmas.{some_same}
+use Rattle.bq_insn.proofs.OptionLemmas.{some_same}
 
 -- the bytes of a write are there
 pub has_written : (stack : ℕ → Option ℕ) (at count : ℕ) (bytes : List ℕ) → length bytes ≡ count → HasBytes (stack_with stack at bytes) at count bytes

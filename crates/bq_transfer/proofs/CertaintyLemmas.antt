@@ -22,7 +22,7 @@ use Rattle.bq_states.specs.AbstractStates.{Clears, knowing}
 use Rattle.bq_states.specs.Certainty.{Certainty, Scalar, Exact, Pointer, NoPointer, Stands, StandsAt, Fact, Never, AtRegister, IsSetAt, IsPlainAt, Has, Outlasts, IsMade, IsGiven, IsCalled, IsAnswered, IsStoredAt, IsScalarOperand}
 use Rattle.bq_transfer.specs.Ready.{IsAtMost, IsLeftReady}
 use Rattle.bq_transfer.specs.After.{GivesExact, GivesNumber, LeavesNumber, GivesPointer, LeavesPointer, Spares, StoresByte, After}
-use Rattle.bq_states.proofs.JoinLemmas.{some_none}
+use Rattle.bq_insn.proofs.OptionLemmas.{some_none}
 
 -- no word is a number and a pointer
 pub not_both : (k : Option AbstractValue) (kind : Kind) (o : ℕ) → Stands Scalar k → Stands (Pointer kind o) k → ⊥

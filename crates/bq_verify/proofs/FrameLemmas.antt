@@ -15,7 +15,7 @@ use Rattle.bq_insn.proofs.FormLemmas.{both}
 use Rattle.bq_bpf.specs.Steps.{instruction_at}
 use Rattle.bq_graph.specs.declared.cause.GraphCause.TheVariants.{Frame}
 use Rattle.bq_graph.specs.Faults.{IsFaultless, destination_of}
-use Rattle.bq_graph.proofs.EdgeLemmas.{some_same, some_none}
+use Rattle.bq_insn.proofs.OptionLemmas.{some_same, some_none}
 use Rattle.bq_graph.proofs.SpreadLemmas.{one_or_two}
 use Rattle.bq_verify.specs.Control.{SparesFrame}
 

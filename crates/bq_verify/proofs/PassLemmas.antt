@@ -28,7 +28,7 @@ use Rattle.bq_states.specs.AbstractStates.{Contains, Suits, Describes, knowing}
 use Rattle.bq_transfer.specs.Transfers.{Transfers, AsksFrom, IsStraight}
 use Rattle.bq_transfer.specs.Sides.{Fits}
 use Rattle.bq_verify.specs.Control.{IsAskingEdge, AreHeights, AreMade, EndsWithin, IsIn, WaitsBoxed, IsKnown, LeadsOn, Goes, PassesOn, RestIsSafe, IsOnSide, PartsTo}
-use Rattle.bq_states.proofs.JoinLemmas.{some_none}
+use Rattle.bq_insn.proofs.OptionLemmas.{some_none}
 use Rattle.bq_states.proofs.LearnLemmas.{covers_learn, found_at}
 use Rattle.bq_verify.proofs.ChainLemmas.{goes_well}
 

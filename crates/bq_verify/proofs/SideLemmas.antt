@@ -21,7 +21,7 @@ use Rattle.bq_verify.specs.Ways.{HasOnSide, AfterTest, IsApartFrom}
 use Rattle.bq_transfer.specs.Sides.{IsNumberIfAny, IsTested, is_found}
 use Rattle.bq_transfer.specs.Ready.{IsTransferred}
 use Rattle.bq_transfer.specs.After.{IsFoundSide, After}
-use Rattle.bq_states.proofs.JoinLemmas.{some_none}
+use Rattle.bq_insn.proofs.OptionLemmas.{some_none}
 use Rattle.bq_transfer.proofs.CertaintyLemmas.{not_both, pointer_is, given_has, knowing_given}
 
 known_within : (xs : List (Option AbstractValue)) (r : ℕ) (k : AbstractValue) → Some k ≡ slice_index_or xs r None → (r < length xs) ⊎ (length xs ≤ r) → r < length xs

@@ -1,6 +1,7 @@
 -- The worked program is straight.
 use Rattle.std.proofs.Common.{◌≡◌, ℕ, zero, suc, ◌+◌, ◌<◌, ◌≤◌, Bool, true, false, List, [], ◌∷◌, ◌++◌, Option, Some, None, refl, sym, subst, ◌∙◌, inl, inr, ℤ, pos, arith}
 use Rattle.std.specs.Prelude.{◌&&◌, ◌||◌, neg_ℤ, slice_index}
+use Rattle.std.proofs.lemmas.Option.{same_Some}
 use Rattle.bq_insn.specs.declared.Insn.{Insn}
 use Rattle.bq_insn.specs.declared.Insn.TheVariants.{Alu, Branch, Call, Exit}
 use Rattle.bq_insn.specs.declared.Operation.TheVariants.{Add, Mov}
@@ -27,10 +28,6 @@ AllAt P n [] = Unit {0}
 AllAt P n (None ∷ rest) = AllAt P (n + 1) rest
 AllAt P n (Some insn ∷ rest) = P n insn × AllAt P (n + 1) rest
 
--- two instructions that stand in one place are the same
-pub some_same : (a b : Insn) → Some a ≡ Some b → a ≡ b
-some_same a b e = cc
-
 -- where no instruction stands there is none to be found
 pub no_insn : (a : Insn) → None ≡ Some a → ⊥
 no_insn a e = cc
@@ -44,7 +41,7 @@ at_slot P n (None ∷ rest) all (suc k) insn here =
     subst (λ (m : ℕ). P m insn) e (at_slot P (n + 1) rest all k insn here)
 at_slot P n (Some i ∷ rest) all zero insn here =
     let e : n ≡ n + zero = omega arith in
-    subst (λ (m : ℕ). P m insn) e (subst (λ (j : Insn). P n j) (some_same i insn here) all.0)
+    subst (λ (m : ℕ). P m insn) e (subst (λ (j : Insn). P n j) (same_Some i insn here) all.0)
 at_slot P n (Some i ∷ rest) all (suc k) insn here =
     let e : (n + 1) + k ≡ n + suc k = omega arith in
     subst (λ (m : ℕ). P m insn) e (at_slot P (n + 1) rest all.1 k insn here)

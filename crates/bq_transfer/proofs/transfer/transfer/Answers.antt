@@ -5,7 +5,7 @@ use Rattle.bq_insn.specs.Slots.{byte_count}
 use Rattle.bq_states.specs.declared.abstract_state.AbstractState.{AbstractState}
 use Rattle.bq_states.specs.Certainty.{Has}
 use Rattle.bq_transfer.specs.Ready.{WritesBelowFrame}
-use Rattle.bq_states.proofs.JoinLemmas.{some_none}
+use Rattle.bq_insn.proofs.OptionLemmas.{some_none}
 use Rattle.bq_transfer.proofs.CertaintyLemmas.{bytes_at, has_given, has_left, has_named, has_stored}
 use Rattle.bq_insn.specs.declared.Insn.TheVariants.{Load, MovSx, Neg, End, Imm64, StoreImm, StoreReg}
 use mir.Syntax.{w16, w32}

@@ -6,7 +6,7 @@ use Rattle.bq_transfer.specs.After.{After, IsFoundSide}
 use Rattle.bq_transfer.specs.Ready.{IsReady}
 use Rattle.bq_states.specs.Certainty.{Has, Outlasts}
 use Rattle.bq_transfer.specs.Sides.{is_found}
-use Rattle.bq_states.proofs.JoinLemmas.{some_none}
+use Rattle.bq_insn.proofs.OptionLemmas.{some_none}
 use Rattle.bq_verify.proofs.SideLemmas.{transferred_if_no_jump, differ_if_goes_on, differ_if_jumps, has_tested, outlasts, lasting_after}
 use Rattle.bq_transfer.proofs.CertaintyLemmas.{has_left, not_both}
 use mir.Syntax.{w16, w32}
