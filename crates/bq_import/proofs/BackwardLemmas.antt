@@ -15,6 +15,7 @@ use Rattle.bq_graph.specs.Edges.{distance_of, goes_on, IsStart}
 use Rattle.bq_insn.proofs.OptionLemmas.{some_none}
 use Rattle.bq_graph.proofs.EdgeLemmas.{start_inside}
 use Rattle.bq_graph.proofs.SoundLemmas.{slots_positive}
+use Rattle.bq_graph.proofs.SpreadLemmas.{one_or_two}
 use Rattle.bq_import.specs.Copies.{is_reference, wide_copy, copied, Stands}
 use Rattle.bq_import.specs.Backward.{AreGood, JumpsBack, GoesBack, IsPlaced, insns_of, IsBuilt, Keeps, IsLengthened, MayStand}
 use Rattle.bq_import.proofs.CopyLemmas.{refers}
@@ -24,12 +25,6 @@ append_right : {A : Type 0} (xs ys : List A) (n : ℕ) (d : A) → length xs ≤
 append_right xs ys n d le =
     let sum : n ≡ length xs + (n - length xs) = omega (arith, le) in
     ap (λ (k : ℕ). get_or (xs ++ ys) k d) sum ∙ get_or-append-add xs ys (n - length xs) d
-
--- an instruction takes one slot or two
-pub one_or_two : (insn : Insn) → (slots_of insn ≡ 1) ⊎ (slots_of insn ≡ 2)
-one_or_two (Imm64 dst value) = inr refl
-one_or_two (MapRef dst index) = inr refl
-one_or_two insn = inl refl
 
 none_some : (z : ℤ) → None ≡ Some z → ⊥
 none_some z e = cc

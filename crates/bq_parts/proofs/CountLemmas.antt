@@ -5,6 +5,7 @@ use Rattle.bq_disc.specs.Tasks.{Task, has_id, with_id, without, place, present}
 use Rattle.bq_disc.specs.Queues.{HasDistinctIds}
 use Rattle.bq_disc.specs.Discipline.{Discipline, next_of}
 use Rattle.bq_disc.specs.OneProcessor.{Running, present_at, charge, switched, enter_all}
+use Rattle.bq_disc.proofs.SetLemmas.{with_id-id}
 use Rattle.bq_parts.specs.Processors.{count_of, HasEachOnce}
 use Rattle.bq_parts.proofs.TallyLemmas
 
@@ -73,7 +74,7 @@ switched_absent d p t id e i f = rw (e, ← i, f) refl
 
 -- the next runs, and the current one stands in the queue
 pub switched_to : (d : Discipline) (p : Running) (t n : Task) (id : ℕ) → p.current ≡ Some t → id ≡ next_of d t p.queue → Some n ≡ with_id id p.queue → switched d p p.current ≡ record p { current = Some n; queue = place t (without id p.queue) }
-switched_to d p t n id e i f = rw (e, ← i, ← f, TallyLemmas.with_id-id id p.queue n (sym f)) refl
+switched_to d p t n id e i f = rw (e, ← i, ← f, with_id-id id p.queue n (sym f)) refl
 
 -- the current task is not in the rest of the queue either
 pub current_apart_without : (p : Running) (t n : Task) (id : ℕ) → HasEachOnce (present_at p) → p.current ≡ Some t → with_id id p.queue ≡ Some n → with_id t.id (without id p.queue) ≡ None

@@ -8,7 +8,7 @@ use Rattle.bq_disc.specs.Queues.{HasDistinctIds}
 use Rattle.bq_disc.specs.OneProcessor.{Running, present_at, charge, marked}
 use Rattle.bq_parts.specs.Processors.{HasEachOnce, HasLobbyIds}
 use Rattle.bq_parts.specs.Moves.{taken_from}
-use Rattle.bq_parts.proofs.TallyLemmas.{with_id-id}
+use Rattle.bq_disc.proofs.SetLemmas.{with_id-id}
 use Rattle.bq_parts.proofs.CountLemmas.{one, one_self, count_of-append, count_of-without, queue_le_present, with_id-absent, each_once_queue, HasEachOnce-left, HasEachOnce-right, HasDistinctIds-from_counts}
 use Rattle.bq_parts.proofs.OnceLemmas.{few_below}
 

@@ -1,11 +1,11 @@
 -- Sums over some tasks of a number that each task's id and mask alone decide: what they keep while tasks come, go and run.
 use Rattle.std.proofs.Common.{◌≡◌, ℕ, ◌+◌, ◌-◌, Bool, true, false, cond, eqb, List, [], ◌∷◌, ◌++◌, Option, Some, None, refl, sym, ap, ◌∙◌, arith}
 use Rattle.std.specs.Option.{option_map}
-use Rattle.std.proofs.lemmas.Bool.Decides.{nat_tests}
 use Rattle.bq_disc.specs.Tasks.{Task, with_id, without, place, present, runs_before, id_of}
 use Rattle.bq_disc.specs.Discipline.{Discipline, charged, woken, next_of}
 use Rattle.bq_disc.specs.OneProcessor.{Running, present_at, reading, charge, run_id, start, exchanged, switched, decided, entered, enter_all}
 use Rattle.bq_disc.proofs.QueueLemmas.{without-absent}
+use Rattle.bq_disc.proofs.SetLemmas.{with_id-id}
 
 -- what a task counts
 abbrev pub worth : (ℕ → ℕ → ℕ) → Task → ℕ
@@ -29,18 +29,6 @@ tally-place g t (x ∷ xs) =
       | true ↦ refl
       | false ↦ omega (arith, tally-place g t xs)
     ]
-
-found_by_test : (b : Bool) (i : ℕ) (x t : Task) (o : Option Task) → eqb x.id i ≡ b → cond b (Some x) o ≡ Some t → (o ≡ Some t → t.id ≡ i) → t.id ≡ i
-found_by_test true i x t o e h rest =
-    let same : x ≡ t = cc in
-    let at : x.id ≡ i = grind (arith, nat_tests) in
-    rw (← same) at
-found_by_test false i x t o e h rest = rest h
-
--- what is found has the id that was sought
-pub with_id-id : (i : ℕ) (xs : List Task) (t : Task) → with_id i xs ≡ Some t → t.id ≡ i
-with_id-id i [] t h = cc
-with_id-id i (x ∷ xs) t h = found_by_test (eqb x.id i) i x t (with_id i xs) refl h (with_id-id i xs t)
 
 without_by_test : (b : Bool) (g : ℕ → ℕ → ℕ) (x t : Task) (xs ys : List Task) (o : Option Task) → cond b (Some x) o ≡ Some t → (o ≡ Some t → tally g xs ≡ worth g t + tally g ys) → tally g (x ∷ xs) ≡ worth g t + tally g (cond b xs (x ∷ ys))
 without_by_test true g x t xs ys o h rest =
