@@ -2,6 +2,7 @@
 use Rattle.std.proofs.Common.{◌≡◌, ◌≢◌, ℕ, zero, suc, ◌+◌, ◌^◌, ◌<◌, ◌≤◌, Bool, true, false, List, [], ◌∷◌, ◌++◌, Option, Some, None, Box, Global, length, refl, arith, sym, ap, ◌∙◌, subst, zero-le, ◌⊎◌, inl, inr, ℤ}
 use Rattle.std.specs.Prelude.{slice_index_or}
 use Rattle.std.proofs.lemmas.Bool.Decides.{eqb_tells}
+use Rattle.std.proofs.lemmas.Option.{same_Some}
 use Rattle.bq_insn.specs.declared.Insn.{Insn}
 use Rattle.bq_insn.specs.declared.Insn.TheVariants.{Alu, MovSx, Neg, End, Load, StoreImm, StoreReg, Imm64, MapRef, Goto, Goto32, Branch, Call, Exit}
 use Rattle.bq_bpf.specs.declared.shape.MapShape.{MapShape}
@@ -77,9 +78,6 @@ first_step f s (suc n) calls t (before, c, u, chain, step, e) =
 no_call : (c : Asked) → None ≡ Some c → ⊥
 no_call c e = cc
 
-same_call : (c d : Asked) → Some c ≡ Some d → c ≡ d
-same_call c d e = cc
-
 -- a test does not come out both ways
 no_both : (b : Bool) → b ≡ false → b ≡ true → ⊥
 no_both b p q = cc
@@ -100,7 +98,7 @@ after_one f L small s u None (inr (inr each)) step =
 after_one f L small s u (Some c) (inr (inr each)) step =
     let e = each (answer_of c) step.takes.1 in
     let same = one_step f small s (Some e.0) (Some c) e.1 u e.3 step
-    (λ x y p q. ap answer_of (sym (same_call e.0 x p)) ∙ (e.2 ∙ ap answer_of (same_call c y q))) in
+    (λ x y p q. ap answer_of (sym (same_Some e.0 x p)) ∙ (e.2 ∙ ap answer_of (same_Some c y q))) in
     subst (λ (x : State). IsEdge f.slots s.slot x.slot × L f x) same.1 (record { insn = e.4.insn; here = e.4.here; leaves = e.4.leaves }, e.5)
 
 module _ (slots : List (Option Insn)) (shapes : List MapShape) (context_length : ℕ) (sound : IsSound slots) (small : context_length < 2 ^ 16) where

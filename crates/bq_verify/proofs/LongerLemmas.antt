@@ -1,5 +1,6 @@
 -- A step on the first bytes of a context is a step on the whole context, and in a safe program each step is one.
 use Rattle.std.proofs.Common.{◌≡◌, ℕ, zero, suc, ◌+◌, ◌^◌, ◌<◌, ◌≤◌, List, [], ◌∷◌, Option, Some, None, length, take, refl, arith, sym, ap, ◌∙◌, subst, ◌⊎◌, inl, inr, ℤ, length-take}
+use Rattle.std.proofs.lemmas.Option.{same_Some}
 use Rattle.std.specs.Prelude.{slice_get}
 use Rattle.bq_insn.specs.declared.Insn.{Insn}
 use Rattle.bq_insn.specs.declared.Insn.TheVariants.{Alu, MovSx, Neg, End, Load, StoreImm, StoreReg, Imm64, MapRef, Goto, Goto32, Branch, Call, Exit}
@@ -106,9 +107,6 @@ module _ (f : Setting) (n : ℕ) where
   none_some : (c : Asked) → None ≡ Some c → ⊥
   none_some c e = cc
 
-  same_some : (c d : Asked) → Some c ≡ Some d → c ≡ d
-  same_some c d e = cc
-
   module _ (small : length f.context < 2 ^ 16) where
     -- where the program goes on with the shorter context, each step is one with it
     step_shorter : (s t : State) (c : Option Asked) → ((answer : ℕ) × Ends (shortened f n) s answer s.maps) ⊎ GoesOn (shortened f n) s → Step f s c t → Step (shortened f n) s c t
@@ -126,7 +124,7 @@ module _ (f : Setting) (n : ℕ) where
     step_shorter s t (Some c) (inr (inr each)) step =
         let e = each (answer_of c) step.takes.1 in
         let same = one_step f small s (Some c) (Some e.0) t e.1 step (step_longer s (Some e.0) e.1 e.3)
-        (λ x y p q. ap answer_of (sym (same_some c x p)) ∙ (sym e.2 ∙ ap answer_of (same_some e.0 y q))) in
+        (λ x y p q. ap answer_of (sym (same_Some c x p)) ∙ (sym e.2 ∙ ap answer_of (same_Some e.0 y q))) in
         subst (λ (v : State). Step (shortened f n) s (Some c) v) (sym same.1)
         (subst (λ (d : Option Asked). Step (shortened f n) s d e.1) (sym same.0) e.3)
 
