@@ -59,24 +59,15 @@ impl<Q: RunQueue + Drop, K: Clock + Drop, N: Naming + Counting, const P: usize> 
         rt: &R,
         alloc: Global,
         seat: &mut Seat<N>,
-        task: u16,
-        nice: i8,
-        mask: u64,
-        slice: u64,
+        admission: Admission,
     ) -> Result<Receipt<Record>, Refusal>
         ensures receipt { IfOk result (λ r. seat.new ≡ (seat.old.0, seat.old.1 ++ r ∷ [])) }
-        ensures event { IfOk result (λ r. r.entry.event ≡ Event.Admit task nice mask slice) }
-        ensures passed { IfOk result (λ r. argument_refusal P (Event.Admit task nice mask slice) ≡ None) }
-        ensures refused { IfErr result (IsCallRefused P (Event.Admit task nice mask slice)) }
+        ensures event { IfOk result (λ r. r.entry.event ≡ Event.Admit admission.task admission.nice admission.mask admission.slice) }
+        ensures passed { IfOk result (λ r. argument_refusal P (Event.Admit admission.task admission.nice admission.mask admission.slice) ≡ None) }
+        ensures refused { IfErr result (IsCallRefused P (Event.Admit admission.task admission.nice admission.mask admission.slice)) }
         ensures err { OnErr result (seat.new ≡ seat.old) }
     {
         let count = self.cpus.len();
-        let admission = Admission {
-            task,
-            nice,
-            mask,
-            slice,
-        };
         let new = new_task_with_room(alloc, &mut seat.first, count, admission)?;
         let mut guard = self.lobby.lock(rt);
         let place = &mut *guard;

@@ -6,7 +6,7 @@ ghost use Rattle.bq_par.specs.Shifts.{IsShift, IsStart, TicksMore};
 use bq_disc::RunQueue;
 use bq_disc::limits::DEFAULT_SLICE;
 use bq_history::{Numbered, Receipt};
-use bq_machine::{Clock, Machine, Record, Seat, WakeReceipts};
+use bq_machine::{Admission, Clock, Machine, Record, Seat, WakeReceipts};
 use bq_parts::Refusal;
 use bq_seats::Counting;
 use bq_tie::Naming;
@@ -91,7 +91,13 @@ fn start<Q: RunQueue + Drop, K: Clock + Drop, N: Naming + Counting, R: Wait, con
     ensures start { OnOk result (IsStart processor receipts.new.items) }
 {
     let task = u16::from(processor);
-    let admitted = machine.admit(rt, alloc, seat, task, 0, u64::MAX, DEFAULT_SLICE)?;
+    let admission = Admission {
+        task,
+        nice: 0,
+        mask: u64::MAX,
+        slice: DEFAULT_SLICE,
+    };
+    let admitted = machine.admit(rt, alloc, seat, admission)?;
     keep(receipts, admitted)?;
     let woken = machine.wake(rt, alloc, seat, processor, task)?;
     keep_wake(receipts, woken)?;

@@ -1,7 +1,7 @@
 //! What is asked of a machine, as values.
 
 use bq_disc::RunQueue;
-use bq_machine::{Clock, Counting, Machine, Naming, Receipt, Record, Seat};
+use bq_machine::{Admission, Clock, Counting, Machine, Naming, Receipt, Record, Seat};
 use bq_parts::Refusal;
 use std::alloc::Global;
 use std::sync::Wait;
@@ -9,32 +9,13 @@ use std::sync::Wait;
 /// A call of a machine, but for those that load policies and read counters.
 #[derive(Clone, Copy, Drop)]
 pub enum Request {
-    Admit {
-        task: u16,
-        nice: i8,
-        mask: u64,
-        slice: u64,
-    },
-    Retire {
-        task: u16,
-    },
-    Wake {
-        processor: u8,
-        task: u16,
-    },
-    Drain {
-        processor: u8,
-    },
-    Tick {
-        processor: u8,
-    },
-    Block {
-        processor: u8,
-    },
-    Pull {
-        processor: u8,
-        from: u8,
-    },
+    Admit { admission: Admission },
+    Retire { task: u16 },
+    Wake { processor: u8, task: u16 },
+    Drain { processor: u8 },
+    Tick { processor: u8 },
+    Block { processor: u8 },
+    Pull { processor: u8, from: u8 },
 }
 
 /// The receipts of a call: a wake that ends has two.
@@ -53,12 +34,7 @@ pub fn ask<Q: RunQueue + Drop, K: Clock + Drop, N: Naming + Counting, R: Wait, c
     request: Request,
 ) -> Result<Receipts, Refusal> {
     let first = match request {
-        Request::Admit {
-            task,
-            nice,
-            mask,
-            slice,
-        } => machine.admit(rt, alloc, seat, task, nice, mask, slice),
+        Request::Admit { admission } => machine.admit(rt, alloc, seat, admission),
         Request::Retire { task } => machine.retire(rt, alloc, seat, task),
         Request::Wake { processor, task } => {
             let woken = machine.wake(rt, alloc, seat, processor, task)?;

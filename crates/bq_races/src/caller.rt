@@ -4,7 +4,7 @@ use crate::asking::{Request, ask};
 use crate::counting_clock::CountingClock;
 use crate::held_queue::HeldQueue;
 use crate::play::{Held, Play};
-use bq_machine::{Counting, Machine, Naming, Receipt, Record, Seat};
+use bq_machine::{Admission, Counting, Machine, Naming, Receipt, Record, Seat};
 use bq_parts::{Hook, Refusal};
 use std::alloc::Global;
 use std::sync::Wait;
@@ -20,10 +20,12 @@ fn birth(processor: u8, mask: u64) -> [Request; 3] {
     let task = u16::from(processor);
     [
         Request::Admit {
-            task,
-            nice: 0,
-            mask,
-            slice: SLICE,
+            admission: Admission {
+                task,
+                nice: 0,
+                mask,
+                slice: SLICE,
+            },
         },
         Request::Wake { processor, task },
         Request::Drain { processor },
@@ -46,10 +48,12 @@ fn held_call(held: Held) -> Request {
 /// The seven calls that are made while another is held.
 const OTHERS: [Request; 7] = [
     Request::Admit {
-        task: 9,
-        nice: 0,
-        mask: 12,
-        slice: SLICE,
+        admission: Admission {
+            task: 9,
+            nice: 0,
+            mask: 12,
+            slice: SLICE,
+        },
     },
     Request::Wake {
         processor: 2,

@@ -4,7 +4,7 @@ use crate::asking::{Request, ask};
 use crate::images::{ADDS, COUNTING, IN_TURN, OWN_PULL};
 use bq_disc::RunQueue;
 use bq_load::LoadFault;
-use bq_machine::{Clock, Counting, LoadRefused, Machine, Naming, Seat};
+use bq_machine::{Admission, Clock, Counting, LoadRefused, Machine, Naming, Seat};
 use bq_parts::{Hook, Refusal};
 use std::alloc::{AllocError, Global};
 use std::sync::Wait;
@@ -62,10 +62,12 @@ fn request(number: u64, other: u64) -> Request {
     match number % 1024 {
         0..=7 => Request::Retire { task },
         8..=107 => Request::Admit {
-            task,
-            nice: NICES[((number >> 32) % 8) as usize],
-            mask: other,
-            slice: 100_000 + (number >> 40) % 10_000_000,
+            admission: Admission {
+                task,
+                nice: NICES[((number >> 32) % 8) as usize],
+                mask: other,
+                slice: 100_000 + (number >> 40) % 10_000_000,
+            },
         },
         108..=407 => Request::Wake { processor, task },
         408..=607 => Request::Drain { processor },
