@@ -188,7 +188,7 @@ fn turned_left<S: Summary>(root: Box<Node>) -> Box<Node>
 }
 
 /// A root whose sides differ in height by at most two, made a tree.
-pub(crate) fn settled<S: Summary>(mut root: Box<Node>) -> Box<Node>
+pub(crate) fn rebalanced<S: Summary>(mut root: Box<Node>) -> Box<Node>
     requires fork { IsFork S.knows root.value }
     requires near { DifferByAtMost 2 (left_height root.value) (right_height root.value) }
     requires low { max (left_height root.value) (right_height root.value) ≤ 100 }
@@ -219,7 +219,7 @@ fn heights(root: &Node) -> (u8, u8)
 }
 
 /// Makes a tree of what is behind a link.
-pub(crate) fn settle<S: Summary>(link: &mut Link)
+pub(crate) fn rebalance<S: Summary>(link: &mut Link)
     requires fork { IsForkBehind S.knows link.old }
     requires near { DifferByAtMost 2 (left_height_behind link.old) (right_height_behind link.old) }
     requires low { max (left_height_behind link.old) (right_height_behind link.old) ≤ 100 }
@@ -239,6 +239,6 @@ pub(crate) fn settle<S: Summary>(link: &mut Link)
         return;
     }
     if let Some(root) = link.take() {
-        *link = Some(settled::<S>(root));
+        *link = Some(rebalanced::<S>(root));
     }
 }

@@ -8,7 +8,7 @@ ghost use Rattle.bq_disc.specs.Rising.{IsRising};
 ghost use Rattle.bq_tree.specs.Trees.{in_order_behind, height_behind, IsTreeBehind, HasNoLeft, DifferByAtMost, left_behind, right_behind};
 ghost use Rattle.bq_tree.specs.Taking.{is_at, Takes};
 
-use crate::balance::{gathered, height, leaf, opened, settle, settled};
+use crate::balance::{gathered, height, leaf, opened, rebalance, rebalanced};
 use crate::summary::Summary;
 use bq_disc::node::Link;
 use bq_disc::{Entity, Node};
@@ -38,7 +38,7 @@ pub(crate) fn insert_into<S: Summary>(link: &mut Link, node: Box<Node>) -> bool
         if !grew {
             return false;
         }
-        settle::<S>(link);
+        rebalance::<S>(link);
         return height(link) > before;
     }
     let grew = insert_into::<S>(&mut root.right, node);
@@ -46,7 +46,7 @@ pub(crate) fn insert_into<S: Summary>(link: &mut Link, node: Box<Node>) -> bool
     if !grew {
         return false;
     }
-    settle::<S>(link);
+    rebalance::<S>(link);
     height(link) > before
 }
 
@@ -89,7 +89,7 @@ pub(crate) fn pop_least<S: Summary>(link: &mut Link) -> Link
     };
     S::count_out(root, &least.entity);
     if height(&root.left) != before {
-        settle::<S>(link);
+        rebalance::<S>(link);
     }
     Some(least)
 }
@@ -112,7 +112,7 @@ fn joined<S: Summary>(left: Link, mut right: Link) -> Link
     let Some(least) = pop_least::<S>(&mut right) else {
         return left;
     };
-    Some(settled::<S>(gathered::<S>(least, left, right)))
+    Some(rebalanced::<S>(gathered::<S>(least, left, right)))
 }
 
 /// Takes the root out of a tree.
@@ -171,7 +171,7 @@ pub(crate) fn take_from<S: Summary>(link: &mut Link, v: u64, id: u16) -> Link
         };
         S::count_out(root, &taken.entity);
         if height(&root.left) != before {
-            settle::<S>(link);
+            rebalance::<S>(link);
         }
         return Some(taken);
     }
@@ -181,7 +181,7 @@ pub(crate) fn take_from<S: Summary>(link: &mut Link, v: u64, id: u16) -> Link
     };
     S::count_out(root, &taken.entity);
     if height(&root.right) != before {
-        settle::<S>(link);
+        rebalance::<S>(link);
     }
     Some(taken)
 }

@@ -37,8 +37,8 @@ returns-then-not-grew g t c =
       grows = not_below_from_equal _ _ stays.height;
     }
 
-pub settle-requires : goal.settle-requires
-settle-requires g t c =
+pub rebalance-requires : goal.rebalance-requires
+rebalance-requires g t c =
     let known = g.S.Summary.knows in
     let n = c.deref_mut-root.result.now in
     let k = c.count_in.new.root in
@@ -65,7 +65,7 @@ returns-then-runs_before-clause-order g t c =
     let counts : CountsIn known n k x = subst (λ (m : Node). CountsIn known n k (out-Node m).entity) c.deref.ensures c.count_in.ensures in
     let test : runs_before x (out-Node k).entity ≡ true = ap (λ (m : Node). runs_before (out-Node m).entity (out-Node k).entity) (sym c.deref-2.ensures) ∙ sym c.if-runs_before.ensures in
     let grows = grows_left known c.args.link.now n k x c.insert_into-grew.new.link root counts c.insert_into-grew.ensures.tree c.insert_into-grew.ensures.order test in
-    c.settle.ensures.order ∙ grows.order
+    c.rebalance.ensures.order ∙ grows.order
 
 pub returns-then-runs_before-clause-not_lower : goal.returns-then-runs_before-clause-not_lower
 returns-then-runs_before-clause-not_lower g t c =
@@ -76,7 +76,7 @@ returns-then-runs_before-clause-not_lower g t c =
     let root = root_behind known c.args.link.now c.in-Some.root n c.in-Some.is c.deref_mut-root.ensures.value c.requires.tree in
     let counts : CountsIn known n k x = subst (λ (m : Node). CountsIn known n k (out-Node m).entity) c.deref.ensures c.count_in.ensures in
     let rises = rises_left known c.args.link.now n k x c.insert_into-grew.new.link root counts c.insert_into-grew.ensures.not_lower c.insert_into-grew.ensures.at_most_one_higher in
-    (rises.rises _ c.settle.ensures.not_lower c.settle.ensures.at_most_one_higher (c.settle.ensures.same refl)).0
+    (rises.rises _ c.rebalance.ensures.not_lower c.rebalance.ensures.at_most_one_higher (c.rebalance.ensures.same refl)).0
 
 pub returns-then-runs_before-clause-at_most_one_higher : goal.returns-then-runs_before-clause-at_most_one_higher
 returns-then-runs_before-clause-at_most_one_higher g t c =
@@ -87,7 +87,7 @@ returns-then-runs_before-clause-at_most_one_higher g t c =
     let root = root_behind known c.args.link.now c.in-Some.root n c.in-Some.is c.deref_mut-root.ensures.value c.requires.tree in
     let counts : CountsIn known n k x = subst (λ (m : Node). CountsIn known n k (out-Node m).entity) c.deref.ensures c.count_in.ensures in
     let rises = rises_left known c.args.link.now n k x c.insert_into-grew.new.link root counts c.insert_into-grew.ensures.not_lower c.insert_into-grew.ensures.at_most_one_higher in
-    (rises.rises _ c.settle.ensures.not_lower c.settle.ensures.at_most_one_higher (c.settle.ensures.same refl)).1
+    (rises.rises _ c.rebalance.ensures.not_lower c.rebalance.ensures.at_most_one_higher (c.rebalance.ensures.same refl)).1
 
 pub insert_into-grew-requires-2 : goal.insert_into-grew-requires-2
 insert_into-grew-requires-2 g t c =
@@ -119,8 +119,8 @@ returns-then-not-grew-2 g t c =
       grows = not_below_from_equal _ _ stays.height;
     }
 
-pub settle-requires-2 : goal.settle-requires-2
-settle-requires-2 g t c =
+pub rebalance-requires-2 : goal.rebalance-requires-2
+rebalance-requires-2 g t c =
     let known = g.S.Summary.knows in
     let n = c.deref_mut-root.result.now in
     let k = c.count_in.new.root in
@@ -147,7 +147,7 @@ returns-clause-order g t c =
     let counts : CountsIn known n k x = subst (λ (m : Node). CountsIn known n k (out-Node m).entity) c.deref.ensures c.count_in.ensures in
     let test : runs_before x (out-Node k).entity ≡ false = ap (λ (m : Node). runs_before (out-Node m).entity (out-Node k).entity) (sym c.deref-2.ensures) ∙ sym c.if-runs_before.ensures in
     let grows = grows_right known c.args.link.now n k x c.insert_into-grew-2.new.link root c.requires.rising counts c.insert_into-grew-2.ensures.tree c.insert_into-grew-2.ensures.order test in
-    c.settle-2.ensures.order ∙ grows.order
+    c.rebalance-2.ensures.order ∙ grows.order
 
 pub returns-clause-not_lower : goal.returns-clause-not_lower
 returns-clause-not_lower g t c =
@@ -158,7 +158,7 @@ returns-clause-not_lower g t c =
     let root = root_behind known c.args.link.now c.in-Some.root n c.in-Some.is c.deref_mut-root.ensures.value c.requires.tree in
     let counts : CountsIn known n k x = subst (λ (m : Node). CountsIn known n k (out-Node m).entity) c.deref.ensures c.count_in.ensures in
     let rises = rises_right known c.args.link.now n k x c.insert_into-grew-2.new.link root counts c.insert_into-grew-2.ensures.not_lower c.insert_into-grew-2.ensures.at_most_one_higher in
-    (rises.rises _ c.settle-2.ensures.not_lower c.settle-2.ensures.at_most_one_higher (c.settle-2.ensures.same refl)).0
+    (rises.rises _ c.rebalance-2.ensures.not_lower c.rebalance-2.ensures.at_most_one_higher (c.rebalance-2.ensures.same refl)).0
 
 pub returns-clause-at_most_one_higher : goal.returns-clause-at_most_one_higher
 returns-clause-at_most_one_higher g t c =
@@ -169,4 +169,4 @@ returns-clause-at_most_one_higher g t c =
     let root = root_behind known c.args.link.now c.in-Some.root n c.in-Some.is c.deref_mut-root.ensures.value c.requires.tree in
     let counts : CountsIn known n k x = subst (λ (m : Node). CountsIn known n k (out-Node m).entity) c.deref.ensures c.count_in.ensures in
     let rises = rises_right known c.args.link.now n k x c.insert_into-grew-2.new.link root counts c.insert_into-grew-2.ensures.not_lower c.insert_into-grew-2.ensures.at_most_one_higher in
-    (rises.rises _ c.settle-2.ensures.not_lower c.settle-2.ensures.at_most_one_higher (c.settle-2.ensures.same refl)).1
+    (rises.rises _ c.rebalance-2.ensures.not_lower c.rebalance-2.ensures.at_most_one_higher (c.rebalance-2.ensures.same refl)).1

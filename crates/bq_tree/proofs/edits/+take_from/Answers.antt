@@ -40,8 +40,8 @@ count_out-requires-clause-counts g t c =
     let still = still_left g.S.Summary.knows n (task_of c.in-Some-take_from.taken.value) c.take_from.new.link taken.0 taken.1 root.tree taken.4 taken.5 in
     subst (λ (m : Node). StillCounts g.S.Summary.knows (on_left n c.take_from.new.link) (out-Node m).entity) (sym c.deref.ensures) still
 
-pub settle-requires-clause-few : goal.settle-requires-clause-few
-settle-requires-clause-few g t c =
+pub rebalance-requires-clause-few : goal.rebalance-requires-clause-few
+rebalance-requires-clause-few g t c =
     let n = c.deref_mut-root.result.now in
     let root = root_behind g.S.Summary.knows c.args.link.now c.in-Some.root n c.in-Some.is c.deref_mut-root.ensures.value c.requires.tree in
     let after : comes_after c.args.v c.args.id (out-Node n).entity ≡ true = sym c.is_after.ensures ∙ c.if-is_after.true in
@@ -57,7 +57,7 @@ returns-then-is_after-clause-taken g t c =
     let k = c.count_out.new.root in
     let loses = loses_left g.S.Summary.knows c.args.link.now n k c.take_from.new.link c.args.v c.args.id (task_of c.in-Some-take_from.taken.value) root c.requires.rising after c.in-Some-take_from.ensures.taken c.count_out.ensures.sides in
     elim c.if-height-before.branch [
-      | then-height-before w ↦ rw (w.link-is, w.settle.ensures.order) loses.taken
+      | then-height-before w ↦ rw (w.link-is, w.rebalance.ensures.order) loses.taken
       | else-height-before w ↦ rw w.link-is loses.taken
     ]
 
@@ -94,8 +94,8 @@ count_out-requires-2-clause-counts g t c =
     let still = still_right g.S.Summary.knows n (task_of c.in-Some-take_from-2.taken.value) c.take_from-2.new.link taken.0 taken.1 root.tree taken.4 taken.5 in
     subst (λ (m : Node). StillCounts g.S.Summary.knows (on_right n c.take_from-2.new.link) (out-Node m).entity) (sym c.deref-2.ensures) still
 
-pub settle-requires-then-height-before-2-clause-few : goal.settle-requires-then-height-before-2-clause-few
-settle-requires-then-height-before-2-clause-few g t c =
+pub rebalance-requires-then-height-before-2-clause-few : goal.rebalance-requires-then-height-before-2-clause-few
+rebalance-requires-then-height-before-2-clause-few g t c =
     let n = c.deref_mut-root.result.now in
     let root = root_behind g.S.Summary.knows c.args.link.now c.in-Some.root n c.in-Some.is c.deref_mut-root.ensures.value c.requires.tree in
     let after : comes_after c.args.v c.args.id (out-Node n).entity ≡ false = sym c.is_after.ensures ∙ c.if-is_after.false in
@@ -113,6 +113,6 @@ returns-clause-taken g t c =
     let k = c.count_out-2.new.root in
     let loses = loses_right g.S.Summary.knows c.args.link.now n k c.take_from-2.new.link c.args.v c.args.id (task_of c.in-Some-take_from-2.taken.value) root c.requires.rising after other c.in-Some-take_from-2.ensures.taken c.count_out-2.ensures.sides in
     elim c.if-height-before-2.branch [
-      | then-height-before-2 w ↦ rw (w.link-is, w.settle-then-height-before-2.ensures.order) loses.taken
+      | then-height-before-2 w ↦ rw (w.link-is, w.rebalance-then-height-before-2.ensures.order) loses.taken
       | else-height-before-2 w ↦ rw w.link-is loses.taken
     ]
