@@ -11,10 +11,10 @@ use Rattle.bq_disc.specs.Queues.{HasDistinctIds}
 use Rattle.bq_disc.specs.Discipline.{charged, next_of}
 use Rattle.bq_disc.specs.Orders.{first_by-member}
 use Rattle.bq_disc.specs.Totals.{NoneBelow}
-use Rattle.bq_disc.specs.OneProcessor.{Running, present_at, charge, start, run_id, switched, exchanged, decided, own_preempt}
+use Rattle.bq_disc.specs.OneProcessor.{Running, present_at, charge, start, run_id, switched, exchanged, decided, own_preempt, rise}
 use Rattle.bq_disc.proofs.SetLemmas.{with_id-Contains}
 use Rattle.bq_cfs.specs.Cfs.{cfs, least}
-use Rattle.bq_cfs.specs.Spread.{bound, IsSound, IsWithin, Event, Tick, Block, passed, rise, StaysWithin, HistoryStaysWithin}
+use Rattle.bq_cfs.specs.Spread.{bound, IsSound, IsWithin, Event, Tick, Block, read_at, passed, StaysWithin, HistoryStaysWithin}
 use Rattle.bq_cfs.proofs.BoundLemmas.{weaker, IsNear, at_most_bound, none_below_least}
 use Rattle.bq_cfs.proofs.MoveLemmas.{each-without, each-place, each-with_id, distinct-started, distinct-exchanged}
 use Rattle.bq_cfs.proofs.LevelLemmas.{IsLevel, IsLevel-charged, level}
@@ -131,7 +131,7 @@ decided_stays V d n kept last q u false e distinct h = kept_stays V d n kept las
 -- Events
 
 -- the same of a processor by its parts
-event_stays : (V d : ℕ) (q : List Task) (kept : ℕ) (o : Option Task) (last : ℕ) (e : Event) → (let p : Running = record { queue = q; kept = kept; current = o; last = last } in IsSound p → IsWithin V d p → rise p e ≤ d → Stays V d (passed p e))
+event_stays : (V d : ℕ) (q : List Task) (kept : ℕ) (o : Option Task) (last : ℕ) (e : Event) → (let p : Running = record { queue = q; kept = kept; current = o; last = last } in IsSound p → IsWithin V d p → rise p (read_at e) ≤ d → Stays V d (passed p e))
 event_stays V d q kept None last (Tick now) s w le =
     let p = idle q kept last in
     let c = charge cfs p now in

@@ -1,11 +1,11 @@
 -- The spread of CFS: how far apart the tasks of one processor can come while nothing enters and only the rule decides
 -- who gives way.
-use Rattle.std.specs.Prelude.{ℕ, ◌+◌, ◌-◌, ◌≤◌, ◌^◌, max, List, [], ◌∷◌, Option, Some, None, All, IfSome}
+use Rattle.std.specs.Prelude.{ℕ, ◌+◌, ◌≤◌, ◌^◌, max, List, [], ◌∷◌, Option, Some, None, All, IfSome}
 use Rattle.std.specs.Option.{option_map_or}
 use Rattle.bq_weights.specs.VirtualTime.{IsWeight, vdelta_of}
 use Rattle.bq_disc.specs.Tasks.{Task}
 use Rattle.bq_disc.specs.Queues.{HasDistinctIds}
-use Rattle.bq_disc.specs.OneProcessor.{Running, present_at, reading, charge, start, decided, own_preempt}
+use Rattle.bq_disc.specs.OneProcessor.{Running, present_at, charge, start, rise, ticked}
 use Rattle.bq_cfs.specs.Cfs.{cfs, least}
 
 -- what every processor keeps of the tasks that are present: their ids differ, their weights are of the table's range,
@@ -40,22 +40,18 @@ departed p now (Some t) = start cfs (record (charge cfs p now) { current = None 
 
 -- the processor that an event leaves, where the rule alone says whether the current task gives way
 abbrev pub passed : Running → Event → Running
-passed p (Tick now) = let c = charge cfs p now in decided cfs c c.current (own_preempt cfs c.queue c.current)
+passed p (Tick now) = ticked cfs p now
 passed p (Block now) = departed p now p.current
 
--- how far the clock rises
-abbrev pub rise : Running → Event → ℕ
-rise p e = reading p.last (read_at e) - p.last
-
 -- the processor that some events leave, one after another
-abbrev pub history : Running → List Event → Running
-history p [] = p
-history p (e ∷ es) = history (passed p e) es
+abbrev pub passed_all : Running → List Event → Running
+passed_all p [] = p
+passed_all p (e ∷ es) = passed_all (passed p e) es
 
 -- the clock rises by at most d at each of some events
 abbrev pub RisesByAtMost : ℕ → Running → List Event → Type 0
 RisesByAtMost d p [] = Unit {0}
-RisesByAtMost d p (e ∷ es) = (rise p e ≤ d) × RisesByAtMost d (passed p e) es
+RisesByAtMost d p (e ∷ es) = (rise p (read_at e) ≤ d) × RisesByAtMost d (passed p e) es
 
 -- where no v present is beyond V, the processor is within it
 abbrev pub BeginsWithin : Type 0
@@ -64,9 +60,9 @@ BeginsWithin = (V d : ℕ) (p : Running) → All (λ t. t.v ≤ V) (present_at p
 -- an event at which the clock rises by at most d keeps the processor within V and d
 abbrev pub StaysWithin : Type 0
 StaysWithin =
-    (V d : ℕ) (p : Running) (e : Event) → IsSound p → IsWithin V d p → rise p e ≤ d → IsSound (passed p e) × IsWithin V d (passed p e)
+    (V d : ℕ) (p : Running) (e : Event) → IsSound p → IsWithin V d p → rise p (read_at e) ≤ d → IsSound (passed p e) × IsWithin V d (passed p e)
 
 -- and so do any number of them
 abbrev pub HistoryStaysWithin : Type 0
 HistoryStaysWithin =
-    (V d : ℕ) (p : Running) (es : List Event) → IsSound p → IsWithin V d p → RisesByAtMost d p es → IsSound (history p es) × IsWithin V d (history p es)
+    (V d : ℕ) (p : Running) (es : List Event) → IsSound p → IsWithin V d p → RisesByAtMost d p es → IsSound (passed_all p es) × IsWithin V d (passed_all p es)

@@ -71,3 +71,11 @@ entered d kept queue (t ∷ tasks) = entered d kept (place (woken d kept t) queu
 -- some tasks enter in their order, at the mark that is kept
 abbrev pub enter_all : Discipline → Running → List Task → Running
 enter_all d p tasks = record p { queue = entered d p.kept p.queue tasks }
+
+-- how far a reading makes the clock rise
+abbrev pub rise : Running → ℕ → ℕ
+rise p now = reading p.last now - p.last
+
+-- Tick: the time that has passed is charged, and the discipline's own answer says whether the current task gives way
+abbrev pub ticked : Discipline → Running → ℕ → Running
+ticked d p now = let c = charge d p now in decided d c c.current (own_preempt d c.queue c.current)

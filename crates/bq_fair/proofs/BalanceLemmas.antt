@@ -7,10 +7,10 @@ use Rattle.bq_weights.specs.VirtualTime.{IsWeight, vdelta_of}
 use Rattle.bq_disc.specs.Tasks.{Task, without}
 use Rattle.bq_disc.specs.Totals.{total_weight, is_at_most_mean}
 use Rattle.bq_disc.specs.Discipline.{Discipline}
-use Rattle.bq_disc.specs.OneProcessor.{Running, present_at}
+use Rattle.bq_disc.specs.OneProcessor.{Running, present_at, ticked, rise}
 use Rattle.bq_cfs.specs.Spread.{IsSound}
 use Rattle.bq_eevdf.specs.Eevdf.{eevdf}
-use Rattle.bq_fair.specs.Histories.{ticked, rise, task_at}
+use Rattle.bq_fair.specs.Histories.{task_at}
 use Rattle.bq_fair.specs.Work.{weight_at, moment_at}
 use Rattle.bq_fair.specs.EevdfFairness.{most_ahead, IsBalanced, BeginsBalanced, StaysBalanced, HistoryStaysBalanced}
 use Rattle.bq_fair.proofs.TickLemmas.{Change, Stays, Runs, came}

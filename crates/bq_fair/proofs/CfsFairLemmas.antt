@@ -7,12 +7,12 @@ use Rattle.bq_weights.specs.VirtualTime.{vdelta_of}
 use Rattle.bq_disc.specs.Tasks.{Task, with_id, runs_before, former}
 use Rattle.bq_disc.specs.Queues.{HasDistinctIds}
 use Rattle.bq_disc.specs.Discipline.{next_of}
-use Rattle.bq_disc.specs.OneProcessor.{Running, present_at, charge, decided, own_preempt, exchanged}
+use Rattle.bq_disc.specs.OneProcessor.{Running, present_at, charge, decided, own_preempt, exchanged, ticked, rise}
 use Rattle.bq_cfs.specs.Cfs.{cfs, least}
 use Rattle.bq_cfs.proofs.BoundLemmas.{weaker, none_below_least}
 use Rattle.bq_cfs.proofs.MoveLemmas.{each-with_id}
 use Rattle.bq_cfs.proofs.SpreadStayLemmas.{least_is_found, near_each, next_is_least}
-use Rattle.bq_fair.specs.Histories.{ticked, history, rise, RisesByAtMost, task_at}
+use Rattle.bq_fair.specs.Histories.{history, RisesByAtMost, task_at}
 use Rattle.bq_fair.proofs.PlaceLemmas.{idle, busy, current_present}
 use Rattle.bq_fair.proofs.TickLemmas.{Change, Stays, Runs, came, tick_keeps, charged_distinct}
 use Rattle.bq_fair.proofs.SoundLemmas.{of_each, vdelta_of-le, IsWellFormed, rises, well_formed_ticked}

@@ -8,11 +8,11 @@ use Rattle.bq_disc.specs.Tasks.{Task, with_id, due_before}
 use Rattle.bq_disc.specs.Totals.{total_weight, weighted_sum}
 use Rattle.bq_disc.specs.Queues.{HasDistinctIds}
 use Rattle.bq_disc.specs.Discipline.{charged}
-use Rattle.bq_disc.specs.OneProcessor.{Running, present_at, charge}
+use Rattle.bq_disc.specs.OneProcessor.{Running, present_at, charge, ticked, rise}
 use Rattle.bq_disc.proofs.SetLemmas.{Contains-with_id}
 use Rattle.bq_disc.proofs.SameSumLemmas.{filter-Contains}
 use Rattle.bq_eevdf.specs.Eevdf.{eevdf, is_eligible, earliest}
-use Rattle.bq_fair.specs.Histories.{ticked, history, rise, RisesByAtMost, task_at}
+use Rattle.bq_fair.specs.Histories.{history, RisesByAtMost, task_at}
 use Rattle.bq_fair.specs.EevdfDeadlines.{HasDeadlines, NoneIsBeyondADeadline}
 use Rattle.bq_fair.proofs.PlaceLemmas.{current_present}
 use Rattle.bq_fair.proofs.TickLemmas.{Change, Stays, Runs, came, tick_keeps, charged_distinct}

@@ -6,9 +6,9 @@ use Rattle.std.proofs.Math.Nat.{div-mul-le_self}
 use Rattle.bq_weights.specs.VirtualTime.{vdelta_of}
 use Rattle.bq_disc.specs.Tasks.{Task}
 use Rattle.bq_disc.specs.Discipline.{Discipline, charged}
-use Rattle.bq_disc.specs.OneProcessor.{Running, present_at, charge, reading, own_preempt}
+use Rattle.bq_disc.specs.OneProcessor.{Running, present_at, charge, reading, own_preempt, rise}
 use Rattle.bq_disc.proofs.SetLemmas.{with_id-id}
-use Rattle.bq_fair.specs.Histories.{task_at, rise, charge_of}
+use Rattle.bq_fair.specs.Histories.{task_at, charge_of}
 use Rattle.bq_fair.specs.Steps.{Step, Pass, Decide, Enter, Leave, Mark, stepped, after, charged_by, served_by, since, DecidesWithin, EntersNew, EachEntersNew, kept_current, leaves, StaysThroughout}
 use Rattle.bq_fair.proofs.PlaceLemmas.{current_present}
 use Rattle.bq_fair.proofs.TickLemmas.{Change, Stays, Runs, charge_changed}

@@ -8,10 +8,10 @@ use Rattle.bq_weights.specs.VirtualTime.{IsWeight, vdelta_of}
 use Rattle.bq_disc.specs.Tasks.{Task}
 use Rattle.bq_disc.specs.Queues.{HasDistinctIds}
 use Rattle.bq_disc.specs.Discipline.{Discipline}
-use Rattle.bq_disc.specs.OneProcessor.{Running, present_at, reading}
+use Rattle.bq_disc.specs.OneProcessor.{Running, present_at, reading, ticked, rise}
 use Rattle.bq_disc.proofs.SetLemmas.{Contains-with_id}
 use Rattle.bq_cfs.specs.Spread.{IsSound}
-use Rattle.bq_fair.specs.Histories.{HasRoom, ticked, history, rise, task_at, charge_of, served}
+use Rattle.bq_fair.specs.Histories.{HasRoom, history, task_at, charge_of, served}
 use Rattle.bq_fair.proofs.TickLemmas.{Change, Stays, Runs, changes, came, tick_keeps}
 
 -- what holds of all that are present holds of the one of an id

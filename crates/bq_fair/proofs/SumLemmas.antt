@@ -3,10 +3,10 @@ use Rattle.std.proofs.Common.{◌≡◌, ℕ, ◌+◌, ◌*◌, Bool, true, fals
 use Rattle.bq_disc.specs.Tasks.{Task, with_id, without, place, present, runs_before, id_of}
 use Rattle.bq_disc.specs.Totals.{total_weight, weighted_sum}
 use Rattle.bq_disc.specs.Discipline.{Discipline, charged, next_of}
-use Rattle.bq_disc.specs.OneProcessor.{Running, present_at, charge, run_id, exchanged, decided, own_preempt}
+use Rattle.bq_disc.specs.OneProcessor.{Running, present_at, charge, run_id, exchanged, decided, own_preempt, ticked, rise}
 use Rattle.bq_disc.proofs.QueueLemmas.{without-absent}
 use Rattle.bq_disc.proofs.SetLemmas.{with_id-id}
-use Rattle.bq_fair.specs.Histories.{ticked, history, rise}
+use Rattle.bq_fair.specs.Histories.{history}
 use Rattle.bq_fair.specs.Steps.{Decide, stepped}
 use Rattle.bq_fair.proofs.PlaceLemmas.{idle, busy}
 

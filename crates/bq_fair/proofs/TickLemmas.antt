@@ -5,8 +5,8 @@ use Rattle.bq_weights.specs.VirtualTime.{vdelta_of}
 use Rattle.bq_disc.specs.Tasks.{Task, with_id}
 use Rattle.bq_disc.specs.Queues.{HasDistinctIds}
 use Rattle.bq_disc.specs.Discipline.{Discipline, charged}
-use Rattle.bq_disc.specs.OneProcessor.{Running, present_at, reading, charge, own_preempt}
-use Rattle.bq_fair.specs.Histories.{ticked, rise, task_at, charge_of}
+use Rattle.bq_disc.specs.OneProcessor.{Running, present_at, reading, charge, own_preempt, ticked, rise}
+use Rattle.bq_fair.specs.Histories.{task_at, charge_of}
 use Rattle.bq_fair.proofs.DecideLemmas.{KeepsPresent, keeps_present}
 
 -- how a task of id i changes at a Tick: it stays, or it runs and is charged

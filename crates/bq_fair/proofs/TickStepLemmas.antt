@@ -1,10 +1,10 @@
 -- Ticks are steps, so two tasks are served in proportion over Ticks too.
 use Rattle.std.proofs.Common.{◌≡◌, ℕ, List, [], ◌∷◌, refl, arith}
 use Rattle.bq_disc.specs.Discipline.{Discipline}
-use Rattle.bq_disc.specs.OneProcessor.{Running}
+use Rattle.bq_disc.specs.OneProcessor.{Running, ticked}
 use Rattle.bq_cfs.specs.Cfs.{cfs}
 use Rattle.bq_eevdf.specs.Eevdf.{eevdf}
-use Rattle.bq_fair.specs.Histories.{ticked, RisesByAtMost, served}
+use Rattle.bq_fair.specs.Histories.{RisesByAtMost, served}
 use Rattle.bq_fair.specs.Steps.{Step, Pass, Decide, served_by, EachEntersNew, EntersDue, DecidesWithin, StaysThroughout}
 use Rattle.bq_fair.specs.CfsFairness.{CfsServesInProportion, CfsServesWithin}
 use Rattle.bq_fair.specs.EevdfDeadlines.{EevdfServesBySlices}

@@ -5,8 +5,8 @@ use Rattle.std.specs.Option.{option_map_or}
 use Rattle.bq_weights.specs.VirtualTime.{vdelta_of}
 use Rattle.bq_disc.specs.Tasks.{Task, with_id}
 use Rattle.bq_disc.specs.Discipline.{Discipline, next_of}
-use Rattle.bq_disc.specs.OneProcessor.{Running, reading, charge, decided, exchanged, own_preempt}
-use Rattle.bq_fair.specs.Histories.{ticked, history, rise}
+use Rattle.bq_disc.specs.OneProcessor.{Running, reading, charge, decided, exchanged, own_preempt, ticked, rise}
+use Rattle.bq_fair.specs.Histories.{history}
 use Rattle.bq_fair.specs.Work.{weight_at, moment_at, booked_at, booked, elapsed, BooksTheTime, MovesTheSum}
 use Rattle.bq_fair.proofs.PlaceLemmas.{busy, current_present}
 use Rattle.bq_fair.proofs.TickLemmas.{tick_keeps}

@@ -5,10 +5,10 @@ use Rattle.std.specs.Prelude.{◌≡◌, ℕ, ◌+◌, ◌-◌, ◌*◌, ◌≤�
 use Rattle.bq_weights.specs.VirtualTime.{vdelta_of}
 use Rattle.bq_disc.specs.Tasks.{Task, without}
 use Rattle.bq_disc.specs.Queues.{HasDistinctIds}
-use Rattle.bq_disc.specs.OneProcessor.{Running, present_at}
+use Rattle.bq_disc.specs.OneProcessor.{Running, present_at, ticked, rise}
 use Rattle.bq_cfs.specs.Spread.{IsSound}
 use Rattle.bq_eevdf.specs.Eevdf.{eevdf, is_eligible}
-use Rattle.bq_fair.specs.Histories.{HasRoom, RisesByAtMost, ticked, history, rise, task_at, served}
+use Rattle.bq_fair.specs.Histories.{HasRoom, RisesByAtMost, history, task_at, served}
 use Rattle.bq_fair.specs.Work.{weight_at, moment_at, booked, elapsed}
 use Rattle.bq_fair.specs.Steps.{Decide, stepped}
 

@@ -3,8 +3,7 @@ use Rattle.std.specs.Prelude.{◌≡◌, ℕ, List, [], ◌∷◌, None, Some}
 use Rattle.bq_disc.specs.Tasks.{Task, with_id, without, place}
 use Rattle.bq_disc.specs.Queues.{HasDistinctIds}
 use Rattle.bq_disc.specs.Discipline.{Discipline, woken, pulled}
-use Rattle.bq_disc.specs.OneProcessor.{Running, present_at, marked, charge, start, decided, own_preempt, enter_all}
-use Rattle.bq_fair.specs.Histories.{ticked}
+use Rattle.bq_disc.specs.OneProcessor.{Running, present_at, marked, charge, start, decided, own_preempt, enter_all, ticked}
 use Rattle.bq_fair.specs.Steps.{Step, Pass, Decide, Enter, Leave, Mark, after}
 
 -- some woken tasks enter at a mark, and the rule decides

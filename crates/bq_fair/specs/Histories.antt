@@ -4,20 +4,12 @@ use Rattle.std.specs.Option.{option_map_or}
 use Rattle.bq_weights.specs.VirtualTime.{vdelta_of}
 use Rattle.bq_disc.specs.Tasks.{Task, has_id, with_id}
 use Rattle.bq_disc.specs.Discipline.{Discipline}
-use Rattle.bq_disc.specs.OneProcessor.{Running, present_at, reading, charge, decided, own_preempt}
-
--- Tick: the time that has passed is charged, and the discipline's own answer says whether the current task gives way
-abbrev pub ticked : Discipline → Running → ℕ → Running
-ticked d p now = let c = charge d p now in decided d c c.current (own_preempt d c.queue c.current)
+use Rattle.bq_disc.specs.OneProcessor.{Running, present_at, rise, ticked}
 
 -- the processor that Ticks leave, one after another
 abbrev pub history : Discipline → Running → List ℕ → Running
 history d p [] = p
 history d p (now ∷ nows) = history d (ticked d p now) nows
-
--- how far the clock rises
-abbrev pub rise : Running → ℕ → ℕ
-rise p now = reading p.last now - p.last
 
 -- the clock rises by at most r at each of some Ticks
 abbrev pub RisesByAtMost : ℕ → Discipline → Running → List ℕ → Type 0

@@ -5,11 +5,11 @@ use Rattle.std.specs.Prelude.{◌≡◌, ℕ, ◌+◌, ◌≤◌, ◌^◌, max, 
 use Rattle.bq_weights.specs.VirtualTime.{IsWeight, vdelta_of}
 use Rattle.bq_disc.specs.Tasks.{Task, has_id, place, without}
 use Rattle.bq_disc.specs.Discipline.{Discipline}
-use Rattle.bq_disc.specs.OneProcessor.{Running, marked, charge, decided, own_preempt}
+use Rattle.bq_disc.specs.OneProcessor.{Running, marked, charge, decided, own_preempt, rise}
 use Rattle.bq_cfs.specs.Cfs.{cfs}
 use Rattle.bq_cfs.specs.Spread.{IsSound}
 use Rattle.bq_eevdf.specs.Eevdf.{eevdf}
-use Rattle.bq_fair.specs.Histories.{HasRoom, rise, task_at, charge_of}
+use Rattle.bq_fair.specs.Histories.{HasRoom, task_at, charge_of}
 use Rattle.bq_fair.specs.EevdfDeadlines.{HasDeadlines}
 
 -- one thing that comes to a processor

@@ -4,9 +4,9 @@ use Rattle.std.specs.Option.{option_map_or}
 use Rattle.bq_weights.specs.VirtualTime.{vdelta_of}
 use Rattle.bq_disc.specs.Discipline.{Discipline}
 use Rattle.bq_disc.specs.Totals.{total_weight, weighted_sum}
-use Rattle.bq_disc.specs.OneProcessor.{Running, present_at}
+use Rattle.bq_disc.specs.OneProcessor.{Running, present_at, ticked, rise}
 use Rattle.bq_cfs.specs.Spread.{IsSound}
-use Rattle.bq_fair.specs.Histories.{ticked, history, rise, HasRoom}
+use Rattle.bq_fair.specs.Histories.{history, HasRoom}
 
 -- the weights of all that are present, and the sum of weight times v
 abbrev pub weight_at : Running → ℕ
