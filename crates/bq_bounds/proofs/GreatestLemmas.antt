@@ -14,10 +14,10 @@ weaker m n (c ∷ cs) le h = (let k = h.0 in omega arith, weaker m n cs le h.1)
 later : (c d : Charge) (cs : List Charge) → Contains cs d → Contains (c ∷ cs) d
 later c d cs h = (suc h.0, let k = h.1 in omega arith, h.2)
 
-abbrev IsGreatest : List Charge → Charge → Type 0
-IsGreatest cs g = Contains cs g × AllByRecursion (λ d. d.difference ≤ g.difference) cs
+abbrev IsGreatestOf : List Charge → Charge → Type 0
+IsGreatestOf cs g = Contains cs g × AllByRecursion (λ d. d.difference ≤ g.difference) cs
 
-one_more : (c g : Charge) (past : List Charge) (b : Bool) → leb c.difference g.difference ≡ b → IsGreatest past g → IsGreatest (c ∷ past) (cond b g c)
+one_more : (c g : Charge) (past : List Charge) (b : Bool) → leb c.difference g.difference ≡ b → IsGreatestOf past g → IsGreatestOf (c ∷ past) (cond b g c)
 one_more c g past true e h = (later c g past h.0, (grind (arith, nat_tests), h.1))
 one_more c g past false e h =
     let lt : g.difference ≤ c.difference = grind (arith, nat_tests) in

@@ -4,11 +4,10 @@ use Rattle.std.specs.Prelude.{Contains, IfSome}
 use Rattle.std.specs.Option.{option_map_or}
 use Rattle.bq_disc.specs.Tasks.{Task}
 use Rattle.bq_disc.specs.Totals.{total_weight}
-use Rattle.bq_disc.specs.OneProcessor.{Running, present_at, reading, charge}
+use Rattle.bq_disc.specs.OneProcessor.{Running, present_at, reading, charge, rise}
 use Rattle.bq_disc.proofs.SetLemmas.{with_id-Contains}
 use Rattle.bq_cfs.specs.Spread.{IsSound}
 use Rattle.bq_eevdf.specs.Eevdf.{eevdf}
-use Rattle.bq_fair.specs.Histories.{rise}
 use Rattle.bq_fair.specs.Steps.{Step, Pass, Decide, Enter, Leave, Mark, stepped, after, DecidesWithin, EntersNew}
 use Rattle.bq_fair.proofs.SoundLemmas.{IsWellFormed, well_formed}
 use Rattle.bq_fair.proofs.StepLemmas.{well_formed_stepped}

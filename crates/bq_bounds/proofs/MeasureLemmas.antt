@@ -6,12 +6,12 @@ use Rattle.bq_weights.specs.VirtualTime.{IsWeight, vdelta_of, advance_of}
 use Rattle.bq_disc.specs.Tasks.{Task, with_id, present}
 use Rattle.bq_disc.specs.Queues.{HasDistinctIds}
 use Rattle.bq_disc.specs.Discipline.{Discipline, charged}
-use Rattle.bq_disc.specs.OneProcessor.{Running, present_at, reading, charge, own_preempt}
+use Rattle.bq_disc.specs.OneProcessor.{Running, present_at, reading, charge, own_preempt, rise}
 use Rattle.bq_disc.proofs.SetLemmas.{with_id-Contains}
 use Rattle.bq_cfs.specs.Cfs.{cfs}
 use Rattle.bq_cfs.specs.Spread.{IsSound}
 use Rattle.bq_eevdf.specs.Eevdf.{eevdf}
-use Rattle.bq_fair.specs.Histories.{rise, task_at}
+use Rattle.bq_fair.specs.Histories.{task_at}
 use Rattle.bq_fair.specs.Steps.{Decide, Pass, stepped, after}
 use Rattle.bq_fair.proofs.DecideLemmas.{keeps_present}
 use Rattle.bq_fair.proofs.PlaceLemmas.{current_present}
@@ -26,8 +26,8 @@ use Rattle.bq_bounds.specs.declared.charge.Charge.{Charge}
 use Rattle.bq_bounds.specs.declared.running_task.RunningTask.{RunningTask}
 use Rattle.bq_bounds.specs.declared.watch.Watch.{Watch}
 use Rattle.bq_bounds.specs.Charges.{least_waiting, charge_from, charge_of}
-use Rattle.bq_bounds.specs.Standings.{IsStanding}
-use Rattle.bq_bounds.specs.Watches.{greater, risen, measured_if, charged as charged_by, settled, decided, pulled}
+use Rattle.bq_bounds.specs.RunningTasks.{IsRunningTask}
+use Rattle.bq_bounds.specs.Watches.{greater, risen, measured_if, charged as charged_by, decided_by_event, decided, pulled}
 use Rattle.bq_bounds.specs.Nearness.{runs_on, risen_since}
 use Rattle.bq_bounds.specs.Measures.{KeepsItsBound, MeasureWithin, MeasuresWithin, IsWatchOf, WatchWithin, WatchesWithin}
 use Rattle.bq_bounds.proofs.NearnessLemmas.{cfs_stays_near, eevdf_stays_near}
@@ -68,7 +68,7 @@ record Stands (queue : List Task) (t : Task) (s : RunningTask) : Type 0 where
   weight : s.weight ≡ t.weight
   least : s.least ≡ least_waiting queue
 
-stands_by : (o : Option Task) (queue : List Task) (s : RunningTask) → IsStanding o queue (Some s) → (t : Task) × (o ≡ Some t) × Stands queue t s
+stands_by : (o : Option Task) (queue : List Task) (s : RunningTask) → IsRunningTask o queue (Some s) → (t : Task) × (o ≡ Some t) × Stands queue t s
 stands_by None queue s h = absurd h
 stands_by (Some t) queue s h = (t, refl, record { v = h.0; weight = h.1; least = h.2 })
 
@@ -87,7 +87,7 @@ record Runs (d : Discipline) (p : Running) (nows : List ℕ) (now : ℕ) (s : Ru
   runs : (runs_on d p (nows ++ now ∷ [])).current ≡ Some (charged d task (rise (runs_on d p nows) now))
   waiting : (b : Task) → Contains (runs_on d p nows).queue b → task_at b.id p ≡ Some b
 
-runs_by : (d : Discipline) (p : Running) (nows : List ℕ) (now : ℕ) (s : RunningTask) → IsSound p → IsStanding (runs_on d p nows).current (runs_on d p nows).queue (Some s) → Runs d p nows now s
+runs_by : (d : Discipline) (p : Running) (nows : List ℕ) (now : ℕ) (s : RunningTask) → IsSound p → IsRunningTask (runs_on d p nows).current (runs_on d p nows).queue (Some s) → Runs d p nows now s
 runs_by d p nows now s sound h =
     let start = stepped d p Decide in
     let q = runs_on d p nows in
@@ -212,8 +212,8 @@ pulled_leaves task false w = refl
 pulled_leaves None true w = refl
 pulled_leaves (Some id) true w = refl
 
-settled_leaves : (e : Event) (r : Reply) (busy : Bool) (w : Watch) → (settled e r busy w).greatest ≡ w.greatest
-settled_leaves e r busy w = grind (arith, decided_leaves, pulled_leaves)
+decided_by_event_leaves : (e : Event) (r : Reply) (busy : Bool) (w : Watch) → (decided_by_event e r busy w).greatest ≡ w.greatest
+decided_by_event_leaves e r busy w = grind (arith, decided_leaves, pulled_leaves)
 
 -- from a decision of the discipline on a watch counts the rise of the clock, and what it keeps does not pass its bound
 pub watches_within : WatchesWithin
@@ -221,5 +221,5 @@ watches_within = record {
   begins = λ d p w h. record { since = ap (λ (n : ℕ). Some n) (omega arith); greatest = h };
   cfs = watch_within Cfs cfs cfs_measures;
   eevdf = watch_within Eevdf eevdf eevdf_measures;
-  settles = settled_leaves;
+  leaves = decided_by_event_leaves;
 }

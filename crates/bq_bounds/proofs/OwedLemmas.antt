@@ -10,9 +10,9 @@ use Rattle.bq_weights.specs.VirtualTime.{vdelta_of}
 use Rattle.bq_disc.specs.Tasks.{Task, with_id, without}
 use Rattle.bq_disc.specs.Totals.{total_weight, weighted_sum}
 use Rattle.bq_disc.specs.Discipline.{charged}
-use Rattle.bq_disc.specs.OneProcessor.{Running, present_at, reading, charge, own_preempt}
+use Rattle.bq_disc.specs.OneProcessor.{Running, present_at, reading, charge, own_preempt, ticked, rise}
 use Rattle.bq_eevdf.specs.Eevdf.{eevdf}
-use Rattle.bq_fair.specs.Histories.{ticked, rise, task_at}
+use Rattle.bq_fair.specs.Histories.{task_at}
 use Rattle.bq_fair.specs.Work.{weight_at, moment_at}
 use Rattle.bq_fair.specs.EevdfFairness.{most_ahead, IsBalanced}
 use Rattle.bq_fair.specs.Steps.{Step, Pass, Decide, Enter, Leave, Mark, stepped, after, DecidesWithin}

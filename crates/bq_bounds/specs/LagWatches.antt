@@ -31,9 +31,9 @@ course_drained (suc n) by = Breaks
 
 -- what an event does to the tasks that are there
 abbrev pub course_of : Event → Reply → Course
-course_of (Tick cpu now) (Ticked run by steps) = course_by by
-course_of (Drain cpu now) (Drained count run by steps) = course_drained count by
-course_of (EndWake cpu now) (Placed task to by steps) = Passes
+course_of (Tick processor now) (Ticked run by steps) = course_by by
+course_of (Drain processor now) (Drained count run by steps) = course_drained count by
+course_of (EndWake processor now) (Placed task to by steps) = Passes
 course_of e r = Breaks
 
 -- the greatest of what any is owed
@@ -82,13 +82,13 @@ abbrev pub lags_after : Course → ℕ → List Task → Lags → Lags
 lags_after c rise xs l = lags_by c l.stretch rise xs l
 
 abbrev pub lags_of : List Lags → ℕ → Lags
-lags_of ls cpu = slice_index_or ls cpu unasked
+lags_of ls processor = slice_index_or ls processor unasked
 
 -- a task that is pulled is missed where it is taken from
 abbrev pub source_forgotten : Event → Reply → List Lags → List Lags
-source_forgotten (Pull cpu from now) (Pulled (Some id) run by steps) ls = slice_set ls from (forgotten (lags_of ls from))
+source_forgotten (Pull processor from now) (Pulled (Some id) run by steps) ls = slice_set ls from (forgotten (lags_of ls from))
 source_forgotten e r ls = ls
 
 -- all processors after an event of one of them
 abbrev pub all_lags_after : ℕ → Event → Reply → ℕ → List Task → List Lags → List Lags
-all_lags_after cpu e r rise xs ls = source_forgotten e r (slice_set ls cpu (lags_after (course_of e r) rise xs (lags_of ls cpu)))
+all_lags_after processor e r rise xs ls = source_forgotten e r (slice_set ls processor (lags_after (course_of e r) rise xs (lags_of ls processor)))

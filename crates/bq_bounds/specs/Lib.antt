@@ -1,5 +1,5 @@
 pub mod Charges
-pub mod Standings
+pub mod RunningTasks
 pub mod Watches
 pub mod Nearness
 pub mod Lags

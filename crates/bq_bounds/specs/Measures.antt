@@ -1,11 +1,10 @@
 -- No measure passes its bound.
 use Rattle.std.specs.Prelude.{◌≡◌, ℕ, ◌≤◌, Bool, List, [], ◌∷◌, ◌++◌, Option, Some, IfSome}
 use Rattle.bq_disc.specs.Discipline.{Discipline}
-use Rattle.bq_disc.specs.OneProcessor.{Running, present_at, charge}
+use Rattle.bq_disc.specs.OneProcessor.{Running, present_at, charge, rise}
 use Rattle.bq_cfs.specs.Cfs.{cfs}
 use Rattle.bq_cfs.specs.Spread.{IsSound}
 use Rattle.bq_eevdf.specs.Eevdf.{eevdf}
-use Rattle.bq_fair.specs.Histories.{rise}
 use Rattle.bq_fair.specs.Steps.{Step, Pass, Decide, Enter, Leave, Mark, stepped, after}
 use Rattle.bq_hooks.specs.declared.settled.By.TheVariants as who
 use Rattle.bq_parts.specs.declared.event.Event.{Event}
@@ -19,8 +18,8 @@ use Rattle.bq_bounds.specs.declared.running_task.RunningTask.{RunningTask}
 use Rattle.bq_bounds.specs.declared.stretch.Stretch.{Stretch}
 use Rattle.bq_bounds.specs.declared.watch.Watch.{Watch}
 use Rattle.bq_bounds.specs.Charges.{charge_of}
-use Rattle.bq_bounds.specs.Standings.{IsStanding}
-use Rattle.bq_bounds.specs.Watches.{read_by, decided, settled}
+use Rattle.bq_bounds.specs.RunningTasks.{IsRunningTask}
+use Rattle.bq_bounds.specs.Watches.{read_by, decided, decided_by_event}
 use Rattle.bq_bounds.specs.Lags.{beginning, stretched}
 use Rattle.bq_bounds.specs.LagWatches.{decided_in, begun_anew, lags_after}
 use Rattle.bq_bounds.specs.Nearness.{runs_on, risen_since}
@@ -36,7 +35,7 @@ abbrev pub MeasureWithin : Rule → Discipline → Type 0
 MeasureWithin rule d =
     (p : Running) (nows : List ℕ) (now : ℕ) (s : RunningTask) → IsSound p →
     (let q = runs_on d p nows in
-    IsStanding q.current q.queue (Some s) →
+    IsRunningTask q.current q.queue (Some s) →
     IfSome (charge_of rule s (rise q now) (risen_since d p (nows ++ now ∷ [])) (charge d q now).kept) KeepsItsBound)
 
 -- under each rule
@@ -55,7 +54,7 @@ abbrev pub WatchWithin : Rule → Discipline → Type 0
 WatchWithin rule d =
     (p : Running) (nows : List ℕ) (now : ℕ) (s : Option RunningTask) (w : Watch) → IsSound p → IsWatchOf d p nows w →
     (let q = runs_on d p nows in
-    IsStanding q.current q.queue s →
+    IsRunningTask q.current q.queue s →
     IsWatchOf d p (nows ++ now ∷ []) (read_by rule s (rise q now) (charge d q now).kept w))
 
 -- from a decision of the discipline on, under each rule; and whatever comes of an event after its reading, the greatest stays
@@ -63,7 +62,7 @@ pub record WatchesWithin : Type 0 where
   pub begins : (d : Discipline) (p : Running) (w : Watch) → IfSome w.greatest KeepsItsBound → IsWatchOf d p [] (decided who.Discipline w)
   pub cfs : WatchWithin Cfs cfs
   pub eevdf : WatchWithin Eevdf eevdf
-  pub settles : (e : Event) (r : Reply) (busy : Bool) (w : Watch) → (settled e r busy w).greatest ≡ w.greatest
+  pub leaves : (e : Event) (r : Reply) (busy : Bool) (w : Watch) → (decided_by_event e r busy w).greatest ≡ w.greatest
 
 -- a stretch goes on by a step: a reading stretches it by how far the clock rises, and from a decision on that is counted anew
 abbrev pub stretch_by : Running → Step → Stretch → Stretch

@@ -1,11 +1,11 @@
--- How a processor stands before a charge.
+-- The task that runs at a processor before a charge, as far as the charge needs it.
 use Rattle.std.specs.Prelude.{◌≡◌, List, Option, Some, None}
 use Rattle.bq_disc.specs.Tasks.{Task}
 use Rattle.bq_bounds.specs.declared.running_task.RunningTask.{RunningTask}
 use Rattle.bq_bounds.specs.Charges.{least_waiting}
 
 -- the v and the weight of the task that runs, if one does, and the least v of those that wait
-abbrev pub IsStanding : Option Task → List Task → Option RunningTask → Type 0
-IsStanding None queue None = Unit {0}
-IsStanding (Some t) queue (Some s) = (s.v ≡ t.v) × (s.weight ≡ t.weight) × (s.least ≡ least_waiting queue)
-IsStanding current queue s = ⊥
+abbrev pub IsRunningTask : Option Task → List Task → Option RunningTask → Type 0
+IsRunningTask None queue None = Unit {0}
+IsRunningTask (Some t) queue (Some s) = (s.v ≡ t.v) × (s.weight ≡ t.weight) × (s.least ≡ least_waiting queue)
+IsRunningTask current queue s = ⊥

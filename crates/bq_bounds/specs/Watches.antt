@@ -61,12 +61,12 @@ pulled None true w = w
 pulled (Some id) true w = disturbed w
 
 -- who decided, if anyone did
-abbrev pub settled : Event → Reply → Bool → Watch → Watch
-settled (Tick cpu now) (Ticked run by steps) busy w = decided by w
-settled (Drain cpu now) (Drained count run by steps) busy w = decided by w
-settled (Block cpu now) (Went task run) busy w = decided who.Discipline w
-settled (Pull cpu from now) (Pulled task run by steps) busy w = pulled task busy w
-settled e r busy w = w
+abbrev pub decided_by_event : Event → Reply → Bool → Watch → Watch
+decided_by_event (Tick processor now) (Ticked run by steps) busy w = decided by w
+decided_by_event (Drain processor now) (Drained count run by steps) busy w = decided by w
+decided_by_event (Block processor now) (Went task run) busy w = decided who.Discipline w
+decided_by_event (Pull processor from now) (Pulled task run by steps) busy w = pulled task busy w
+decided_by_event e r busy w = w
 
 -- a reading of the clock: it has risen, and what ran is charged
 abbrev pub read_by : Rule → Option RunningTask → ℕ → ℕ → Watch → Watch
@@ -74,19 +74,19 @@ read_by rule s rise mean w = charged_if rule s rise mean (risen rise w)
 
 -- an event of the processor: its clock is read, and someone may decide
 abbrev pub watch_after : Rule → Event → Reply → Option RunningTask → ℕ → ℕ → Watch → Watch
-watch_after rule e r s rise mean w = settled e r (is_some s) (read_by rule s rise mean w)
+watch_after rule e r s rise mean w = decided_by_event e r (is_some s) (read_by rule s rise mean w)
 
 abbrev pub watch_of : List Watch → ℕ → Watch
-watch_of ws cpu = slice_index_or ws cpu unwatched
+watch_of ws processor = slice_index_or ws processor unwatched
 
 -- under EEVDF a task that is pulled is missed where it is taken from: the mean moves
 abbrev pub source_disturbed : Rule → Event → Reply → List Watch → List Watch
-source_disturbed Eevdf (Pull cpu from now) (Pulled (Some id) run by steps) ws = slice_set ws from (disturbed (watch_of ws from))
+source_disturbed Eevdf (Pull processor from now) (Pulled (Some id) run by steps) ws = slice_set ws from (disturbed (watch_of ws from))
 source_disturbed rule e r ws = ws
 
 -- all processors after an event of one of them
 abbrev pub watches_after : Rule → ℕ → Event → Reply → Option RunningTask → ℕ → ℕ → List Watch → List Watch
-watches_after rule cpu e r s rise mean ws = source_disturbed rule e r (slice_set ws cpu (watch_after rule e r s rise mean (watch_of ws cpu)))
+watches_after rule processor e r s rise mean ws = source_disturbed rule e r (slice_set ws processor (watch_after rule e r s rise mean (watch_of ws processor)))
 
 -- the greatest of some charges, the one that came last standing first
 abbrev pub greatest_of : List Charge → Option Charge

@@ -46,16 +46,16 @@ impl Bounds {
         processor: u8,
         event: &Event,
         reply: &Reply,
-        standing: Option<RunningTask>,
+        running: Option<RunningTask>,
         rise: u64,
         mean: u64,
     )
         ensures rule { self.new.rule ≡ self.old.rule }
-        ensures watches { self.new.watches.items ≡ watches_after self.old.rule processor event.now reply.now standing rise mean self.old.watches.items }
+        ensures watches { self.new.watches.items ≡ watches_after self.old.rule processor event.now reply.now running rise mean self.old.watches.items }
         ensures lags { self.new.lags ≡ self.old.lags }
     {
         if let Some(watch) = self.watches.get_mut(usize::from(processor)) {
-            watch.take(self.rule, event, reply, standing, rise, mean);
+            watch.take(self.rule, event, reply, running, rise, mean);
         }
         self.disturb_source(event, reply);
     }

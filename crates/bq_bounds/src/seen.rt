@@ -1,7 +1,7 @@
 //! How a processor stands, as it is seen before an event.
 ghost use Rattle.std.specs.Prelude.{◌≡◌};
 ghost use Rattle.bq_bounds.specs.Charges.{least_waiting};
-ghost use Rattle.bq_bounds.specs.Standings.{IsStanding};
+ghost use Rattle.bq_bounds.specs.RunningTasks.{IsRunningTask};
 
 use crate::running_task::RunningTask;
 use bq_disc::RunQueue;
@@ -9,7 +9,7 @@ use bq_parts::Cpu;
 
 /// How a processor stands; `None` where nothing runs. It takes a time in the logarithm of the tasks that wait.
 pub fn how_it_stands<Q: RunQueue>(cpu: &Cpu<Q>) -> Option<RunningTask>
-    ensures { IsStanding cpu.now.running.current cpu.now.running.queue result }
+    ensures { IsRunningTask cpu.now.running.current cpu.now.running.queue result }
 {
     let least = least_waiting(cpu);
     match cpu.current() {

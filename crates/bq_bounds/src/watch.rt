@@ -1,6 +1,6 @@
 //! The charges of one processor, as far as its discipline alone decides who runs there.
 ghost use Rattle.std.specs.Prelude.{◌≡◌};
-ghost use Rattle.bq_bounds.specs.Watches.{unwatched, risen, measured, decided, disturbed, charged, greater, watch_after, settled};
+ghost use Rattle.bq_bounds.specs.Watches.{unwatched, risen, measured, decided, disturbed, charged, greater, watch_after, decided_by_event};
 
 use crate::charge::Charge;
 use crate::running_task::RunningTask;
@@ -41,17 +41,17 @@ impl Watch {
         rule: Rule,
         event: &Event,
         reply: &Reply,
-        standing: Option<RunningTask>,
+        running: Option<RunningTask>,
         rise: u64,
         mean: u64,
     )
-        ensures { self.new ≡ watch_after rule event.now reply.now standing rise mean self.old }
+        ensures { self.new ≡ watch_after rule event.now reply.now running rise mean self.old }
     {
         self.rise(rise);
-        if let Some(standing) = standing {
-            self.charge(rule, &standing, rise, mean);
+        if let Some(running) = running {
+            self.charge(rule, &running, rise, mean);
         }
-        self.settle(event, reply, standing.is_some());
+        self.decide_by_event(event, reply, running.is_some());
     }
 
     /// The clock has risen.
@@ -64,12 +64,12 @@ impl Watch {
     }
 
     /// The task that ran is charged.
-    fn charge(&mut self, rule: Rule, standing: &RunningTask, rise: u64, mean: u64)
-        ensures { self.new ≡ charged rule standing.now rise mean self.old.since self.old }
+    fn charge(&mut self, rule: Rule, running: &RunningTask, rise: u64, mean: u64)
+        ensures { self.new ≡ charged rule running.now rise mean self.old.since self.old }
     {
         match self.since {
             Some(since) => {
-                if let Some(charge) = standing.charge(rule, rise, since, mean) {
+                if let Some(charge) = running.charge(rule, rise, since, mean) {
                     self.measure(charge);
                 }
             }
@@ -86,8 +86,8 @@ impl Watch {
     }
 
     /// Who decided now, if anyone did; `was_busy` where a task ran before.
-    fn settle(&mut self, event: &Event, reply: &Reply, was_busy: bool)
-        ensures { self.new ≡ settled event.now reply.now was_busy self.old }
+    fn decide_by_event(&mut self, event: &Event, reply: &Reply, was_busy: bool)
+        ensures { self.new ≡ decided_by_event event.now reply.now was_busy self.old }
     {
         match (event, reply) {
             (

@@ -23,7 +23,7 @@ pub struct BoundsTable {
     alloc: Global,
     bounds: Bounds,
     /// How the processor of the next event stands.
-    standing: Option<RunningTask>,
+    running: Option<RunningTask>,
 }
 
 impl BoundsTable {
@@ -32,13 +32,13 @@ impl BoundsTable {
         Ok(BoundsTable {
             alloc,
             bounds: Bounds::new(alloc, rule, processors)?,
-            standing: None,
+            running: None,
         })
     }
 
     /// Notes how the processor of an event stands before it.
     pub fn comes(&mut self, event: &Event, machine: &AnyCore) {
-        self.standing = match place_of(event) {
+        self.running = match place_of(event) {
             Some((processor, _)) => match machine.seen(processor) {
                 Some(Seen::Cfs(cpu)) => how_it_stands(cpu),
                 Some(Seen::Eevdf(cpu)) => how_it_stands(cpu),
@@ -61,15 +61,15 @@ impl BoundsTable {
         };
         let processor = reading.processor;
         let rise = reading.to.saturating_sub(reading.from);
-        let standing = self.standing;
+        let running = self.running;
         match machine.seen(processor) {
             Some(Seen::Cfs(cpu)) => {
                 self.bounds
-                    .take(processor, event, reply, standing, rise, cpu.kept());
+                    .take(processor, event, reply, running, rise, cpu.kept());
             }
             Some(Seen::Eevdf(cpu)) => {
                 self.bounds
-                    .take(processor, event, reply, standing, rise, cpu.kept());
+                    .take(processor, event, reply, running, rise, cpu.kept());
                 let is_done = match glance_at(cpu) {
                     Some(glance) => self
                         .bounds
@@ -142,10 +142,10 @@ impl BoundsTable {
 /// What is known of the tasks of a processor that has just been charged, by its mark and by those that come first; nothing where no
 /// task runs.
 fn glance_at<Q: RunQueue>(cpu: &Cpu<Q>) -> Option<Glance> {
-    let standing = how_it_stands(cpu)?;
-    let least = match standing.least {
-        Some(least) => least.min(standing.v),
-        None => standing.v,
+    let running = how_it_stands(cpu)?;
+    let least = match running.least {
+        Some(least) => least.min(running.v),
+        None => running.v,
     };
     Some(Glance {
         least,
