@@ -17,7 +17,7 @@ use Rattle.bq_parts.specs.declared.wakes.Placement.{Placement}
 use Rattle.bq_parts.specs.declared.refusal.Refusal.{Refusal}
 use Rattle.bq_parts.specs.declared.lobby_entry.LobbyEntry.{LobbyEntry}
 use Rattle.bq_parts.specs.Processors.{Processor, size_of, load_of}
-use Rattle.bq_parts.specs.World.{World, processor, inbox, count_in, with_processor, with_inbox, loads_of}
+use Rattle.bq_parts.specs.World.{World, processor_at, inbox, count_in, with_processor, with_inbox, loads_of}
 use Rattle.bq_parts.specs.Refusals.{argument_refusal}
 use Rattle.bq_parts.specs.Choices.{Regime, Decision, policies, decided_by}
 use Rattle.bq_parts.specs.Moves.{admitted, after_leaving}
@@ -62,7 +62,7 @@ begin_size id loads p l (Ok r) q m b = ap size_of b.4
 begin_size id loads p l (Err e) q m b = ap size_of b.1
 
 -- a task has left the processor
-pub kept_less : (w : World) (c : ℕ) (p q : Processor) (k : Kept) → length w.inboxes ≡ length w.processors → kept_of w ≡ k → c < count_in w → processor w c ≡ p → size_of q + 1 ≡ size_of p → kept_of (with_processor w c q) ≡ one_less c k
+pub kept_less : (w : World) (c : ℕ) (p q : Processor) (k : Kept) → length w.inboxes ≡ length w.processors → kept_of w ≡ k → c < count_in w → processor_at w c ≡ p → size_of q + 1 ≡ size_of p → kept_of (with_processor w c q) ≡ one_less c k
 kept_less w c p q k even kw there at e =
     let was : get_or (loads_of w.processors w.inboxes) c 0 ≡ load_of p (inbox w c) = load_kept w.processors w.inboxes c even there ∙ ap (λ (x : Processor). load_of x (inbox w c)) at in
     let is : load_of q (inbox w c) ≡ get_or (loads_of w.processors w.inboxes) c 0 - 1 = rw was (omega (arith, e)) in
@@ -70,7 +70,7 @@ kept_less w c p q k even kw there at e =
     ∙ ap (one_less c) kw
 
 -- a task has come to the processor
-pub kept_more : (w : World) (c : ℕ) (p q : Processor) (k : Kept) → length w.inboxes ≡ length w.processors → kept_of w ≡ k → c < count_in w → processor w c ≡ p → size_of q ≡ size_of p + 1 → load_of p (inbox w c) ≤ 1024 →
+pub kept_more : (w : World) (c : ℕ) (p q : Processor) (k : Kept) → length w.inboxes ≡ length w.processors → kept_of w ≡ k → c < count_in w → processor_at w c ≡ p → size_of q ≡ size_of p + 1 → load_of p (inbox w c) ≤ 1024 →
     kept_of (with_processor w c q) ≡ one_more c k
 kept_more w c p q k even kw there at e few =
     let was : get_or (loads_of w.processors w.inboxes) c 0 ≡ load_of p (inbox w c) = load_kept w.processors w.inboxes c even there ∙ ap (λ (x : Processor). load_of x (inbox w c)) at in
@@ -80,7 +80,7 @@ kept_more w c p q k even kw there at e few =
 
 module _ (d : Discipline) (n : ℕ) where
   -- a processor of the same size
-  pub kept_same : (w : World) (c : ℕ) (p q : Processor) (k : Kept) → kept_of w ≡ k → processor w c ≡ p → size_of q ≡ size_of p → kept_of (with_processor w c q) ≡ k
+  pub kept_same : (w : World) (c : ℕ) (p q : Processor) (k : Kept) → kept_of w ≡ k → processor_at w c ≡ p → size_of q ≡ size_of p → kept_of (with_processor w c q) ≡ k
   kept_same w c p q k kw at e = ap (λ (ls : List ℕ). record { drawn = w.drawn; loads = ls }) (loads_same w.processors w.inboxes c q (e ∙ sym (ap size_of at))) ∙ kw
 
   pub admit_moves : (id : ℕ) (nice : ℤ) (mask slice : ℕ) (l m : List LobbyEntry) (k : Kept) (r : Result Reply Refusal) → argument_refusal n (Admit id nice mask slice) ≡ None →
@@ -116,7 +116,7 @@ module _ (d : Discipline) (n : ℕ) where
       (λ w s kw l at m box. (
         (drains_step d w c now calls r q l (rw (at, box) t), rw (within w c l) refl, tt),
         ap (λ (ls : List ℕ). record { drawn = w.drawn; loads = ls })
-            (loads_moved w.processors w.inboxes c q [] l (s.boxes ∙ sym s.many) (drain_load c now p q xs calls r t ∙ sym (ap (λ (x : Processor). load_of x xs) at) ∙ sym (ap (λ (x : List Task). load_of (processor w c) x) box))) ∙ kw,
+            (loads_moved w.processors w.inboxes c q [] l (s.boxes ∙ sym s.many) (drain_load c now p q xs calls r t ∙ sym (ap (λ (x : Processor). load_of x xs) at) ∙ sym (ap (λ (x : List Task). load_of (processor_at w c) x) box))) ∙ kw,
       ))
 
   block_load : (c now : ℕ) (p q : Processor) (l m : List LobbyEntry) (r : Reply) → Blocks d c now p l (Ok r) q m → size_of q + 1 ≡ size_of p
@@ -124,7 +124,7 @@ module _ (d : Discipline) (n : ℕ) where
       let a = after_time d now p in
       omega (arith, ap size_of b.1.1, time_size d now p, length_is (present_at (record a { running = after_leaving d a.running }).running), length_is (present_at a.running), tally-after_leaving ones d a.running b.0 b.1.0)
 
-  block_kept : (w : World) (c now : ℕ) (p q : Processor) (l m : List LobbyEntry) (k : Kept) (r : Result Reply Refusal) → IsSound n w → kept_of w ≡ k → c < count_in w → processor w c ≡ p → Blocks d c now p l r q m →
+  block_kept : (w : World) (c now : ℕ) (p q : Processor) (l m : List LobbyEntry) (k : Kept) (r : Result Reply Refusal) → IsSound n w → kept_of w ≡ k → c < count_in w → processor_at w c ≡ p → Blocks d c now p l r q m →
       kept_of (with_processor w c q) ≡ kept_by_block c r k
   block_kept w c now p q l m k (Err e) s kw there at b = kept_same w c p q k kw at (ap size_of b.2)
   block_kept w c now p q l m k (Ok r) s kw there at b = kept_less w c p q k (s.boxes ∙ sym s.many) kw there at (block_load c now p q l m r b)
@@ -156,15 +156,15 @@ module _ (d : Discipline) (n : ℕ) where
       rw (own, ← box) (places_step d w c now calls x q l (rw (s.many, at) b)) in
       ((step, rw (within w c l) refl, tt), place_kept w c now p q xs calls k x s kw at m box b))
     where
-      place_kept : (w : World) (c now : ℕ) (p q : Processor) (xs : List Task) (calls : List Asked) (k : Kept) (x : Placement) → IsSound n w → kept_of w ≡ k → processor w c ≡ p → x.to < length w.inboxes → inbox w x.to ≡ xs →
+      place_kept : (w : World) (c now : ℕ) (p q : Processor) (xs : List Task) (calls : List Asked) (k : Kept) (x : Placement) → IsSound n w → kept_of w ≡ k → processor_at w c ≡ p → x.to < length w.inboxes → inbox w x.to ≡ xs →
           Places (policies d) n c now p calls (Some x) q → kept_of (with_inbox (with_processor w c q) x.to (xs ++ x.task ∷ [])) ≡ one_more x.to k
       place_kept w c now p q xs calls k x s kw at m box b =
           let even : length w.inboxes ≡ length w.processors = s.boxes ∙ sym s.many in
           let ys : List Task = xs ++ x.task ∷ [] in
           let one : loads_of (set w.processors c q) (set w.inboxes x.to ys) ≡ loads_of w.processors (set w.inboxes x.to ys) = loads_same w.processors (set w.inboxes x.to ys) c q (place_size c now p q calls x b ∙ sym (ap size_of at)) in
-          let was : get_or (loads_of w.processors w.inboxes) x.to 0 ≡ load_of (processor w x.to) (inbox w x.to) = load_kept w.processors w.inboxes x.to even (omega arith) in
+          let was : get_or (loads_of w.processors w.inboxes) x.to 0 ≡ load_of (processor_at w x.to) (inbox w x.to) = load_kept w.processors w.inboxes x.to even (omega arith) in
           let few = few_at w x.to s.lobby s.orderly in
-          let is : load_of (processor w x.to) ys ≡ min (get_or (loads_of w.processors w.inboxes) x.to 0 + 1) (2 ^ 16 - 1) = rw (was, box) (omega (arith, length-append xs (x.task ∷ []), few, ap (λ (z : List Task). length z) box)) in
+          let is : load_of (processor_at w x.to) ys ≡ min (get_or (loads_of w.processors w.inboxes) x.to 0 + 1) (2 ^ 16 - 1) = rw (was, box) (omega (arith, length-append xs (x.task ∷ []), few, ap (λ (z : List Task). length z) box)) in
           ap (λ (ls : List ℕ). record { drawn = w.drawn; loads = ls }) (one ∙ loads_box w.processors w.inboxes x.to ys even ∙ ap (λ (z : ℕ). set (loads_of w.processors w.inboxes) x.to z) is)
           ∙ ap (one_more x.to) kw
 

@@ -10,7 +10,7 @@ use Rattle.bq_parts.specs.declared.carried.Carried.{Carried}
 use Rattle.bq_parts.specs.declared.lobby_entry.LobbyEntry.{LobbyEntry}
 use Rattle.bq_parts.specs.declared.lobby_entry.LobbyEntry.TheVariants.{Absent, Blocked}
 use Rattle.bq_parts.specs.Processors.{Processor, HasEachOnce, HasLobbyIds}
-use Rattle.bq_parts.specs.World.{World, opening_world, processor, inbox}
+use Rattle.bq_parts.specs.World.{World, opening_world, processor_at, inbox}
 use Rattle.bq_parts.proofs.CountLemmas.{count_of-append}
 use Rattle.bq_parts.proofs.OnceLemmas.{standing_once, held_two, count_of-held_by, each_once_running, each_once_runnable, none_beyond_at, few_at}
 use Rattle.bq_cells.specs.Parts.{RecordStep, cpu_part, inbox_part, lobby_part, HasPart}
@@ -28,7 +28,7 @@ module _ (d : Discipline) (n c : ℕ) (p : Processor) where
   seen_ids k =
       let s = reached_sound d n k.0 k.1 in
       subst (λ (x : Processor). HasLobbyIds (present_at x.running)) k.2.1
-      (λ id h. let p' = (processor k.0 c).running in omega (arith, none_beyond_at k.0 c id s.lobby s.orderly h, count_of-append id (present_at p') (inbox k.0 c)))
+      (λ id h. let p' = (processor_at k.0 c).running in omega (arith, none_beyond_at k.0 c id s.lobby s.orderly h, count_of-append id (present_at p') (inbox k.0 c)))
 
   usable_by_case : (o : Option Carried) → ((x : Carried) → o ≡ Some x → HasPlace n x.task) → IfSome o (λ x. HasPlace n x.task)
   usable_by_case None h = tt
@@ -70,8 +70,8 @@ module _ (d : Discipline) (n c b : ℕ) (p q : Processor) (apart : c ≢ b) wher
   pub two_once : SeenTwo → HasEachOnce (present_at p.running ++ present_at q.running)
   two_once k =
       let s = reached_sound d n k.0 k.1 in
-      let one = processor k.0 c in
-      let other = processor k.0 b in
+      let one = processor_at k.0 c in
+      let other = processor_at k.0 b in
       let both : HasEachOnce (present_at one.running ++ present_at other.running) =
       λ id. omega (arith, standing_once k.0 id s.orderly, held_two id k.0.processors c b apart, count_of-held_by id one, count_of-held_by id other, count_of-append id (present_at one.running) (present_at other.running)) in
       rw (← k.2.1, ← k.3.1) both
@@ -79,8 +79,8 @@ module _ (d : Discipline) (n c b : ℕ) (p q : Processor) (apart : c ≢ b) wher
   pub two_ids : SeenTwo → HasLobbyIds (present_at p.running ++ present_at q.running)
   two_ids k =
       let s = reached_sound d n k.0 k.1 in
-      let one = (processor k.0 c).running in
-      let other = (processor k.0 b).running in
+      let one = (processor_at k.0 c).running in
+      let other = (processor_at k.0 b).running in
       let both : HasLobbyIds (present_at one ++ present_at other) =
       λ id h. omega (
         arith,

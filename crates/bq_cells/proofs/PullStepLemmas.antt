@@ -17,7 +17,7 @@ use Rattle.bq_parts.specs.declared.event.Event.TheVariants.{Pull}
 use Rattle.bq_parts.specs.declared.reply.Reply.{Reply}
 use Rattle.bq_parts.specs.declared.reply.Reply.TheVariants.{Pulled}
 use Rattle.bq_parts.specs.Processors.{Processor, opening, size_of, HasEachOnce}
-use Rattle.bq_parts.specs.World.{World, processor, count_in, with_processor}
+use Rattle.bq_parts.specs.World.{World, processor_at, count_in, with_processor}
 use Rattle.bq_parts.specs.Choices.{Decision, SettlesPull, policies, own_pull}
 use Rattle.bq_parts.specs.Moves.{taken_from, without_task, with_pulled, started_if_idle}
 use Rattle.bq_parts.specs.Shares.{after_time, remarked, Pulls}
@@ -67,25 +67,25 @@ source_size d o task =
       same,
     )
 
-one_by_case : (cpu mark : ℕ) (o : Option Task) → option_map_or (can_use cpu) o false ≡ true → length (option_to_list (option_map (left_at mark) o)) ≡ 1
-one_by_case cpu mark None h = absurd (let no : ⊥ = cc in no)
-one_by_case cpu mark (Some t) h = refl
+one_by_case : (processor mark : ℕ) (o : Option Task) → option_map_or (can_use processor) o false ≡ true → length (option_to_list (option_map (left_at mark) o)) ≡ 1
+one_by_case processor mark None h = absurd (let no : ⊥ = cc in no)
+one_by_case processor mark (Some t) h = refl
 
 -- a task that may move is there to be taken
-taken_one : (cpu id : ℕ) (s : Running) → is_movable_to cpu id s.queue ≡ true → length (option_to_list (taken_from s (Some id))) ≡ 1
-taken_one cpu id s h = one_by_case cpu s.kept (with_id id s.queue) h
+taken_one : (processor id : ℕ) (s : Running) → is_movable_to processor id s.queue ≡ true → length (option_to_list (taken_from s (Some id))) ≡ 1
+taken_one processor id s h = one_by_case processor s.kept (with_id id s.queue) h
 
 -- a permitted choice is in the queue
-chosen_there : (d : Discipline) (cpu from now id : ℕ) (p o : Processor) (settled : Decision) → HasEachOnce o.running.queue → SettlesPull (policies d) cpu from (after_time d now p) (remarked d o) settled → task_numbered settled.choice ≡ Some id →
+chosen_there : (d : Discipline) (processor from now id : ℕ) (p o : Processor) (settled : Decision) → HasEachOnce o.running.queue → SettlesPull (policies d) processor from (after_time d now p) (remarked d o) settled → task_numbered settled.choice ≡ Some id →
     length (option_to_list (taken_from (remarked d o).running (Some id))) ≡ 1
-chosen_there d cpu from now id p o settled once h e =
+chosen_there d processor from now id p o settled once h e =
     let c = after_time d now p in
     let s = remarked d o in
-    let may = settled_permitted (policies d) _ c.hooks.pull c.running.last cpu (may_pull cpu s.running.queue) (or_nobody (own_pull cpu c s)) settled (own_pull_permitted cpu c s once) h in
-    taken_one cpu id s.running (may_pull_names cpu s.running.queue settled.choice id may e)
+    let may = settled_permitted (policies d) _ c.hooks.pull c.running.last processor (may_pull processor s.running.queue) (or_nobody (own_pull processor c s)) settled (own_pull_permitted processor c s once) h in
+    taken_one processor id s.running (may_pull_names processor s.running.queue settled.choice id may e)
 
 -- a processor beside one that was written
-beside : (w : World) (c b : ℕ) (q o : Processor) → b ≢ c → processor w b ≡ o → processor (with_processor w c q) b ≡ o
+beside : (w : World) (c b : ℕ) (q o : Processor) → b ≢ c → processor_at w b ≡ o → processor_at (with_processor w c q) b ≡ o
 beside w c b q o apart at = get_or-set_other w.processors c b q opening apart ∙ at
 
 -- two numbers that differ
@@ -93,7 +93,7 @@ differ : (a b : ℕ) → a ≢ b → eqb a b ≡ false
 differ a b h = grind (arith, nat_tests)
 
 module _ (d : Discipline) (n : ℕ) where
-  kept_by_task : (w : World) (c b : ℕ) (p q o r : Processor) (k : Kept) (task run : Option ℕ) (by : By) (steps t : ℕ) → IsSound n w → kept_of w ≡ k → c < count_in w → processor w c ≡ p → b < count_in w → processor w b ≡ o → c ≢ b →
+  kept_by_task : (w : World) (c b : ℕ) (p q o r : Processor) (k : Kept) (task run : Option ℕ) (by : By) (steps t : ℕ) → IsSound n w → kept_of w ≡ k → c < count_in w → processor_at w c ≡ p → b < count_in w → processor_at w b ≡ o → c ≢ b →
       size_of q ≡ size_of p + t → size_of r + t ≡ size_of o → ((id : ℕ) → task ≡ Some id → t ≡ 1) → (task ≡ None → t ≡ 0) →
       kept_of (with_processor (with_processor w c q) b r) ≡ kept_by_pull c b (Pulled task run by steps) k
   kept_by_task w c b p q o r k None run by steps t s kw here at there at' apart more less some none =
@@ -112,7 +112,7 @@ module _ (d : Discipline) (n : ℕ) where
   none_taken s None e = refl
   none_taken s (Some id) e = absurd (let no : ⊥ = cc in no)
 
-  pub pull_kept : (w : World) (c b now : ℕ) (p q o r : Processor) (calls : List Asked) (k : Kept) (x : Reply) → IsSound n w → kept_of w ≡ k → c < count_in w → processor w c ≡ p → b < count_in w → processor w b ≡ o → c ≢ b →
+  pub pull_kept : (w : World) (c b now : ℕ) (p q o r : Processor) (calls : List Asked) (k : Kept) (x : Reply) → IsSound n w → kept_of w ≡ k → c < count_in w → processor_at w c ≡ p → b < count_in w → processor_at w b ≡ o → c ≢ b →
       Pulls (policies d) c b now p o calls x q r → kept_of (with_processor (with_processor w c q) b r) ≡ kept_by_pull c b x k
   pull_kept w c b now p q o r calls k x s kw here at there at' apart u =
       let source = remarked d o in

@@ -31,13 +31,13 @@ lobby_after : (s : Regime) (w : World) (e : Event) (calls : List Asked) (r : Rep
 lobby_after s w (Admit id nice mask slice) calls r u k = ap (λ (v : World). length v.lobby) k.3 ∙ ap length k.1.2 ∙ length-set w.lobby id _
 lobby_after s w (Retire id) calls r u k = ap (λ (v : World). length v.lobby) k.3 ∙ ap length k.1.2 ∙ length-set w.lobby id Absent
 lobby_after s w Draw calls r u k = ap (λ (v : World). length v.lobby) k.2
-lobby_after s w (Install cpu h g policy) calls r u k = ap (λ (v : World). length v.lobby) k.3
-lobby_after s w (BeginWake cpu id) calls r u k = ap (λ (v : World). length v.lobby) k.4 ∙ ap length k.2.5 ∙ length-set w.lobby id Away
-lobby_after s w (EndWake cpu now) calls r u k = ap (λ (v : World). length v.lobby) k.4
-lobby_after s w (Drain cpu now) calls r u k = ap (λ (v : World). length v.lobby) k.2
-lobby_after s w (Tick cpu now) calls r u k = ap (λ (v : World). length v.lobby) k.2
-lobby_after s w (Block cpu now) calls r u k = ap (λ (v : World). length v.lobby) k.4 ∙ ap length k.2.1.3 ∙ length-set w.lobby k.2.0.id _
-lobby_after s w (Pull cpu from now) calls r u k = ap (λ (v : World). length v.lobby) k.3
+lobby_after s w (Install processor h g policy) calls r u k = ap (λ (v : World). length v.lobby) k.3
+lobby_after s w (BeginWake processor id) calls r u k = ap (λ (v : World). length v.lobby) k.4 ∙ ap length k.2.5 ∙ length-set w.lobby id Away
+lobby_after s w (EndWake processor now) calls r u k = ap (λ (v : World). length v.lobby) k.4
+lobby_after s w (Drain processor now) calls r u k = ap (λ (v : World). length v.lobby) k.2
+lobby_after s w (Tick processor now) calls r u k = ap (λ (v : World). length v.lobby) k.2
+lobby_after s w (Block processor now) calls r u k = ap (λ (v : World). length v.lobby) k.4 ∙ ap length k.2.1.3 ∙ length-set w.lobby k.2.0.id _
+lobby_after s w (Pull processor from now) calls r u k = ap (λ (v : World). length v.lobby) k.3
 
 lobby_stays : (s : Regime) (w : World) (e : Event) (calls : List Asked) (r : Result Reply Refusal) (u : World) → WorldStep s w e calls r u → length u.lobby ≡ length w.lobby
 lobby_stays s w e calls (Ok r) u k = lobby_after s w e calls r u k.1

@@ -7,7 +7,7 @@ use Rattle.bq_disc.specs.Tasks.{Task}
 use Rattle.bq_disc.specs.Discipline.{Discipline}
 use Rattle.bq_parts.specs.declared.lobby_entry.LobbyEntry.{LobbyEntry}
 use Rattle.bq_parts.specs.Processors.{Processor, opening}
-use Rattle.bq_parts.specs.World.{World, opening_world, processor, inbox, count_in, with_processor, with_inbox}
+use Rattle.bq_parts.specs.World.{World, opening_world, processor_at, inbox, count_in, with_processor, with_inbox}
 use Rattle.bq_cells.specs.declared.law.Kept.{Kept}
 use Rattle.bq_cells.specs.declared.law.Part.{Part}
 use Rattle.bq_cells.specs.declared.law.Part.TheVariants as part
@@ -24,11 +24,11 @@ apart : (d c : ℕ) → cond {A = ℕ} (eqb d c) 1 0 ≡ 0 → d ≢ c
 apart d c none e = let one : cond {A = ℕ} (eqb d c) 1 0 ≡ 1 = ap (λ (b : Bool). cond {A = ℕ} b 1 0) (eq-eqb d c e) in omega arith
 
 -- a processor that was written is there, and is what was written
-pub written : (w : World) (c : ℕ) (q : Processor) → c < count_in w → (c < count_in (with_processor w c q)) × (processor (with_processor w c q) c ≡ q)
+pub written : (w : World) (c : ℕ) (q : Processor) → c < count_in w → (c < count_in (with_processor w c q)) × (processor_at (with_processor w c q) c ≡ q)
 written w c q l = (rw length-set l, get_or-set_same w.processors c q opening l)
 
 -- where another processor was written, a processor is there as before
-pub unwritten : (w : World) (c d : ℕ) (q r : Processor) → d ≢ c → (d < count_in w) × (processor w d ≡ r) → (d < count_in (with_processor w c q)) × (processor (with_processor w c q) d ≡ r)
+pub unwritten : (w : World) (c d : ℕ) (q r : Processor) → d ≢ c → (d < count_in w) × (processor_at w d ≡ r) → (d < count_in (with_processor w c q)) × (processor_at (with_processor w c q) d ≡ r)
 unwritten w c d q r n f = (rw length-set f.0, get_or-set_other w.processors c d q opening n ∙ f.1)
 
 module _ (d : Discipline) (n : ℕ) where
@@ -61,7 +61,7 @@ module _ (d : Discipline) (n : ℕ) where
 
   -- one processor
   pub moves_cpu : (c : ℕ) (p q : Processor) (k m : Kept) (e : Record) →
-      ((w : World) → IsSound n w → kept_of w ≡ k → c < count_in w → processor w c ≡ p → RecordStep d w e (with_processor w c q) × (kept_of (with_processor w c q) ≡ m)) →
+      ((w : World) → IsSound n w → kept_of w ≡ k → c < count_in w → processor_at w c ≡ p → RecordStep d w e (with_processor w c q) × (kept_of (with_processor w c q) ≡ m)) →
       MovesHere k (cpu_part c p ∷ []) e m (cpu_part c q ∷ [])
   moves_cpu c p q k m e steps = (
     same_self,
@@ -83,7 +83,7 @@ module _ (d : Discipline) (n : ℕ) where
 
   -- one processor and the lobby
   pub moves_cpu_lobby : (c : ℕ) (p q : Processor) (l o : List LobbyEntry) (k m : Kept) (e : Record) →
-      ((w : World) → IsSound n w → kept_of w ≡ k → c < count_in w → processor w c ≡ p → w.lobby ≡ l → RecordStep d w e (record (with_processor w c q) { lobby = o }) × (kept_of (with_processor w c q) ≡ m)) →
+      ((w : World) → IsSound n w → kept_of w ≡ k → c < count_in w → processor_at w c ≡ p → w.lobby ≡ l → RecordStep d w e (record (with_processor w c q) { lobby = o }) × (kept_of (with_processor w c q) ≡ m)) →
       MovesHere k (cpu_part c p ∷ lobby_part l ∷ []) e m (cpu_part c q ∷ lobby_part o ∷ [])
   moves_cpu_lobby c p q l o k m e steps = (
     same_self,
@@ -105,7 +105,7 @@ module _ (d : Discipline) (n : ℕ) where
 
   -- one processor and an inbox
   pub moves_cpu_inbox : (c b : ℕ) (p q : Processor) (xs ys : List Task) (k m : Kept) (e : Record) →
-      ((w : World) → IsSound n w → kept_of w ≡ k → c < count_in w → processor w c ≡ p → b < length w.inboxes → inbox w b ≡ xs →
+      ((w : World) → IsSound n w → kept_of w ≡ k → c < count_in w → processor_at w c ≡ p → b < length w.inboxes → inbox w b ≡ xs →
       RecordStep d w e (with_inbox (with_processor w c q) b ys) × (kept_of (with_inbox (with_processor w c q) b ys) ≡ m)) →
       MovesHere k (cpu_part c p ∷ inbox_part b xs ∷ []) e m (cpu_part c q ∷ inbox_part b ys ∷ [])
   moves_cpu_inbox c b p q xs ys k m e steps = (
@@ -128,7 +128,7 @@ module _ (d : Discipline) (n : ℕ) where
 
   -- two processors
   pub moves_two_cpus : (c b : ℕ) (p q o r : Processor) (k m : Kept) (e : Record) → c ≢ b →
-      ((w : World) → IsSound n w → kept_of w ≡ k → c < count_in w → processor w c ≡ p → b < count_in w → processor w b ≡ o →
+      ((w : World) → IsSound n w → kept_of w ≡ k → c < count_in w → processor_at w c ≡ p → b < count_in w → processor_at w b ≡ o →
       RecordStep d w e (with_processor (with_processor w c q) b r) × (kept_of (with_processor (with_processor w c q) b r) ≡ m)) →
       MovesHere k (cpu_part c p ∷ cpu_part b o ∷ []) e m (cpu_part c q ∷ cpu_part b r ∷ [])
   moves_two_cpus c b p q o r k m e two steps = (

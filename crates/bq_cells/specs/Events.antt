@@ -5,5 +5,5 @@ use Rattle.bq_parts.specs.declared.event.Event.TheVariants.{Install}
 
 -- the event puts a policy at a hook
 abbrev pub CarriesPolicy : Event → Type 0
-CarriesPolicy (Install cpu h g (Some p)) = Unit {0}
+CarriesPolicy (Install processor h g (Some p)) = Unit {0}
 CarriesPolicy e = ⊥

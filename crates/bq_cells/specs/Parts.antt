@@ -10,7 +10,7 @@ use Rattle.bq_parts.specs.declared.refusal.Refusal.TheVariants as no
 use Rattle.bq_parts.specs.declared.lobby_entry.LobbyEntry.{LobbyEntry}
 use Rattle.bq_parts.specs.declared.lobby_entry.LobbyEntry.TheVariants.{Absent}
 use Rattle.bq_parts.specs.Processors.{Processor, opening}
-use Rattle.bq_parts.specs.World.{World, processor, inbox, count_in, loads_of}
+use Rattle.bq_parts.specs.World.{World, processor_at, inbox, count_in, loads_of}
 use Rattle.bq_parts.specs.Refusals.{argument_refusal}
 use Rattle.bq_parts.specs.Choices.{policies}
 use Rattle.bq_parts.specs.Steps.{WorldStep}
@@ -53,7 +53,7 @@ same_part (part.Lobby l) (part.Lobby m) = true
 
 -- the world has this part
 abbrev pub HasPart : World → Part → Type 0
-HasPart w (part.Cpu c p) = (c < count_in w) × (processor w c ≡ p)
+HasPart w (part.Cpu c p) = (c < count_in w) × (processor_at w c ≡ p)
 HasPart w (part.Inbox c tasks) = (c < length w.inboxes) × (inbox w c ≡ tasks)
 HasPart w (part.Lobby lobby) = w.lobby ≡ lobby
 

@@ -33,8 +33,8 @@ says_nothing line = nothing_beside line.theirs (is_nothing line.ours.mean)
 abbrev pub IsShownAs : Window → Line → Figure → Type 0
 IsShownAs w line (Task id f) = ShowsTask w id
 IsShownAs w line (Latency id percent) = ShowsTask w id
-IsShownAs w line (Processor cpu f) = ShowsProcessor w cpu
-IsShownAs w line (Hook cpu at f) = ShowsProcessor w cpu × (says_nothing line ≡ false)
+IsShownAs w line (Processor processor f) = ShowsProcessor w processor
+IsShownAs w line (Hook processor at f) = ShowsProcessor w processor × (says_nothing line ≡ false)
 
 -- it tells of a task or a processor in the window, and of a hook only what is not 0 on both sides
 abbrev pub IsShown : Window → Line → Type 0

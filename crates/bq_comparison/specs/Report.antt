@@ -18,13 +18,13 @@ figures_of_task id =
 
 -- of a hook at a processor
 abbrev pub figures_of_hook : ℕ → Hook → List Figure
-figures_of_hook cpu at = AtHook cpu at Asked ∷ AtHook cpu at Overruled ∷ AtHook cpu at Steps ∷ []
+figures_of_hook processor at = AtHook processor at Asked ∷ AtHook processor at Overruled ∷ AtHook processor at Steps ∷ []
 
 -- of a processor and its hooks
 abbrev pub figures_of_processor : ℕ → List Figure
-figures_of_processor cpu =
-    (Processor cpu of_processor.Busy ∷ Processor cpu of_processor.Idle ∷ Processor cpu of_processor.Switches ∷ [])
-    ++ figures_of_hook cpu hook.Place ++ figures_of_hook cpu hook.Preempt ++ figures_of_hook cpu hook.Pull
+figures_of_processor processor =
+    (Processor processor of_processor.Busy ∷ Processor processor of_processor.Idle ∷ Processor processor of_processor.Switches ∷ [])
+    ++ figures_of_hook processor hook.Place ++ figures_of_hook processor hook.Preempt ++ figures_of_hook processor hook.Pull
 
 -- of all tasks and then of all processors, by number
 abbrev pub figures_of_report : MachineSize → List Figure

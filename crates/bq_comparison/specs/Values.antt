@@ -30,19 +30,19 @@ task_value s id of_task.Migrations = (task_of s id).migrations
 task_value s id of_task.Wakes = (task_of s id).wakes
 
 abbrev pub processor_value : Figures → ℕ → ProcessorFigure → ℕ
-processor_value s cpu of_processor.Busy = (processor_of s cpu).busy
-processor_value s cpu of_processor.Idle = idle_of (processor_of s cpu)
-processor_value s cpu of_processor.Switches = (processor_of s cpu).switches
+processor_value s processor of_processor.Busy = (processor_of s processor).busy
+processor_value s processor of_processor.Idle = idle_of (processor_of s processor)
+processor_value s processor of_processor.Switches = (processor_of s processor).switches
 
 abbrev pub hook_figures : Figures → ℕ → Hook → HookFigures
-hook_figures s cpu hook.Place = (processor_of s cpu).place
-hook_figures s cpu hook.Preempt = (processor_of s cpu).preempt
-hook_figures s cpu hook.Pull = (processor_of s cpu).pull
+hook_figures s processor hook.Place = (processor_of s processor).place
+hook_figures s processor hook.Preempt = (processor_of s processor).preempt
+hook_figures s processor hook.Pull = (processor_of s processor).pull
 
 abbrev pub hook_value : Figures → ℕ → Hook → HookFigure → ℕ
-hook_value s cpu at of_hook.Asked = (hook_figures s cpu at).asked
-hook_value s cpu at of_hook.Overruled = (hook_figures s cpu at).overruled
-hook_value s cpu at of_hook.Steps = (hook_figures s cpu at).steps
+hook_value s processor at of_hook.Asked = (hook_figures s processor at).asked
+hook_value s processor at of_hook.Overruled = (hook_figures s processor at).overruled
+hook_value s processor at of_hook.Steps = (hook_figures s processor at).steps
 
 -- the latency of a delay, where it is the task's
 abbrev pub latency_in : ℕ → Delay → Option ℕ
@@ -59,5 +59,5 @@ IsPercentile percent xs (Some v) = (sorted : List ℕ) × IsPermutation xs sorte
 abbrev pub IsValue : Figures → List Delay → Figure → Option ℕ → Type 0
 IsValue s delays (figure.Task id f) v = v ≡ Some (task_value s id f)
 IsValue s delays (figure.Latency id percent) v = IsPercentile percent (latencies_of delays id) v
-IsValue s delays (figure.Processor cpu f) v = v ≡ Some (processor_value s cpu f)
-IsValue s delays (figure.Hook cpu at f) v = v ≡ Some (hook_value s cpu at f)
+IsValue s delays (figure.Processor processor f) v = v ≡ Some (processor_value s processor f)
+IsValue s delays (figure.Hook processor at f) v = v ≡ Some (hook_value s processor at f)

@@ -18,7 +18,7 @@ use Rattle.bq_parts.specs.declared.event.Event.{Event}
 use Rattle.bq_parts.specs.declared.event.Event.TheVariants as event
 use Rattle.bq_parts.specs.declared.reply.Reply.{Reply}
 use Rattle.bq_parts.specs.Processors.{Processor, opening}
-use Rattle.bq_parts.specs.World.{World, processor, inbox, with_processor}
+use Rattle.bq_parts.specs.World.{World, processor_at, inbox, with_processor}
 use Rattle.bq_parts.specs.Choices.{Regime, Decision, SettlesBy, SettlesPreempt, decided_by}
 use Rattle.bq_parts.specs.Moves.{taken_from, without_task, with_pulled, started_if_idle}
 use Rattle.bq_parts.specs.Shares.{after_time, remarked, Decides}
@@ -31,7 +31,7 @@ pub record IsWell (p : Processor) : Type 0 where
 
 -- the queue of every processor rises, and whatever stands at its hooks may stand there
 abbrev pub AllWell : World → Type 0
-AllWell w = (cpu : ℕ) → IsWell (processor w cpu)
+AllWell w = (processor : ℕ) → IsWell (processor_at w processor)
 
 -- a fact of each place of a list, after one place was written
 pub at_set : {X : Type 0} (Q : ℕ → X → Type 0) (xs : List X) (i : ℕ) (x d : X) → Q i x → ((j : ℕ) → Q j (get_or xs j d)) → (j : ℕ) → Q j (get_or (set xs i x) j d)
@@ -42,8 +42,8 @@ at_set Q (y ∷ ys) (suc i) x d q h zero = h zero
 at_set Q (y ∷ ys) (suc i) x d q h (suc j) = at_set (λ n. Q (suc n)) ys i x d q (λ n. h (suc n)) j
 
 -- a processor is written
-pub well_at : (w : World) (cpu : ℕ) (q : Processor) → AllWell w → IsWell q → AllWell (with_processor w cpu q)
-well_at w cpu q all well = at_set (λ n (p : Processor). IsWell p) w.processors cpu q opening well all
+pub well_at : (w : World) (processor : ℕ) (q : Processor) → AllWell w → IsWell q → AllWell (with_processor w processor q)
+well_at w processor q all well = at_set (λ n (p : Processor). IsWell p) w.processors processor q opening well all
 
 -- nothing stands at the opening
 pub opening_well : IsWell opening
@@ -107,24 +107,24 @@ ready_with hooks Pull new h m Preempt = h Preempt
 ready_with hooks Pull new h m Pull = m
 
 -- a policy that was asked stands there as before, with maps of its shapes
-settled_stands : (s : Regime) (hook : Hook) (policy : Option Accepted) (context : Version → List ℕ) (attached : Attached) (now cpu : ℕ) (permitted : ℕ → Bool) (own : ℕ) (settled : Decision) →
-    attached.policy ≡ policy → SettlesBy s policy context attached now cpu permitted own settled → MayStand hook attached → MayStand hook settled.attached
-settled_stands s hook None context attached now cpu permitted own settled is h m = rw h m
-settled_stands s hook (Some p) context attached now cpu permitted own settled is h m =
+settled_stands : (s : Regime) (hook : Hook) (policy : Option Accepted) (context : Version → List ℕ) (attached : Attached) (now processor : ℕ) (permitted : ℕ → Bool) (own : ℕ) (settled : Decision) →
+    attached.policy ≡ policy → SettlesBy s policy context attached now processor permitted own settled → MayStand hook attached → MayStand hook settled.attached
+settled_stands s hook None context attached now processor permitted own settled is h m = rw h m
+settled_stands s hook (Some p) context attached now processor permitted own settled is h m =
     let had : IsEquipped (Some p) attached.maps = subst (λ (o : Option Accepted). IsEquipped o attached.maps) is m.1 in
     rw h.3 (m.0, subst (λ (o : Option Accepted). IsEquipped o h.1) (sym is) (had.0, h.7))
 
-preempt_stands : (s : Regime) (cpu : ℕ) (p : Processor) (o : Option Task) (settled : Decision) → SettlesPreempt s cpu p o settled → AreReady p.hooks → MayStand Preempt settled.attached
-preempt_stands s cpu p None settled h ready = rw h (ready Preempt)
-preempt_stands s cpu p (Some t) settled h ready = settled_stands s Preempt p.hooks.preempt.policy _ p.hooks.preempt p.running.last cpu _ _ settled refl h (ready Preempt)
+preempt_stands : (s : Regime) (processor : ℕ) (p : Processor) (o : Option Task) (settled : Decision) → SettlesPreempt s processor p o settled → AreReady p.hooks → MayStand Preempt settled.attached
+preempt_stands s processor p None settled h ready = rw h (ready Preempt)
+preempt_stands s processor p (Some t) settled h ready = settled_stands s Preempt p.hooks.preempt.policy _ p.hooks.preempt p.running.last processor _ _ settled refl h (ready Preempt)
 
 -- Processors
 
-decides_well : (s : Regime) (cpu : ℕ) (p : Processor) (settled : Decision) (q : Processor) → Decides s cpu p settled q → IsWell p → IsWell q
-decides_well s cpu p settled q h well =
+decides_well : (s : Regime) (processor : ℕ) (p : Processor) (settled : Decision) (q : Processor) → Decides s processor p settled q → IsWell p → IsWell q
+decides_well s processor p settled q h well =
     let q' : IsWell (decided_by s p settled) = record {
       rising = rising_decided s.discipline p.running p.running.current (settled.choice == 1) well.rising;
-      ready = ready_with p.hooks Preempt settled.attached well.ready (preempt_stands s cpu p p.running.current settled h.0 well.ready);
+      ready = ready_with p.hooks Preempt settled.attached well.ready (preempt_stands s processor p p.running.current settled h.0 well.ready);
     } in
     subst IsWell (sym h.1) q'
 
@@ -137,51 +137,51 @@ pub performs_well : (s : Regime) (w : World) (e : Event) (calls : List Asked) (r
 performs_well s w (event.Admit id nice mask slice) calls r w' all k = rw k.3 all
 performs_well s w (event.Retire id) calls r w' all k = rw k.3 all
 performs_well s w event.Draw calls r w' all k = rw k.2 all
-performs_well s w (event.Install cpu h g policy) calls r w' all k =
-    let p = processor w cpu in
-    let well = all cpu in
+performs_well s w (event.Install processor h g policy) calls r w' all k =
+    let p = processor_at w processor in
+    let well = all processor in
     let i = k.1 in
     let q : IsWell k.0 = rw i.2 (record { rising = well.rising; ready = ready_with p.hooks h _ well.ready i.3 }) in
-    rw k.3 (well_at w cpu k.0 all q)
-performs_well s w (event.BeginWake cpu id) calls r w' all k =
-    let well = all cpu in
+    rw k.3 (well_at w processor k.0 all q)
+performs_well s w (event.BeginWake processor id) calls r w' all k =
+    let well = all processor in
     let q : IsWell k.0 = rw k.2.4 (record { rising = well.rising; ready = well.ready }) in
-    rw k.4 (well_at w cpu k.0 all q)
-performs_well s w (event.EndWake cpu now) calls r w' all k =
-    let p = processor w cpu in
+    rw k.4 (well_at w processor k.0 all q)
+performs_well s w (event.EndWake processor now) calls r w' all k =
+    let p = processor_at w processor in
     let c = after_time s.discipline now p in
-    let well = all cpu in
+    let well = all processor in
     let b = k.2 in
-    let new = settled_stands s Place c.hooks.place.policy _ c.hooks.place c.running.last cpu _ _ b.1 refl b.4.0 (well.ready Place) in
+    let new = settled_stands s Place c.hooks.place.policy _ c.hooks.place c.running.last processor _ _ b.1 refl b.4.0 (well.ready Place) in
     let q : IsWell k.1 = rw b.4.5 (record { rising = well.rising; ready = ready_with c.hooks Place b.1.attached well.ready new }) in
-    rw k.4 (well_at w cpu k.1 all q)
-performs_well s w (event.Drain cpu now) calls r w' all k =
-    let c = after_time s.discipline now (processor w cpu) in
-    let well = all cpu in
-    let q = decides_well s cpu _ k.1.0 k.0 k.1.1 (record { rising = rising_entered s.discipline c.running.kept c.running.queue (inbox w cpu) well.rising; ready = well.ready }) in
-    rw k.2 (well_at w cpu k.0 all q)
-performs_well s w (event.Tick cpu now) calls r w' all k =
-    rw k.2 (well_at w cpu k.0 all (decides_well s cpu _ k.1.0 k.0 k.1.1 (time_well s.discipline now (processor w cpu) (all cpu))))
-performs_well s w (event.Block cpu now) calls r w' all k =
-    let c = after_time s.discipline now (processor w cpu) in
-    let well = all cpu in
+    rw k.4 (well_at w processor k.1 all q)
+performs_well s w (event.Drain processor now) calls r w' all k =
+    let c = after_time s.discipline now (processor_at w processor) in
+    let well = all processor in
+    let q = decides_well s processor _ k.1.0 k.0 k.1.1 (record { rising = rising_entered s.discipline c.running.kept c.running.queue (inbox w processor) well.rising; ready = well.ready }) in
+    rw k.2 (well_at w processor k.0 all q)
+performs_well s w (event.Tick processor now) calls r w' all k =
+    rw k.2 (well_at w processor k.0 all (decides_well s processor _ k.1.0 k.0 k.1.1 (time_well s.discipline now (processor_at w processor) (all processor))))
+performs_well s w (event.Block processor now) calls r w' all k =
+    let c = after_time s.discipline now (processor_at w processor) in
+    let well = all processor in
     let gone : Running = record c.running { current = None } in
     let q : IsWell k.0 = rw k.2.1.1 (record { rising = rising_start s.discipline gone well.rising; ready = well.ready }) in
-    rw k.4 (well_at w cpu k.0 all q)
-performs_well s w (event.Pull cpu from now) calls r w' all k =
+    rw k.4 (well_at w processor k.0 all q)
+performs_well s w (event.Pull processor from now) calls r w' all k =
     let d = s.discipline in
-    let c = after_time d now (processor w cpu) in
-    let other = processor w from in
+    let c = after_time d now (processor_at w processor) in
+    let other = processor_at w from in
     let x = k.2 in
     let source : Running = (remarked d other).running in
     let task = task_numbered x.0.choice in
     let taken = taken_from source task in
-    let well = all cpu in
+    let well = all processor in
     let there = all from in
-    let new = settled_stands s Pull c.hooks.pull.policy _ c.hooks.pull c.running.last cpu _ _ x.0 refl x.1.0 (well.ready Pull) in
+    let new = settled_stands s Pull c.hooks.pull.policy _ c.hooks.pull c.running.last processor _ _ x.0 refl x.1.0 (well.ready Pull) in
     let q : IsWell k.0 = rw x.1.3 (record {
       rising = rising_started d (with_pulled d c.running taken) c.running.current (rising_pulled d c.running taken well.rising);
       ready = ready_with c.hooks Pull x.0.attached well.ready new;
     }) in
     let o : IsWell k.1 = rw x.1.4 (record { rising = rising_taken source task there.rising; ready = there.ready }) in
-    rw k.3 (well_at (with_processor w cpu k.0) from k.1 (well_at w cpu k.0 all q) o)
+    rw k.3 (well_at (with_processor w processor k.0) from k.1 (well_at w processor k.0 all q) o)

@@ -27,9 +27,9 @@ for_by_case h None e = tt
 for_by_case h (Some p) e = one_hook h p.hook e
 
 -- where no argument is refused the processor is there
-pub install_there : (count cpu g : ℕ) (h : Hook) (o : Option Accepted) → argument_refusal count (Install cpu h g o) ≡ None → cpu < count
-install_there count cpu g h o e = (there count cpu _ e).0
+pub install_there : (count processor g : ℕ) (h : Hook) (o : Option Accepted) → argument_refusal count (Install processor h g o) ≡ None → processor < count
+install_there count processor g h o e = (there count processor _ e).0
 
 -- and the policy was verified for the hook
-pub install_suits : (count cpu g : ℕ) (h : Hook) (o : Option Accepted) → argument_refusal count (Install cpu h g o) ≡ None → IsFor h o
-install_suits count cpu g h o e = for_by_case h o (not_false (is_for h o) (passed (not (is_for h o)) no.WrongHook None (there count cpu _ e).1).0)
+pub install_suits : (count processor g : ℕ) (h : Hook) (o : Option Accepted) → argument_refusal count (Install processor h g o) ≡ None → IsFor h o
+install_suits count processor g h o e = for_by_case h o (not_false (is_for h o) (passed (not (is_for h o)) no.WrongHook None (there count processor _ e).1).0)

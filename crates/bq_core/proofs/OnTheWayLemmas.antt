@@ -11,7 +11,7 @@ use Rattle.bq_parts.specs.declared.carried.Carried.{Carried}
 use Rattle.bq_parts.specs.declared.lobby_entry.LobbyEntry.{LobbyEntry}
 use Rattle.bq_parts.specs.declared.lobby_entry.LobbyEntry.TheVariants.{Absent, Blocked, Away}
 use Rattle.bq_parts.specs.Processors.{Processor, opening, count_of, held_by, in_hand}
-use Rattle.bq_parts.specs.World.{World, processor, inbox, entry, count_in, with_processor, with_inbox, with_lobby}
+use Rattle.bq_parts.specs.World.{World, processor_at, inbox, entry, count_in, with_processor, with_inbox, with_lobby}
 use Rattle.bq_parts.specs.Refusals.{is_away}
 use Rattle.bq_hooks.specs.Contexts.{as_number}
 use Rattle.bq_hooks.specs.OwnPlace.{HasPlace}
@@ -32,50 +32,50 @@ pub record IsTidy (count : ℕ) (floating : List Task) (w : World) : Type 0 wher
   pub boxes : length w.inboxes ≡ count
   pub away : (id : ℕ) → standing_count id w + count_of id floating ≡ as_number (is_away (entry w id))
   pub blocked : (id : ℕ) (t : Task) → entry w id ≡ Blocked t → (t.id ≡ id) × HasPlace count t
-  pub hand : (cpu : ℕ) (c : Carried) → (processor w cpu).hand ≡ Some c → HasPlace count c.task
-  pub present : (cpu : ℕ) → tally (unsuited count cpu) (present_at (processor w cpu).running) ≡ 0
-  pub placed : (cpu : ℕ) → tally (unsuited count cpu) (inbox w cpu) ≡ 0
+  pub hand : (processor : ℕ) (c : Carried) → (processor_at w processor).hand ≡ Some c → HasPlace count c.task
+  pub present : (processor : ℕ) → tally (unsuited count processor) (present_at (processor_at w processor).running) ≡ 0
+  pub placed : (processor : ℕ) → tally (unsuited count processor) (inbox w processor) ≡ 0
 
 -- an orderly world is tidy with none on its way
 pub tidy_of : (w : World) → IsOrderly w → IsTidy (count_in w) [] w
 tidy_of w o =
-    let none : (cpu : ℕ) → tally (unsuited (count_in w) cpu) (runnable_at w cpu) ≡ 0 = λ cpu. none_unsuited (count_in w) cpu (runnable_at w cpu) (o.once.allowed cpu) (o.places.runnable cpu) in
-    let split : (cpu : ℕ) → tally (unsuited (count_in w) cpu) (runnable_at w cpu) ≡ tally (unsuited (count_in w) cpu) (present_at (processor w cpu).running) + tally (unsuited (count_in w) cpu) (inbox w cpu) =
-    λ cpu. tally-append (unsuited (count_in w) cpu) (present_at (processor w cpu).running) (inbox w cpu) in
+    let none : (processor : ℕ) → tally (unsuited (count_in w) processor) (runnable_at w processor) ≡ 0 = λ processor. none_unsuited (count_in w) processor (runnable_at w processor) (o.once.allowed processor) (o.places.runnable processor) in
+    let split : (processor : ℕ) → tally (unsuited (count_in w) processor) (runnable_at w processor) ≡ tally (unsuited (count_in w) processor) (present_at (processor_at w processor).running) + tally (unsuited (count_in w) processor) (inbox w processor) =
+    λ processor. tally-append (unsuited (count_in w) processor) (present_at (processor_at w processor).running) (inbox w processor) in
     record {
       many = refl;
       boxes = o.even;
       away = λ id. omega (arith, o.once.away id);
       blocked = λ id t e. (o.once.blocked id t e, o.places.in_lobby id t e);
       hand = o.places.in_hand;
-      present = λ cpu. omega (arith, none cpu, split cpu);
-      placed = λ cpu. omega (arith, none cpu, split cpu);
+      present = λ processor. omega (arith, none processor, split processor);
+      placed = λ processor. omega (arith, none processor, split processor);
     }
 
 -- and the other way round, where all processors are well
 pub orderly_of : (w : World) → IsTidy (count_in w) [] w → AllWell w → IsOrderly w
 orderly_of w y well =
-    let all : (cpu : ℕ) → All (Suits (count_in w) cpu) (runnable_at w cpu) =
-    λ cpu. all_suit (count_in w) cpu (runnable_at w cpu) (omega (arith, tally-append (unsuited (count_in w) cpu) (present_at (processor w cpu).running) (inbox w cpu), y.present cpu, y.placed cpu)) in
+    let all : (processor : ℕ) → All (Suits (count_in w) processor) (runnable_at w processor) =
+    λ processor. all_suit (count_in w) processor (runnable_at w processor) (omega (arith, tally-append (unsuited (count_in w) processor) (present_at (processor_at w processor).running) (inbox w processor), y.present processor, y.placed processor)) in
     record {
       once = record {
         away = λ id. omega (arith, y.away id);
         blocked = λ id t e. (y.blocked id t e).0;
-        allowed = λ cpu k d l. (all cpu k d l).can;
+        allowed = λ processor k d l. (all processor k d l).can;
       };
       places = record {
         in_lobby = λ id t e. (y.blocked id t e).1;
         in_hand = y.hand;
-        runnable = λ cpu k d l. (all cpu k d l).place;
+        runnable = λ processor k d l. (all processor k d l).place;
       };
       even = y.boxes;
-      rising = λ cpu. (well cpu).rising;
-      ready = λ cpu. (well cpu).ready;
+      rising = λ processor. (well processor).rising;
+      ready = λ processor. (well processor).ready;
     }
 
 -- an orderly world's processors are well
 pub well_of : (w : World) → IsOrderly w → AllWell w
-well_of w o cpu = record { rising = o.rising cpu; ready = o.ready cpu }
+well_of w o processor = record { rising = o.rising processor; ready = o.ready processor }
 
 -- a fact of each place of a list, after one place was written, where it may have been false
 at_set_else : {X : Type 0} (Q : ℕ → X → Type 0) (xs : List X) (i : ℕ) (x d : X) → i < length xs → Q i x → ((j : ℕ) → j ≢ i → Q j (get_or xs j d)) → (j : ℕ) → Q j (get_or (set xs i x) j d)
@@ -86,58 +86,58 @@ at_set_else Q (y ∷ ys) (suc i) x d l q h zero = h zero (omega arith)
 at_set_else Q (y ∷ ys) (suc i) x d l q h (suc j) = at_set_else (λ n. Q (suc n)) ys i x d (omega arith) q (λ n e. h (suc n) (omega arith)) j
 
 -- a processor's tasks leave the count, and those of the new one come
-pub held_count-set : (id : ℕ) (ps : List Processor) (cpu : ℕ) (q : Processor) → cpu < length ps → held_count id (set ps cpu q) + count_of id (held_by (get_or ps cpu opening)) ≡ held_count id ps + count_of id (held_by q)
-held_count-set id [] cpu q l = absurd (omega arith)
+pub held_count-set : (id : ℕ) (ps : List Processor) (processor : ℕ) (q : Processor) → processor < length ps → held_count id (set ps processor q) + count_of id (held_by (get_or ps processor opening)) ≡ held_count id ps + count_of id (held_by q)
+held_count-set id [] processor q l = absurd (omega arith)
 held_count-set id (p ∷ ps) zero q l = omega arith
-held_count-set id (p ∷ ps) (suc cpu) q l = omega (arith, held_count-set id ps cpu q (omega arith))
+held_count-set id (p ∷ ps) (suc processor) q l = omega (arith, held_count-set id ps processor q (omega arith))
 
 -- and so do those of an inbox
-pub placed_count-set : (id : ℕ) (xss : List (List Task)) (cpu : ℕ) (tasks : List Task) → cpu < length xss → placed_count id (set xss cpu tasks) + count_of id (get_or xss cpu []) ≡ placed_count id xss + count_of id tasks
-placed_count-set id [] cpu tasks l = absurd (omega arith)
+pub placed_count-set : (id : ℕ) (xss : List (List Task)) (processor : ℕ) (tasks : List Task) → processor < length xss → placed_count id (set xss processor tasks) + count_of id (get_or xss processor []) ≡ placed_count id xss + count_of id tasks
+placed_count-set id [] processor tasks l = absurd (omega arith)
 placed_count-set id (xs ∷ xss) zero tasks l = omega arith
-placed_count-set id (xs ∷ xss) (suc cpu) tasks l = omega (arith, placed_count-set id xss cpu tasks (omega arith))
+placed_count-set id (xs ∷ xss) (suc processor) tasks l = omega (arith, placed_count-set id xss processor tasks (omega arith))
 
 -- a processor is written: its tasks come from those that were there and those on their way
-pub with_processor_tidy : (count : ℕ) (xs ys : List Task) (w : World) (cpu : ℕ) (q : Processor) → IsTidy count xs w → cpu < count →
-    ((id : ℕ) → count_of id (held_by q) + count_of id ys ≡ count_of id (held_by (processor w cpu)) + count_of id xs) →
-    ((c : Carried) → q.hand ≡ Some c → HasPlace count c.task) → tally (unsuited count cpu) (present_at q.running) ≡ 0 → IsTidy count ys (with_processor w cpu q)
-with_processor_tidy count xs ys w cpu q y l moved hand present =
-    let l' : cpu < length w.processors = omega (arith, y.many) in
+pub with_processor_tidy : (count : ℕ) (xs ys : List Task) (w : World) (processor : ℕ) (q : Processor) → IsTidy count xs w → processor < count →
+    ((id : ℕ) → count_of id (held_by q) + count_of id ys ≡ count_of id (held_by (processor_at w processor)) + count_of id xs) →
+    ((c : Carried) → q.hand ≡ Some c → HasPlace count c.task) → tally (unsuited count processor) (present_at q.running) ≡ 0 → IsTidy count ys (with_processor w processor q)
+with_processor_tidy count xs ys w processor q y l moved hand present =
+    let l' : processor < length w.processors = omega (arith, y.many) in
     record {
-      many = length-set w.processors cpu q ∙ y.many;
+      many = length-set w.processors processor q ∙ y.many;
       boxes = y.boxes;
-      away = λ id. omega (arith, y.away id, moved id, held_count-set id w.processors cpu q l');
+      away = λ id. omega (arith, y.away id, moved id, held_count-set id w.processors processor q l');
       blocked = y.blocked;
-      hand = at_set (λ n (p : Processor). (c : Carried) → p.hand ≡ Some c → HasPlace count c.task) w.processors cpu q opening hand y.hand;
-      present = at_set (λ n (p : Processor). tally (unsuited count n) (present_at p.running) ≡ 0) w.processors cpu q opening present y.present;
+      hand = at_set (λ n (p : Processor). (c : Carried) → p.hand ≡ Some c → HasPlace count c.task) w.processors processor q opening hand y.hand;
+      present = at_set (λ n (p : Processor). tally (unsuited count n) (present_at p.running) ≡ 0) w.processors processor q opening present y.present;
       placed = y.placed;
     }
 
 -- the tasks that run or wait there come from those and from those on their way, by every tally; the hand stays
-pub running_tidy : (count : ℕ) (xs ys : List Task) (w : World) (cpu : ℕ) (q : Processor) → IsTidy count xs w → cpu < count → q.hand ≡ (processor w cpu).hand →
-    ((g : ℕ → ℕ → ℕ) → tally g (present_at q.running) + tally g ys ≡ tally g (present_at (processor w cpu).running) + tally g xs) →
-    tally (unsuited count cpu) xs ≡ 0 → IsTidy count ys (with_processor w cpu q)
-running_tidy count xs ys w cpu q y l h moved fit =
-    let p : Processor = processor w cpu in
+pub running_tidy : (count : ℕ) (xs ys : List Task) (w : World) (processor : ℕ) (q : Processor) → IsTidy count xs w → processor < count → q.hand ≡ (processor_at w processor).hand →
+    ((g : ℕ → ℕ → ℕ) → tally g (present_at q.running) + tally g ys ≡ tally g (present_at (processor_at w processor).running) + tally g xs) →
+    tally (unsuited count processor) xs ≡ 0 → IsTidy count ys (with_processor w processor q)
+running_tidy count xs ys w processor q y l h moved fit =
+    let p : Processor = processor_at w processor in
     let hands : (id : ℕ) → count_of id (in_hand q) ≡ count_of id (in_hand p) = λ id. ap (λ o. count_of id (option_to_list (option_map (λ (c : Carried). c.task) o))) h in
-    with_processor_tidy count xs ys w cpu q y l
+    with_processor_tidy count xs ys w processor q y l
     (λ id. omega (arith, count_of-held_by id q, count_of-held_by id p, hands id, count_of-tally id (present_at q.running), count_of-tally id (present_at p.running), count_of-tally id xs, count_of-tally id ys, moved (ones id)))
-    (λ c e. y.hand cpu c (sym h ∙ e))
-    (omega (arith, moved (unsuited count cpu), y.present cpu, fit))
+    (λ c e. y.hand processor c (sym h ∙ e))
+    (omega (arith, moved (unsuited count processor), y.present processor, fit))
 
 -- an inbox is written: its tasks come from those that were there and those on their way
-pub inbox_tidy : (count : ℕ) (xs ys : List Task) (w : World) (cpu : ℕ) (tasks : List Task) → IsTidy count xs w → cpu < count →
-    ((g : ℕ → ℕ → ℕ) → tally g tasks + tally g ys ≡ tally g (inbox w cpu) + tally g xs) → tally (unsuited count cpu) xs ≡ 0 → IsTidy count ys (with_inbox w cpu tasks)
-inbox_tidy count xs ys w cpu tasks y l moved fit =
-    let l' : cpu < length w.inboxes = omega (arith, y.boxes) in
+pub inbox_tidy : (count : ℕ) (xs ys : List Task) (w : World) (processor : ℕ) (tasks : List Task) → IsTidy count xs w → processor < count →
+    ((g : ℕ → ℕ → ℕ) → tally g tasks + tally g ys ≡ tally g (inbox w processor) + tally g xs) → tally (unsuited count processor) xs ≡ 0 → IsTidy count ys (with_inbox w processor tasks)
+inbox_tidy count xs ys w processor tasks y l moved fit =
+    let l' : processor < length w.inboxes = omega (arith, y.boxes) in
     record {
       many = y.many;
-      boxes = length-set w.inboxes cpu tasks ∙ y.boxes;
-      away = λ id. omega (arith, y.away id, placed_count-set id w.inboxes cpu tasks l', count_of-tally id tasks, count_of-tally id (inbox w cpu), count_of-tally id xs, count_of-tally id ys, moved (ones id));
+      boxes = length-set w.inboxes processor tasks ∙ y.boxes;
+      away = λ id. omega (arith, y.away id, placed_count-set id w.inboxes processor tasks l', count_of-tally id tasks, count_of-tally id (inbox w processor), count_of-tally id xs, count_of-tally id ys, moved (ones id));
       blocked = y.blocked;
       hand = y.hand;
       present = y.present;
-      placed = at_set (λ n (ts : List Task). tally (unsuited count n) ts ≡ 0) w.inboxes cpu tasks [] (omega (arith, moved (unsuited count cpu), y.placed cpu, fit)) y.placed;
+      placed = at_set (λ n (ts : List Task). tally (unsuited count n) ts ≡ 0) w.inboxes processor tasks [] (omega (arith, moved (unsuited count processor), y.placed processor, fit)) y.placed;
     }
 
 -- an entry is written, and is away afterwards if it was before
@@ -213,13 +213,13 @@ pub opening_tidy : (n many : ℕ) → IsTidy n [] (record { processors = replica
 opening_tidy n many =
     let w : World = record { processors = replicate n opening; inboxes = replicate n []; lobby = replicate many Absent; drawn = 0 } in
     let empty : (id : ℕ) → entry w id ≡ Absent = λ id. same_everywhere Absent many id in
-    let rests : (cpu : ℕ) → processor w cpu ≡ opening = λ cpu. same_everywhere opening n cpu in
+    let rests : (processor : ℕ) → processor_at w processor ≡ opening = λ processor. same_everywhere opening n processor in
     record {
       many = length-replicate n opening;
       boxes = length-replicate n [];
       away = λ id. omega (arith, standing_nowhere id n, placed_nowhere id n, ap (λ s. as_number (is_away s)) (empty id));
       blocked = λ id t e. let none : Absent ≡ Blocked t = sym (empty id) ∙ e in cc;
-      hand = λ cpu c e. let none : None ≡ Some c = sym (ap (λ (p : Processor). p.hand) (rests cpu)) ∙ e in cc;
-      present = λ cpu. ap (λ (p : Processor). tally (unsuited n cpu) (present_at p.running)) (rests cpu);
-      placed = λ cpu. ap (λ ts. tally (unsuited n cpu) ts) (same_everywhere [] n cpu);
+      hand = λ processor c e. let none : None ≡ Some c = sym (ap (λ (p : Processor). p.hand) (rests processor)) ∙ e in cc;
+      present = λ processor. ap (λ (p : Processor). tally (unsuited n processor) (present_at p.running)) (rests processor);
+      placed = λ processor. ap (λ ts. tally (unsuited n processor) ts) (same_everywhere [] n processor);
     }

@@ -8,7 +8,7 @@ use Rattle.bq_disc.specs.OneProcessor.{own_preempt}
 use Rattle.bq_bpf.specs.declared.board.Call.{Call as Asked}
 use Rattle.bq_bpf.specs.Runs.{start}
 use Rattle.bq_interp.specs.Laws.{AnswerAlike}
-use Rattle.bq_interp.specs.Chains.{setting_of}
+use Rattle.bq_interp.specs.Progress.{setting_of}
 use Rattle.bq_interp.proofs.OneRunLemmas.{one_run}
 use Rattle.bq_bpf.specs.declared.hook.Version.{Version}
 use Rattle.bq_bpf.specs.declared.hook.Version.TheVariants.{First, Second}
@@ -50,11 +50,11 @@ same_settled x y choice by steps calls attached =
     ∙ ap (λ p. record y { attached = p }) attached
 
 module _ (d : Discipline) where
-  settles_one : (policy : Option Accepted) (context : Version → List ℕ) (attached : Attached) (now cpu : ℕ) (permitted : ℕ → Bool) (own : ℕ) (x y : Decision) → ((version : Version) → length (context version) < 2 ^ 16) →
-      SettlesBy (policies d) policy context attached now cpu permitted own x → SettlesBy (policies d) policy context attached now cpu permitted own y → AnswerAlike x.calls y.calls → x ≡ y
-  settles_one None context attached now cpu permitted own x y small h k alike = h ∙ sym k
-  settles_one (Some p) context attached now cpu permitted own x y small h k alike =
-      let one = one_run (setting_of p (context p.version) now cpu) (start attached.maps) x.steps y.steps x.calls y.calls h.0 k.0 h.1 k.1 (small p.version) h.2 k.2 alike in
+  settles_one : (policy : Option Accepted) (context : Version → List ℕ) (attached : Attached) (now processor : ℕ) (permitted : ℕ → Bool) (own : ℕ) (x y : Decision) → ((version : Version) → length (context version) < 2 ^ 16) →
+      SettlesBy (policies d) policy context attached now processor permitted own x → SettlesBy (policies d) policy context attached now processor permitted own y → AnswerAlike x.calls y.calls → x ≡ y
+  settles_one None context attached now processor permitted own x y small h k alike = h ∙ sym k
+  settles_one (Some p) context attached now processor permitted own x y small h k alike =
+      let one = one_run (setting_of p (context p.version) now processor) (start attached.maps) x.steps y.steps x.calls y.calls h.0 k.0 h.1 k.1 (small p.version) h.2 k.2 alike in
       same_settled x y
       (h.4 ∙ ap (λ r. (chosen permitted (Some r) own).choice) one.2 ∙ sym k.4)
       (h.5 ∙ ap (λ r. (chosen permitted (Some r) own).by) one.2 ∙ sym k.5)
@@ -62,30 +62,30 @@ module _ (d : Discipline) where
       one.1
       (h.3 ∙ ap (λ maps. record attached { maps = maps }) one.3 ∙ sym k.3)
 
-  preempt_one : (cpu : ℕ) (p : Processor) (o : Option Task) (x y : Decision) → SettlesPreempt (policies d) cpu p o x → SettlesPreempt (policies d) cpu p o y → AnswerAlike x.calls y.calls → x ≡ y
-  preempt_one cpu p None x y h k alike = h ∙ sym k
-  preempt_one cpu p (Some t) x y h k alike =
+  preempt_one : (processor : ℕ) (p : Processor) (o : Option Task) (x y : Decision) → SettlesPreempt (policies d) processor p o x → SettlesPreempt (policies d) processor p o y → AnswerAlike x.calls y.calls → x ≡ y
+  preempt_one processor p None x y h k alike = h ∙ sym k
+  preempt_one processor p (Some t) x y h k alike =
       let queue = p.running.queue in
       let own = own_preempt d queue (Some t) in
-      let facts : PreemptFacts = record { processor = cpu; queue = queue; current = t; choice = d.choice queue; own = own } in
-      settles_one p.hooks.preempt.policy (λ version. preempt_bytes facts) p.hooks.preempt p.running.last cpu may_preempt (as_number own) x y (λ version. omega (arith, length-preempt_bytes facts)) h k alike
+      let facts : PreemptFacts = record { processor = processor; queue = queue; current = t; choice = d.choice queue; own = own } in
+      settles_one p.hooks.preempt.policy (λ version. preempt_bytes facts) p.hooks.preempt p.running.last processor may_preempt (as_number own) x y (λ version. omega (arith, length-preempt_bytes facts)) h k alike
 
-  place_one : (count cpu : ℕ) (p : Processor) (carried : Carried) (x y : Decision) → SettlesPlace (policies d) count cpu p carried x → SettlesPlace (policies d) count cpu p carried y → AnswerAlike x.calls y.calls → x ≡ y
-  place_one count cpu p carried x y h k alike =
+  place_one : (count processor : ℕ) (p : Processor) (carried : Carried) (x y : Decision) → SettlesPlace (policies d) count processor p carried x → SettlesPlace (policies d) count processor p carried y → AnswerAlike x.calls y.calls → x ≡ y
+  place_one count processor p carried x y h k alike =
       let own = unwrap_or (own_place count carried.loads carried.task) 0 in
-      let facts : PlaceFacts = record { task = carried.task; waking = cpu; processors = count; own = own; loads = carried.loads } in
-      settles_one p.hooks.place.policy (place_bytes facts) p.hooks.place p.running.last cpu (may_place count carried.task) own x y (place_small facts) h k alike
+      let facts : PlaceFacts = record { task = carried.task; waking = processor; processors = count; own = own; loads = carried.loads } in
+      settles_one p.hooks.place.policy (place_bytes facts) p.hooks.place p.running.last processor (may_place count carried.task) own x y (place_small facts) h k alike
 
-  pull_one : (cpu from : ℕ) (p other : Processor) (x y : Decision) → SettlesPull (policies d) cpu from p other x → SettlesPull (policies d) cpu from p other y → AnswerAlike x.calls y.calls → x ≡ y
-  pull_one cpu from p other x y h k alike =
+  pull_one : (processor from : ℕ) (p other : Processor) (x y : Decision) → SettlesPull (policies d) processor from p other x → SettlesPull (policies d) processor from p other y → AnswerAlike x.calls y.calls → x ≡ y
+  pull_one processor from p other x y h k alike =
       let queue = other.running.queue in
-      let own = own_pull cpu p other in
-      let facts : PullFacts = record { puller = cpu; source = from; puller_size = size_of p; source_size = size_of other; movable = movable_to cpu queue; own = own } in
-      settles_one p.hooks.pull.policy (λ version. pull_bytes facts) p.hooks.pull p.running.last cpu (may_pull cpu queue) (or_nobody own) x y (λ version. omega (arith, length-pull_bytes facts)) h k alike
+      let own = own_pull processor p other in
+      let facts : PullFacts = record { puller = processor; source = from; puller_size = size_of p; source_size = size_of other; movable = movable_to processor queue; own = own } in
+      settles_one p.hooks.pull.policy (λ version. pull_bytes facts) p.hooks.pull p.running.last processor (may_pull processor queue) (or_nobody own) x y (λ version. omega (arith, length-pull_bytes facts)) h k alike
 
-  decides_one : (cpu : ℕ) (p : Processor) (x y : Decision) (q q' : Processor) → Decides (policies d) cpu p x q → Decides (policies d) cpu p y q' → AnswerAlike x.calls y.calls → (x ≡ y) × (q ≡ q')
-  decides_one cpu p x y q q' h k alike =
-      let same = preempt_one cpu p p.running.current x y h.0 k.0 alike in
+  decides_one : (processor : ℕ) (p : Processor) (x y : Decision) (q q' : Processor) → Decides (policies d) processor p x q → Decides (policies d) processor p y q' → AnswerAlike x.calls y.calls → (x ≡ y) × (q ≡ q')
+  decides_one processor p x y q q' h k alike =
+      let same = preempt_one processor p p.running.current x y h.0 k.0 alike in
       (same, h.1 ∙ ap (decided_by (policies d) p) same ∙ sym k.1)
 
   -- Shares
@@ -94,16 +94,16 @@ module _ (d : Discipline) where
   alike_settled : (calls calls' : List Asked) (x y : Decision) → calls ≡ x.calls → calls' ≡ y.calls → AnswerAlike calls calls' → AnswerAlike x.calls y.calls
   alike_settled calls calls' x y e f alike = subst (λ (c : List Asked). AnswerAlike x.calls c) f (subst (λ (c : List Asked). AnswerAlike c calls') e alike)
 
-  ticks_one : (cpu now : ℕ) (p : Processor) (calls calls' : List Asked) (r r' : Reply) (q q' : Processor) → Ticks (policies d) cpu now p calls r q → Ticks (policies d) cpu now p calls' r' q' → AnswerAlike calls calls' →
+  ticks_one : (processor now : ℕ) (p : Processor) (calls calls' : List Asked) (r r' : Reply) (q q' : Processor) → Ticks (policies d) processor now p calls r q → Ticks (policies d) processor now p calls' r' q' → AnswerAlike calls calls' →
       (r ≡ r') × (q ≡ q') × (calls ≡ calls')
-  ticks_one cpu now p calls calls' r r' q q' h k alike =
-      let same = decides_one cpu _ h.0 k.0 q q' h.1 k.1 (alike_settled calls calls' h.0 k.0 h.2 k.2 alike) in
+  ticks_one processor now p calls calls' r r' q q' h k alike =
+      let same = decides_one processor _ h.0 k.0 q q' h.1 k.1 (alike_settled calls calls' h.0 k.0 h.2 k.2 alike) in
       (h.3 ∙ rw (same.0, same.1) refl ∙ sym k.3, same.1, h.2 ∙ ap (λ (x : Decision). x.calls) same.0 ∙ sym k.2)
 
-  drains_one : (cpu now : ℕ) (p : Processor) (tasks : List Task) (calls calls' : List Asked) (r r' : Reply) (q q' : Processor) → Drains (policies d) cpu now p tasks calls r q → Drains (policies d) cpu now p tasks calls' r' q' → AnswerAlike calls calls' →
+  drains_one : (processor now : ℕ) (p : Processor) (tasks : List Task) (calls calls' : List Asked) (r r' : Reply) (q q' : Processor) → Drains (policies d) processor now p tasks calls r q → Drains (policies d) processor now p tasks calls' r' q' → AnswerAlike calls calls' →
       (r ≡ r') × (q ≡ q') × (calls ≡ calls')
-  drains_one cpu now p tasks calls calls' r r' q q' h k alike =
-      let same = decides_one cpu _ h.0 k.0 q q' h.1 k.1 (alike_settled calls calls' h.0 k.0 h.2 k.2 alike) in
+  drains_one processor now p tasks calls calls' r r' q q' h k alike =
+      let same = decides_one processor _ h.0 k.0 q q' h.1 k.1 (alike_settled calls calls' h.0 k.0 h.2 k.2 alike) in
       (h.3 ∙ rw (same.0, same.1) refl ∙ sym k.3, same.1, h.2 ∙ ap (λ (x : Decision). x.calls) same.0 ∙ sym k.2)
 
   some_one : {X : Type 0} (x y : X) (o : Option X) → o ≡ Some x → o ≡ Some y → x ≡ y
@@ -112,9 +112,9 @@ module _ (d : Discipline) where
   blocked_one : (t u : Task) (s : LobbyEntry) → s ≡ Blocked t → s ≡ Blocked u → t ≡ u
   blocked_one t u s e f = cc
 
-  blocks_one : (cpu now : ℕ) (p : Processor) (lobby : List LobbyEntry) (r r' : Reply) (q q' : Processor) (left left' : List LobbyEntry) → Blocks d cpu now p lobby (Ok r) q left → Blocks d cpu now p lobby (Ok r') q' left' →
+  blocks_one : (processor now : ℕ) (p : Processor) (lobby : List LobbyEntry) (r r' : Reply) (q q' : Processor) (left left' : List LobbyEntry) → Blocks d processor now p lobby (Ok r) q left → Blocks d processor now p lobby (Ok r') q' left' →
       (r ≡ r') × (q ≡ q') × (left ≡ left')
-  blocks_one cpu now p lobby r r' q q' left left' h k =
+  blocks_one processor now p lobby r r' q q' left left' h k =
       let task = some_one h.0 k.0 _ h.1.0 k.1.0 in
       let cpus : q ≡ q' = h.1.1 ∙ sym k.1.1 in
       (h.1.2 ∙ rw (task, cpus) refl ∙ sym k.1.2, cpus, h.1.3 ∙ rw task refl ∙ sym k.1.3)
@@ -125,13 +125,13 @@ module _ (d : Discipline) where
       let task = blocked_one h.0 k.0 _ h.2 k.2 in
       (h.3 ∙ sym k.3, h.4 ∙ rw task refl ∙ sym k.4, h.5 ∙ sym k.5)
 
-  places_one : (count cpu now : ℕ) (p : Processor) (calls calls' : List Asked) (x x' : Placement) (q q' : Processor) → Places (policies d) count cpu now p calls (Some x) q → Places (policies d) count cpu now p calls' (Some x') q' → AnswerAlike calls calls' →
+  places_one : (count processor now : ℕ) (p : Processor) (calls calls' : List Asked) (x x' : Placement) (q q' : Processor) → Places (policies d) count processor now p calls (Some x) q → Places (policies d) count processor now p calls' (Some x') q' → AnswerAlike calls calls' →
       (x ≡ x') × (q ≡ q') × (calls ≡ calls')
-  places_one count cpu now p calls calls' x x' q q' h k alike =
+  places_one count processor now p calls calls' x x' q q' h k alike =
       let c : Processor = after_time d now p in
       let carried = some_one h.0 k.0 p.hand h.2 k.2 in
-      let there = subst (λ (x : Carried). SettlesPlace (policies d) count cpu c x k.1) (sym carried) k.4.0 in
-      let same = place_one count cpu c h.0 h.1 k.1 h.4.0 there (alike_settled calls calls' h.1 k.1 h.4.4 k.4.4 alike) in
+      let there = subst (λ (x : Carried). SettlesPlace (policies d) count processor c x k.1) (sym carried) k.4.0 in
+      let same = place_one count processor c h.0 h.1 k.1 h.4.0 there (alike_settled calls calls' h.1 k.1 h.4.4 k.4.4 alike) in
       let task : x.task ≡ x'.task = h.3 ∙ ap (λ (c : Carried). c.task) carried ∙ sym k.3 in
       let to : x.to ≡ x'.to = h.4.1 ∙ ap (λ (s : Decision). s.choice) same ∙ sym k.4.1 in
       let by : x.by ≡ x'.by = h.4.2 ∙ ap (λ (s : Decision). s.by) same ∙ sym k.4.2 in
@@ -142,10 +142,10 @@ module _ (d : Discipline) where
       same_placement x y task to by steps =
           ap (λ t. record x { task = t }) task ∙ ap (λ n. record x { task = y.task; to = n }) to ∙ ap (λ b. record x { task = y.task; to = y.to; by = b }) by ∙ ap (λ n. record y { steps = n }) steps
 
-  pulls_one : (cpu from now : ℕ) (p o : Processor) (calls calls' : List Asked) (r r' : Reply) (q q' u u' : Processor) → Pulls (policies d) cpu from now p o calls r q u → Pulls (policies d) cpu from now p o calls' r' q' u' → AnswerAlike calls calls' →
+  pulls_one : (processor from now : ℕ) (p o : Processor) (calls calls' : List Asked) (r r' : Reply) (q q' u u' : Processor) → Pulls (policies d) processor from now p o calls r q u → Pulls (policies d) processor from now p o calls' r' q' u' → AnswerAlike calls calls' →
       (r ≡ r') × (q ≡ q') × (u ≡ u') × (calls ≡ calls')
-  pulls_one cpu from now p o calls calls' r r' q q' u u' h k alike =
-      let same = pull_one cpu from (after_time d now p) (remarked d o) h.0 k.0 h.1.0 k.1.0 (alike_settled calls calls' h.0 k.0 h.1.1 k.1.1 alike) in
+  pulls_one processor from now p o calls calls' r r' q q' u u' h k alike =
+      let same = pull_one processor from (after_time d now p) (remarked d o) h.0 k.0 h.1.0 k.1.0 (alike_settled calls calls' h.0 k.0 h.1.1 k.1.1 alike) in
       let here : q ≡ q' = h.1.3 ∙ rw same refl ∙ sym k.1.3 in
       (h.1.2 ∙ rw (same, here) refl ∙ sym k.1.2, here, h.1.4 ∙ rw same refl ∙ sym k.1.4, h.1.1 ∙ ap (λ (x : Decision). x.calls) same ∙ sym k.1.1)
 
@@ -157,24 +157,24 @@ module _ (d : Discipline) where
       (h.1.1 ∙ sym k.1.1, h.3 ∙ rw (h.1.2, k.1.2) refl ∙ sym k.3, h.2 ∙ sym k.2)
   performs_one w (Retire id) calls calls' r r' u u' h k alike = (h.1.1 ∙ sym k.1.1, h.3 ∙ rw (h.1.2, k.1.2) refl ∙ sym k.3, h.2 ∙ sym k.2)
   performs_one w Draw calls calls' r r' u u' h k alike = (h.0 ∙ sym k.0, h.2 ∙ sym k.2, h.1 ∙ sym k.1)
-  performs_one w (Install cpu hook g policy) calls calls' r r' u u' h k alike = (h.1.1 ∙ sym k.1.1, h.3 ∙ rw (h.1.2, k.1.2) refl ∙ sym k.3, h.2 ∙ sym k.2)
-  performs_one w (BeginWake cpu id) calls calls' r r' u u' h k alike =
+  performs_one w (Install processor hook g policy) calls calls' r r' u u' h k alike = (h.1.1 ∙ sym k.1.1, h.3 ∙ rw (h.1.2, k.1.2) refl ∙ sym k.3, h.2 ∙ sym k.2)
+  performs_one w (BeginWake processor id) calls calls' r r' u u' h k alike =
       let same = begins_one id _ _ w.lobby r r' h.0 k.0 h.1 k.1 h.2 k.2 in
       (same.0, h.4 ∙ rw (same.1, same.2) refl ∙ sym k.4, h.3 ∙ sym k.3)
-  performs_one w (EndWake cpu now) calls calls' r r' u u' h k alike =
-      let same = places_one _ cpu now _ calls calls' h.0 k.0 h.1 k.1 h.2 k.2 alike in
+  performs_one w (EndWake processor now) calls calls' r r' u u' h k alike =
+      let same = places_one _ processor now _ calls calls' h.0 k.0 h.1 k.1 h.2 k.2 alike in
       (h.3 ∙ rw same.0 refl ∙ sym k.3, h.4 ∙ rw (same.0, same.1) refl ∙ sym k.4, same.2)
-  performs_one w (Drain cpu now) calls calls' r r' u u' h k alike =
-      let same = drains_one cpu now _ _ calls calls' r r' h.0 k.0 h.1 k.1 alike in
+  performs_one w (Drain processor now) calls calls' r r' u u' h k alike =
+      let same = drains_one processor now _ _ calls calls' r r' h.0 k.0 h.1 k.1 alike in
       (same.0, h.2 ∙ rw same.1 refl ∙ sym k.2, same.2)
-  performs_one w (Tick cpu now) calls calls' r r' u u' h k alike =
-      let same = ticks_one cpu now _ calls calls' r r' h.0 k.0 h.1 k.1 alike in
+  performs_one w (Tick processor now) calls calls' r r' u u' h k alike =
+      let same = ticks_one processor now _ calls calls' r r' h.0 k.0 h.1 k.1 alike in
       (same.0, h.2 ∙ rw same.1 refl ∙ sym k.2, same.2)
-  performs_one w (Block cpu now) calls calls' r r' u u' h k alike =
-      let same = blocks_one cpu now _ w.lobby r r' h.0 k.0 h.1 k.1 h.2 k.2 in
+  performs_one w (Block processor now) calls calls' r r' u u' h k alike =
+      let same = blocks_one processor now _ w.lobby r r' h.0 k.0 h.1 k.1 h.2 k.2 in
       (same.0, h.4 ∙ rw (same.1, same.2) refl ∙ sym k.4, h.3 ∙ sym k.3)
-  performs_one w (Pull cpu from now) calls calls' r r' u u' h k alike =
-      let same = pulls_one cpu from now _ _ calls calls' r r' h.0 k.0 h.1 k.1 h.2 k.2 alike in
+  performs_one w (Pull processor from now) calls calls' r r' u u' h k alike =
+      let same = pulls_one processor from now _ _ calls calls' r r' h.0 k.0 h.1 k.1 h.2 k.2 alike in
       (same.0, h.3 ∙ rw (same.1, same.2) refl ∙ sym k.3, same.3)
 
   -- a refusal is that of the world, where memory was not wanting

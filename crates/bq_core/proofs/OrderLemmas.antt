@@ -18,7 +18,7 @@ use Rattle.bq_parts.specs.declared.reply.Reply.{Reply}
 use Rattle.bq_parts.specs.declared.refusal.Refusal.{Refusal}
 use Rattle.bq_parts.specs.declared.refusal.Refusal.TheVariants as no
 use Rattle.bq_parts.specs.Processors.{Processor, HasEachOnce, opening}
-use Rattle.bq_parts.specs.World.{World, opening_world, processor, entry, count_in, loads_of}
+use Rattle.bq_parts.specs.World.{World, opening_world, processor_at, entry, count_in, loads_of}
 use Rattle.bq_parts.specs.Refusals.{refusal, argument_refusal, state_refusal, either, is_absent, is_away}
 use Rattle.bq_parts.specs.Choices.{Regime, Decision, policies, place_bytes, own_pull}
 use Rattle.bq_parts.specs.Moves.{admitted}
@@ -38,7 +38,7 @@ use Rattle.bq_core.proofs.EventLemmas
 pub opening_is_orderly : OpeningIsOrderly
 opening_is_orderly n =
     let tidy : IsTidy (count_in (opening_world n)) [] (opening_world n) = subst (λ c. IsTidy c [] (opening_world n)) (sym (length-replicate n opening)) (opening_tidy n 1024) in
-    orderly_of (opening_world n) tidy (λ cpu. subst IsWell (sym (same_everywhere opening n cpu)) opening_well)
+    orderly_of (opening_world n) tidy (λ processor. subst IsWell (sym (same_everywhere opening n processor)) opening_well)
 
 -- of two refusals neither holds
 neither : (o p : Option Refusal) → either o p ≡ None → (o ≡ None) × (p ≡ None)
@@ -60,8 +60,8 @@ not_false true h = refl
 not_false false h = cc
 
 -- a processor that is not refused is there
-pub there : (count cpu : ℕ) (rest : Option Refusal) → cond (nat_le count cpu) (Some no.NoProcessor) rest ≡ None → (cpu < count) × (rest ≡ None)
-there count cpu rest h = let f = passed (nat_le count cpu) no.NoProcessor rest h in (below_from_not_at_most cpu count f.0, f.1)
+pub there : (count processor : ℕ) (rest : Option Refusal) → cond (nat_le count processor) (Some no.NoProcessor) rest ≡ None → (processor < count) × (rest ≡ None)
+there count processor rest h = let f = passed (nat_le count processor) no.NoProcessor rest h in (below_from_not_at_most processor count f.0, f.1)
 
 -- the mask of a task that is admitted has a processor of the machine
 admitted_has_place : (count id : ℕ) (nice : ℤ) (mask slice : ℕ) → argument_refusal count (Admit id nice mask slice) ≡ None → HasPlace count (admitted count id nice mask slice)
@@ -85,78 +85,78 @@ retire_keeps s w id calls r w' y k =
     let later = (passed (is_absent (entry w id)) no.NoTask _ k.1.0).1 in
     rw (k.3, k.1.2) (EventLemmas.retire_tidy (count_in w) w id y (passed (is_away (entry w id)) no.NotBlocked None later).0)
 
-install_keeps : (s : Regime) (w : World) (cpu : ℕ) (hook : Hook) (g : ℕ) (policy : Option Accepted) (calls : List Asked) (r : Reply) (w' : World) → IsTidy (count_in w) [] w → refusal w (Install cpu hook g policy) ≡ None →
-    Performs s w (Install cpu hook g policy) calls r w' → Keeps w w'
-install_keeps s w cpu hook g policy calls r w' y h k =
+install_keeps : (s : Regime) (w : World) (processor : ℕ) (hook : Hook) (g : ℕ) (policy : Option Accepted) (calls : List Asked) (r : Reply) (w' : World) → IsTidy (count_in w) [] w → refusal w (Install processor hook g policy) ≡ None →
+    Performs s w (Install processor hook g policy) calls r w' → Keeps w w'
+install_keeps s w processor hook g policy calls r w' y h k =
     let new : Attached = record { policy = policy; generation = g; maps = fresh_maps policy } in
-    let l = (there (count_in w) cpu _ (accepted w (Install cpu hook g policy) h).0).0 in
-    rw (k.3, k.1.2) (EventLemmas.install_tidy (count_in w) w cpu (with_attached hook (processor w cpu).hooks new) y l)
+    let l = (there (count_in w) processor _ (accepted w (Install processor hook g policy) h).0).0 in
+    rw (k.3, k.1.2) (EventLemmas.install_tidy (count_in w) w processor (with_attached hook (processor_at w processor).hooks new) y l)
 
-begin_wake_keeps : (s : Regime) (w : World) (cpu id : ℕ) (calls : List Asked) (r : Reply) (w' : World) → IsTidy (count_in w) [] w → refusal w (BeginWake cpu id) ≡ None →
-    Performs s w (BeginWake cpu id) calls r w' → Keeps w w'
-begin_wake_keeps s w cpu id calls r w' y h k =
+begin_wake_keeps : (s : Regime) (w : World) (processor id : ℕ) (calls : List Asked) (r : Reply) (w' : World) → IsTidy (count_in w) [] w → refusal w (BeginWake processor id) ≡ None →
+    Performs s w (BeginWake processor id) calls r w' → Keeps w w'
+begin_wake_keeps s w processor id calls r w' y h k =
     let b = k.2 in
-    let l = (there (count_in w) cpu _ (accepted w (BeginWake cpu id) h).0).0 in
+    let l = (there (count_in w) processor _ (accepted w (BeginWake processor id) h).0).0 in
     let later = (passed (is_away (entry w id)) no.NotBlocked _ (passed (is_absent (entry w id)) no.NoTask _ b.1).1).1 in
-    rw (k.4, b.4, b.5) (EventLemmas.begin_wake_tidy (count_in w) w cpu id b.0 (loads_of w.processors w.inboxes) y l b.2 (passed (is_some (processor w cpu).hand) no.InHand None later).0)
+    rw (k.4, b.4, b.5) (EventLemmas.begin_wake_tidy (count_in w) w processor id b.0 (loads_of w.processors w.inboxes) y l b.2 (passed (is_some (processor_at w processor).hand) no.InHand None later).0)
 
-end_wake_keeps : (s : Regime) (w : World) (cpu now : ℕ) (calls : List Asked) (r : Reply) (w' : World) → IsTidy (count_in w) [] w → refusal w (EndWake cpu now) ≡ None →
-    Performs s w (EndWake cpu now) calls r w' → Keeps w w'
-end_wake_keeps s w cpu now calls r w' y h k =
-    let l = (there (count_in w) cpu None (accepted w (EndWake cpu now) h).0).0 in
-    let p : Processor = after_time s.discipline now (processor w cpu) in
+end_wake_keeps : (s : Regime) (w : World) (processor now : ℕ) (calls : List Asked) (r : Reply) (w' : World) → IsTidy (count_in w) [] w → refusal w (EndWake processor now) ≡ None →
+    Performs s w (EndWake processor now) calls r w' → Keeps w w'
+end_wake_keeps s w processor now calls r w' y h k =
+    let l = (there (count_in w) processor None (accepted w (EndWake processor now) h).0).0 in
+    let p : Processor = after_time s.discipline now (processor_at w processor) in
     let b = k.2 in
     let to = k.0.to in
     let carried : Carried = b.0 in
     let settled : Decision = b.1 in
     let own : ℕ = unwrap_or (own_place (count_in w) carried.loads carried.task) 0 in
-    let goes = settled_permitted s (place_bytes (record { task = carried.task; waking = cpu; processors = count_in w; own = own; loads = carried.loads })) p.hooks.place p.running.last cpu (may_place (count_in w) carried.task) own settled
-    (own_place_permitted (count_in w) carried.loads carried.task (y.hand cpu carried b.2)) b.4.0 in
+    let goes = settled_permitted s (place_bytes (record { task = carried.task; waking = processor; processors = count_in w; own = own; loads = carried.loads })) p.hooks.place p.running.last processor (may_place (count_in w) carried.task) own settled
+    (own_place_permitted (count_in w) carried.loads carried.task (y.hand processor carried b.2)) b.4.0 in
     let fits = may_place_fits (count_in w) carried.task to (subst (λ n. may_place (count_in w) carried.task n ≡ true) (sym b.4.1) goes) in
-    rw (k.4, b.4.5, b.3) (EventLemmas.end_wake_tidy s.discipline (count_in w) w cpu now to carried (record p.hooks { place = settled.attached }) y l b.2 fits.0 fits.1)
+    rw (k.4, b.4.5, b.3) (EventLemmas.end_wake_tidy s.discipline (count_in w) w processor now to carried (record p.hooks { place = settled.attached }) y l b.2 fits.0 fits.1)
 
-drain_keeps : (s : Regime) (w : World) (cpu now : ℕ) (calls : List Asked) (r : Reply) (w' : World) → IsTidy (count_in w) [] w → refusal w (Drain cpu now) ≡ None → Performs s w (Drain cpu now) calls r w' → Keeps w w'
-drain_keeps s w cpu now calls r w' y h k =
-    let l = (there (count_in w) cpu None (accepted w (Drain cpu now) h).0).0 in
-    rw (k.2, k.1.1.1) (EventLemmas.drain_tidy s (count_in w) w cpu now k.1.0 y l)
+drain_keeps : (s : Regime) (w : World) (processor now : ℕ) (calls : List Asked) (r : Reply) (w' : World) → IsTidy (count_in w) [] w → refusal w (Drain processor now) ≡ None → Performs s w (Drain processor now) calls r w' → Keeps w w'
+drain_keeps s w processor now calls r w' y h k =
+    let l = (there (count_in w) processor None (accepted w (Drain processor now) h).0).0 in
+    rw (k.2, k.1.1.1) (EventLemmas.drain_tidy s (count_in w) w processor now k.1.0 y l)
 
-tick_keeps : (s : Regime) (w : World) (cpu now : ℕ) (calls : List Asked) (r : Reply) (w' : World) → IsTidy (count_in w) [] w → refusal w (Tick cpu now) ≡ None → Performs s w (Tick cpu now) calls r w' → Keeps w w'
-tick_keeps s w cpu now calls r w' y h k =
-    let l = (there (count_in w) cpu None (accepted w (Tick cpu now) h).0).0 in
-    rw (k.2, k.1.1.1) (EventLemmas.tick_tidy s (count_in w) w cpu now k.1.0 y l)
+tick_keeps : (s : Regime) (w : World) (processor now : ℕ) (calls : List Asked) (r : Reply) (w' : World) → IsTidy (count_in w) [] w → refusal w (Tick processor now) ≡ None → Performs s w (Tick processor now) calls r w' → Keeps w w'
+tick_keeps s w processor now calls r w' y h k =
+    let l = (there (count_in w) processor None (accepted w (Tick processor now) h).0).0 in
+    rw (k.2, k.1.1.1) (EventLemmas.tick_tidy s (count_in w) w processor now k.1.0 y l)
 
-block_keeps : (s : Regime) (w : World) (cpu now : ℕ) (calls : List Asked) (r : Reply) (w' : World) → IsTidy (count_in w) [] w → refusal w (Block cpu now) ≡ None → Performs s w (Block cpu now) calls r w' → Keeps w w'
-block_keeps s w cpu now calls r w' y h k =
-    let l = (there (count_in w) cpu None (accepted w (Block cpu now) h).0).0 in
+block_keeps : (s : Regime) (w : World) (processor now : ℕ) (calls : List Asked) (r : Reply) (w' : World) → IsTidy (count_in w) [] w → refusal w (Block processor now) ≡ None → Performs s w (Block processor now) calls r w' → Keeps w w'
+block_keeps s w processor now calls r w' y h k =
+    let l = (there (count_in w) processor None (accepted w (Block processor now) h).0).0 in
     let b = k.2 in
-    rw (k.4, b.1.1, b.1.3) (EventLemmas.block_tidy s.discipline (count_in w) w cpu now b.0 y l b.1.0)
+    rw (k.4, b.1.1, b.1.3) (EventLemmas.block_tidy s.discipline (count_in w) w processor now b.0 y l b.1.0)
 
-pull_keeps : (s : Regime) (w : World) (cpu from now : ℕ) (calls : List Asked) (r : Reply) (w' : World) → IsOrderly w → IsTidy (count_in w) [] w →
-    refusal w (Pull cpu from now) ≡ None → Performs s w (Pull cpu from now) calls r w' → Keeps w w'
-pull_keeps s w cpu from now calls r w' o y h k =
-    let f = there (count_in w) cpu _ (accepted w (Pull cpu from now) h).0 in
+pull_keeps : (s : Regime) (w : World) (processor from now : ℕ) (calls : List Asked) (r : Reply) (w' : World) → IsOrderly w → IsTidy (count_in w) [] w →
+    refusal w (Pull processor from now) ≡ None → Performs s w (Pull processor from now) calls r w' → Keeps w w'
+pull_keeps s w processor from now calls r w' o y h k =
+    let f = there (count_in w) processor _ (accepted w (Pull processor from now) h).0 in
     let g = there (count_in w) from _ f.1 in
-    let apart = differ_from_test cpu from (passed (cpu == from) no.SameProcessor None g.1).0 in
-    let p : Processor = after_time s.discipline now (processor w cpu) in
-    let source : Processor = remarked s.discipline (processor w from) in
+    let apart = differ_from_test processor from (passed (processor == from) no.SameProcessor None g.1).0 in
+    let p : Processor = after_time s.discipline now (processor_at w processor) in
+    let source : Processor = remarked s.discipline (processor_at w from) in
     let x = k.2 in
     let settled : Decision = x.0 in
-    let once : HasEachOnce source.running.queue = each_once_queue (processor w from).running (each_once_running w from o) in
-    let may = settled_permitted s _ p.hooks.pull p.running.last cpu (may_pull cpu source.running.queue) (or_nobody (own_pull cpu p source)) settled (own_pull_permitted cpu p source once) x.1.0 in
-    rw (k.3, x.1.3, x.1.4) (EventLemmas.pull_tidy s.discipline (count_in w) w cpu from now settled.choice (task_numbered settled.choice) (record p.hooks { pull = settled.attached }) y f.0 g.0 apart may refl)
+    let once : HasEachOnce source.running.queue = each_once_queue (processor_at w from).running (each_once_running w from o) in
+    let may = settled_permitted s _ p.hooks.pull p.running.last processor (may_pull processor source.running.queue) (or_nobody (own_pull processor p source)) settled (own_pull_permitted processor p source once) x.1.0 in
+    rw (k.3, x.1.3, x.1.4) (EventLemmas.pull_tidy s.discipline (count_in w) w processor from now settled.choice (task_numbered settled.choice) (record p.hooks { pull = settled.attached }) y f.0 g.0 apart may refl)
 
 -- an event that is not refused keeps a world tidy
 performs_tidy : (s : Regime) (w : World) (e : Event) (calls : List Asked) (r : Reply) (w' : World) → IsOrderly w → IsTidy (count_in w) [] w → refusal w e ≡ None → Performs s w e calls r w' → Keeps w w'
 performs_tidy s w (Admit id nice mask slice) calls r w' o y h k = admit_keeps s w id nice mask slice calls r w' y h k
 performs_tidy s w (Retire id) calls r w' o y h k = retire_keeps s w id calls r w' y k
 performs_tidy s w Draw calls r w' o y h k = rw k.2 (EventLemmas.draw_tidy (count_in w) w _ y)
-performs_tidy s w (Install cpu hook g policy) calls r w' o y h k = install_keeps s w cpu hook g policy calls r w' y h k
-performs_tidy s w (BeginWake cpu id) calls r w' o y h k = begin_wake_keeps s w cpu id calls r w' y h k
-performs_tidy s w (EndWake cpu now) calls r w' o y h k = end_wake_keeps s w cpu now calls r w' y h k
-performs_tidy s w (Drain cpu now) calls r w' o y h k = drain_keeps s w cpu now calls r w' y h k
-performs_tidy s w (Tick cpu now) calls r w' o y h k = tick_keeps s w cpu now calls r w' y h k
-performs_tidy s w (Block cpu now) calls r w' o y h k = block_keeps s w cpu now calls r w' y h k
-performs_tidy s w (Pull cpu from now) calls r w' o y h k = pull_keeps s w cpu from now calls r w' o y h k
+performs_tidy s w (Install processor hook g policy) calls r w' o y h k = install_keeps s w processor hook g policy calls r w' y h k
+performs_tidy s w (BeginWake processor id) calls r w' o y h k = begin_wake_keeps s w processor id calls r w' y h k
+performs_tidy s w (EndWake processor now) calls r w' o y h k = end_wake_keeps s w processor now calls r w' y h k
+performs_tidy s w (Drain processor now) calls r w' o y h k = drain_keeps s w processor now calls r w' y h k
+performs_tidy s w (Tick processor now) calls r w' o y h k = tick_keeps s w processor now calls r w' y h k
+performs_tidy s w (Block processor now) calls r w' o y h k = block_keeps s w processor now calls r w' y h k
+performs_tidy s w (Pull processor from now) calls r w' o y h k = pull_keeps s w processor from now calls r w' o y h k
 
 -- in every setting a step leaves the world tidy
 pub step_tidy : (s : Regime) (w : World) (e : Event) (calls : List Asked) (r : Result Reply Refusal) (w' : World) → WorldStep s w e calls r w' → IsOrderly w → Keeps w w'

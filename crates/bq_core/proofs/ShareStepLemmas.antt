@@ -13,7 +13,7 @@ use Rattle.bq_parts.specs.declared.refusal.Refusal.{Refusal}
 use Rattle.bq_parts.specs.declared.refusal.Refusal.TheVariants as no
 use Rattle.bq_parts.specs.declared.lobby_entry.LobbyEntry.{LobbyEntry}
 use Rattle.bq_parts.specs.Processors.{Processor, opening}
-use Rattle.bq_parts.specs.World.{World, processor, inbox, count_in, with_processor, with_inbox, with_lobby, loads_of}
+use Rattle.bq_parts.specs.World.{World, processor_at, inbox, count_in, with_processor, with_inbox, with_lobby, loads_of}
 use Rattle.bq_parts.specs.declared.wakes.Placement.{Placement}
 use Rattle.bq_parts.specs.declared.carried.Carried.{Carried}
 use Rattle.bq_parts.specs.Refusals.{argument_refusal}
@@ -42,70 +42,70 @@ retires_step d w id (Ok r) lobby l b = (rw (has_entry id l, b.0) refl, (lobby, b
 retires_step d w id (Err e) lobby l b = (refl, ap (with_lobby w) b.1, inl (rw (has_entry id l, b.0) refl))
 
 -- a processor's share of a tick is the world's step, where the world has that processor
-pub ticks_step : (d : Discipline) (w : World) (cpu now : ℕ) (calls : List Asked) (r : Reply) (q : Processor) → cpu < count_in w → Ticks (policies d) cpu now (processor w cpu) calls r q →
-    WorldStep (policies d) w (Tick cpu now) calls (Ok r) (with_processor w cpu q)
-ticks_step d w cpu now calls r q h t = (rw (within w cpu h) refl, (q, t, refl))
+pub ticks_step : (d : Discipline) (w : World) (processor now : ℕ) (calls : List Asked) (r : Reply) (q : Processor) → processor < count_in w → Ticks (policies d) processor now (processor_at w processor) calls r q →
+    WorldStep (policies d) w (Tick processor now) calls (Ok r) (with_processor w processor q)
+ticks_step d w processor now calls r q h t = (rw (within w processor h) refl, (q, t, refl))
 
 -- a processor's share of a drain is the world's step, which also empties its inbox
-pub drains_step : (d : Discipline) (w : World) (cpu now : ℕ) (calls : List Asked) (r : Reply) (q : Processor) → cpu < count_in w → Drains (policies d) cpu now (processor w cpu) (inbox w cpu) calls r q →
-    WorldStep (policies d) w (Drain cpu now) calls (Ok r) (with_inbox (with_processor w cpu q) cpu [])
-drains_step d w cpu now calls r q h t = (rw (within w cpu h) refl, (q, t, refl))
+pub drains_step : (d : Discipline) (w : World) (processor now : ℕ) (calls : List Asked) (r : Reply) (q : Processor) → processor < count_in w → Drains (policies d) processor now (processor_at w processor) (inbox w processor) calls r q →
+    WorldStep (policies d) w (Drain processor now) calls (Ok r) (with_inbox (with_processor w processor q) processor [])
+drains_step d w processor now calls r q h t = (rw (within w processor h) refl, (q, t, refl))
 
 -- a processor that is as it was
-same_processor : (w : World) (cpu : ℕ) (q : Processor) → q ≡ processor w cpu → with_processor w cpu q ≡ w
-same_processor w cpu q e = ap (with_processor w cpu) e ∙ ap (λ (x : List Processor). record w { processors = x }) (set-get_or w.processors cpu opening)
+same_processor : (w : World) (processor : ℕ) (q : Processor) → q ≡ processor_at w processor → with_processor w processor q ≡ w
+same_processor w processor q e = ap (with_processor w processor) e ∙ ap (λ (x : List Processor). record w { processors = x }) (set-get_or w.processors processor opening)
 
 -- and so is the lobby
-same_lobby_too : (w : World) (cpu : ℕ) (q : Processor) (lobby : List LobbyEntry) → q ≡ processor w cpu → lobby ≡ w.lobby → with_lobby (with_processor w cpu q) lobby ≡ w
-same_lobby_too w cpu q lobby e f = ap (with_lobby (with_processor w cpu q)) f ∙ same_processor w cpu q e
+same_lobby_too : (w : World) (processor : ℕ) (q : Processor) (lobby : List LobbyEntry) → q ≡ processor_at w processor → lobby ≡ w.lobby → with_lobby (with_processor w processor q) lobby ≡ w
+same_lobby_too w processor q lobby e f = ap (with_lobby (with_processor w processor q)) f ∙ same_processor w processor q e
 
 -- what a block makes of a processor and the lobby, done or refused, is the world's step
-pub blocks_step : (d : Discipline) (w : World) (cpu now : ℕ) (r : Result Reply Refusal) (q : Processor) (lobby : List LobbyEntry) → cpu < count_in w → Blocks d cpu now (processor w cpu) w.lobby r q lobby →
-    WorldStep (policies d) w (Block cpu now) [] r (with_lobby (with_processor w cpu q) lobby)
-blocks_step d w cpu now (Ok r) q lobby h b = (rw (within w cpu h, still_runs d w cpu now b.0 (sym b.1.0)) refl, (q, lobby, b, refl, refl))
-blocks_step d w cpu now (Err e) q lobby h b = (refl, same_lobby_too w cpu q lobby b.2 b.3, rw b.1 (block_idle d w cpu now h b.0).2)
+pub blocks_step : (d : Discipline) (w : World) (processor now : ℕ) (r : Result Reply Refusal) (q : Processor) (lobby : List LobbyEntry) → processor < count_in w → Blocks d processor now (processor_at w processor) w.lobby r q lobby →
+    WorldStep (policies d) w (Block processor now) [] r (with_lobby (with_processor w processor q) lobby)
+blocks_step d w processor now (Ok r) q lobby h b = (rw (within w processor h, still_runs d w processor now b.0 (sym b.1.0)) refl, (q, lobby, b, refl, refl))
+blocks_step d w processor now (Err e) q lobby h b = (refl, same_lobby_too w processor q lobby b.2 b.3, rw b.1 (block_idle d w processor now h b.0).2)
 
 -- what a wake's beginning makes of the hand and the lobby is the world's step, done or refused, for an id of an entry
-pub begins_step : (d : Discipline) (w : World) (cpu id : ℕ) (r : Result Reply Refusal) (q : Processor) (lobby : List LobbyEntry) → cpu < count_in w → id < 1024 → Begins id (loads_of w.processors w.inboxes) (processor w cpu) w.lobby r q lobby →
-    WorldStep (policies d) w (BeginWake cpu id) [] r (with_lobby (with_processor w cpu q) lobby)
-begins_step d w cpu id (Ok r) q lobby h l b = (rw (within w cpu h, has_entry id l, b.1) refl, (q, lobby, b, refl, refl))
-begins_step d w cpu id (Err e) q lobby h l b = (refl, same_lobby_too w cpu q lobby b.1 b.2, inl (rw (within w cpu h, has_entry id l, b.0) refl))
+pub begins_step : (d : Discipline) (w : World) (processor id : ℕ) (r : Result Reply Refusal) (q : Processor) (lobby : List LobbyEntry) → processor < count_in w → id < 1024 → Begins id (loads_of w.processors w.inboxes) (processor_at w processor) w.lobby r q lobby →
+    WorldStep (policies d) w (BeginWake processor id) [] r (with_lobby (with_processor w processor q) lobby)
+begins_step d w processor id (Ok r) q lobby h l b = (rw (within w processor h, has_entry id l, b.1) refl, (q, lobby, b, refl, refl))
+begins_step d w processor id (Err e) q lobby h l b = (refl, same_lobby_too w processor q lobby b.1 b.2, inl (rw (within w processor h, has_entry id l, b.0) refl))
 
 -- a processor's share of a wake's end is the world's step, which puts the task at the end of the chosen inbox
-pub places_step : (d : Discipline) (w : World) (cpu now : ℕ) (calls : List Asked) (x : Placement) (q : Processor) → cpu < count_in w → Places (policies d) (count_in w) cpu now (processor w cpu) calls (Some x) q →
-    WorldStep (policies d) w (EndWake cpu now) calls (Ok (Placed x.task.id x.to x.by x.steps)) (with_inbox (with_processor w cpu q) x.to (inbox w x.to ++ x.task ∷ []))
-places_step d w cpu now calls x q h k = (rw (within w cpu h, k.2) refl, (x, q, k, refl, refl))
+pub places_step : (d : Discipline) (w : World) (processor now : ℕ) (calls : List Asked) (x : Placement) (q : Processor) → processor < count_in w → Places (policies d) (count_in w) processor now (processor_at w processor) calls (Some x) q →
+    WorldStep (policies d) w (EndWake processor now) calls (Ok (Placed x.task.id x.to x.by x.steps)) (with_inbox (with_processor w processor q) x.to (inbox w x.to ++ x.task ∷ []))
+places_step d w processor now calls x q h k = (rw (within w processor h, k.2) refl, (x, q, k, refl, refl))
 
 -- the same of a drain, where the parts are known by equations
-pub drains_at : (d : Discipline) (w w' : World) (cpu now : ℕ) (calls : List Asked) (r : Reply) (q p : Processor) (xs : List Task) → cpu < count_in w → p ≡ processor w cpu → xs ≡ inbox w cpu →
-    Drains (policies d) cpu now p xs calls r q → w' ≡ with_inbox (with_processor w cpu q) cpu [] → WorldStep (policies d) w (Drain cpu now) calls (Ok r) w'
-drains_at d w w' cpu now calls r q p xs h at box t e = rw e (drains_step d w cpu now calls r q h (rw (← at, ← box) t))
+pub drains_at : (d : Discipline) (w w' : World) (processor now : ℕ) (calls : List Asked) (r : Reply) (q p : Processor) (xs : List Task) → processor < count_in w → p ≡ processor_at w processor → xs ≡ inbox w processor →
+    Drains (policies d) processor now p xs calls r q → w' ≡ with_inbox (with_processor w processor q) processor [] → WorldStep (policies d) w (Drain processor now) calls (Ok r) w'
+drains_at d w w' processor now calls r q p xs h at box t e = rw e (drains_step d w processor now calls r q h (rw (← at, ← box) t))
 
 -- and of a block
-pub blocks_at : (d : Discipline) (w w' : World) (cpu now : ℕ) (r : Result Reply Refusal) (q p : Processor) (lobby lobby' : List LobbyEntry) → cpu < count_in w → p ≡ processor w cpu → lobby ≡ w.lobby →
-    Blocks d cpu now p lobby r q lobby' → w' ≡ with_lobby (with_processor w cpu q) lobby' → WorldStep (policies d) w (Block cpu now) [] r w'
-blocks_at d w w' cpu now r q p lobby lobby' h at is b e = rw e (blocks_step d w cpu now r q lobby' h (rw (← at, ← is) b))
+pub blocks_at : (d : Discipline) (w w' : World) (processor now : ℕ) (r : Result Reply Refusal) (q p : Processor) (lobby lobby' : List LobbyEntry) → processor < count_in w → p ≡ processor_at w processor → lobby ≡ w.lobby →
+    Blocks d processor now p lobby r q lobby' → w' ≡ with_lobby (with_processor w processor q) lobby' → WorldStep (policies d) w (Block processor now) [] r w'
+blocks_at d w w' processor now r q p lobby lobby' h at is b e = rw e (blocks_step d w processor now r q lobby' h (rw (← at, ← is) b))
 
 -- where no argument is refused, the generation alone is
-pub installs_step : (d : Discipline) (w : World) (cpu g : ℕ) (h : Hook) (o : Option Accepted) (r : Result Reply Refusal) (q : Processor) → argument_refusal (count_in w) (Install cpu h g o) ≡ None →
-    Installs h w.drawn (processor w cpu) (record { policy = o; generation = g; maps = fresh_maps o }) r q → WorldStep (policies d) w (Install cpu h g o) [] r (with_processor w cpu q)
-installs_step d w cpu g h o (Ok r) q l k = (rw (l, k.0) refl, (q, k, refl, refl))
-installs_step d w cpu g h o (Err e) q l k = (refl, same_processor w cpu q k.1, inl (rw (l, k.0) refl))
+pub installs_step : (d : Discipline) (w : World) (processor g : ℕ) (h : Hook) (o : Option Accepted) (r : Result Reply Refusal) (q : Processor) → argument_refusal (count_in w) (Install processor h g o) ≡ None →
+    Installs h w.drawn (processor_at w processor) (record { policy = o; generation = g; maps = fresh_maps o }) r q → WorldStep (policies d) w (Install processor h g o) [] r (with_processor w processor q)
+installs_step d w processor g h o (Ok r) q l k = (rw (l, k.0) refl, (q, k, refl, refl))
+installs_step d w processor g h o (Err e) q l k = (refl, same_processor w processor q k.1, inl (rw (l, k.0) refl))
 
-apart : (cpu from : ℕ) → cpu ≢ from → eqb cpu from ≡ false
-apart cpu from h = grind (arith, nat_tests)
+apart : (processor from : ℕ) → processor ≢ from → eqb processor from ≡ false
+apart processor from h = grind (arith, nat_tests)
 
 -- what a pull makes of two processors that differ is the world's step
-pub pulls_step : (d : Discipline) (w : World) (cpu from now : ℕ) (calls : List Asked) (r : Reply) (q other : Processor) → cpu < count_in w → from < count_in w → cpu ≢ from →
-    Pulls (policies d) cpu from now (processor w cpu) (processor w from) calls r q other →
-    WorldStep (policies d) w (Pull cpu from now) calls (Ok r) (with_processor (with_processor w cpu q) from other)
-pulls_step d w cpu from now calls r q other h k n p = (rw (within w cpu h, within w from k, apart cpu from n) refl, (q, other, p, refl))
+pub pulls_step : (d : Discipline) (w : World) (processor from now : ℕ) (calls : List Asked) (r : Reply) (q other : Processor) → processor < count_in w → from < count_in w → processor ≢ from →
+    Pulls (policies d) processor from now (processor_at w processor) (processor_at w from) calls r q other →
+    WorldStep (policies d) w (Pull processor from now) calls (Ok r) (with_processor (with_processor w processor q) from other)
+pulls_step d w processor from now calls r q other h k n p = (rw (within w processor h, within w from k, apart processor from n) refl, (q, other, p, refl))
 
 -- the same of a wake's end, where the parts are known by equations
-pub places_at : (d : Discipline) (w w' : World) (cpu now count task : ℕ) (calls : List Asked) (x : Placement) (q p : Processor) (xs : List Task) → cpu < count_in w → p ≡ processor w cpu → count ≡ count_in w →
-    task ≡ x.task.id → xs ≡ inbox w x.to → Places (policies d) count cpu now p calls (Some x) q → w' ≡ with_inbox (with_processor w cpu q) x.to (xs ++ x.task ∷ []) →
-    WorldStep (policies d) w (EndWake cpu now) calls (Ok (Placed task x.to x.by x.steps)) w'
-places_at d w w' cpu now count task calls x q p xs h at many i box k e = rw (e, box, i) (places_step d w cpu now calls x q h (rw (← many, ← at) k))
+pub places_at : (d : Discipline) (w w' : World) (processor now count task : ℕ) (calls : List Asked) (x : Placement) (q p : Processor) (xs : List Task) → processor < count_in w → p ≡ processor_at w processor → count ≡ count_in w →
+    task ≡ x.task.id → xs ≡ inbox w x.to → Places (policies d) count processor now p calls (Some x) q → w' ≡ with_inbox (with_processor w processor q) x.to (xs ++ x.task ∷ []) →
+    WorldStep (policies d) w (EndWake processor now) calls (Ok (Placed task x.to x.by x.steps)) w'
+places_at d w w' processor now count task calls x q p xs h at many i box k e = rw (e, box, i) (places_step d w processor now calls x q h (rw (← many, ← at) k))
 
 -- what every task in a hand meets, the one in it does
 pub if_carried : (o : Option Carried) (P : Carried → Type 0) → ((c : Carried) → o ≡ Some c → P c) → IfSome o P
@@ -113,31 +113,31 @@ if_carried None P h = tt
 if_carried (Some c) P h = h c refl
 
 -- where the hand is empty nothing is placed
-pub places_none : (d : Discipline) (w : World) (cpu now : ℕ) (calls : List Asked) (q : Processor) → cpu < count_in w → Places (policies d) (count_in w) cpu now (processor w cpu) calls None q →
-    WorldStep (policies d) w (EndWake cpu now) calls (Err no.NothingInHand) (with_processor w cpu q)
-places_none d w cpu now calls q h k =
-    (k.0, same_processor w cpu q k.2, inl (rw (within w cpu h, k.1) refl))
+pub places_none : (d : Discipline) (w : World) (processor now : ℕ) (calls : List Asked) (q : Processor) → processor < count_in w → Places (policies d) (count_in w) processor now (processor_at w processor) calls None q →
+    WorldStep (policies d) w (EndWake processor now) calls (Err no.NothingInHand) (with_processor w processor q)
+places_none d w processor now calls q h k =
+    (k.0, same_processor w processor q k.2, inl (rw (within w processor h, k.1) refl))
 
 -- the same, where the parts are known by equations
-pub places_none_at : (d : Discipline) (w w' : World) (cpu now count : ℕ) (calls : List Asked) (q p : Processor) → cpu < count_in w → p ≡ processor w cpu →
-    Places (policies d) count cpu now p calls None q → w' ≡ with_processor w cpu q → WorldStep (policies d) w (EndWake cpu now) calls (Err no.NothingInHand) w'
-places_none_at d w w' cpu now count calls q p h at k e = rw e (places_none d w cpu now calls q h (k.0, ap (λ (x : Processor). x.hand) (sym at) ∙ k.1, k.2 ∙ at))
+pub places_none_at : (d : Discipline) (w w' : World) (processor now count : ℕ) (calls : List Asked) (q p : Processor) → processor < count_in w → p ≡ processor_at w processor →
+    Places (policies d) count processor now p calls None q → w' ≡ with_processor w processor q → WorldStep (policies d) w (EndWake processor now) calls (Err no.NothingInHand) w'
+places_none_at d w w' processor now count calls q p h at k e = rw e (places_none d w processor now calls q h (k.0, ap (λ (x : Processor). x.hand) (sym at) ∙ k.1, k.2 ∙ at))
 
 -- and of a wake's beginning
-pub begins_at : (d : Discipline) (w w' : World) (cpu id : ℕ) (loads : List ℕ) (r : Result Reply Refusal) (q p : Processor) (lobby lobby' : List LobbyEntry) → cpu < count_in w → id < 1024 →
-    loads ≡ loads_of w.processors w.inboxes → p ≡ processor w cpu → lobby ≡ w.lobby → Begins id loads p lobby r q lobby' → w' ≡ with_lobby (with_processor w cpu q) lobby' → WorldStep (policies d) w (BeginWake cpu id) [] r w'
-begins_at d w w' cpu id loads r q p lobby lobby' h l count at is b e =
+pub begins_at : (d : Discipline) (w w' : World) (processor id : ℕ) (loads : List ℕ) (r : Result Reply Refusal) (q p : Processor) (lobby lobby' : List LobbyEntry) → processor < count_in w → id < 1024 →
+    loads ≡ loads_of w.processors w.inboxes → p ≡ processor_at w processor → lobby ≡ w.lobby → Begins id loads p lobby r q lobby' → w' ≡ with_lobby (with_processor w processor q) lobby' → WorldStep (policies d) w (BeginWake processor id) [] r w'
+begins_at d w w' processor id loads r q p lobby lobby' h l count at is b e =
     let found = subst (λ (ns : List ℕ). Begins id ns p lobby r q lobby') count b in
     let there = subst (λ (x : Processor). Begins id (loads_of w.processors w.inboxes) x lobby r q lobby') at found in
-    rw e (begins_step d w cpu id r q lobby' h l (subst (λ (xs : List LobbyEntry). Begins id (loads_of w.processors w.inboxes) (processor w cpu) xs r q lobby') is there))
+    rw e (begins_step d w processor id r q lobby' h l (subst (λ (xs : List LobbyEntry). Begins id (loads_of w.processors w.inboxes) (processor_at w processor) xs r q lobby') is there))
 
 -- and of a pull
-pub pulls_at : (d : Discipline) (w w' : World) (cpu from now : ℕ) (calls : List Asked) (r : Reply) (ps qs : List Processor) (q other : Processor) → cpu < count_in w → from < count_in w → cpu ≢ from → ps ≡ w.processors →
-    Pulls (policies d) cpu from now (slice_index_or ps cpu opening) (slice_index_or ps from opening) calls r q other → qs ≡ slice_set (slice_set ps cpu q) from other → w' ≡ record w { processors = qs } →
-    WorldStep (policies d) w (Pull cpu from now) calls (Ok r) w'
-pulls_at d w w' cpu from now calls r ps qs q other h k n is p f e =
-    let there = subst (λ (xs : List Processor). Pulls (policies d) cpu from now (slice_index_or xs cpu opening) (slice_index_or xs from opening) calls r q other) is p in
-    rw (e, f, is) (pulls_step d w cpu from now calls r q other h k n there)
+pub pulls_at : (d : Discipline) (w w' : World) (processor from now : ℕ) (calls : List Asked) (r : Reply) (ps qs : List Processor) (q other : Processor) → processor < count_in w → from < count_in w → processor ≢ from → ps ≡ w.processors →
+    Pulls (policies d) processor from now (slice_index_or ps processor opening) (slice_index_or ps from opening) calls r q other → qs ≡ slice_set (slice_set ps processor q) from other → w' ≡ record w { processors = qs } →
+    WorldStep (policies d) w (Pull processor from now) calls (Ok r) w'
+pulls_at d w w' processor from now calls r ps qs q other h k n is p f e =
+    let there = subst (λ (xs : List Processor). Pulls (policies d) processor from now (slice_index_or xs processor opening) (slice_index_or xs from opening) calls r q other) is p in
+    rw (e, f, is) (pulls_step d w processor from now calls r q other h k n there)
 
 -- and of an admission
 pub admits_at : (d : Discipline) (w w' : World) (id : ℕ) (nice : ℤ) (mask slice : ℕ) (new : Task) (r : Result Reply Refusal) (old lobby : List LobbyEntry) → argument_refusal (count_in w) (Admit id nice mask slice) ≡ None →

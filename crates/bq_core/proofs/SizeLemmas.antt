@@ -18,13 +18,13 @@ performs_count : (s : Regime) (w : World) (e : Event) (calls : List Asked) (r : 
 performs_count s w (Admit id nice mask slice) calls r w' h = ap count_in h.3
 performs_count s w (Retire id) calls r w' h = ap count_in h.3
 performs_count s w Draw calls r w' h = ap count_in h.2
-performs_count s w (Install cpu hook g policy) calls r w' h = ap count_in h.3 ∙ length-set w.processors cpu h.0
-performs_count s w (BeginWake cpu id) calls r w' h = ap count_in h.4 ∙ length-set w.processors cpu h.0
-performs_count s w (EndWake cpu now) calls r w' h = ap count_in h.4 ∙ length-set w.processors cpu h.1
-performs_count s w (Drain cpu now) calls r w' h = ap count_in h.2 ∙ length-set w.processors cpu h.0
-performs_count s w (Tick cpu now) calls r w' h = ap count_in h.2 ∙ length-set w.processors cpu h.0
-performs_count s w (Block cpu now) calls r w' h = ap count_in h.4 ∙ length-set w.processors cpu h.0
-performs_count s w (Pull cpu from now) calls r w' h = ap count_in h.3 ∙ length-set (with_processor w cpu h.0).processors from h.1 ∙ length-set w.processors cpu h.0
+performs_count s w (Install processor hook g policy) calls r w' h = ap count_in h.3 ∙ length-set w.processors processor h.0
+performs_count s w (BeginWake processor id) calls r w' h = ap count_in h.4 ∙ length-set w.processors processor h.0
+performs_count s w (EndWake processor now) calls r w' h = ap count_in h.4 ∙ length-set w.processors processor h.1
+performs_count s w (Drain processor now) calls r w' h = ap count_in h.2 ∙ length-set w.processors processor h.0
+performs_count s w (Tick processor now) calls r w' h = ap count_in h.2 ∙ length-set w.processors processor h.0
+performs_count s w (Block processor now) calls r w' h = ap count_in h.4 ∙ length-set w.processors processor h.0
+performs_count s w (Pull processor from now) calls r w' h = ap count_in h.3 ∙ length-set (with_processor w processor h.0).processors from h.1 ∙ length-set w.processors processor h.0
 
 -- a step leaves as many processors
 pub step_count : (s : Regime) (w : World) (e : Event) (calls : List Asked) (r : Result Reply Refusal) (w' : World) → WorldStep s w e calls r w' → count_in w' ≡ count_in w

@@ -10,7 +10,7 @@ use Rattle.bq_parts.specs.declared.event.Event.TheVariants.{Block}
 use Rattle.bq_parts.specs.declared.refusal.Refusal.TheVariants as no
 use Rattle.bq_parts.specs.declared.lobby_entry.LobbyEntry.{LobbyEntry}
 use Rattle.bq_parts.specs.Processors.{Processor, opening}
-use Rattle.bq_parts.specs.World.{World, processor, inbox, count_in, with_processor, with_inbox, with_lobby}
+use Rattle.bq_parts.specs.World.{World, processor_at, inbox, count_in, with_processor, with_inbox, with_lobby}
 use Rattle.bq_parts.specs.Choices.{policies}
 use Rattle.bq_parts.specs.Shares.{after_time}
 use Rattle.bq_parts.specs.Steps.{WorldStep}
@@ -18,7 +18,7 @@ use Rattle.bq_parts.specs.Steps.{WorldStep}
 -- what is borrowed of the parts of a world, which are v
 module _ {v w : World} (view : v ≡ w) where
   -- a processor's number is in range of the parts
-  pub in_range : {i cpu len : ℕ} → i ≡ cpu → len ≡ length v.processors → cpu < count_in w → i < len
+  pub in_range : {i processor len : ℕ} → i ≡ processor → len ≡ length v.processors → processor < count_in w → i < len
   in_range e f h = rw (e, f, ap (λ (u : World). length u.processors) view) h
 
   -- a number of the parts' processors is that of the world's
@@ -30,9 +30,9 @@ module _ {v w : World} (view : v ≡ w) where
   lent e = e ∙ ap (λ (u : World). u.processors) view
 
   -- the processor that was borrowed by its number
-  pub borrowed : {i cpu : ℕ} {p : Processor} → i ≡ cpu → cpu < count_in w → p ≡ get_or v.processors i p → p ≡ processor w cpu
-  borrowed {i} {cpu} {p} e inside at =
-      get_or_read w.processors cpu p inside (at ∙ ap (λ (u : World). get_or u.processors i p) view ∙ ap (λ (n : ℕ). get_or w.processors n p) e) opening
+  pub borrowed : {i processor : ℕ} {p : Processor} → i ≡ processor → processor < count_in w → p ≡ get_or v.processors i p → p ≡ processor_at w processor
+  borrowed {i} {processor} {p} e inside at =
+      get_or_read w.processors processor p inside (at ∙ ap (λ (u : World). get_or u.processors i p) view ∙ ap (λ (n : ℕ). get_or w.processors n p) e) opening
 
   -- an inbox is there where the processor is
   pub inbox_there : {to : ℕ} → length v.processors ≡ length v.inboxes → to < count_in w → to < length w.inboxes
@@ -48,12 +48,12 @@ module _ {v w : World} (view : v ≡ w) where
   lobby_whole h = ap (λ (u : World). length u.lobby) (sym view) ∙ h
 
 -- a processor's number that is in range is not refused
-pub within : (w : World) (cpu : ℕ) → cpu < count_in w → nat_le (count_in w) cpu ≡ false
-within w cpu h = grind (arith, nat_tests)
+pub within : (w : World) (processor : ℕ) → processor < count_in w → nat_le (count_in w) processor ≡ false
+within w processor h = grind (arith, nat_tests)
 
 -- a processor that was written back
-pub write_back_processor : (v w : World) (i cpu : ℕ) (q : Processor) → v ≡ w → i ≡ cpu → with_processor v i q ≡ with_processor w cpu q
-write_back_processor v w i cpu q e f = rw (e, f) refl
+pub write_back_processor : (v w : World) (i processor : ℕ) (q : Processor) → v ≡ w → i ≡ processor → with_processor v i q ≡ with_processor w processor q
+write_back_processor v w i processor q e f = rw (e, f) refl
 
 -- a list of as many items that is written over the whole of another one
 pub written_over : {X : Type 0} (xs ys : List X) (n : ℕ) → n ≡ length xs → length ys ≡ length xs → take n (ys ++ drop (length ys) xs) ≡ ys
@@ -66,26 +66,26 @@ pub write_back_processors : (v w : World) (n : ℕ) (ps qs : List Processor) →
 write_back_processors v w n ps qs e f h = ap (λ (u : World). record u { processors = take n (qs ++ drop (length qs) ps) }) e ∙ ap (λ (xs : List Processor). record w { processors = xs }) (written_over ps qs n f h)
 
 -- a processor and its inbox that were written back
-pub write_back_both : (v w : World) (i j cpu : ℕ) (x q : Processor) (xs ys : List Task) → v ≡ w → i ≡ cpu → j ≡ cpu → x ≡ q → xs ≡ ys →
-    with_inbox (with_processor v i x) j xs ≡ with_inbox (with_processor w cpu q) cpu ys
-write_back_both v w i j cpu x q xs ys e f h k l = rw (e, f, h, k, l) refl
+pub write_back_both : (v w : World) (i j processor : ℕ) (x q : Processor) (xs ys : List Task) → v ≡ w → i ≡ processor → j ≡ processor → x ≡ q → xs ≡ ys →
+    with_inbox (with_processor v i x) j xs ≡ with_inbox (with_processor w processor q) processor ys
+write_back_both v w i j processor x q xs ys e f h k l = rw (e, f, h, k, l) refl
 
 -- a processor and the lobby that were written back
-pub write_back_lobby : (v w : World) (i cpu : ℕ) (q : Processor) (lobby : List LobbyEntry) → v ≡ w → i ≡ cpu → with_lobby (with_processor v i q) lobby ≡ with_lobby (with_processor w cpu q) lobby
-write_back_lobby v w i cpu q lobby e f = rw (e, f) refl
+pub write_back_lobby : (v w : World) (i processor : ℕ) (q : Processor) (lobby : List LobbyEntry) → v ≡ w → i ≡ processor → with_lobby (with_processor v i q) lobby ≡ with_lobby (with_processor w processor q) lobby
+write_back_lobby v w i processor q lobby e f = rw (e, f) refl
 
 -- a processor and another's inbox that were written back
-pub write_back_inbox : (v w : World) (i cpu j to : ℕ) (x q : Processor) (xs ys : List Task) → v ≡ w → i ≡ cpu → j ≡ to → x ≡ q → xs ≡ ys →
-    with_inbox (with_processor v i x) j xs ≡ with_inbox (with_processor w cpu q) to ys
-write_back_inbox v w i cpu j to x q xs ys e f h k l = rw (e, f, h, k, l) refl
+pub write_back_inbox : (v w : World) (i processor j to : ℕ) (x q : Processor) (xs ys : List Task) → v ≡ w → i ≡ processor → j ≡ to → x ≡ q → xs ≡ ys →
+    with_inbox (with_processor v i x) j xs ≡ with_inbox (with_processor w processor q) to ys
+write_back_inbox v w i processor j to x q xs ys e f h k l = rw (e, f, h, k, l) refl
 
 -- a task runs after its time has passed exactly where one ran before
-pub still_runs : (d : Discipline) (w : World) (cpu now : ℕ) (t : Task) → Some t ≡ (after_time d now (processor w cpu)).running.current → is_none (processor w cpu).running.current ≡ false
-still_runs d w cpu now t h =
+pub still_runs : (d : Discipline) (w : World) (processor now : ℕ) (t : Task) → Some t ≡ (after_time d now (processor_at w processor)).running.current → is_none (processor_at w processor).running.current ≡ false
+still_runs d w processor now t h =
     let at : (o : Option Task) (f : Task → Task) → Some t ≡ option_map f o → is_none o ≡ false = elim [ None ↦ λ f k. (cc) | Some s ↦ λ f k. refl ] in
-    at (processor w cpu).running.current _ h
+    at (processor_at w processor).running.current _ h
 
 -- a block where nothing runs is refused, and the world stays as it was
-pub block_idle : (d : Discipline) (w : World) (cpu now : ℕ) → cpu < count_in w → (processor w cpu).running.current ≡ None →
-    WorldStep (policies d) w (Block cpu now) [] (Err no.Idle) w
-block_idle d w cpu now h e = (refl, refl, inl (rw (within w cpu h, e) refl))
+pub block_idle : (d : Discipline) (w : World) (processor now : ℕ) → processor < count_in w → (processor_at w processor).running.current ≡ None →
+    WorldStep (policies d) w (Block processor now) [] (Err no.Idle) w
+block_idle d w processor now h e = (refl, refl, inl (rw (within w processor h, e) refl))

@@ -12,15 +12,15 @@ use Rattle.bq_parts.proofs.NumberTestLemmas.{below_from_test, test_from_below, d
 
 -- a processor that a task may use, and a mask of the machine's processors
 abbrev pub suits : ℕ → ℕ → ℕ → Bool
-suits count cpu mask = allows mask cpu && (nat_lt mask (2 ^ count) && not (mask == 0))
+suits count processor mask = allows mask processor && (nat_lt mask (2 ^ count) && not (mask == 0))
 
 -- 1 for a task that a processor doesn't suit
 abbrev pub unsuited : ℕ → ℕ → ℕ → ℕ → ℕ
-unsuited count cpu id mask = cond (suits count cpu mask) 0 1
+unsuited count processor id mask = cond (suits count processor mask) 0 1
 
 -- what a task is that a processor suits
-pub record Suits (count cpu : ℕ) (t : Task) : Type 0 where
-  pub can : can_use cpu t ≡ true
+pub record Suits (count processor : ℕ) (t : Task) : Type 0 where
+  pub can : can_use processor t ≡ true
   pub place : HasPlace count t
 
 -- what three tests say where none counts
@@ -31,27 +31,27 @@ tests_of true false c h = absurd (omega arith)
 tests_of false b c h = absurd (omega arith)
 
 -- a task that doesn't count suits the processor
-pub suits_of : (count cpu : ℕ) (t : Task) → worth (unsuited count cpu) t ≡ 0 → Suits count cpu t
-suits_of count cpu t h =
-    let f = tests_of (allows t.mask cpu) (nat_lt t.mask (2 ^ count)) (t.mask == 0) h in
+pub suits_of : (count processor : ℕ) (t : Task) → worth (unsuited count processor) t ≡ 0 → Suits count processor t
+suits_of count processor t h =
+    let f = tests_of (allows t.mask processor) (nat_lt t.mask (2 ^ count)) (t.mask == 0) h in
     record { can = f.0; place = (below_from_test t.mask (2 ^ count) f.1, differ_from_test t.mask 0 f.2) }
 
 -- and one that suits it doesn't count
-pub of_suits : (count cpu : ℕ) (t : Task) → can_use cpu t ≡ true → HasPlace count t → worth (unsuited count cpu) t ≡ 0
-of_suits count cpu t e h = rw (e, test_from_below t.mask (2 ^ count) h.0, test_from_differ t.mask 0 h.1) refl
+pub of_suits : (count processor : ℕ) (t : Task) → can_use processor t ≡ true → HasPlace count t → worth (unsuited count processor) t ≡ 0
+of_suits count processor t e h = rw (e, test_from_below t.mask (2 ^ count) h.0, test_from_differ t.mask 0 h.1) refl
 
-unsuited_by_recursion : (count cpu : ℕ) (xs : List Task) → AllByRecursion (λ t. can_use cpu t ≡ true) xs → AllByRecursion (HasPlace count) xs → tally (unsuited count cpu) xs ≡ 0
-unsuited_by_recursion count cpu [] h k = refl
-unsuited_by_recursion count cpu (x ∷ xs) h k = omega (arith, of_suits count cpu x h.0 k.0, unsuited_by_recursion count cpu xs h.1 k.1)
+unsuited_by_recursion : (count processor : ℕ) (xs : List Task) → AllByRecursion (λ t. can_use processor t ≡ true) xs → AllByRecursion (HasPlace count) xs → tally (unsuited count processor) xs ≡ 0
+unsuited_by_recursion count processor [] h k = refl
+unsuited_by_recursion count processor (x ∷ xs) h k = omega (arith, of_suits count processor x h.0 k.0, unsuited_by_recursion count processor xs h.1 k.1)
 
 -- where each task may use the processor and has a place, none is unsuited
-pub none_unsuited : (count cpu : ℕ) (xs : List Task) → All (λ t. can_use cpu t ≡ true) xs → All (HasPlace count) xs → tally (unsuited count cpu) xs ≡ 0
-none_unsuited count cpu xs h k = unsuited_by_recursion count cpu xs (recursion_from_All (λ t. can_use cpu t ≡ true) xs h) (recursion_from_All (HasPlace count) xs k)
+pub none_unsuited : (count processor : ℕ) (xs : List Task) → All (λ t. can_use processor t ≡ true) xs → All (HasPlace count) xs → tally (unsuited count processor) xs ≡ 0
+none_unsuited count processor xs h k = unsuited_by_recursion count processor xs (recursion_from_All (λ t. can_use processor t ≡ true) xs h) (recursion_from_All (HasPlace count) xs k)
 
-suits_by_recursion : (count cpu : ℕ) (xs : List Task) → tally (unsuited count cpu) xs ≡ 0 → AllByRecursion (Suits count cpu) xs
-suits_by_recursion count cpu [] h = tt
-suits_by_recursion count cpu (x ∷ xs) h = (suits_of count cpu x (omega arith), suits_by_recursion count cpu xs (omega arith))
+suits_by_recursion : (count processor : ℕ) (xs : List Task) → tally (unsuited count processor) xs ≡ 0 → AllByRecursion (Suits count processor) xs
+suits_by_recursion count processor [] h = tt
+suits_by_recursion count processor (x ∷ xs) h = (suits_of count processor x (omega arith), suits_by_recursion count processor xs (omega arith))
 
 -- where none is unsuited the processor suits each
-pub all_suit : (count cpu : ℕ) (xs : List Task) → tally (unsuited count cpu) xs ≡ 0 → All (Suits count cpu) xs
-all_suit count cpu xs h = All-from_recursion (Suits count cpu) xs (suits_by_recursion count cpu xs h)
+pub all_suit : (count processor : ℕ) (xs : List Task) → tally (unsuited count processor) xs ≡ 0 → All (Suits count processor) xs
+all_suit count processor xs h = All-from_recursion (Suits count processor) xs (suits_by_recursion count processor xs h)

@@ -35,7 +35,7 @@ StepKeepsOrder = (d : Discipline) → StepKeeps (policies d)
 
 -- a setting in which a policy may answer anything at all, and leave any maps of its shapes, if it is within its budget
 abbrev pub under_any_answers : Discipline → Regime
-under_any_answers d = record { discipline = d; Answers = λ policy context maps now cpu r0 maps' steps calls. Unit {0} }
+under_any_answers d = record { discipline = d; Answers = λ policy context maps now processor r0 maps' steps calls. Unit {0} }
 
 -- so it does whatever the policies answer, and indeed in every setting (proofs/Order.antt), which a contract cannot say: a
 -- setting is of a higher type

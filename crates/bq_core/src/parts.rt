@@ -1,6 +1,6 @@
 //! The parts that the world is made of.
 ghost use Rattle.std.specs.Prelude.{◌≡◌, ◌≤◌, ◌<◌, IfOk, length};
-ghost use Rattle.bq_parts.specs.World.{opening_world, processor, count_in};
+ghost use Rattle.bq_parts.specs.World.{opening_world, processor_at, count_in};
 
 use crate::{Cpu, Inbox, Lobby};
 use bq_disc::RunQueue;
@@ -71,7 +71,7 @@ impl<Q: RunQueue> Parts<Q> {
     /// A processor.
     pub fn cpu(&self, number: u8) -> &Cpu<Q>
         requires { number < count_in self.now }
-        ensures { result.now ≡ processor self.now number }
+        ensures { result.now ≡ processor_at self.now number }
     {
         &self.cpus[usize::from(number)]
     }

@@ -1,6 +1,6 @@
 //! The world of a number of processors that its type names.
 ghost use Rattle.std.specs.Prelude.{◌≡◌, ◌≤◌, ◌<◌, List, OnErr, IfOk, IfErr, length};
-ghost use Rattle.bq_parts.specs.World.{opening_world, processor, count_in};
+ghost use Rattle.bq_parts.specs.World.{opening_world, processor_at, count_in};
 ghost use Rattle.bq_parts.specs.Choices.{policies};
 ghost use Rattle.bq_parts.specs.Steps.{WorldStep, WorldRun, ThroughAll};
 ghost use Rattle.bq_bpf.specs.Counters.{Through};
@@ -118,7 +118,7 @@ impl<Q: RunQueue, const P: usize> Core<Q, P> {
     /// A processor, whose number is below that of the processors.
     pub fn cpu(&self, number: u8) -> &Cpu<Q>
         requires { number < count_in self.now }
-        ensures { result.now ≡ processor self.now number }
+        ensures { result.now ≡ processor_at self.now number }
     {
         self.world.cpu(number)
     }

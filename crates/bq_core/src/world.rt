@@ -1,6 +1,6 @@
 //! The world and its events: the call by which everything else drives it.
 ghost use Rattle.std.specs.Prelude.{◌≡◌, ◌+◌, ◌≤◌, ◌<◌, List, [], Err, OnErr, IfOk, IfErr, length, vec_len, vec_capacity};
-ghost use Rattle.bq_parts.specs.World.{opening_world, processor, count_in};
+ghost use Rattle.bq_parts.specs.World.{opening_world, processor_at, count_in};
 ghost use Rattle.bq_parts.specs.Choices.{policies};
 ghost use Rattle.bq_parts.specs.Steps.{WorldStep, WorldRun, ThroughAll};
 ghost use Rattle.bq_bpf.specs.Counters.{Through};
@@ -150,7 +150,7 @@ impl<Q: RunQueue> DynamicCore<Q> {
     /// A processor, whose number is below that of the processors.
     pub fn cpu(&self, number: u8) -> &Cpu<Q>
         requires { number < count_in self.now }
-        ensures { result.now ≡ processor self.now number }
+        ensures { result.now ≡ processor_at self.now number }
     {
         self.parts.cpu(number)
     }

@@ -37,8 +37,8 @@ reverse_found queue (x ∷ xs) h =
     subst (AreFound queue) (sym (reverse-append (x ∷ []) xs)) (both_found queue (reverse xs) (x ∷ []) (reverse_found queue xs h.1) (h.0, tt))
 
 -- the movable tasks are found
-pub movable_found : (cpu : ℕ) (queue : List Task) → HasDistinctIds queue → AreFound queue (movable_to cpu queue)
-movable_found cpu queue d = reverse_found queue (filter (can_use cpu) queue) (filter_found queue (can_use cpu) queue (found_if queue queue d (λ t h. h)))
+pub movable_found : (processor : ℕ) (queue : List Task) → HasDistinctIds queue → AreFound queue (movable_to processor queue)
+movable_found processor queue d = reverse_found queue (filter (can_use processor) queue) (filter_found queue (can_use processor) queue (found_if queue queue d (λ t h. h)))
 
 -- and so is each that is shown
 pub shown_at : (queue xs : List Task) (n k : ℕ) → AreFound queue xs → k < n → option_and_then (λ id. with_id id queue) (slice_get (take n (ids xs)) k) ≡ slice_get xs k

@@ -34,22 +34,22 @@ any_reverse r0 (x ∷ xs) =
     ∙ or_comm (list_any (names r0) (ids xs)) (names r0 x.id)
 
 -- an id is that of a task that may go, exactly if the task of that id may
-any_kept : (cpu r0 : ℕ) (queue : List Task) → HasDistinctIds queue → list_any (names r0) (ids (filter (can_use cpu) queue)) ≡ is_movable_to cpu r0 queue
-any_kept cpu r0 [] d = refl
-any_kept cpu r0 (x ∷ xs) d = go (eqb x.id r0) (can_use cpu x) refl refl (any_kept cpu r0 xs d.1)
+any_kept : (processor r0 : ℕ) (queue : List Task) → HasDistinctIds queue → list_any (names r0) (ids (filter (can_use processor) queue)) ≡ is_movable_to processor r0 queue
+any_kept processor r0 [] d = refl
+any_kept processor r0 (x ∷ xs) d = go (eqb x.id r0) (can_use processor x) refl refl (any_kept processor r0 xs d.1)
   where
-    go : (b c : Bool) → eqb x.id r0 ≡ b → can_use cpu x ≡ c → list_any (names r0) (ids (filter (can_use cpu) xs)) ≡ is_movable_to cpu r0 xs
-        → list_any (names r0) (ids (cond c (x ∷ filter (can_use cpu) xs) (filter (can_use cpu) xs))) ≡ option_map_or (can_use cpu) (cond b (Some x) (with_id r0 xs)) false
+    go : (b c : Bool) → eqb x.id r0 ≡ b → can_use processor x ≡ c → list_any (names r0) (ids (filter (can_use processor) xs)) ≡ is_movable_to processor r0 xs
+        → list_any (names r0) (ids (cond c (x ∷ filter (can_use processor) xs) (filter (can_use processor) xs))) ≡ option_map_or (can_use processor) (cond b (Some x) (with_id r0 xs)) false
     go true true e k rest = rw (e, k) refl
     go true false e k rest =
         let none : with_id r0 xs ≡ None = subst (λ n. with_id n xs ≡ None) (eqb-true x.id r0 e) d.0 in
-        rest ∙ ap (λ o. option_map_or (can_use cpu) o false) none ∙ sym k
+        rest ∙ ap (λ o. option_map_or (can_use processor) o false) none ∙ sym k
     go false true e k rest = rw e rest
     go false false e k rest = rest
 
 -- an id is among those of the tasks that may go to a processor just where the task of that id may go there
-pub any_movable : (cpu r0 : ℕ) (queue : List Task) → HasDistinctIds queue → list_any (names r0) (ids (movable_to cpu queue)) ≡ is_movable_to cpu r0 queue
-any_movable cpu r0 queue d = any_reverse r0 (filter (can_use cpu) queue) ∙ any_kept cpu r0 queue d
+pub any_movable : (processor r0 : ℕ) (queue : List Task) → HasDistinctIds queue → list_any (names r0) (ids (movable_to processor queue)) ≡ is_movable_to processor r0 queue
+any_movable processor r0 queue d = any_reverse r0 (filter (can_use processor) queue) ∙ any_kept processor r0 queue d
 
 -- the ids of the tasks fit 16 bits
 abbrev pub AreSmall : List Task → Type 0
@@ -72,5 +72,5 @@ small_reverse [] h = tt
 small_reverse (x ∷ xs) h = subst AreSmall (sym (reverse-append (x ∷ []) xs)) (both_small (reverse xs) (x ∷ []) (small_reverse xs h.1) (h.0, tt))
 
 -- the ids of the movable tasks fit 16 bits too
-pub movable_small : (cpu : ℕ) (queue : List Task) → HasSmallIds queue → AreSmall (movable_to cpu queue)
-movable_small cpu queue h = small_reverse (filter (can_use cpu) queue) (small_filter (can_use cpu) queue h)
+pub movable_small : (processor : ℕ) (queue : List Task) → HasSmallIds queue → AreSmall (movable_to processor queue)
+movable_small processor queue h = small_reverse (filter (can_use processor) queue) (small_filter (can_use processor) queue h)

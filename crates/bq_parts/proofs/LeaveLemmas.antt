@@ -29,7 +29,7 @@ current_id d p now t s e =
     below_by_case t (count_of t.id (present_at p)) (count_of t.id q.queue) (s t.id) (omega (arith, here, keeps_charge t.id d p now))
 
 -- what is placed is one of those processors
-pub placed_fits : (d : Discipline) (count cpu : ℕ) (p : Processor) (carried : Carried) (settled : Decision) → HasPlace count carried.task → SettlesPlace (policies d) count cpu p carried settled → settled.choice < count
-placed_fits d count cpu p carried settled h k =
-    let goes = settled_permitted (policies d) _ p.hooks.place p.running.last cpu (may_place count carried.task) _ settled (own_place_permitted count carried.loads carried.task h) k in
+pub placed_fits : (d : Discipline) (count processor : ℕ) (p : Processor) (carried : Carried) (settled : Decision) → HasPlace count carried.task → SettlesPlace (policies d) count processor p carried settled → settled.choice < count
+placed_fits d count processor p carried settled h k =
+    let goes = settled_permitted (policies d) _ p.hooks.place p.running.last processor (may_place count carried.task) _ settled (own_place_permitted count carried.loads carried.task h) k in
     (may_place_fits count carried.task settled.choice goes).0

@@ -10,17 +10,17 @@ use Rattle.bq_disc.specs.Tasks.{Task}
 use Rattle.bq_disc.specs.OneProcessor.{present_at}
 use Rattle.bq_parts.specs.declared.lobby_entry.LobbyEntry.TheVariants.{Absent}
 use Rattle.bq_parts.specs.Processors.{Processor, opening, count_of, held_by, in_hand, HasEachOnce, HasLobbyIds}
-use Rattle.bq_parts.specs.World.{World, processor, inbox, entry}
+use Rattle.bq_parts.specs.World.{World, processor_at, inbox, entry}
 use Rattle.bq_parts.specs.Refusals.{is_away}
 use Rattle.bq_hooks.specs.Contexts.{as_number}
 use Rattle.bq_parts.specs.StandsOnce.{held_count, placed_count, standing_count, IsOrderly}
 use Rattle.bq_parts.proofs.CountLemmas.{one, one_self, count_of-append, HasEachOnce-left}
 
 -- a processor's tasks are among those of all
-pub held_le : (id : ℕ) (ps : List Processor) (cpu : ℕ) → count_of id (held_by (get_or ps cpu opening)) ≤ held_count id ps
-held_le id [] cpu = omega arith
+pub held_le : (id : ℕ) (ps : List Processor) (processor : ℕ) → count_of id (held_by (get_or ps processor opening)) ≤ held_count id ps
+held_le id [] processor = omega arith
 held_le id (p ∷ ps) zero = omega arith
-held_le id (p ∷ ps) (suc cpu) = omega (arith, held_le id ps cpu)
+held_le id (p ∷ ps) (suc processor) = omega (arith, held_le id ps processor)
 
 -- those of two processors too
 pub held_two : (id : ℕ) (ps : List Processor) (a b : ℕ) → a ≢ b → count_of id (held_by (get_or ps a opening)) + count_of id (held_by (get_or ps b opening)) ≤ held_count id ps
@@ -31,10 +31,10 @@ held_two id (p ∷ ps) (suc a) zero n = omega (arith, held_le id ps a)
 held_two id (p ∷ ps) (suc a) (suc b) n = omega (arith, held_two id ps a b (λ e. n (ap suc e)))
 
 -- an inbox's tasks are among those of all inboxes
-pub placed_le : (id : ℕ) (xss : List (List Task)) (cpu : ℕ) → count_of id (get_or xss cpu []) ≤ placed_count id xss
-placed_le id [] cpu = omega arith
+pub placed_le : (id : ℕ) (xss : List (List Task)) (processor : ℕ) → count_of id (get_or xss processor []) ≤ placed_count id xss
+placed_le id [] processor = omega arith
 placed_le id (xs ∷ xss) zero = omega arith
-placed_le id (xs ∷ xss) (suc cpu) = omega (arith, placed_le id xss cpu)
+placed_le id (xs ∷ xss) (suc processor) = omega (arith, placed_le id xss processor)
 
 -- a truth counts at most 1
 pub as_number_le : (b : Bool) → as_number b ≤ 1
@@ -50,26 +50,26 @@ pub count_of-held_by : (id : ℕ) (p : Processor) → count_of id (held_by p) �
 count_of-held_by id p = count_of-append id (present_at p.running) (in_hand p)
 
 -- a processor has each of its tasks once, with those of its inbox and its hand
-pub once_at : (w : World) (cpu : ℕ) → IsOrderly w → HasEachOnce (present_at (processor w cpu).running ++ inbox w cpu ++ in_hand (processor w cpu))
-once_at w cpu o = λ id.
-    let p : Processor = processor w cpu in
+pub once_at : (w : World) (processor : ℕ) → IsOrderly w → HasEachOnce (present_at (processor_at w processor).running ++ inbox w processor ++ in_hand (processor_at w processor))
+once_at w processor o = λ id.
+    let p : Processor = processor_at w processor in
     omega (
       arith,
       standing_once w id o,
-      held_le id w.processors cpu,
-      placed_le id w.inboxes cpu,
+      held_le id w.processors processor,
+      placed_le id w.inboxes processor,
       count_of-held_by id p,
-      count_of-append id (present_at p.running ++ inbox w cpu) (in_hand p),
-      count_of-append id (present_at p.running) (inbox w cpu),
+      count_of-append id (present_at p.running ++ inbox w processor) (in_hand p),
+      count_of-append id (present_at p.running) (inbox w processor),
     )
 
 -- without its hand
-pub each_once_runnable : (w : World) (cpu : ℕ) → IsOrderly w → HasEachOnce (present_at (processor w cpu).running ++ inbox w cpu)
-each_once_runnable w cpu o = HasEachOnce-left (present_at (processor w cpu).running ++ inbox w cpu) (in_hand (processor w cpu)) (once_at w cpu o)
+pub each_once_runnable : (w : World) (processor : ℕ) → IsOrderly w → HasEachOnce (present_at (processor_at w processor).running ++ inbox w processor)
+each_once_runnable w processor o = HasEachOnce-left (present_at (processor_at w processor).running ++ inbox w processor) (in_hand (processor_at w processor)) (once_at w processor o)
 
 -- and without its inbox
-pub each_once_running : (w : World) (cpu : ℕ) → IsOrderly w → HasEachOnce (present_at (processor w cpu).running)
-each_once_running w cpu o = HasEachOnce-left (present_at (processor w cpu).running) (inbox w cpu) (each_once_runnable w cpu o)
+pub each_once_running : (w : World) (processor : ℕ) → IsOrderly w → HasEachOnce (present_at (processor_at w processor).running)
+each_once_running w processor o = HasEachOnce-left (present_at (processor_at w processor).running) (inbox w processor) (each_once_runnable w processor o)
 
 -- an id beyond the lobby stands nowhere
 pub none_beyond : (w : World) (id : ℕ) → length w.lobby ≡ 1024 → IsOrderly w → 1024 ≤ id → standing_count id w ≡ 0
@@ -78,41 +78,41 @@ none_beyond w id l o h =
     o.once.away id ∙ ap (λ s. as_number (is_away s)) past
 
 -- a processor's tasks have no id beyond the lobby
-pub none_beyond_at : (w : World) (cpu id : ℕ) → length w.lobby ≡ 1024 → IsOrderly w → 1024 ≤ id → count_of id (present_at (processor w cpu).running ++ inbox w cpu) ≡ 0
-none_beyond_at w cpu id l o h =
-    let p : Processor = processor w cpu in
-    omega (arith, none_beyond w id l o h, held_le id w.processors cpu, placed_le id w.inboxes cpu, count_of-held_by id p, count_of-append id (present_at p.running) (inbox w cpu))
+pub none_beyond_at : (w : World) (processor id : ℕ) → length w.lobby ≡ 1024 → IsOrderly w → 1024 ≤ id → count_of id (present_at (processor_at w processor).running ++ inbox w processor) ≡ 0
+none_beyond_at w processor id l o h =
+    let p : Processor = processor_at w processor in
+    omega (arith, none_beyond w id l o h, held_le id w.processors processor, placed_le id w.inboxes processor, count_of-held_by id p, count_of-append id (present_at p.running) (inbox w processor))
 
 -- the tasks that run or wait at a processor have ids of the lobby
-pub ids_running : (w : World) (cpu : ℕ) → length w.lobby ≡ 1024 → IsOrderly w → HasLobbyIds (present_at (processor w cpu).running)
-ids_running w cpu l o = λ id h. omega (arith, none_beyond_at w cpu id l o h, count_of-append id (present_at (processor w cpu).running) (inbox w cpu))
+pub ids_running : (w : World) (processor : ℕ) → length w.lobby ≡ 1024 → IsOrderly w → HasLobbyIds (present_at (processor_at w processor).running)
+ids_running w processor l o = λ id h. omega (arith, none_beyond_at w processor id l o h, count_of-append id (present_at (processor_at w processor).running) (inbox w processor))
 
 -- the first of some tasks has an id below a bound from which none stands there
 head_below : (x : Task) (m n : ℕ) → (n ≤ x.id → one x.id x + m ≡ 0) → x.id < n
 head_below x m n h = elim (cases_lt x.id n) [ inl l ↦ l | inr g ↦ absurd (omega (arith, one_self x, h g)) ]
 
 -- two processors have each of their tasks once, together
-pub each_once_two : (w : World) (cpu from : ℕ) → cpu ≢ from → IsOrderly w → HasEachOnce (present_at (processor w cpu).running ++ present_at (processor w from).running)
-each_once_two w cpu from n o = λ id.
-    let p : Processor = processor w cpu in
-    let q : Processor = processor w from in
+pub each_once_two : (w : World) (processor from : ℕ) → processor ≢ from → IsOrderly w → HasEachOnce (present_at (processor_at w processor).running ++ present_at (processor_at w from).running)
+each_once_two w processor from n o = λ id.
+    let p : Processor = processor_at w processor in
+    let q : Processor = processor_at w from in
     omega (
       arith,
       standing_once w id o,
-      held_two id w.processors cpu from n,
+      held_two id w.processors processor from n,
       count_of-held_by id p,
       count_of-held_by id q,
       count_of-append id (present_at p.running) (present_at q.running),
     )
 
 -- and none beyond the lobby
-pub ids_two : (w : World) (cpu from : ℕ) → length w.lobby ≡ 1024 → IsOrderly w → HasLobbyIds (present_at (processor w cpu).running ++ present_at (processor w from).running)
-ids_two w cpu from l o = λ id h.
+pub ids_two : (w : World) (processor from : ℕ) → length w.lobby ≡ 1024 → IsOrderly w → HasLobbyIds (present_at (processor_at w processor).running ++ present_at (processor_at w from).running)
+ids_two w processor from l o = λ id h.
     omega (
       arith,
-      ids_running w cpu l o id h,
+      ids_running w processor l o id h,
       ids_running w from l o id h,
-      count_of-append id (present_at (processor w cpu).running) (present_at (processor w from).running),
+      count_of-append id (present_at (processor_at w processor).running) (present_at (processor_at w from).running),
     )
 
 abbrev ids : List Task → List ℕ
@@ -148,7 +148,7 @@ pub few_below : (xs : List Task) (n : ℕ) → HasEachOnce xs → ((id : ℕ) �
 few_below xs n h k = rw length-ids at (length-le_from_distinct_below (ids xs) n (distinct xs h) (λ q a. all_below xs n q k a))
 
 -- so a processor has at most 1024 tasks, with those of its inbox
-pub few_at : (w : World) (cpu : ℕ) → length w.lobby ≡ 1024 → IsOrderly w → length (present_at (processor w cpu).running) + length (inbox w cpu) ≤ 1024
-few_at w cpu l o =
-    let xs : List Task = present_at (processor w cpu).running in
-    omega (arith, length-append xs (inbox w cpu), few_below (xs ++ inbox w cpu) 1024 (each_once_runnable w cpu o) (λ id h. none_beyond_at w cpu id l o h))
+pub few_at : (w : World) (processor : ℕ) → length w.lobby ≡ 1024 → IsOrderly w → length (present_at (processor_at w processor).running) + length (inbox w processor) ≤ 1024
+few_at w processor l o =
+    let xs : List Task = present_at (processor_at w processor).running in
+    omega (arith, length-append xs (inbox w processor), few_below (xs ++ inbox w processor) 1024 (each_once_runnable w processor o) (λ id h. none_beyond_at w processor id l o h))

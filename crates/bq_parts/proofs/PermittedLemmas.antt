@@ -30,15 +30,15 @@ by_test false permitted r0 own e o = o
 pub answered : (permitted : ℕ → Bool) (r0 own : ℕ) → permitted own ≡ true → permitted (chosen permitted (Some r0) own).choice ≡ true
 answered permitted r0 own o = by_test (permitted r0) permitted r0 own refl o
 
-settles_by : (s : Regime) (policy : Option Accepted) (context : Version → List ℕ) (attached : Attached) (now cpu : ℕ) (permitted : ℕ → Bool) (own : ℕ) (settled : Decision) →
-    permitted own ≡ true → SettlesBy s policy context attached now cpu permitted own settled → permitted settled.choice ≡ true
-settles_by s None context attached now cpu permitted own settled o h = ap (λ (x : Decision). permitted x.choice) h ∙ o
-settles_by s (Some policy) context attached now cpu permitted own settled o h = ap permitted h.4 ∙ answered permitted h.0 own o
+settles_by : (s : Regime) (policy : Option Accepted) (context : Version → List ℕ) (attached : Attached) (now processor : ℕ) (permitted : ℕ → Bool) (own : ℕ) (settled : Decision) →
+    permitted own ≡ true → SettlesBy s policy context attached now processor permitted own settled → permitted settled.choice ≡ true
+settles_by s None context attached now processor permitted own settled o h = ap (λ (x : Decision). permitted x.choice) h ∙ o
+settles_by s (Some policy) context attached now processor permitted own settled o h = ap permitted h.4 ∙ answered permitted h.0 own o
 
 -- where the own choice is permitted, what is settled is
-pub settled_permitted : (s : Regime) (context : Version → List ℕ) (attached : Attached) (now cpu : ℕ) (permitted : ℕ → Bool) (own : ℕ) (settled : Decision) →
-    permitted own ≡ true → Settles s context attached now cpu permitted own settled → permitted settled.choice ≡ true
-settled_permitted s context attached now cpu permitted own settled o h = settles_by s attached.policy context attached now cpu permitted own settled o h
+pub settled_permitted : (s : Regime) (context : Version → List ℕ) (attached : Attached) (now processor : ℕ) (permitted : ℕ → Bool) (own : ℕ) (settled : Decision) →
+    permitted own ≡ true → Settles s context attached now processor permitted own settled → permitted settled.choice ≡ true
+settled_permitted s context attached now processor permitted own settled o h = settles_by s attached.policy context attached now processor permitted own settled o h
 
 both : (a b : Bool) → (a && b) ≡ true → (a ≡ true) × (b ≡ true)
 both true b h = (refl, h)
@@ -96,23 +96,23 @@ count_of-filter id p (x ∷ xs) =
       | false ↦ omega (arith, count_of-filter id p xs)
     ]
 
-movable_by_tests : (a b : Bool) (cpu id : ℕ) (x t : Task) (xs : List Task) → has_id id x ≡ a → can_use cpu x ≡ b → HasEachOnce (x ∷ xs) →
-    is_some (with_id id (cond b (x ∷ movable cpu xs) (movable cpu xs))) ≡ true → cond a (Some x) (with_id id xs) ≡ Some t →
-    (is_some (with_id id (movable cpu xs)) ≡ true → with_id id xs ≡ Some t → can_use cpu t ≡ true) → can_use cpu t ≡ true
-movable_by_tests true true cpu id x t xs e f once h k rest = let is : x ≡ t = cc in subst (λ y. can_use cpu y ≡ true) is f
-movable_by_tests true false cpu id x t xs e f once h k rest =
+movable_by_tests : (a b : Bool) (processor id : ℕ) (x t : Task) (xs : List Task) → has_id id x ≡ a → can_use processor x ≡ b → HasEachOnce (x ∷ xs) →
+    is_some (with_id id (cond b (x ∷ movable processor xs) (movable processor xs))) ≡ true → cond a (Some x) (with_id id xs) ≡ Some t →
+    (is_some (with_id id (movable processor xs)) ≡ true → with_id id xs ≡ Some t → can_use processor t ≡ true) → can_use processor t ≡ true
+movable_by_tests true true processor id x t xs e f once h k rest = let is : x ≡ t = cc in subst (λ y. can_use processor y ≡ true) is f
+movable_by_tests true false processor id x t xs e f once h k rest =
     let here : one id x ≡ 1 = ap (λ b. cond b 1 0) e in
-    absurd (omega (arith, once id, here, counted id (movable cpu xs) h, count_of-filter id (can_use cpu) xs))
-movable_by_tests false true cpu id x t xs e f once h k rest =
-    let there : is_some (with_id id (movable cpu xs)) ≡ true = sym (ap (λ b. is_some (cond b (Some x) (with_id id (movable cpu xs)))) e) ∙ h in
+    absurd (omega (arith, once id, here, counted id (movable processor xs) h, count_of-filter id (can_use processor) xs))
+movable_by_tests false true processor id x t xs e f once h k rest =
+    let there : is_some (with_id id (movable processor xs)) ≡ true = sym (ap (λ b. is_some (cond b (Some x) (with_id id (movable processor xs)))) e) ∙ h in
     rest there k
-movable_by_tests false false cpu id x t xs e f once h k rest = rest h k
+movable_by_tests false false processor id x t xs e f once h k rest = rest h k
 
 -- where ids stand once, the task of an id that may move may use the processor
-pub movable_can_use : (cpu id : ℕ) (queue : List Task) (t : Task) → HasEachOnce queue → is_some (with_id id (movable cpu queue)) ≡ true → with_id id queue ≡ Some t → can_use cpu t ≡ true
-movable_can_use cpu id [] t once h k = cc
-movable_can_use cpu id (x ∷ xs) t once h k =
-    movable_by_tests (has_id id x) (can_use cpu x) cpu id x t xs refl refl once h k (movable_can_use cpu id xs t (λ i. omega (arith, once i)))
+pub movable_can_use : (processor id : ℕ) (queue : List Task) (t : Task) → HasEachOnce queue → is_some (with_id id (movable processor queue)) ≡ true → with_id id queue ≡ Some t → can_use processor t ≡ true
+movable_can_use processor id [] t once h k = cc
+movable_can_use processor id (x ∷ xs) t once h k =
+    movable_by_tests (has_id id x) (can_use processor x) processor id x t xs refl refl once h k (movable_can_use processor id xs t (λ i. omega (arith, once i)))
 
 found_by_test : (b : Bool) (id : ℕ) (x : Task) (xs : List Task) → cond b (Some x) (with_id id xs) ≡ None → (with_id id xs ≡ None → count_of id xs ≡ 0) → cond b 1 0 + count_of id xs ≡ 0
 found_by_test true id x xs h rest = cc
@@ -123,37 +123,37 @@ found : (id : ℕ) (xs : List Task) → with_id id xs ≡ None → count_of id x
 found id [] h = refl
 found id (x ∷ xs) h = found_by_test (has_id id x) id x xs h (found id xs)
 
-movable_by_case : (cpu id : ℕ) (queue : List Task) (o : Option Task) → HasEachOnce queue → is_some (with_id id (movable cpu queue)) ≡ true → with_id id queue ≡ o → option_map_or (can_use cpu) o false ≡ true
-movable_by_case cpu id queue None once h e = absurd (omega (arith, found id queue e, counted id (movable cpu queue) h, count_of-filter id (can_use cpu) queue))
-movable_by_case cpu id queue (Some t) once h e = movable_can_use cpu id queue t once h e
+movable_by_case : (processor id : ℕ) (queue : List Task) (o : Option Task) → HasEachOnce queue → is_some (with_id id (movable processor queue)) ≡ true → with_id id queue ≡ o → option_map_or (can_use processor) o false ≡ true
+movable_by_case processor id queue None once h e = absurd (omega (arith, found id queue e, counted id (movable processor queue) h, count_of-filter id (can_use processor) queue))
+movable_by_case processor id queue (Some t) once h e = movable_can_use processor id queue t once h e
 
 -- where ids stand once, a task that is found among the movable ones may be named
-named : (cpu id : ℕ) (queue : List Task) → HasEachOnce queue → is_some (with_id id (movable cpu queue)) ≡ true → is_movable_to cpu id queue ≡ true
-named cpu id queue once h = movable_by_case cpu id queue (with_id id queue) once h refl
+named : (processor id : ℕ) (queue : List Task) → HasEachOnce queue → is_some (with_id id (movable processor queue)) ≡ true → is_movable_to processor id queue ≡ true
+named processor id queue once h = movable_by_case processor id queue (with_id id queue) once h refl
 
-own_pull_by_case : (cpu : ℕ) (queue : List Task) (o : Option Task) → HasEachOnce queue → first_by pulled_before (movable cpu queue) ≡ o → may_pull cpu queue (or_nobody (id_of o)) ≡ true
-own_pull_by_case cpu queue None once e = refl
-own_pull_by_case cpu queue (Some m) once e =
-    ap (λ b. m.id == nobody || b) (named cpu m.id queue once (first_there pulled_before (movable cpu queue) m e)) ∙ or_true (m.id == nobody)
+own_pull_by_case : (processor : ℕ) (queue : List Task) (o : Option Task) → HasEachOnce queue → first_by pulled_before (movable processor queue) ≡ o → may_pull processor queue (or_nobody (id_of o)) ≡ true
+own_pull_by_case processor queue None once e = refl
+own_pull_by_case processor queue (Some m) once e =
+    ap (λ b. m.id == nobody || b) (named processor m.id queue once (first_there pulled_before (movable processor queue) m e)) ∙ or_true (m.id == nobody)
 
-own_pull_by_test : (b : Bool) (cpu : ℕ) (queue : List Task) → HasEachOnce queue → may_pull cpu queue (or_nobody (id_of (cond b (first_by pulled_before (movable cpu queue)) None))) ≡ true
-own_pull_by_test true cpu queue once = own_pull_by_case cpu queue (first_by pulled_before (movable cpu queue)) once refl
-own_pull_by_test false cpu queue once = refl
+own_pull_by_test : (b : Bool) (processor : ℕ) (queue : List Task) → HasEachOnce queue → may_pull processor queue (or_nobody (id_of (cond b (first_by pulled_before (movable processor queue)) None))) ≡ true
+own_pull_by_test true processor queue once = own_pull_by_case processor queue (first_by pulled_before (movable processor queue)) once refl
+own_pull_by_test false processor queue once = refl
 
 -- the own choice of a task to pull is permitted
-pub own_pull_permitted : (cpu : ℕ) (p from : Processor) → HasEachOnce from.running.queue → may_pull cpu from.running.queue (or_nobody (own_pull cpu p from)) ≡ true
-own_pull_permitted cpu p from once = own_pull_by_test (nat_le (size_of p + 2) (size_of from)) cpu from.running.queue once
+pub own_pull_permitted : (processor : ℕ) (p from : Processor) → HasEachOnce from.running.queue → may_pull processor from.running.queue (or_nobody (own_pull processor p from)) ≡ true
+own_pull_permitted processor p from once = own_pull_by_test (nat_le (size_of p + 2) (size_of from)) processor from.running.queue once
 
 numbered : (b : Bool) (n id : ℕ) (moves : Bool) → cond b None (Some n) ≡ Some id → (b || moves) ≡ true → (n ≡ id) × (moves ≡ true)
 numbered true n id moves e h = cc
 numbered false n id moves e h = (cc, h)
 
 -- a task of that number is then one that may move
-pub may_pull_names : (cpu : ℕ) (queue : List Task) (n id : ℕ) → may_pull cpu queue n ≡ true → task_numbered n ≡ Some id → is_movable_to cpu id queue ≡ true
-may_pull_names cpu queue n id h e =
-    let f = numbered (n == nobody) n id (is_movable_to cpu n queue) e h in
-    subst (λ i. is_movable_to cpu i queue ≡ true) f.0 f.1
+pub may_pull_names : (processor : ℕ) (queue : List Task) (n id : ℕ) → may_pull processor queue n ≡ true → task_numbered n ≡ Some id → is_movable_to processor id queue ≡ true
+may_pull_names processor queue n id h e =
+    let f = numbered (n == nobody) n id (is_movable_to processor n queue) e h in
+    subst (λ i. is_movable_to processor i queue ≡ true) f.0 f.1
 
 -- and the task of that id may use the processor
-pub may_go : (cpu id : ℕ) (queue : List Task) (t : Task) → is_movable_to cpu id queue ≡ true → with_id id queue ≡ Some t → can_use cpu t ≡ true
-may_go cpu id queue t h e = sym (ap (λ o. option_map_or (can_use cpu) o false) e) ∙ h
+pub may_go : (processor id : ℕ) (queue : List Task) (t : Task) → is_movable_to processor id queue ≡ true → with_id id queue ≡ Some t → can_use processor t ≡ true
+may_go processor id queue t h e = sym (ap (λ o. option_map_or (can_use processor) o false) e) ∙ h

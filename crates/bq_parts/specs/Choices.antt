@@ -46,9 +46,9 @@ unasked own attached = record { choice = own; by = who.Discipline; steps = 0; ca
 -- r0 where it is permitted, and else the own choice. The maps stay as the policy left them, either way: they keep their
 -- shapes. The policy answers within its budget, with sixteen calls of counters at most
 abbrev pub SettlesBy : Regime → Option Accepted → (Version → List ℕ) → Attached → ℕ → ℕ → (ℕ → Bool) → ℕ → Decision → Type 0
-SettlesBy s None context attached now cpu permitted own settled = settled ≡ unasked own attached
-SettlesBy s (Some policy) context attached now cpu permitted own settled =
-    (r0 : ℕ) × (maps : List (List ℕ)) × s.Answers policy (context policy.version) attached.maps now cpu r0 maps settled.steps settled.calls
+SettlesBy s None context attached now processor permitted own settled = settled ≡ unasked own attached
+SettlesBy s (Some policy) context attached now processor permitted own settled =
+    (r0 : ℕ) × (maps : List (List ℕ)) × s.Answers policy (context policy.version) attached.maps now processor r0 maps settled.steps settled.calls
     × (settled.attached ≡ record attached { maps = maps })
     × (settled.choice ≡ (chosen permitted (Some r0) own).choice) × (settled.by ≡ (chosen permitted (Some r0) own).by)
     × IsWithin policy settled.steps settled.calls × HaveShapes policy.shapes maps
@@ -63,31 +63,31 @@ place_bytes facts Second = place_bytes_second facts
 
 -- a placement is settled, of the task in a hand, among so many processors
 abbrev pub SettlesPlace : Regime → ℕ → ℕ → Processor → Carried → Decision → Type 0
-SettlesPlace s count cpu p carried settled =
+SettlesPlace s count processor p carried settled =
     let own = unwrap_or (own_place count carried.loads carried.task) 0 in
-    let context = place_bytes (record { task = carried.task; waking = cpu; processors = count; own = own; loads = carried.loads }) in
-    Settles s context p.hooks.place p.running.last cpu (may_place count carried.task) own settled
+    let context = place_bytes (record { task = carried.task; waking = processor; processors = count; own = own; loads = carried.loads }) in
+    Settles s context p.hooks.place p.running.last processor (may_place count carried.task) own settled
 
 -- a preemption is settled: where nothing runs no policy is asked; else it is answered by 0 or 1
 abbrev pub SettlesPreempt : Regime → ℕ → Processor → Option Task → Decision → Type 0
-SettlesPreempt s cpu p None settled = settled ≡ unasked 0 p.hooks.preempt
-SettlesPreempt s cpu p (Some current) settled =
+SettlesPreempt s processor p None settled = settled ≡ unasked 0 p.hooks.preempt
+SettlesPreempt s processor p (Some current) settled =
     let queue = p.running.queue in
     let own = own_preempt s.discipline queue (Some current) in
-    let context = preempt_bytes (record { processor = cpu; queue = queue; current = current; choice = s.discipline.choice queue; own = own }) in
-    Settles s (λ version. context) p.hooks.preempt p.running.last cpu may_preempt (as_number own) settled
+    let context = preempt_bytes (record { processor = processor; queue = queue; current = current; choice = s.discipline.choice queue; own = own }) in
+    Settles s (λ version. context) p.hooks.preempt p.running.last processor may_preempt (as_number own) settled
 
 -- where the other processor has at least two tasks more, its movable one of greatest (v, id)
 abbrev pub own_pull : ℕ → Processor → Processor → Option ℕ
-own_pull cpu p from = id_of (pull_of cpu (size_of p) (size_of from) from.running.queue)
+own_pull processor p from = id_of (pull_of processor (size_of p) (size_of from) from.running.queue)
 
 -- a pull is settled, from another processor
 abbrev pub SettlesPull : Regime → ℕ → ℕ → Processor → Processor → Decision → Type 0
-SettlesPull s cpu from p other settled =
+SettlesPull s processor from p other settled =
     let queue = other.running.queue in
-    let own = own_pull cpu p other in
-    let context = pull_bytes (record { puller = cpu; source = from; puller_size = size_of p; source_size = size_of other; movable = movable_to cpu queue; own = own }) in
-    Settles s (λ version. context) p.hooks.pull p.running.last cpu (may_pull cpu queue) (or_nobody own) settled
+    let own = own_pull processor p other in
+    let context = pull_bytes (record { puller = processor; source = from; puller_size = size_of p; source_size = size_of other; movable = movable_to processor queue; own = own }) in
+    Settles s (λ version. context) p.hooks.pull p.running.last processor (may_pull processor queue) (or_nobody own) settled
 
 -- Decide: who runs after a preemption was settled, and what stands at the hook
 abbrev pub decided_by : Regime → Processor → Decision → Processor

@@ -6,5 +6,5 @@ use Rattle.bq_parts.specs.declared.event.Event.TheVariants.{Install}
 
 -- the event with this policy, or none, where it brings one
 abbrev pub with_policy : Event → Option Accepted → Event
-with_policy (Install cpu hook g old) new = Install cpu hook g new
+with_policy (Install processor hook g old) new = Install processor hook g new
 with_policy event new = event

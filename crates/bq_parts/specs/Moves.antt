@@ -15,7 +15,7 @@ abbrev pub after_leaving : Discipline → Running → Running
 after_leaving d p = start d (record p { current = None })
 
 abbrev pub as_it_leaves : Running → ℕ → Task → Task
-as_it_leaves p cpu t = record (left_at p.kept t) { prev = Some cpu }
+as_it_leaves p processor t = record (left_at p.kept t) { prev = Some processor }
 
 -- the task of that id leaves a queue at the mark that is kept there
 abbrev pub taken_from : Running → Option ℕ → Option Task

@@ -12,7 +12,7 @@ use Rattle.bq_parts.specs.declared.event.Event.{Event}
 use Rattle.bq_parts.specs.declared.event.Event.TheVariants.{Admit, Retire, Draw, Install, BeginWake, EndWake, Drain, Tick, Block, Pull}
 use Rattle.bq_parts.specs.declared.refusal.Refusal.{Refusal}
 use Rattle.bq_parts.specs.declared.refusal.Refusal.TheVariants as no
-use Rattle.bq_parts.specs.World.{World, processor, entry, count_in}
+use Rattle.bq_parts.specs.World.{World, processor_at, entry, count_in}
 
 -- the first that holds
 abbrev pub first_refusal : List (Bool × Refusal) → Option Refusal
@@ -40,7 +40,7 @@ is_for h None = true
 is_for h (Some p) = same_hook h p.hook
 
 abbrev pub no_processor : ℕ → ℕ → Bool × Refusal
-no_processor count cpu = (nat_le count cpu, no.NoProcessor)
+no_processor count processor = (nat_le count processor, no.NoProcessor)
 
 -- an argument that no world of so many processors takes
 abbrev pub argument_refusal : ℕ → Event → Option Refusal
@@ -48,13 +48,13 @@ argument_refusal count (Admit id nice mask slice) =
     first_refusal ((nat_le 1024 id, no.NoTask) ∷ (mask % 2 ^ count == 0, no.EmptyMask) ∷ (not (is_nice nice), no.Nice) ∷ (nat_lt slice 100000 || nat_lt 100000000 slice, no.Slice) ∷ [])
 argument_refusal count (Retire id) = first_refusal ((nat_le 1024 id, no.NoTask) ∷ [])
 argument_refusal count Draw = None
-argument_refusal count (Install cpu h g policy) = first_refusal (no_processor count cpu ∷ (not (is_for h policy), no.WrongHook) ∷ [])
-argument_refusal count (BeginWake cpu id) = first_refusal (no_processor count cpu ∷ (nat_le 1024 id, no.NoTask) ∷ [])
-argument_refusal count (EndWake cpu now) = first_refusal (no_processor count cpu ∷ [])
-argument_refusal count (Drain cpu now) = first_refusal (no_processor count cpu ∷ [])
-argument_refusal count (Tick cpu now) = first_refusal (no_processor count cpu ∷ [])
-argument_refusal count (Block cpu now) = first_refusal (no_processor count cpu ∷ [])
-argument_refusal count (Pull cpu from now) = first_refusal (no_processor count cpu ∷ no_processor count from ∷ (cpu == from, no.SameProcessor) ∷ [])
+argument_refusal count (Install processor h g policy) = first_refusal (no_processor count processor ∷ (not (is_for h policy), no.WrongHook) ∷ [])
+argument_refusal count (BeginWake processor id) = first_refusal (no_processor count processor ∷ (nat_le 1024 id, no.NoTask) ∷ [])
+argument_refusal count (EndWake processor now) = first_refusal (no_processor count processor ∷ [])
+argument_refusal count (Drain processor now) = first_refusal (no_processor count processor ∷ [])
+argument_refusal count (Tick processor now) = first_refusal (no_processor count processor ∷ [])
+argument_refusal count (Block processor now) = first_refusal (no_processor count processor ∷ [])
+argument_refusal count (Pull processor from now) = first_refusal (no_processor count processor ∷ no_processor count from ∷ (processor == from, no.SameProcessor) ∷ [])
 
 -- what an entry refuses of a task that leaves for good
 abbrev pub retire_refusal : LobbyEntry → Option Refusal
@@ -73,13 +73,13 @@ abbrev pub state_refusal : World → Event → Option Refusal
 state_refusal w (Admit id nice mask slice) = first_refusal ((not (is_absent (entry w id)), no.TaskExists) ∷ [])
 state_refusal w (Retire id) = retire_refusal (entry w id)
 state_refusal w Draw = None
-state_refusal w (Install cpu h g policy) = install_refusal (at_hook h (processor w cpu).hooks).generation w.drawn g
-state_refusal w (BeginWake cpu id) = begin_refusal (entry w id) (processor w cpu).hand
-state_refusal w (EndWake cpu now) = first_refusal ((is_none (processor w cpu).hand, no.NothingInHand) ∷ [])
-state_refusal w (Drain cpu now) = None
-state_refusal w (Tick cpu now) = None
-state_refusal w (Block cpu now) = first_refusal ((is_none (processor w cpu).running.current, no.Idle) ∷ [])
-state_refusal w (Pull cpu from now) = None
+state_refusal w (Install processor h g policy) = install_refusal (at_hook h (processor_at w processor).hooks).generation w.drawn g
+state_refusal w (BeginWake processor id) = begin_refusal (entry w id) (processor_at w processor).hand
+state_refusal w (EndWake processor now) = first_refusal ((is_none (processor_at w processor).hand, no.NothingInHand) ∷ [])
+state_refusal w (Drain processor now) = None
+state_refusal w (Tick processor now) = None
+state_refusal w (Block processor now) = first_refusal ((is_none (processor_at w processor).running.current, no.Idle) ∷ [])
+state_refusal w (Pull processor from now) = None
 
 abbrev pub either : Option Refusal → Option Refusal → Option Refusal
 either None other = other

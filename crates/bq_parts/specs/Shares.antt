@@ -41,30 +41,30 @@ Retires id lobby (Err e) lobby' = (retire_refusal (slice_index_or lobby id Absen
 
 -- it is decided who runs
 abbrev pub Decides : Regime → ℕ → Processor → Decision → Processor → Type 0
-Decides s cpu p settled q = SettlesPreempt s cpu p p.running.current settled × (q ≡ decided_by s p settled)
+Decides s processor p settled q = SettlesPreempt s processor p p.running.current settled × (q ≡ decided_by s p settled)
 
 -- the clock of a processor ticks
 abbrev pub Ticks : Regime → ℕ → ℕ → Processor → List Asked → Reply → Processor → Type 0
-Ticks s cpu now p calls r q =
-    (settled : Decision) × Decides s cpu (after_time s.discipline now p) settled q
+Ticks s processor now p calls r q =
+    (settled : Decision) × Decides s processor (after_time s.discipline now p) settled q
     × (calls ≡ settled.calls) × (r ≡ Ticked (id_of q.running.current) settled.by settled.steps)
 
 -- the tasks of an inbox enter
 abbrev pub Drains : Regime → ℕ → ℕ → Processor → List Task → List Asked → Reply → Processor → Type 0
-Drains s cpu now p tasks calls r q =
+Drains s processor now p tasks calls r q =
     (settled : Decision)
     × (let c = after_time s.discipline now p in
-    Decides s cpu (record c { running = enter_all s.discipline c.running tasks }) settled q)
+    Decides s processor (record c { running = enter_all s.discipline c.running tasks }) settled q)
     × (calls ≡ settled.calls) × (r ≡ Drained (length tasks) (id_of q.running.current) settled.by settled.steps)
 
 -- the running task goes to the lobby
 abbrev pub Blocks : Discipline → ℕ → ℕ → Processor → List LobbyEntry → Result Reply Refusal → Processor → List LobbyEntry → Type 0
-Blocks d cpu now p lobby (Ok r) q lobby' =
+Blocks d processor now p lobby (Ok r) q lobby' =
     (t : Task)
     × (let c = after_time d now p in
     (c.running.current ≡ Some t) × (q ≡ record c { running = after_leaving d c.running })
-    × (r ≡ Went t.id (id_of q.running.current)) × (lobby' ≡ slice_set lobby t.id (Blocked (as_it_leaves c.running cpu t))))
-Blocks d cpu now p lobby (Err e) q lobby' = (p.running.current ≡ None) × (e ≡ no.Idle) × (q ≡ p) × (lobby' ≡ lobby)
+    × (r ≡ Went t.id (id_of q.running.current)) × (lobby' ≡ slice_set lobby t.id (Blocked (as_it_leaves c.running processor t))))
+Blocks d processor now p lobby (Err e) q lobby' = (p.running.current ≡ None) × (e ≡ no.Idle) × (q ≡ p) × (lobby' ≡ lobby)
 
 -- a task of the lobby comes into the hand, with these loads
 abbrev pub Begins : ℕ → List ℕ → Processor → List LobbyEntry → Result Reply Refusal → Processor → List LobbyEntry → Type 0
@@ -75,11 +75,11 @@ Begins id loads p lobby (Err e) q lobby' = (begin_refusal (slice_index_or lobby 
 
 -- the task in the hand is given for the processor that is chosen among so many
 abbrev pub Places : Regime → ℕ → ℕ → ℕ → Processor → List Asked → Option Placement → Processor → Type 0
-Places s count cpu now p calls None q = (calls ≡ []) × (p.hand ≡ None) × (q ≡ p)
-Places s count cpu now p calls (Some x) q =
+Places s count processor now p calls None q = (calls ≡ []) × (p.hand ≡ None) × (q ≡ p)
+Places s count processor now p calls (Some x) q =
     (carried : Carried) × (settled : Decision) × (p.hand ≡ Some carried) × (x.task ≡ carried.task)
     × (let c = after_time s.discipline now p in
-    SettlesPlace s count cpu c carried settled
+    SettlesPlace s count processor c carried settled
     × (x.to ≡ settled.choice) × (x.by ≡ settled.by) × (x.steps ≡ settled.steps) × (calls ≡ settled.calls)
     × (q ≡ record c { hand = None; hooks = record c.hooks { place = settled.attached } }))
 
@@ -91,12 +91,12 @@ Installs h drawn p new (Err e) q = (install_refusal (at_hook h p.hooks).generati
 
 -- a task of another processor's queue enters this one's; where nothing runs, the choice does
 abbrev pub Pulls : Regime → ℕ → ℕ → ℕ → Processor → Processor → List Asked → Reply → Processor → Processor → Type 0
-Pulls s cpu from now p other calls r q other' =
+Pulls s processor from now p other calls r q other' =
     (settled : Decision)
     × (let c = after_time s.discipline now p in
     let source = remarked s.discipline other in
     let task = task_numbered settled.choice in
-    SettlesPull s cpu from c source settled
+    SettlesPull s processor from c source settled
     × (calls ≡ settled.calls) × (r ≡ Moved task (id_of q.running.current) settled.by settled.steps)
     × (q ≡ record c {
       running = started_if_idle s.discipline (with_pulled s.discipline c.running (taken_from source.running task)) c.running.current;

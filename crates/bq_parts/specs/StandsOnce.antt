@@ -11,7 +11,7 @@ use Rattle.bq_policies.specs.Standing.{AreReady}
 use Rattle.bq_parts.specs.declared.carried.Carried.{Carried}
 use Rattle.bq_parts.specs.declared.lobby_entry.LobbyEntry.TheVariants.{Blocked}
 use Rattle.bq_parts.specs.Processors.{Processor, held_by, count_of}
-use Rattle.bq_parts.specs.World.{World, processor, inbox, entry, count_in}
+use Rattle.bq_parts.specs.World.{World, processor_at, inbox, entry, count_in}
 use Rattle.bq_parts.specs.Refusals.{is_away}
 
 -- how often an id stands in hands, currents and queues
@@ -29,7 +29,7 @@ standing_count id w = held_count id w.processors + placed_count id w.inboxes
 
 -- the tasks that run, or wait in a queue or an inbox
 abbrev pub runnable_at : World → ℕ → List Task
-runnable_at w cpu = present_at (processor w cpu).running ++ inbox w cpu
+runnable_at w processor = present_at (processor_at w processor).running ++ inbox w processor
 
 -- every task that is away from the lobby stands with the processors just once
 pub record StandsOnce (w : World) : Type 0 where
@@ -38,13 +38,13 @@ pub record StandsOnce (w : World) : Type 0 where
   -- a task of the lobby stands at its own id
   pub blocked : (id : ℕ) (t : Task) → entry w id ≡ Blocked t → t.id ≡ id
   -- each runnable task is on a processor of its mask
-  pub allowed : (cpu : ℕ) → All (λ t. can_use cpu t ≡ true) (runnable_at w cpu)
+  pub allowed : (processor : ℕ) → All (λ t. can_use processor t ≡ true) (runnable_at w processor)
 
 -- every admitted task has a processor that it may use, wherever it stands
 pub record HasPlaces (w : World) : Type 0 where
   pub in_lobby : (id : ℕ) (t : Task) → entry w id ≡ Blocked t → HasPlace (count_in w) t
-  pub in_hand : (cpu : ℕ) (c : Carried) → (processor w cpu).hand ≡ Some c → HasPlace (count_in w) c.task
-  pub runnable : (cpu : ℕ) → All (HasPlace (count_in w)) (runnable_at w cpu)
+  pub in_hand : (processor : ℕ) (c : Carried) → (processor_at w processor).hand ≡ Some c → HasPlace (count_in w) c.task
+  pub runnable : (processor : ℕ) → All (HasPlace (count_in w)) (runnable_at w processor)
 
 -- what the world keeps from its opening on
 pub record IsOrderly (w : World) : Type 0 where
@@ -53,6 +53,6 @@ pub record IsOrderly (w : World) : Type 0 where
   -- each processor has an inbox
   pub even : length w.inboxes ≡ length w.processors
   -- each queue rises by (v, id)
-  pub rising : (cpu : ℕ) → IsRising (processor w cpu).running.queue
+  pub rising : (processor : ℕ) → IsRising (processor_at w processor).running.queue
   -- whatever stands at a hook was accepted for it, and its maps have its shapes
-  pub ready : (cpu : ℕ) → AreReady (processor w cpu).hooks
+  pub ready : (processor : ℕ) → AreReady (processor_at w processor).hooks

@@ -12,7 +12,7 @@ use Rattle.bq_parts.specs.declared.refusal.Refusal.{Refusal}
 use Rattle.bq_parts.specs.declared.refusal.Refusal.TheVariants as no
 use Rattle.bq_parts.specs.declared.wakes.Placement.{Placement}
 use Rattle.bq_parts.specs.Processors.{Processor}
-use Rattle.bq_parts.specs.World.{World, processor, inbox, count_in, with_processor, with_inbox, with_lobby, loads_of}
+use Rattle.bq_parts.specs.World.{World, processor_at, inbox, count_in, with_processor, with_inbox, with_lobby, loads_of}
 use Rattle.bq_parts.specs.Refusals.{refusal, argument_refusal}
 use Rattle.bq_parts.specs.Moves.{admitted}
 use Rattle.bq_parts.specs.Choices.{Regime}
@@ -28,34 +28,34 @@ Performs s w (Retire id) calls r w' = (lobby : List LobbyEntry) × Retires id w.
 -- the next number is drawn, and the greatest again and again
 Performs s w Draw calls r w' = let n = min (w.drawn + 1) (2 ^ 64 - 1) in (r ≡ Drawn n) × (calls ≡ []) × (w' ≡ record w { drawn = n })
 -- a policy or none stands at the hook, with maps of its own
-Performs s w (Install cpu h g policy) calls r w' =
-    (q : Processor) × Installs h w.drawn (processor w cpu) (record { policy = policy; generation = g; maps = fresh_maps policy }) (Ok r) q
-    × (calls ≡ []) × (w' ≡ with_processor w cpu q)
+Performs s w (Install processor h g policy) calls r w' =
+    (q : Processor) × Installs h w.drawn (processor_at w processor) (record { policy = policy; generation = g; maps = fresh_maps policy }) (Ok r) q
+    × (calls ≡ []) × (w' ≡ with_processor w processor q)
 -- the task goes from the lobby to the hand, with all loads of that moment
-Performs s w (BeginWake cpu id) calls r w' =
-    (q : Processor) × (lobby : List LobbyEntry) × Begins id (loads_of w.processors w.inboxes) (processor w cpu) w.lobby (Ok r) q lobby
-    × (calls ≡ []) × (w' ≡ with_lobby (with_processor w cpu q) lobby)
+Performs s w (BeginWake processor id) calls r w' =
+    (q : Processor) × (lobby : List LobbyEntry) × Begins id (loads_of w.processors w.inboxes) (processor_at w processor) w.lobby (Ok r) q lobby
+    × (calls ≡ []) × (w' ≡ with_lobby (with_processor w processor q) lobby)
 -- the task goes from the hand to the end of the chosen processor's inbox
-Performs s w (EndWake cpu now) calls r w' =
-    (x : Placement) × (q : Processor) × Places s (count_in w) cpu now (processor w cpu) calls (Some x) q
-    × (r ≡ Placed x.task.id x.to x.by x.steps) × (w' ≡ with_inbox (with_processor w cpu q) x.to (inbox w x.to ++ x.task ∷ []))
+Performs s w (EndWake processor now) calls r w' =
+    (x : Placement) × (q : Processor) × Places s (count_in w) processor now (processor_at w processor) calls (Some x) q
+    × (r ≡ Placed x.task.id x.to x.by x.steps) × (w' ≡ with_inbox (with_processor w processor q) x.to (inbox w x.to ++ x.task ∷ []))
 -- all placed tasks enter in their order, and then it is decided who runs
-Performs s w (Drain cpu now) calls r w' =
-    (q : Processor) × Drains s cpu now (processor w cpu) (inbox w cpu) calls r q × (w' ≡ with_inbox (with_processor w cpu q) cpu [])
-Performs s w (Tick cpu now) calls r w' = (q : Processor) × Ticks s cpu now (processor w cpu) calls r q × (w' ≡ with_processor w cpu q)
+Performs s w (Drain processor now) calls r w' =
+    (q : Processor) × Drains s processor now (processor_at w processor) (inbox w processor) calls r q × (w' ≡ with_inbox (with_processor w processor q) processor [])
+Performs s w (Tick processor now) calls r w' = (q : Processor) × Ticks s processor now (processor_at w processor) calls r q × (w' ≡ with_processor w processor q)
 -- the current task goes to the lobby, and the queue's choice runs
-Performs s w (Block cpu now) calls r w' =
-    (q : Processor) × (lobby : List LobbyEntry) × Blocks s.discipline cpu now (processor w cpu) w.lobby (Ok r) q lobby
-    × (calls ≡ []) × (w' ≡ with_lobby (with_processor w cpu q) lobby)
+Performs s w (Block processor now) calls r w' =
+    (q : Processor) × (lobby : List LobbyEntry) × Blocks s.discipline processor now (processor_at w processor) w.lobby (Ok r) q lobby
+    × (calls ≡ []) × (w' ≡ with_lobby (with_processor w processor q) lobby)
 -- a task of the other processor's queue enters this one's; where nothing runs, the choice does
-Performs s w (Pull cpu from now) calls r w' =
-    (q : Processor) × (other : Processor) × Pulls s cpu from now (processor w cpu) (processor w from) calls r q other
-    × (w' ≡ with_processor (with_processor w cpu q) from other)
+Performs s w (Pull processor from now) calls r w' =
+    (q : Processor) × (other : Processor) × Pulls s processor from now (processor_at w processor) (processor_at w from) calls r q other
+    × (w' ≡ with_processor (with_processor w processor q) from other)
 
 -- the events that ask for memory: a task is admitted, or a policy installed
 abbrev pub TakesMemory : Event → Type 0
 TakesMemory (Admit id nice mask slice) = Unit {0}
-TakesMemory (Install cpu h g policy) = is_some policy ≡ true
+TakesMemory (Install processor h g policy) = is_some policy ≡ true
 TakesMemory e = ⊥
 
 -- What an event does. A refusal leaves the world as it was, and so does want of memory, which Admit and Install alone may

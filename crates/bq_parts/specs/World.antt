@@ -20,20 +20,20 @@ opening_world count = record { processors = replicate count opening; inboxes = r
 abbrev pub count_in : World → ℕ
 count_in w = length w.processors
 
-abbrev pub processor : World → ℕ → Processor
-processor w cpu = slice_index_or w.processors cpu opening
+abbrev pub processor_at : World → ℕ → Processor
+processor_at w processor = slice_index_or w.processors processor opening
 
 abbrev pub inbox : World → ℕ → List Task
-inbox w cpu = slice_index_or w.inboxes cpu []
+inbox w processor = slice_index_or w.inboxes processor []
 
 abbrev pub entry : World → ℕ → LobbyEntry
 entry w id = slice_index_or w.lobby id Absent
 
 abbrev pub with_processor : World → ℕ → Processor → World
-with_processor w cpu p = record w { processors = slice_set w.processors cpu p }
+with_processor w processor p = record w { processors = slice_set w.processors processor p }
 
 abbrev pub with_inbox : World → ℕ → List Task → World
-with_inbox w cpu tasks = record w { inboxes = slice_set w.inboxes cpu tasks }
+with_inbox w processor tasks = record w { inboxes = slice_set w.inboxes processor tasks }
 
 abbrev pub with_lobby : World → List LobbyEntry → World
 with_lobby w lobby = record w { lobby = lobby }

@@ -22,9 +22,9 @@ retires_brief id lobby (Ok r) lobby' s = ap (λ (x : Reply). has_loads (Ok x)) s
 retires_brief id lobby (Err e) lobby' s = refl
 
 -- no block is answered by loads
-pub blocks_brief : (d : Discipline) (cpu now : ℕ) (p : Processor) (lobby : List LobbyEntry) (a : Result Reply Refusal) (q : Processor) (lobby' : List LobbyEntry) → Blocks d cpu now p lobby a q lobby' → has_loads a ≡ false
-blocks_brief d cpu now p lobby (Ok r) q lobby' s = ap (λ (x : Reply). has_loads (Ok x)) s.1.2
-blocks_brief d cpu now p lobby (Err e) q lobby' s = refl
+pub blocks_brief : (d : Discipline) (processor now : ℕ) (p : Processor) (lobby : List LobbyEntry) (a : Result Reply Refusal) (q : Processor) (lobby' : List LobbyEntry) → Blocks d processor now p lobby a q lobby' → has_loads a ≡ false
+blocks_brief d processor now p lobby (Ok r) q lobby' s = ap (λ (x : Reply). has_loads (Ok x)) s.1.2
+blocks_brief d processor now p lobby (Err e) q lobby' s = refl
 
 -- no installation of a policy is answered by loads
 pub installs_brief : (h : Hook) (drawn : ℕ) (p : Processor) (new : Attached) (a : Result Reply Refusal) (q : Processor) → Installs h drawn p new a q → has_loads a ≡ false

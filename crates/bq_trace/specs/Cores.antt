@@ -1,7 +1,7 @@
 -- The machine of a core, whichever rule it has.
 use Rattle.std.specs.Prelude.{ℕ, List, nat_lt, Option, Some, None, if◌then◌else◌}
 use Rattle.bq_parts.specs.Processors.{Processor}
-use Rattle.bq_parts.specs.World.{World, processor, count_in}
+use Rattle.bq_parts.specs.World.{World, processor_at, count_in}
 use Rattle.bq_trace.specs.Machines.{Driven}
 use Rattle.bq_words.specs.declared.rule.Rule.TheVariants as rules
 use Rattle.bq_trace.specs.declared.any_core.Ruled.{Ruled}
@@ -13,4 +13,4 @@ machine_of (ruled.Eevdf w) counters = record { rule = rules.Eevdf; world = w; co
 
 -- a processor, if the world has it
 abbrev pub processor_in : World → ℕ → Option Processor
-processor_in w c = if nat_lt c (count_in w) then Some (processor w c) else None
+processor_in w c = if nat_lt c (count_in w) then Some (processor_at w c) else None

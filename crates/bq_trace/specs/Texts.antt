@@ -4,7 +4,7 @@ use Rattle.std.specs.List.{flat_map}
 use Rattle.std.specs.Fmt.{decimal}
 use Rattle.bq_disc.specs.Tasks.{Task}
 use Rattle.bq_disc.specs.OneProcessor.{Running}
-use Rattle.bq_parts.specs.World.{World, processor, count_in}
+use Rattle.bq_parts.specs.World.{World, processor_at, count_in}
 use Rattle.bq_hooks.specs.declared.settled.By.{By}
 use Rattle.bq_hooks.specs.declared.settled.By.TheVariants.{Policy, Discipline}
 use Rattle.bq_parts.specs.declared.reply.Reply.{Reply}
@@ -72,7 +72,7 @@ processor_line c p =
 
 -- the same, or the refusal of a processor that the machine doesn't have
 abbrev pub show_line : World → ℕ → List ℕ
-show_line w c = if nat_lt c (count_in w) then processor_line c (processor w c).running else event_line (Err NoProcessor)
+show_line w c = if nat_lt c (count_in w) then processor_line c (processor_at w c).running else event_line (Err NoProcessor)
 
 -- the line that shows a counter
 abbrev pub counter_line : ℕ → ℕ → List ℕ

@@ -7,11 +7,11 @@ use Rattle.bq_why.specs.declared.table.Row.{Row}
 
 -- the processor at which an event may choose, and its time
 abbrev pub place_of : Event → Option (ℕ × ℕ)
-place_of (EndWake cpu now) = Some (cpu, now)
-place_of (Drain cpu now) = Some (cpu, now)
-place_of (Tick cpu now) = Some (cpu, now)
-place_of (Block cpu now) = Some (cpu, now)
-place_of (Pull cpu from now) = Some (cpu, now)
+place_of (EndWake processor now) = Some (processor, now)
+place_of (Drain processor now) = Some (processor, now)
+place_of (Tick processor now) = Some (processor, now)
+place_of (Block processor now) = Some (processor, now)
+place_of (Pull processor from now) = Some (processor, now)
 place_of other = None
 
 -- the sign of a lag: what is eligible is owed, and what is not has had more than its share

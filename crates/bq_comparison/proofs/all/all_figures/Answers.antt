@@ -11,10 +11,10 @@ tasks-preserved c = grind (arith, common_steps, flat_map-range_more figures_of_t
 pub processors-preserved : goal.processors-preserved
 processors-preserved c =
     let tasks = flat_map figures_of_task (range_with_len 0 c.args.size.tasks) in
-    let cpu = c.processors.processor in
-    let before = flat_map figures_of_processor (range_with_len 0 cpu) in
-    let own = figures_of_processor cpu in
+    let processor = c.processors.processor in
+    let before = flat_map figures_of_processor (range_with_len 0 processor) in
+    let own = figures_of_processor processor in
     let grown : c.extend_from_slice-in-processors.new.self.items ≡ c.processors.figures.items ++ own = search rules in
-    let place : 0 + cpu ≡ cpu = omega arith in
+    let place : 0 + processor ≡ processor = omega arith in
     grown ∙ ap (λ l. l ++ own) c.processors.invariant ∙ append_assoc tasks before own
-    ∙ ap (λ l. tasks ++ l) (sym (flat_map-range_more figures_of_processor 0 cpu ∙ ap (λ n. before ++ figures_of_processor n) place))
+    ∙ ap (λ l. tasks ++ l) (sym (flat_map-range_more figures_of_processor 0 processor ∙ ap (λ n. before ++ figures_of_processor n) place))

@@ -1,7 +1,7 @@
 use Rattle.std.proofs.Common.{◌≡◌, ◌<◌, refl, ◌∙◌, length, arith}
 use Rattle.std.proofs.Math.ListN.{length-set}
 use Rattle.bq_hooks.specs.OwnPlace.{HasPlace}
-use Rattle.bq_parts.specs.World.{processor, count_in}
+use Rattle.bq_parts.specs.World.{processor_at, count_in}
 use Rattle.bq_parts.proofs.OnceLemmas.{few_at}
 use Rattle.bq_core.proofs.StepLemmas.{borrowed, borrowed_inbox, counted, in_range, inbox_there, lobby_whole, write_back_inbox, write_back_processor}
 use Rattle.bq_core.proofs.ShareStepLemmas.{places_at, places_none_at, if_carried}
@@ -18,7 +18,7 @@ end_wake-requires-clause-usable g c =
     let w = c.args.self.now in
     let place = borrowed c.self.view_is c.from.ensures c.requires.inside c.index_mut-cpu.ensures.value in
     let count : c.len-count.result ≡ count_in w = counted c.self.view_is (omega arith) in
-    rw (place, count) (if_carried (processor w c.args.processor).hand (λ x. HasPlace (count_in w) x.task) (c.requires.orderly.places.in_hand c.args.processor))
+    rw (place, count) (if_carried (processor_at w c.args.processor).hand (λ x. HasPlace (count_in w) x.task) (c.requires.orderly.places.in_hand c.args.processor))
 
 pub end_wake-requires-clause-few : goal.end_wake-requires-clause-few
 end_wake-requires-clause-few g c =

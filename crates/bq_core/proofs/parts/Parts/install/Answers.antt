@@ -10,7 +10,7 @@ use Rattle.bq_parts.specs.declared.event.Event.TheVariants.{Install}
 use Rattle.bq_parts.specs.declared.reply.Reply.{Reply}
 use Rattle.bq_parts.specs.declared.refusal.Refusal.{Refusal}
 use Rattle.bq_parts.specs.Processors.{Processor}
-use Rattle.bq_parts.specs.World.{World, processor, count_in, with_processor}
+use Rattle.bq_parts.specs.World.{World, processor_at, count_in, with_processor}
 use Rattle.bq_parts.specs.Refusals.{argument_refusal}
 use Rattle.bq_parts.specs.Choices.{policies}
 use Rattle.bq_parts.specs.Shares.{Installs}
@@ -21,11 +21,11 @@ use Rattle.bq_core.proofs.ShareStepLemmas.{installs_step}
 use Rattle.bq_core.proofs.parts.Parts.install.Goals as goal
 
 -- a processor's share of an Install is the world's step, where the parts are known by equations
-installs_at : (d : Discipline) (w w' : World) (cpu n drawn : ℕ) (h : Hook) (o : Option Accepted) (new : Attached) (r : Result Reply Refusal) (p q : Processor) → argument_refusal (count_in w) (Install cpu h n o) ≡ None →
-    new ≡ record { policy = o; generation = n; maps = fresh_maps o } → drawn ≡ w.drawn → p ≡ processor w cpu → Installs h drawn p new r q → w' ≡ with_processor w cpu q →
-    WorldStep (policies d) w (Install cpu h n o) [] r w'
-installs_at d w w' cpu n drawn h o new r p q fits same number place share e =
-    rw e (installs_step d w cpu n h o r q fits (rw (number, place, same) at share))
+installs_at : (d : Discipline) (w w' : World) (processor n drawn : ℕ) (h : Hook) (o : Option Accepted) (new : Attached) (r : Result Reply Refusal) (p q : Processor) → argument_refusal (count_in w) (Install processor h n o) ≡ None →
+    new ≡ record { policy = o; generation = n; maps = fresh_maps o } → drawn ≡ w.drawn → p ≡ processor_at w processor → Installs h drawn p new r q → w' ≡ with_processor w processor q →
+    WorldStep (policies d) w (Install processor h n o) [] r w'
+installs_at d w w' processor n drawn h o new r p q fits same number place share e =
+    rw e (installs_step d w processor n h o r q fits (rw (number, place, same) at share))
 
 pub returns-in_default : goal.returns-in_default
 returns-in_default g c = record { step = (refl, refl, inr (c.in_default.ensures.want, c.requires.fits, refl)) }
@@ -45,9 +45,9 @@ invariant_of-self g c =
 pub returns : goal.returns
 returns g c =
     let w = c.args.self.now in
-    let cpu = c.args.processor in
-    let place = borrowed c.self.view_is c.from.ensures (install_there (count_in w) cpu c.args.generation c.args.hook c.args.policy c.requires.fits) c.index_mut.ensures.value in
+    let processor = c.args.processor in
+    let place = borrowed c.self.view_is c.from.ensures (install_there (count_in w) processor c.args.generation c.args.hook c.args.policy c.requires.fits) c.index_mut.ensures.value in
     let number = ap (λ (v : World). v.drawn) c.self.view_is in
-    let step = installs_at g.Q.R.Discipline.discipline w _ cpu c.args.generation c.self.inside.drawn c.args.hook c.args.policy c.in-Ok.installed c.replace.result c.index_mut.result.now c.replace.new.self c.requires.fits c.in-Ok.ensures.installed number place c.replace.ensures.share
-    (write_back_processor _ w _ cpu c.replace.new.self c.self.view_is c.from.ensures) in
+    let step = installs_at g.Q.R.Discipline.discipline w _ processor c.args.generation c.self.inside.drawn c.args.hook c.args.policy c.in-Ok.installed c.replace.result c.index_mut.result.now c.replace.new.self c.requires.fits c.in-Ok.ensures.installed number place c.replace.ensures.share
+    (write_back_processor _ w _ processor c.replace.new.self c.self.view_is c.from.ensures) in
     record { step = step }

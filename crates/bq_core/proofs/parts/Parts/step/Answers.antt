@@ -29,17 +29,17 @@ retires_entry : (count id : ℕ) → argument_refusal count (Retire id) ≡ None
 retires_entry count id h = below_from_not_at_most id 1024 (passed (nat_le 1024 id) no.NoTask None h).0
 
 -- the processor where a wake begins is there, and the task has an entry
-begins_inside : (count cpu id : ℕ) → argument_refusal count (BeginWake cpu id) ≡ None → (cpu < count) × (id < 1024)
-begins_inside count cpu id h =
-    let f = there count cpu _ h in
+begins_inside : (count processor id : ℕ) → argument_refusal count (BeginWake processor id) ≡ None → (processor < count) × (id < 1024)
+begins_inside count processor id h =
+    let f = there count processor _ h in
     (f.0, below_from_not_at_most id 1024 (passed (nat_le 1024 id) no.NoTask None f.1).0)
 
 -- the two processors of a pull are there, and differ
-pulls_inside : (count cpu from now : ℕ) → argument_refusal count (Pull cpu from now) ≡ None → (cpu < count) × (from < count) × (cpu ≢ from)
-pulls_inside count cpu from now h =
-    let f = there count cpu _ h in
+pulls_inside : (count processor from now : ℕ) → argument_refusal count (Pull processor from now) ≡ None → (processor < count) × (from < count) × (processor ≢ from)
+pulls_inside count processor from now h =
+    let f = there count processor _ h in
     let k = there count from _ f.1 in
-    (f.0, k.0, differ_from_test cpu from (passed (cpu == from) no.SameProcessor None k.1).0)
+    (f.0, k.0, differ_from_test processor from (passed (processor == from) no.SameProcessor None k.1).0)
 
 -- a step by what the event is, is one by the event
 step_at : (s : Regime) (w w' : World) (e e' : Event) (calls : List Asked) (r : Result Reply Refusal) → e ≡ e' → WorldStep s w e' calls r w' → WorldStep s w e calls r w'

@@ -6,7 +6,7 @@ use Rattle.bq_disc.specs.Discipline.{Discipline}
 use Rattle.bq_parts.specs.declared.event.Event.TheVariants.{Tick}
 use Rattle.bq_parts.specs.declared.reply.Reply.{Reply}
 use Rattle.bq_parts.specs.Processors.{Processor}
-use Rattle.bq_parts.specs.World.{World, processor, count_in, with_processor}
+use Rattle.bq_parts.specs.World.{World, processor_at, count_in, with_processor}
 use Rattle.bq_parts.specs.Choices.{policies}
 use Rattle.bq_parts.specs.Shares.{Ticks}
 use Rattle.bq_parts.specs.Steps.{WorldStep}
@@ -16,9 +16,9 @@ use Rattle.bq_core.proofs.ShareStepLemmas.{ticks_step}
 use Rattle.bq_core.proofs.parts.Parts.tick.Goals as goal
 
 -- a processor's share of a tick is the world's step, where the parts are known by equations
-ticks_at : (d : Discipline) (w w' : World) (cpu now : ℕ) (calls : List Asked) (r : Reply) (p q : Processor) → cpu < count_in w → p ≡ processor w cpu → Ticks (policies d) cpu now p calls r q → w' ≡ with_processor w cpu q →
-    WorldStep (policies d) w (Tick cpu now) calls (Ok r) w'
-ticks_at d w w' cpu now calls r p q h place share e = rw e (ticks_step d w cpu now calls r q h (rw (← place) share))
+ticks_at : (d : Discipline) (w w' : World) (processor now : ℕ) (calls : List Asked) (r : Reply) (p q : Processor) → processor < count_in w → p ≡ processor_at w processor → Ticks (policies d) processor now p calls r q → w' ≡ with_processor w processor q →
+    WorldStep (policies d) w (Tick processor now) calls (Ok r) w'
+ticks_at d w w' processor now calls r p q h place share e = rw e (ticks_step d w processor now calls r q h (rw (← place) share))
 
 pub index_mut-cpu-requires : goal.index_mut-cpu-requires
 index_mut-cpu-requires g c = in_range c.self.view_is c.from.ensures c.self.inside.cpus.ok.0 c.requires.inside

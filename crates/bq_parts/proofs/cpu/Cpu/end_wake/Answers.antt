@@ -12,27 +12,27 @@ use Rattle.bq_parts.proofs.cpu.Cpu.end_wake.Goals as goal
 pub returns-clause-share : goal.returns-clause-share
 returns-clause-share g c =
     let d = g.Q.R.Discipline.discipline in
-    let cpu = c.args.processor in
+    let processor = c.args.processor in
     let now = c.args.now in
     let p : Processor = record (after_time d now c.args.self.now) { hand = None } in
     let carried = c.in-Some.carried in
     let placed = c.choose_place-placed in
     let settled : Decision = record { choice = placed.result.choice; by = placed.result.by; steps = placed.result.steps; calls = placed.new.scratch; attached = placed.new.self.hooks.place } in
     let charged : c.charge.new.self ≡ p = c.charge.ensures ∙ ap (λ (x : Processor). record x { running = charge d x.running now }) c.release.ensures.left in
-    let settles = subst (λ (x : Processor). SettlesPlace (policies d) c.args.count cpu x carried settled) charged placed.ensures.settled in
+    let settles = subst (λ (x : Processor). SettlesPlace (policies d) c.args.count processor x carried settled) charged placed.ensures.settled in
     let hand : c.args.self.now.hand ≡ Some carried = sym c.in-Some.ensures.carried in
     (carried, settled, hand, refl, (settles, refl, refl, refl, refl, placed.ensures.rest ∙ ap (λ (x : Processor). record x { hooks = record x.hooks { place = settled.attached } }) charged))
 
 pub returns-clause-below : goal.returns-clause-below
 returns-clause-below g c =
     let d = g.Q.R.Discipline.discipline in
-    let cpu = c.args.processor in
+    let processor = c.args.processor in
     let now = c.args.now in
     let p : Processor = record (after_time d now c.args.self.now) { hand = None } in
     let carried = c.in-Some.carried in
     let placed = c.choose_place-placed in
     let settled : Decision = record { choice = placed.result.choice; by = placed.result.by; steps = placed.result.steps; calls = placed.new.scratch; attached = placed.new.self.hooks.place } in
     let charged : c.charge.new.self ≡ p = c.charge.ensures ∙ ap (λ (x : Processor). record x { running = charge d x.running now }) c.release.ensures.left in
-    let settles = subst (λ (x : Processor). SettlesPlace (policies d) c.args.count cpu x carried settled) charged placed.ensures.settled in
+    let settles = subst (λ (x : Processor). SettlesPlace (policies d) c.args.count processor x carried settled) charged placed.ensures.settled in
     let hand : c.args.self.now.hand ≡ Some carried = sym c.in-Some.ensures.carried in
-    placed_fits d c.args.count cpu p carried settled (subst (λ (o : Option Carried). IfSome o (λ x. HasPlace c.args.count x.task)) hand c.requires.usable) settles
+    placed_fits d c.args.count processor p carried settled (subst (λ (o : Option Carried). IfSome o (λ x. HasPlace c.args.count x.task)) hand c.requires.usable) settles
