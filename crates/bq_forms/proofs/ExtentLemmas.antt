@@ -87,7 +87,7 @@ spans w s first last e fits r from to lasts = elim r.is_first [
       earliest = first;
       latest = last;
       is_earliest = record { holds = some_first; least = λ other h. r.least h.processor other h.shown.is_number h.shown h.first };
-      is_latest = record { holds = some_last; most = λ other h. subst (λ n. n ≤ last) h.last (r.most h.processor h.shown.is_number h.shown h.was_read) };
+      is_latest = record { holds = some_last; bounds = λ other h. subst (λ n. n ≤ last) h.last (r.most h.processor h.shown.is_number h.shown h.was_read) };
       begins = omega (arith, from);
       ends = omega (arith, to);
     }

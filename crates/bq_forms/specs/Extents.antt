@@ -30,9 +30,9 @@ pub record IsLeast (Holds : ℕ → Type 0) (n : ℕ) : Type 0 where
   pub least : (other : ℕ) → Holds other → n ≤ other
 
 -- the greatest of them
-pub record IsMost (Holds : ℕ → Type 0) (n : ℕ) : Type 0 where
+pub record IsGreatest (Holds : ℕ → Type 0) (n : ℕ) : Type 0 where
   pub holds : Holds n
-  pub most : (other : ℕ) → Holds other → other ≤ n
+  pub bounds : (other : ℕ) → Holds other → other ≤ n
 
 -- it reaches from the earliest first reading of the processors that are shown to their latest last reading, as far as the window
 -- goes
@@ -40,6 +40,6 @@ pub record Spans (w : Window) (s : Figures) (e : Extent) : Type 0 where
   pub earliest : ℕ
   pub latest : ℕ
   pub is_earliest : IsLeast (IsFirst w s) earliest
-  pub is_latest : IsMost (IsLast w s) latest
+  pub is_latest : IsGreatest (IsLast w s) latest
   pub begins : e.from ≡ max w.from earliest
   pub ends : e.to ≡ min w.to latest

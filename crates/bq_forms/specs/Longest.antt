@@ -11,7 +11,7 @@ abbrev pub time_of : ℕ → ℕ → List Slice → ℕ → ℕ
 time_of from to runs task = sum_by (λ (run : Slice). if run.task == task then time_in from to run else 0) runs
 
 -- the place of the greatest of the first n of these numbers, which is not 0; of equal ones the first
-pub record IsGreatest (n : ℕ) (number : ℕ → ℕ) (place : ℕ) : Type 0 where
+pub record IsFirstGreatest (n : ℕ) (number : ℕ → ℕ) (place : ℕ) : Type 0 where
   pub there : place < n
   pub some : 0 < number place
   pub most : (other : ℕ) → other < n → number other ≤ number place
@@ -19,4 +19,4 @@ pub record IsGreatest (n : ℕ) (number : ℕ → ℕ) (place : ℕ) : Type 0 wh
 
 -- the task runs, and no other runs longer; of equal ones it is the one of the least number
 abbrev pub IsLongest : ℕ → ℕ → List Slice → ℕ → Type 0
-IsLongest from to runs task = IsGreatest 1024 (time_of from to runs) task
+IsLongest from to runs task = IsFirstGreatest 1024 (time_of from to runs) task

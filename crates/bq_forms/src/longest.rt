@@ -1,6 +1,6 @@
 //! Who ran longest between two moments.
 ghost use Rattle.std.specs.Prelude.{◌≡◌, ℕ, ◌<◌, length, slice_index, vec_len, IfOk, IfSome, IfNone};
-ghost use Rattle.bq_forms.specs.Longest.{time_of, IsGreatest, IsLongest};
+ghost use Rattle.bq_forms.specs.Longest.{time_of, IsFirstGreatest, IsLongest};
 
 use bq_disc::limits::TASKS;
 use bq_schedule::Slice;
@@ -44,7 +44,7 @@ fn times_in(alloc: Global, runs: &[Slice], from: u64, to: u64) -> Result<Vec<u12
 /// The place of the greatest time, of equal ones the first. `None` where all are 0.
 fn greatest(times: &[u128]) -> Option<u16>
     requires { length times.now ≡ 1024 }
-    ensures greatest { IfSome result (IsGreatest 1024 (λ task. slice_index times.now task)) }
+    ensures greatest { IfSome result (IsFirstGreatest 1024 (λ task. slice_index times.now task)) }
     ensures none { IfNone result ((task : ℕ) → task < 1024 → slice_index times.now task ≡ 0) }
 {
     let mut greatest = None;

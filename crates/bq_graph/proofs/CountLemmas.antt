@@ -6,7 +6,7 @@ use Rattle.std.proofs.lemmas.Bool.Decides.{eqb_tells}
 use Rattle.bq_insn.specs.declared.Insn.{Insn}
 use Rattle.bq_bpf.specs.Steps.{instruction_at}
 use Rattle.bq_graph.specs.Edges.{IsEdge}
-use Rattle.bq_graph.specs.Paths.{IsPath, end_of, CallsOnWay, asks_counter, calls_of, calls_before_end, IsMost}
+use Rattle.bq_graph.specs.Paths.{IsPath, end_of, CallsOnWay, asks_counter, calls_of, calls_before_end, IsMostCalls}
 use Rattle.bq_graph.specs.Passes.{IsSound, IsOf, LeadsOut, Raises, CountsFollowed}
 use Rattle.bq_graph.specs.declared.edges.Targets.{Targets}
 use Rattle.bq_insn.proofs.OptionLemmas.{some_same, some_none}
@@ -157,7 +157,7 @@ module _ (slots : List (Option Insn)) where
         let more = along next rest one.0 p.1 one.1 in
         (more.0, more.1, omega (arith, one.2, more.2))
 
-    most_by : (k : ℕ) (v : Option ℕ) → slice_index_or most k None ≡ v → IsMost slots k v
+    most_by : (k : ℕ) (v : Option ℕ) → slice_index_or most k None ≡ v → IsMostCalls slots k v
     most_by k None e = λ path.
         let far = along 0 path.rest counted.begins.0 path.is_path counted.begins.1 in
         some_none _ _ (subst (λ (s : ℕ). slice_index_or most s None ≡ Some far.0) path.ends far.1) e
@@ -170,5 +170,5 @@ module _ (slots : List (Option Insn)) where
     }
 
     -- the numbers are the greatest, once all edges have been followed
-    pub most_is : (k : ℕ) → IsMost slots k (slice_index_or most k None)
+    pub most_is : (k : ℕ) → IsMostCalls slots k (slice_index_or most k None)
     most_is k = most_by k _ refl

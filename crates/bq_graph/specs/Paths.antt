@@ -59,6 +59,6 @@ pub record CallsOnWay (slots : List (Option Insn)) (slot count : ℕ) : Type 0 w
   pub count_is : calls_before_end slots 0 rest ≡ count
 
 -- the greatest number of counter calls that come before the slot on a path, or None where no path leads there
-abbrev pub IsMost : List (Option Insn) → ℕ → Option ℕ → Type 0
-IsMost slots slot None = Path slots 0 slot → ⊥
-IsMost slots slot (Some count) = IsGreatest (CallsOnWay slots slot) count
+abbrev pub IsMostCalls : List (Option Insn) → ℕ → Option ℕ → Type 0
+IsMostCalls slots slot None = Path slots 0 slot → ⊥
+IsMostCalls slots slot (Some count) = IsGreatest (CallsOnWay slots slot) count

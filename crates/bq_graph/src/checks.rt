@@ -2,7 +2,7 @@
 ghost use Rattle.std.specs.Prelude.{◌≡◌, ◌<◌, ◌≤◌, ℕ, length, IsTrue, ◌↔◌, OnOk, IfErr, Some, None, slice_index_or};
 ghost use Rattle.bq_bpf.specs.Steps.{instruction_at};
 ghost use Rattle.bq_graph.specs.Edges.{IsWhole};
-ghost use Rattle.bq_graph.specs.Paths.{IsMost};
+ghost use Rattle.bq_graph.specs.Paths.{IsMostCalls};
 ghost use Rattle.bq_graph.specs.Faults.{HasFault, IsLateCall, IsLeast, IsFirstFault, IsFaultless, IsOnWay, IsUnreached};
 
 use crate::cause::GraphCause;
@@ -23,7 +23,7 @@ pub struct Fault {
 fn is_unreached(slots: &[Option<Insn>], most: &[Option<u32>], slot: usize, insn: Insn) -> bool
     requires here { instruction_at slots.now slot ≡ Some insn }
     requires inside { slot < length most.now }
-    requires most { IsMost slots.now slot (slice_index_or most.now slot None) }
+    requires most { IsMostCalls slots.now slot (slice_index_or most.now slot None) }
     ensures { IsTrue result ↔ IsUnreached slots.now slot }
 {
     match count_at(most, slot) {
@@ -35,7 +35,7 @@ fn is_unreached(slots: &[Option<Insn>], most: &[Option<u32>], slot: usize, insn:
 fn is_late_call(slots: &[Option<Insn>], most: &[Option<u32>], slot: usize, insn: Insn) -> bool
     requires here { instruction_at slots.now slot ≡ Some insn }
     requires inside { slot < length most.now }
-    requires most { IsMost slots.now slot (slice_index_or most.now slot None) }
+    requires most { IsMostCalls slots.now slot (slice_index_or most.now slot None) }
     ensures { IsTrue result ↔ IsLateCall slots.now slot }
 {
     let Some(count) = count_at(most, slot) else {
@@ -49,7 +49,7 @@ fn is_faulty(slots: &[Option<Insn>], most: &[Option<u32>], slot: usize, cause: G
     requires inside { slot < length slots.now }
     requires short { length slots.now ≤ 4096 }
     requires room { IsOnWay cause → length most.now ≡ length slots.now }
-    requires most { IsOnWay cause → (k : ℕ) → IsMost slots.now k (slice_index_or most.now k None) }
+    requires most { IsOnWay cause → (k : ℕ) → IsMostCalls slots.now k (slice_index_or most.now k None) }
     ensures { IsTrue result ↔ HasFault slots.now cause slot }
 {
     let Some(insn) = instruction(slots, slot) else {
@@ -69,7 +69,7 @@ fn is_faulty(slots: &[Option<Insn>], most: &[Option<u32>], slot: usize, cause: G
 fn clear(slots: &[Option<Insn>], most: &[Option<u32>], cause: GraphCause) -> Result<(), Fault>
     requires short { length slots.now ≤ 4096 }
     requires room { IsOnWay cause → length most.now ≡ length slots.now }
-    requires most { IsOnWay cause → (k : ℕ) → IsMost slots.now k (slice_index_or most.now k None) }
+    requires most { IsOnWay cause → (k : ℕ) → IsMostCalls slots.now k (slice_index_or most.now k None) }
     ensures ok { OnOk result (IsLeast (HasFault slots.now cause) None) }
     ensures cause { IfErr result (λ fault. fault.cause ≡ cause) }
     ensures least { IfErr result (λ fault. IsLeast (HasFault slots.now cause) (Some fault.slot)) }
@@ -93,7 +93,7 @@ pub fn check(slots: &[Option<Insn>], most: &mut [Option<u32>]) -> Result<(), Fau
     requires room { length most.old ≡ length slots.now }
     requires blank { (k : ℕ) → slice_index_or most.old k None ≡ None }
     ensures ok { OnOk result (IsFaultless slots.now) }
-    ensures counted { OnOk result ((k : ℕ) → IsMost slots.now k (slice_index_or most.new k None)) }
+    ensures counted { OnOk result ((k : ℕ) → IsMostCalls slots.now k (slice_index_or most.new k None)) }
     ensures first { IfErr result (λ fault. IsFirstFault slots.now fault.cause fault.slot) }
 {
     clear(slots, most, GraphCause::Jump)?;

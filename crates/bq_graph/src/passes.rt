@@ -3,7 +3,7 @@ ghost use Rattle.std.specs.Prelude.{◌≡◌, ◌<◌, ◌≤◌, ◌+◌, ◌�
 ghost use Rattle.bq_insn.specs.Slots.{slots_of};
 ghost use Rattle.bq_bpf.specs.Steps.{LeadsTo, instruction_at};
 ghost use Rattle.bq_graph.specs.Edges.{distance_of, goes_on, IsStart};
-ghost use Rattle.bq_graph.specs.Paths.{IsMost, IsGreatest, PathOut, calls_of};
+ghost use Rattle.bq_graph.specs.Paths.{IsMostCalls, IsGreatest, PathOut, calls_of};
 ghost use Rattle.bq_graph.specs.Passes.{IsSound, LeadsOut, Raises, CountsFollowed, Measured, height_to};
 
 use crate::edges::{Targets, distance, instruction, landing, may_go_on};
@@ -132,7 +132,7 @@ pub fn count_calls(slots: &[Option<Insn>], most: &mut [Option<u32>])
     requires sound { IsSound slots.now }
     requires room { length most.old ≡ length slots.now }
     requires blank { (k : ℕ) → slice_index_or most.old k None ≡ None }
-    ensures { (k : ℕ) → IsMost slots.now k (slice_index_or most.new k None) }
+    ensures { (k : ℕ) → IsMostCalls slots.now k (slice_index_or most.new k None) }
 {
     most[0] = Some(0);
     for slot in 0..slots.len() {

@@ -9,7 +9,7 @@ use Rattle.bq_graph.proofs.SoundLemmas.{late_by, sound_graph}
 use Rattle.bq_insn.specs.declared.Insn.{Insn}
 use Rattle.bq_insn.specs.Slots.{spread}
 use Rattle.bq_graph.specs.Edges.{IsEdge, IsWhole, IsStart}
-use Rattle.bq_graph.specs.Paths.{IsGreatest, IsMost, PathOut, CallsOnWay, asks_counter, calls_of}
+use Rattle.bq_graph.specs.Paths.{IsGreatest, IsMostCalls, PathOut, CallsOnWay, asks_counter, calls_of}
 use Rattle.bq_graph.specs.Faults.{IsFaultless}
 use Rattle.bq_graph.specs.Passes.{IsSound, Measured}
 use Rattle.bq_graph.specs.declared.cause.GraphCause.TheVariants.{Jump, NoExit, Unreached, Counters}
@@ -54,14 +54,14 @@ asks_of (Call h) (inl e) = rw e refl
 asks_of (Call h) (inr e) = rw e refl
 asks_of _ counter = absurd counter
 
-module _ (slots : List (Option Insn)) (most : List (Option ℕ)) (faultless : IsFaultless slots) (counted : (k : ℕ) → IsMost slots k (slice_index_or most k None)) where
+module _ (slots : List (Option Insn)) (most : List (Option ℕ)) (faultless : IsFaultless slots) (counted : (k : ℕ) → IsMostCalls slots k (slice_index_or most k None)) where
   -- each instruction has the greatest number of calls on the way to it
   at_start : (k : ℕ) → IsStart slots k → IsGreatest (CallsOnWay slots k) (most_calls_at most k)
   at_start k begins = by (slice_index_or most k None) refl
     where
       by : (v : Option ℕ) → slice_index_or most k None ≡ v → IsGreatest (CallsOnWay slots k) (most_calls_at most k)
-      by None e = absurd (faultless Unreached k (record { start = begins; none = subst (λ (o : Option ℕ). IsMost slots k o) e (counted k) }))
-      by (Some n) e = subst (λ (m : ℕ). IsGreatest (CallsOnWay slots k) m) (sym (ap count_in e)) (subst (λ (o : Option ℕ). IsMost slots k o) e (counted k))
+      by None e = absurd (faultless Unreached k (record { start = begins; none = subst (λ (o : Option ℕ). IsMostCalls slots k o) e (counted k) }))
+      by (Some n) e = subst (λ (m : ℕ). IsGreatest (CallsOnWay slots k) m) (sym (ap count_in e)) (subst (λ (o : Option ℕ). IsMostCalls slots k o) e (counted k))
 
   module _ (sound : IsSound slots) where
     along : (from to : ℕ) → IsEdge slots from to → most_calls_at most from + calls_of (instruction_at slots from) ≤ most_calls_at most to
@@ -87,5 +87,5 @@ module _ (slots : List (Option Insn)) (most : List (Option ℕ)) (faultless : Is
     }
 
 -- in a program without faults the most calls on the way to a slot grow along the edges, and stay few enough
-pub most_calls_are_made : (slots : List (Option Insn)) (most : List (Option ℕ)) → IsSound slots → IsFaultless slots → ((k : ℕ) → IsMost slots k (slice_index_or most k None)) → AreMade slots (most_calls_at most)
+pub most_calls_are_made : (slots : List (Option Insn)) (most : List (Option ℕ)) → IsSound slots → IsFaultless slots → ((k : ℕ) → IsMostCalls slots k (slice_index_or most k None)) → AreMade slots (most_calls_at most)
 most_calls_are_made slots most sound faultless counted = made_by slots most faultless counted sound
