@@ -1,6 +1,5 @@
 -- The words of a command: their parts, the numbers that they write, and what it means that they are refused.
-use Rattle.std.specs.Prelude.{◌≡◌, ◌≢◌, ◌==◌, ℕ, ◌<◌, List, ◌∷◌, ◌++◌, Option, Some, None, Result, Ok, Err, String, string_bytes, length, slice_index}
-use Rattle.std.specs.List.{slice_split}
+use Rattle.std.specs.Prelude.{◌≡◌, ◌≢◌, ℕ, ◌<◌, List, ◌∷◌, ◌++◌, Option, Some, None, Result, Ok, Err, String, string_bytes, length, slice_index}
 use Rattle.std.specs.declared.alloc.AllocError.{AllocError}
 use Rattle.std.specs.declared.alloc.Global.{Global}
 use Rattle.bq_words.specs.Numbers.{number_of, value_of}
@@ -36,10 +35,6 @@ IsFreeOf mark text = (i : ℕ) → i < length text → slice_index text i ≢ ma
 pub record IsCut (mark : ℕ) (text before behind : List ℕ) : Type 0 where
   pub splits : text ≡ before ++ (mark ∷ behind)
   pub first : IsFreeOf mark before
-
--- the parts between commas
-abbrev pub parts : List ℕ → List (List ℕ)
-parts text = slice_split (λ b. b == 44) text
 
 -- the word writes the number in decimal
 abbrev pub IsNumber : List ℕ → ℕ → Type 0

@@ -17,7 +17,8 @@ use Rattle.bq_one_run.specs.declared.fields.Width.{Width}
 use Rattle.bq_one_run.specs.declared.fields.Width.TheVariants.{Four, Eight}
 use Rattle.bq_one_run.specs.Fields.{IsField, IsPasted, IsPut, bytes_in}
 use Rattle.bq_one_run.specs.Naming.{IsFieldWord, NamesCounter, NamesEntry, SetsCounter, SetsEntry, SetsField, SetsFields, TextsInTurn, padded, shows_nobody}
-use Rattle.bq_console.specs.Words.{IsCut, IsFreeOf, IsNumber, IsValue, SaysNone, parts}
+use Rattle.bq_words.specs.Words.{parts}
+use Rattle.bq_console.specs.Words.{IsCut, IsFreeOf, IsNumber, IsValue, SaysNone}
 use Rattle.bq_one_run.proofs.FieldLemmas.{goes_once}
 use Rattle.bq_one_run.proofs.InTurnLemmas.{IsSeen, turn_refused, turns_seen}
 use Rattle.bq_console.proofs.WordLemmas.{cut_once, free_cut, number_once, value_once}
@@ -102,7 +103,7 @@ field_seen hook version = record {
 pub fields_seen : (hook : Hook) (version : Version) → IsSeen (SetsFields hook version) (λ (context : List ℕ). length context)
 fields_seen hook version =
     let all = turns_seen (SetsField hook version) (λ (context : List ℕ). length context) (field_seen hook version) in
-    record { keeps = λ text. all.keeps (parts text); moves = λ text. all.moves (parts text) }
+    record { keeps = λ text. all.keeps (parts 44 text); moves = λ text. all.moves (parts 44 text) }
 
 -- of words that are texts the same is seen as of their bytes
 pub texts_seen : {S V : Type 0} (step : List ℕ → S → S → Type 0) (seen : S → V) → IsSeen step seen → IsSeen (λ (t : String Global). step (string_bytes t)) seen

@@ -10,7 +10,8 @@ use Rattle.bq_bpf.specs.declared.hook.Hook.TheVariants.{Place, Preempt, Pull}
 use Rattle.bq_bpf.specs.declared.hook.Version.{Version}
 use Rattle.bq_one_run.specs.declared.fields.Field.{Field}
 use Rattle.bq_one_run.specs.Fields.{IsField, IsPut}
-use Rattle.bq_console.specs.Words.{IsCut, IsNumber, IsValue, parts}
+use Rattle.bq_words.specs.Words.{parts}
+use Rattle.bq_console.specs.Words.{IsCut, IsNumber, IsValue}
 
 -- each word makes its step, one after another: where two name the same place, the last counts
 abbrev pub InTurn : {W S : Type 0} → (W → S → S → Type 0) → List W → S → S → Type 0
@@ -44,7 +45,7 @@ pub record SetsField (hook : Hook) (version : Version) (part before after : List
 
 -- as `task=3,mask=0x6`
 abbrev pub SetsFields : Hook → Version → List ℕ → List ℕ → List ℕ → Type 0
-SetsFields hook version text before after = InTurn (SetsField hook version) (parts text) before after
+SetsFields hook version text before after = InTurn (SetsField hook version) (parts 44 text) before after
 
 -- the value's bytes, and zeros up to the size of a value
 abbrev pub padded : ℕ → List ℕ → List ℕ

@@ -2,7 +2,7 @@
 use Rattle.std.proofs.Common.{◌≡◌, ℕ, zero, suc, ℤ, ◌+◌, ◌<◌, ◌≤◌, List, [], ◌∷◌, ◌++◌, length, get_or, drop, drop-cons, add-one, append_assoc, append-nil, refl, sym, subst, ap, ◌∙◌, arith}
 use Rattle.std.proofs.lemmas.List.{drop_all}
 use Rattle.bq_policy_commands.specs.Limiting.{AreHelpers, IsHelper, NamesNoHelpers, helper_words}
-use Rattle.bq_console.specs.Words.{parts}
+use Rattle.bq_words.specs.Words.{parts}
 
 -- what the words that are left write, behind what was read, all write
 abbrev pub ReadsOn : List (List ℕ) → ℕ → List ℤ → Type 0
@@ -33,11 +33,11 @@ none_named [] helpers h none = subst (λ (hs : List ℤ). AreHelpers [] hs) (sym
 none_named (c ∷ rest) helpers h none = absurd (omega (arith, h))
 
 -- another text names what its parts write
-pub all_named : (text : List ℕ) (helpers : List ℤ) → ¬ (length text ≡ 0) → AreHelpers (parts text) helpers → AreHelpers (helper_words text) helpers
+pub all_named : (text : List ℕ) (helpers : List ℤ) → ¬ (length text ≡ 0) → AreHelpers (parts 44 text) helpers → AreHelpers (helper_words text) helpers
 all_named [] helpers h all = absurd (h refl)
 all_named (c ∷ rest) helpers h all = all
 
 -- and nothing where they write none
-pub not_named : (text : List ℕ) → ¬ (length text ≡ 0) → ((helpers : List ℤ) → ¬ AreHelpers (parts text) helpers) → NamesNoHelpers text
+pub not_named : (text : List ℕ) → ¬ (length text ≡ 0) → ((helpers : List ℤ) → ¬ AreHelpers (parts 44 text) helpers) → NamesNoHelpers text
 not_named [] h none helpers = absurd (h refl)
 not_named (c ∷ rest) h none helpers = none helpers.items

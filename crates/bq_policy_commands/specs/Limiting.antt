@@ -5,7 +5,8 @@ use Rattle.std.specs.declared.alloc.Global.{Global}
 use Rattle.std.specs.declared.vec.Vec.{Vec}
 use Rattle.bq_words.specs.Numbers.{below, number_of}
 use Rattle.bq_explain.specs.declared.limits.Limits.{Limits}
-use Rattle.bq_console.specs.Words.{SaysWord, parts}
+use Rattle.bq_words.specs.Words.{parts}
+use Rattle.bq_console.specs.Words.{SaysWord}
 use Rattle.bq_policy_commands.specs.declared.words.CheckWords.{CheckWords}
 use Rattle.bq_policy_commands.specs.Saying.{IsNumberBelow, option_bytes}
 
@@ -22,7 +23,7 @@ IsHelper word helper = helper_of word ≡ Some helper
 -- the parts between commas; an empty text has none
 abbrev pub helper_words : List ℕ → List (List ℕ)
 helper_words [] = []
-helper_words (c ∷ rest) = parts (c ∷ rest)
+helper_words (c ∷ rest) = parts 44 (c ∷ rest)
 
 -- each word writes a helper, in its turn
 abbrev pub AreHelpers : List (List ℕ) → List ℤ → Type 0

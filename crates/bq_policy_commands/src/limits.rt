@@ -1,6 +1,7 @@
 //! A keeper's own limits from the words of a command.
 ghost use Rattle.std.specs.Prelude.{◌≡◌, ◌^◌, [], List, ℤ, IfErr, IfOk, MatchBool, MatchOption};
-ghost use Rattle.bq_console.specs.Words.{SaysNone, SaysWord, parts};
+ghost use Rattle.bq_words.specs.Words.{parts};
+ghost use Rattle.bq_console.specs.Words.{SaysNone, SaysWord};
 ghost use Rattle.bq_policy_commands.specs.Saying.{IsNumberBelow, option_bytes};
 ghost use Rattle.bq_policy_commands.specs.Limiting.{AreHelpers, HasLimits, NamesHelpers, NamesNoHelpers};
 
@@ -70,7 +71,7 @@ fn numbers_of(alloc: Global, text: &str) -> Result<Option<Vec<i32>>, AllocError>
 /// Adds the numbers of a text with commas between, up to a part that is none; whether there is no such part.
 fn push_numbers(numbers: &mut Vec<i32>, text: &str) -> Result<bool, AllocError>
     requires { numbers.old.items ≡ [] }
-    ensures { IfOk result (λ all. MatchBool all (AreHelpers (parts text.now) numbers.new.items) ((helpers : List ℤ) → ¬ AreHelpers (parts text.now) helpers)) }
+    ensures { IfOk result (λ all. MatchBool all (AreHelpers (parts 44 text.now) numbers.new.items) ((helpers : List ℤ) → ¬ AreHelpers (parts 44 text.now) helpers)) }
 {
     for part in text.split(',') {
         match helper(part.as_bytes()) {

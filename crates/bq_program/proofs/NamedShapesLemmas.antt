@@ -3,7 +3,8 @@ use Rattle.std.proofs.Common.{◌≡◌, ℕ, ◌<◌, List, [], ◌∷◌, ◌+
 use Rattle.std.specs.List.{onto_first}
 use Rattle.std.specs.Borrow.{Bor}
 use Rattle.bq_bpf.specs.declared.shape.MapShape.{MapShape}
-use Rattle.bq_program.specs.ShapesText.{NamesNoShapes, parts, parts_after, pair_of, numbers_in, numbers_of}
+use Rattle.bq_words.specs.Words.{parts}
+use Rattle.bq_program.specs.ShapesText.{NamesNoShapes, parts_after, pair_of, numbers_in, numbers_of}
 
 -- a text has a part at least
 some_part : (mark : ℕ) (text : List ℕ) → (first : List ℕ) × (others : List (List ℕ)) × (parts mark text ≡ first ∷ others)

@@ -11,7 +11,8 @@ use Rattle.std.proofs.lemmas.List.Elements.{All-from_recursion}
 use Rattle.std.proofs.lemmas.List.Splits.{slice_split_at, slice_split_none}
 use Rattle.bq_bpf.specs.declared.shape.MapShape.{MapShape}
 use Rattle.bq_asm.proofs.DigitLemmas.{is_digit, decimal_digits}
-use Rattle.bq_program.specs.ShapesText.{NamesShapes, number_of, numbers_in, numbers_of, both, pair_of, parts}
+use Rattle.bq_words.specs.Words.{parts}
+use Rattle.bq_program.specs.ShapesText.{NamesShapes, number_of, numbers_in, numbers_of, both, pair_of}
 use Rattle.bq_program.specs.MarkLines.{shape_text, more_maps}
 
 digit_below : (b : ℕ) → is_digit b ≡ true → (48 ≤ b) × (b ≤ 57)

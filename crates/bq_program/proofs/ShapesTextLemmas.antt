@@ -2,7 +2,8 @@
 use Rattle.std.proofs.Common.{◌≡◌, ℕ, ◌+◌, ◌<◌, List, [], ◌∷◌, ◌++◌, length, take, drop, get_or, drop-cons, take-append-drop, add-one, sym, ap, ◌∙◌, arith}
 use Rattle.std.proofs.lemmas.List.{take_all}
 use Rattle.std.proofs.lemmas.List.Splits.{slice_split_at, slice_split_none}
-use Rattle.bq_program.specs.ShapesText.{IsPartLen, parts}
+use Rattle.bq_words.specs.Words.{parts}
+use Rattle.bq_program.specs.ShapesText.{IsPartLen}
 
 at_drop : (i : ℕ) (word : List ℕ) → i < length word → drop i word ≡ get_or word i 0 ∷ drop (i + 1) word
 at_drop i word h = drop-cons word i 0 h ∙ ap (λ k. get_or word i 0 ∷ drop k word) (sym (add-one i))

@@ -1,14 +1,11 @@
 -- The shapes of maps as a text: for each the size of a value and the number of entries, as in `8:2,16:4`.
 use Rattle.std.specs.Prelude.{◌≡◌, ℕ, ◌<◌, ◌≤◌, ◌^◌, true, false, ◌&&◌, ◌==◌, nat_lt, List, [], ◌∷◌, length, map, take, slice_index, Option, Some, None, if◌then◌else◌}
-use Rattle.std.specs.List.{All, list_all, slice_split}
+use Rattle.std.specs.List.{All, list_all}
 use Rattle.std.specs.Borrow.{Bor}
 use Rattle.std.specs.Char.{digit_value}
 use Rattle.std.specs.Str.Parse.{digits_value}
 use Rattle.bq_bpf.specs.declared.shape.MapShape.{MapShape}
-
--- the parts between such bytes
-abbrev pub parts : ℕ → List ℕ → List (List ℕ)
-parts mark text = slice_split (λ b. b == mark) text
+use Rattle.bq_words.specs.Words.{parts}
 
 -- so many bytes are none such, and then comes one or the end
 pub record IsPartLen (mark : ℕ) (text : List ℕ) (len : ℕ) : Type 0 where

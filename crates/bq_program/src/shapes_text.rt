@@ -1,7 +1,8 @@
 //! The shapes of maps as a text.
 ghost use Rattle.std.specs.Prelude.{◌≡◌, ◌∷◌, IfOk, IfSome, IfNone, MatchOption};
 ghost use Rattle.bq_bpf.specs.declared.shape.MapShape.{MapShape as Shape};
-ghost use Rattle.bq_program.specs.ShapesText.{IsPartLen, NamesNoShapes, NamesShapes, number_of, numbers_in, numbers_of, parts, parts_after};
+ghost use Rattle.bq_words.specs.Words.{parts};
+ghost use Rattle.bq_program.specs.ShapesText.{IsPartLen, NamesNoShapes, NamesShapes, number_of, numbers_in, numbers_of, parts_after};
 
 use bq_bpf::shape::MAPS;
 use bq_bpf::{MapShape, with_map_limits};

@@ -24,3 +24,7 @@ pub record IsWordLen (is_blank : ℕ → Bool) (text : List ℕ) (len : ℕ) : T
   pub within : len ≤ length text
   pub no_blank : All (λ b. is_blank b ≡ false) (take len text)
   pub then : len < length text → is_blank (slice_index text len) ≡ true
+
+-- the parts between such bytes, empty ones too
+abbrev pub parts : ℕ → List ℕ → List (List ℕ)
+parts mark text = slice_split (λ b. b == mark) text

@@ -2,14 +2,14 @@ use Rattle.std.proofs.Common.{◌≡◌, ℕ, ℤ, None, rules, FitsSigned, w32,
 use Rattle.std.proofs.lemmas.Iterator.Splits.{YieldsList-from_str_split}
 use Rattle.std.proofs.lemmas.Iterator.Consumers.{YieldsList-turn, YieldsList-end}
 use Rattle.std.proofs.lemmas.Option.{none-some}
-use Rattle.bq_console.specs.Words.{parts}
+use Rattle.bq_words.specs.Words.{parts}
 use Rattle.bq_policy_commands.specs.Limiting.{IsHelper, helper_of}
 use Rattle.bq_policy_commands.proofs.HelperLemmas.{ReadsOn, read_more, read_all, one_none}
 use Rattle.bq_policy_commands.proofs.limits.push_numbers.Goals as goal
 
 pub loop-part-preserved : goal.loop-part-preserved
 loop-part-preserved c =
-    let words = parts c.args.text.now in
+    let words = parts 44 c.args.text.now in
     let yielded = c.loop-part.yielded in
     let turn = YieldsList-turn (YieldsList-from_str_split 44 c.args.text.now (omega arith) (cc) (cc) (cc)) yielded _ c.loop-part.yielded_by _ _ c.in-Some.part c.in-Some.is c.next.ensures.steps in
     let read : IsHelper c.in-Some.part.now c.in-Some-helper.helper = search rules in
@@ -21,7 +21,7 @@ loop-part-preserved c =
 
 pub returns-in-None-helper : goal.returns-in-None-helper
 returns-in-None-helper c =
-    let words = parts c.args.text.now in
+    let words = parts 44 c.args.text.now in
     let yielded = c.loop-part.yielded in
     let turn = YieldsList-turn (YieldsList-from_str_split 44 c.args.text.now (omega arith) (cc) (cc) (cc)) yielded _ c.loop-part.yielded_by _ _ c.in-Some.part c.in-Some.is c.next.ensures.steps in
     let none : helper_of c.in-Some.part.now ≡ None = search rules in
@@ -29,7 +29,7 @@ returns-in-None-helper c =
 
 pub returns : goal.returns
 returns c =
-    let words = parts c.args.text.now in
+    let words = parts 44 c.args.text.now in
     let yielded = c.loop-part.yielded in
     let end = YieldsList-end (YieldsList-from_str_split 44 c.args.text.now (omega arith) (cc) (cc) (cc)) yielded _ c.loop-part.yielded_by _ _ c.in-None.is c.next.ensures.steps in
     let all : length words ≤ length yielded = omega (arith, end.1) in

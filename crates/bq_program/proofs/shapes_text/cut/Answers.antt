@@ -1,6 +1,6 @@
 use Rattle.std.proofs.Common.{◌≡◌, ◌+◌, ◌-◌, ◌∷◌, ◌∙◌, sym, ap, arith, take, drop, length, ◌<◌}
 use Rattle.std.proofs.lemmas.Grind.{common_steps}
-use Rattle.bq_program.specs.ShapesText.{parts}
+use Rattle.bq_words.specs.Words.{parts}
 use Rattle.bq_program.proofs.ShapesTextLemmas.{parts-first, parts-only}
 use Rattle.bq_program.proofs.shapes_text.cut.Goals as goal
 

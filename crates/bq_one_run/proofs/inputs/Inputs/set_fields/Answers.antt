@@ -2,7 +2,8 @@ use Rattle.std.proofs.Common.{ℕ, ◌+◌, ◌≤◌, List, [], ◌∷◌, leng
 use Rattle.std.proofs.lemmas.Iterator.Splits.{YieldsList-from_str_split}
 use Rattle.std.proofs.lemmas.Iterator.Consumers.{YieldsList-turn, YieldsList-end}
 use Rattle.std.proofs.lemmas.Result.{err_from_is_err_and}
-use Rattle.bq_console.specs.Words.{SaysNone, parts}
+use Rattle.bq_words.specs.Words.{parts}
+use Rattle.bq_console.specs.Words.{SaysNone}
 use Rattle.bq_one_run.specs.Naming.{SetsField}
 use Rattle.bq_one_run.proofs.InTurnLemmas.{LeadsOn, turn_more, turn_all, turn_refused}
 use Rattle.bq_one_run.proofs.RefusalLemmas.{field_seen}
@@ -15,7 +16,7 @@ loop-part-preserved c =
     let first = c.args.self.now.context.items in
     let now = c.loop-part.self.context.items in
     let next = c.set_field.new.self.context.items in
-    let words = parts c.args.text.now in
+    let words = parts 44 c.args.text.now in
     let turn = YieldsList-turn (YieldsList-from_str_split 44 c.args.text.now (omega arith) (cc) (cc) (cc)) yielded _ c.loop-part.yielded_by _ _ c.in-Some.part c.in-Some.is c.next.ensures.steps in
     let made : step (get_or words (length yielded) c.in-Some.part.now) now next = subst (λ (part : List ℕ). step part now next) turn.1 c.in_ok-set_field.ensures.context in
     let more : LeadsOn step words (length yielded + 1) first next = turn_more step words (length yielded) c.in-Some.part.now first now next turn.0 made c.loop-part.invariant.made in
@@ -31,7 +32,7 @@ pub returns-clause-context : goal.returns-clause-context
 returns-clause-context c =
     let step = SetsField c.args.hook c.args.version in
     let yielded = c.loop-part.yielded in
-    let words = parts c.args.text.now in
+    let words = parts 44 c.args.text.now in
     let end = YieldsList-end (YieldsList-from_str_split 44 c.args.text.now (omega arith) (cc) (cc) (cc)) yielded _ c.loop-part.yielded_by _ _ c.in-None.is c.next.ensures.steps in
     let all : length words ≤ length yielded = omega (arith, end.1) in
     turn_all step words (length yielded) c.args.self.now.context.items c.loop-part.self.context.items all c.loop-part.invariant.made
@@ -43,7 +44,7 @@ returns-in_err-set_field-clause-refused c =
     let first = c.args.self.now.context.items in
     let now = c.loop-part.self.context.items in
     let fault = c.in_err-set_field.field-0.0 in
-    let words = parts c.args.text.now in
+    let words = parts 44 c.args.text.now in
     let turn = YieldsList-turn (YieldsList-from_str_split 44 c.args.text.now (omega arith) (cc) (cc) (cc)) yielded _ c.loop-part.yielded_by _ _ c.in-Some.part c.in-Some.is c.next.ensures.steps in
     let none : SaysNone (step (get_or words (length yielded) c.in-Some.part.now) now) fault = subst (λ (part : List ℕ). SaysNone (step part now) fault) turn.1 c.in_err-set_field.ensures.refused in
     let error = err_from_is_err_and c.from_residual.result c.from_residual.ensures.1 in
