@@ -4,7 +4,7 @@ pub mod ComputeLemmas
 pub mod MemoryLemmas
 pub mod AccessLemmas
 pub mod HelpLemmas
-pub mod ChainLemmas
+pub mod ProgressLemmas
 pub mod PackedLemmas
 pub mod OneRunLemmas
 pub mod PassLemmas

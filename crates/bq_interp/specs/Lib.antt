@@ -1,6 +1,6 @@
 pub mod Agrees
 pub mod Steps
-pub mod Chains
+pub mod Progress
 pub mod Laws
 pub mod Positions
 pub mod Moments

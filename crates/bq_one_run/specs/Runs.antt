@@ -5,7 +5,7 @@ use Rattle.bq_bpf.specs.Counters.{Counts, Through}
 use Rattle.bq_bpf.specs.Hooks.{context_length_of}
 use Rattle.bq_bpf.specs.Runs.{RunFrom, start}
 use Rattle.bq_verify.specs.Accepted.{Accepted}
-use Rattle.bq_interp.specs.Chains.{setting_of}
+use Rattle.bq_interp.specs.Progress.{setting_of}
 use Rattle.bq_one_run.specs.declared.inputs.Inputs.{Inputs}
 
 -- what a run finds, and what it leaves: the bytes of the maps, and the counters

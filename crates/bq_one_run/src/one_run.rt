@@ -1,6 +1,6 @@
 //! Runs, and what came of them.
 ghost use Rattle.std.specs.Prelude.{◌≡◌, ◌<◌, ◌↔◌, [], length, IfNone, IfOk, IfSome, IsTrue};
-ghost use Rattle.bq_interp.specs.Chains.{setting_of};
+ghost use Rattle.bq_interp.specs.Progress.{setting_of};
 ghost use Rattle.bq_bpf.specs.Hooks.{context_length_of};
 ghost use Rattle.bq_interp.specs.Moments.{AreMoments};
 ghost use Rattle.bq_bpf.specs.Runs.{start};

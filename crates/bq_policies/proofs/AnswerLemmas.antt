@@ -1,9 +1,9 @@
 -- What an accepted policy answers, by what is known of its program.
 use Rattle.std.proofs.Common.{◌<◌, ◌^◌, length, refl, arith}
 use Rattle.bq_bpf.specs.Runs.{start}
-use Rattle.bq_interp.proofs.ChainLemmas.{context_small, safe_run}
+use Rattle.bq_interp.proofs.ProgressLemmas.{context_small, safe_run}
 use Rattle.bq_interp.proofs.OneRunLemmas.{one_run}
-use Rattle.bq_interp.specs.Chains.{setting_of}
+use Rattle.bq_interp.specs.Progress.{setting_of}
 use Rattle.bq_policies.specs.Laws.{AnswersOnce, AnswersWithin}
 
 -- an accepted policy answers within its budget, with sixteen calls of counters at most

@@ -3,7 +3,7 @@ use Rattle.std.specs.Prelude.{ℕ, ◌*◌, ◌≤◌, List, [], length, map, re
 use Rattle.bq_bpf.specs.declared.shape.MapShape.{MapShape}
 use Rattle.bq_bpf.specs.declared.board.Call.{Call as Asked}
 use Rattle.bq_bpf.specs.Runs.{RunFrom, start}
-use Rattle.bq_interp.specs.Chains.{setting_of}
+use Rattle.bq_interp.specs.Progress.{setting_of}
 use Rattle.bq_verify.specs.Accepted.{Accepted}
 
 -- a map of zeros

@@ -7,7 +7,7 @@ use Rattle.bq_bpf.specs.declared.board.Call.{Call as Asked}
 use Rattle.bq_bpf.specs.Runs.{start}
 use Rattle.bq_verify.specs.Accepted.{Accepted}
 use Rattle.bq_interp.specs.declared.traced.Moment.{Moment}
-use Rattle.bq_interp.specs.Chains.{setting_of}
+use Rattle.bq_interp.specs.Progress.{setting_of}
 use Rattle.bq_interp.specs.Moments.{AreMoments}
 use Rattle.bq_one_run.specs.declared.inputs.Inputs.{Inputs}
 use Rattle.bq_one_run.specs.Runs.{AreRuns, IsRun, Kept, kept_in}

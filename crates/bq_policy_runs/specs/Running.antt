@@ -12,7 +12,7 @@ use Rattle.bq_maps.specs.Arrays.{Arrays}
 use Rattle.bq_bpf.specs.Runs.{start}
 use Rattle.bq_interp.specs.declared.env.Env.{Env}
 use Rattle.bq_interp.specs.declared.traced.Moment.{Moment}
-use Rattle.bq_interp.specs.Chains.{setting_of}
+use Rattle.bq_interp.specs.Progress.{setting_of}
 use Rattle.bq_interp.specs.Moments.{AreMoments}
 use Rattle.bq_one_run.specs.Changes.{calls_text, changes_text, with_all}
 use Rattle.bq_one_run.specs.Naming.{BeginsWith, IsClean, SetsCounter, SetsEntry, SetsFields, TextsInTurn}
