@@ -1,7 +1,10 @@
--- The numbers of what is wrong with bytes.
-use Rattle.std.specs.Prelude.{ℕ}
+-- The numbers of what is wrong with bytes, and how a fault is written.
+use Rattle.std.specs.Prelude.{ℕ, List, ◌++◌, codes}
+use Rattle.std.specs.Fmt.{decimal}
 use Rattle.bq_insn.specs.declared.fault.Cause.{Cause}
 use Rattle.bq_insn.specs.declared.fault.Cause.TheVariants.{Length, Opcode, Register, Field, Offset, Imm, WideCut}
+use Rattle.bq_insn.specs.declared.fault.DecodeFault.{DecodeFault}
+use Rattle.bq_insn.specs.declared.fault.DecodeFault.TheVariants.{At, OutOfMemory}
 
 -- the number of a cause, after the letter I
 abbrev pub cause_number : Cause → ℕ
@@ -12,3 +15,12 @@ cause_number Field = 4
 cause_number Offset = 5
 cause_number Imm = 6
 cause_number WideCut = 7
+
+-- a cause by its letter and number, and the line or slot that has it
+abbrev pub cause_and_place : List ℕ → ℕ → ℕ → List ℕ
+cause_and_place letter number place = letter ++ (decimal number ++ (codes " " ++ decimal place))
+
+-- a fault by its cause and the slot; want of memory is none of the bytes
+abbrev pub fault_text : DecodeFault → List ℕ
+fault_text (At slot cause) = cause_and_place (codes "I") (cause_number cause) slot
+fault_text OutOfMemory = codes "out of memory"

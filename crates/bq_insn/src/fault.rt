@@ -3,7 +3,8 @@ ghost use Rattle.std.specs.Prelude.{◌≡◌};
 ghost use Rattle.bq_insn.specs.Causes.{cause_number};
 
 use std::alloc::AllocFailed;
-use thiserror::Error;
+use std::error::Error;
+use std::fmt;
 
 /// What is wrong with an instruction, or with the whole. The order is that in which causes are named: an instruction that
 /// has several is refused for the first.
@@ -44,16 +45,34 @@ impl Cause {
 }
 
 /// Why bytes are refused.
-#[derive(Clone, Copy, Debug, PartialEq, Eq, Error)]
+#[derive(Clone, Copy, Debug, PartialEq, Eq)]
 pub enum DecodeFault {
     /// A fault of the bytes. `slot` is the slot of 8 bytes at which the instruction begins, counted from 0; for the length it
     /// is 0.
-    #[error("slot {slot}: {cause:?}")]
     At { slot: usize, cause: Cause },
     /// A growth was refused.
-    #[error("out of memory")]
     OutOfMemory,
 }
+
+/// The text that an input is answered: `I2 5`, the number of the cause and the slot.
+impl fmt::Display for DecodeFault {
+    ghost use Rattle.std.specs.Prelude.{Some};
+    ghost use Rattle.bq_insn.specs.Causes.{fault_text};
+
+    ghost output = { λ fault. Some (fault_text fault) };
+
+    fn fmt<W: fmt::Write>(&self, f: &mut fmt::Formatter<W>) -> fmt::Result {
+        match *self {
+            DecodeFault::At { slot, cause } => {
+                let number = cause.number();
+                write!(f, "I{number} {slot}")
+            }
+            DecodeFault::OutOfMemory => f.write_str("out of memory"),
+        }
+    }
+}
+
+impl Error for DecodeFault {}
 
 impl<T: Drop> From<AllocFailed<T>> for DecodeFault {
     ghost use Rattle.bq_insn.specs.declared.fault.DecodeFault.TheVariants.{OutOfMemory};

@@ -42,10 +42,7 @@ fn has_bad_register(uses: Uses, slot: Slot) -> bool
 fn is_no_register(used: Use, register: u8) -> bool
     ensures { result ≡ is_no_register used register }
 {
-    match used {
-        Use::Register => register > 10,
-        _ => false,
-    }
+    matches!(used, Use::Register) && register > 10
 }
 
 /// A field that is not used is not zero (RFC 9669, section 3.1).
@@ -62,10 +59,7 @@ fn has_stray_field(uses: Uses, slot: Slot) -> bool
 fn is_stray(used: Use, value: u32) -> bool
     ensures { result ≡ is_stray used value }
 {
-    match used {
-        Use::Unused => value > 0,
-        _ => false,
-    }
+    matches!(used, Use::Unused) && value > 0
 }
 
 /// The second slot of a wide instruction has more than its immediate (RFC 9669, section 3.2), or even that where it
@@ -120,18 +114,12 @@ fn is_variant(width: Width, op: Operation, by_register: bool, offset: u16) -> bo
 fn has_no_width(form: Form, slot: Slot) -> bool
     ensures { result ≡ has_no_width form slot }
 {
-    match form {
-        Form::End { .. } => !(slot.imm == 16 || slot.imm == 32 || slot.imm == 64),
-        _ => false,
-    }
+    matches!(form, Form::End { .. }) && !(slot.imm == 16 || slot.imm == 32 || slot.imm == 64)
 }
 
 /// A wide instruction has no second slot.
 fn is_cut(form: Form, next: Option<Slot>) -> bool
     ensures { result ≡ is_cut form next }
 {
-    match (form, next) {
-        (Form::Wide, None) => true,
-        _ => false,
-    }
+    matches!((form, next), (Form::Wide, None))
 }

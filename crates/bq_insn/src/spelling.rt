@@ -186,10 +186,7 @@ fn slot(opcode: u8, dst: u8, src: u8, offset: u16, imm: u32) -> Slot
 fn variant_of(op: Operation) -> u16
     ensures { result ≡ variant_of op }
 {
-    match op {
-        Operation::Sdiv | Operation::Srem => 1,
-        _ => 0,
-    }
+    u16::from(matches!(op, Operation::Sdiv | Operation::Srem))
 }
 
 /// The number of bits.
