@@ -1,7 +1,10 @@
--- The numbers of what is wrong with a text.
-use Rattle.std.specs.Prelude.{ℕ}
+-- The numbers of what is wrong with a text, and how a fault is written.
+use Rattle.std.specs.Prelude.{ℕ, List, codes}
+use Rattle.bq_insn.specs.Causes.{cause_and_place}
 use Rattle.bq_asm.specs.declared.fault.Cause.{Cause}
 use Rattle.bq_asm.specs.declared.fault.Cause.TheVariants.{Word, Number, LabelTwice, LabelMissing, Slots}
+use Rattle.bq_asm.specs.declared.fault.AsmFault.{AsmFault}
+use Rattle.bq_asm.specs.declared.fault.AsmFault.TheVariants.{At, OutOfMemory}
 
 -- the number of a cause, after the letter A
 abbrev pub cause_number : Cause → ℕ
@@ -10,3 +13,8 @@ cause_number Number = 2
 cause_number LabelTwice = 3
 cause_number LabelMissing = 4
 cause_number Slots = 5
+
+-- a fault by its cause and the line; want of memory is none of the text
+abbrev pub fault_text : AsmFault → List ℕ
+fault_text (At line cause) = cause_and_place (codes "A") (cause_number cause) line
+fault_text OutOfMemory = codes "out of memory"

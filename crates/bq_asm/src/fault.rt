@@ -3,7 +3,8 @@ ghost use Rattle.std.specs.Prelude.{◌≡◌};
 ghost use Rattle.bq_asm.specs.Causes.{cause_number};
 
 use std::alloc::{AllocError, AllocFailed};
-use thiserror::Error;
+use std::error::Error;
+use std::fmt;
 
 /// What is wrong with a line. Of several causes at a line the first in this order counts.
 #[derive(Clone, Copy, Debug, PartialEq, Eq)]
@@ -37,17 +38,35 @@ impl Cause {
 }
 
 /// Why a text is refused.
-#[derive(Clone, Copy, Debug, Error)]
+#[derive(Clone, Copy, Debug)]
 pub enum AsmFault {
     /// The first line with a fault, counted from 1, and the least of its causes. Only where no line has one of
     /// the others, a text with no instruction is `Slots` at line 0, and else the first jump whose label is set
     /// nowhere is `LabelMissing`.
-    #[error("line {line}: {cause:?}")]
     At { line: usize, cause: Cause },
     /// A growth was refused.
-    #[error("out of memory")]
     OutOfMemory,
 }
+
+/// The text that an input is answered: `A1 3`, the number of the cause and the line.
+impl fmt::Display for AsmFault {
+    ghost use Rattle.std.specs.Prelude.{Some};
+    ghost use Rattle.bq_asm.specs.Causes.{fault_text};
+
+    ghost output = { λ fault. Some (fault_text fault) };
+
+    fn fmt<W: fmt::Write>(&self, f: &mut fmt::Formatter<W>) -> fmt::Result {
+        match *self {
+            AsmFault::At { line, cause } => {
+                let number = cause.number();
+                write!(f, "A{number} {line}")
+            }
+            AsmFault::OutOfMemory => f.write_str("out of memory"),
+        }
+    }
+}
+
+impl Error for AsmFault {}
 
 /// The refusal of a line.
 pub fn refusal(line: usize, cause: Cause) -> AsmFault
