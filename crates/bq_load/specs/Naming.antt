@@ -1,7 +1,6 @@
 -- How a fault of the program, and a refusal of the verifier, are named as faults of the image, and how those are named.
-use Rattle.std.specs.Prelude.{ℕ, List, [], ◌++◌, codes}
-use Rattle.std.specs.Fmt.{decimal}
-use Rattle.bq_insn.specs.Causes.{cause_number as program_number}
+use Rattle.std.specs.Prelude.{ℕ, List, ◌++◌, codes}
+use Rattle.bq_insn.specs.Causes.{cause_and_place, fault_text as program_text}
 use Rattle.bq_verify.specs.Causes.{cause_number as refusal_number}
 use Rattle.bq_insn.specs.declared.fault.DecodeFault.{DecodeFault}
 use Rattle.bq_insn.specs.declared.fault.DecodeFault.TheVariants as program
@@ -19,7 +18,7 @@ of_refusal (refused.At slot cause) = fault.Refused slot cause
 of_refusal refused.OutOfMemory = fault.OutOfMemory
 
 -- why an image doesn't load: its number after the letter L, and where the fault is the program's, that and its slot.
--- Want of memory has no name: it is none of the image
+-- Want of memory is none of the image
 abbrev pub fault_text : LoadFault → List ℕ
 fault_text fault.Magic = codes "L1"
 fault_text fault.Version = codes "L2"
@@ -27,6 +26,6 @@ fault_text fault.Hook = codes "L3"
 fault_text fault.Shape = codes "L4"
 fault_text fault.Cut = codes "L5"
 fault_text fault.Rest = codes "L6"
-fault_text (fault.Decode slot cause) = codes "L7 I" ++ (decimal (program_number cause) ++ (codes " " ++ decimal slot))
-fault_text (fault.Refused slot cause) = codes "L8 V" ++ (decimal (refusal_number cause) ++ (codes " " ++ decimal slot))
-fault_text fault.OutOfMemory = []
+fault_text (fault.Decode slot cause) = codes "L7 " ++ program_text (program.At slot cause)
+fault_text (fault.Refused slot cause) = cause_and_place (codes "L8 V") (refusal_number cause) slot
+fault_text fault.OutOfMemory = codes "out of memory"

@@ -4,47 +4,70 @@ ghost use Rattle.std.specs.Prelude.{◌≡◌};
 use bq_insn::fault::DecodeFault;
 use bq_verify::Refused;
 use std::alloc::{AllocError, AllocFailed};
-use thiserror::Error;
+use std::error::Error;
+use std::fmt;
 
 /// Why bytes do not load: the first fault from left to right, then the first of the program, then what the verifier
 /// refuses. A field is judged when it is whole; one that is cut is `Cut`.
-#[derive(Clone, Copy, Debug, PartialEq, Eq, Error)]
+#[derive(Clone, Copy, Debug, PartialEq, Eq)]
 pub enum LoadFault {
     /// The bytes do not begin with the letters BQPI.
-    #[error("no image")]
     Magic,
     /// The version is not 1 or 2.
-    #[error("an unknown version")]
     Version,
     /// The hook is not 0, 1 or 2.
-    #[error("an unknown hook")]
     Hook,
     /// There are more than 8 maps, or a shape is not within its limits.
-    #[error("maps out of range")]
     Shape,
     /// The bytes end within a field, the program included.
-    #[error("cut short")]
     Cut,
     /// Bytes stand after the program.
-    #[error("bytes after the end")]
     Rest,
     /// The program is none: the slot of the instruction at fault, counted from 0, and its least cause. The length is
     /// named at slot 0.
-    #[error("slot {slot}: {cause:?}")]
     Decode {
         slot: usize,
         cause: bq_insn::fault::Cause,
     },
     /// The program is not accepted: the slot, and why.
-    #[error("slot {slot}: {cause:?}")]
     Refused {
         slot: usize,
         cause: bq_verify::Cause,
     },
     /// A growth was refused, which says nothing of the bytes.
-    #[error("out of memory")]
     OutOfMemory,
 }
+
+/// The text that an input is answered: `L1` to `L6`; `L7 I2 slot`, where the program has a fault; `L8 V5 slot`, where it is
+/// refused.
+impl fmt::Display for LoadFault {
+    ghost use Rattle.std.specs.Prelude.{Some};
+    ghost use Rattle.bq_load.specs.Naming.{fault_text};
+
+    ghost output = { λ fault. Some (fault_text fault) };
+
+    fn fmt<W: fmt::Write>(&self, f: &mut fmt::Formatter<W>) -> fmt::Result {
+        match *self {
+            LoadFault::Magic => f.write_str("L1"),
+            LoadFault::Version => f.write_str("L2"),
+            LoadFault::Hook => f.write_str("L3"),
+            LoadFault::Shape => f.write_str("L4"),
+            LoadFault::Cut => f.write_str("L5"),
+            LoadFault::Rest => f.write_str("L6"),
+            LoadFault::Decode { slot, cause } => {
+                let fault = DecodeFault::At { slot, cause };
+                write!(f, "L7 {fault}")
+            }
+            LoadFault::Refused { slot, cause } => {
+                let number = cause.number();
+                write!(f, "L8 V{number} {slot}")
+            }
+            LoadFault::OutOfMemory => f.write_str("out of memory"),
+        }
+    }
+}
+
+impl Error for LoadFault {}
 
 impl From<AllocError> for LoadFault {
     ghost use Rattle.bq_load.specs.declared.fault.LoadFault.TheVariants.{OutOfMemory};

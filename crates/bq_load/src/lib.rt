@@ -11,14 +11,14 @@ pub mod image;
 mod judging;
 pub mod laws;
 pub mod loading;
-mod naming;
 pub mod reader;
+mod words;
 pub mod writing;
 
 pub use bq_bpf::{Hook, Version};
 pub use fault::LoadFault;
 pub use image::{Image, read_image};
 pub use loading::load;
-pub use naming::Numbered;
 pub use reader::ImageReader;
+pub use words::FaultInWords;
 pub use writing::write_image;

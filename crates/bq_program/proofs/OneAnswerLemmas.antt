@@ -21,9 +21,10 @@ use Rattle.bq_program.specs.declared.form.Form.{Form}
 use Rattle.bq_program.specs.declared.form.Form.TheVariants.{Program, Image}
 use Rattle.bq_program.specs.Forms.{SpellsForm}
 use Rattle.bq_program.specs.HexText.{IsNoHex}
-use Rattle.bq_program.specs.Refusals.{refusal, cause_and_place}
-use Rattle.bq_asm.specs.Causes.{cause_number as asm_number}
-use Rattle.bq_insn.specs.Causes.{cause_number as dis_number}
+use Rattle.bq_program.specs.Refusals.{refusal}
+use Rattle.bq_asm.specs.declared.fault.AsmFault.TheVariants as assembly
+use Rattle.bq_asm.specs.Causes.{fault_text as asm_text}
+use Rattle.bq_insn.specs.Causes.{fault_text as dis_text}
 use Rattle.bq_program.specs.Asm.{IsAssembled, IsNoText, IsFaultyText}
 use Rattle.bq_program.specs.Dis.{IsListed, IsFaultyProgram}
 use Rattle.bq_program.specs.Laws.{OneAssembly, OneListing}
@@ -50,8 +51,8 @@ one_text_refusal text x y (inl p) (inr q) = absurd (p.0 q.0)
 one_text_refusal text x y (inr p) (inl q) = absurd (q.0 p.0)
 one_text_refusal text x y (inr p) (inr q) =
     let same = asm.one_fault text p.1 q.1 p.2 q.2 p.3 q.3 in
-    p.4 ∙ ap (λ n. refusal (cause_and_place (codes "A") (asm_number p.2) n)) same.0
-    ∙ ap (λ c. refusal (cause_and_place (codes "A") (asm_number c) q.1)) same.1 ∙ sym q.4
+    p.4 ∙ ap (λ n. refusal (asm_text (assembly.At n p.2))) same.0
+    ∙ ap (λ c. refusal (asm_text (assembly.At q.1 c))) same.1 ∙ sym q.4
 
 same_assembly : (form : Form) (text x y : List ℕ) → IsAssembled form text x → IsAssembled form text y → x ≡ y
 same_assembly form text x y p q =
@@ -83,8 +84,8 @@ one_hex_refusal text x y (inr p) (inl q) = cc (p.1, q.0.1)
 one_hex_refusal text x y (inr p) (inr q) =
     let bytes : p.0 ≡ q.0 = cc (p.1, q.1) in
     let same = fault.one_fault q.0 p.2 q.2 p.3 q.3 (subst (λ b. IsFault b (At p.2 p.3)) bytes p.4) q.4 in
-    p.5 ∙ ap (λ n. refusal (cause_and_place (codes "I") (dis_number p.3) n)) same.0
-    ∙ ap (λ c. refusal (cause_and_place (codes "I") (dis_number c) q.2)) same.1 ∙ sym q.5
+    p.5 ∙ ap (λ n. refusal (dis_text (At n p.3))) same.0
+    ∙ ap (λ c. refusal (dis_text (At q.2 c))) same.1 ∙ sym q.5
 
 -- a text is either listed or refused, and with one text
 pub one_listing : OneListing

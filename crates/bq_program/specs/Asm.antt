@@ -4,13 +4,14 @@ use Rattle.std.specs.Str.{IsUtf8}
 use Rattle.hex.specs.Hex.{encode_lower}
 use Rattle.bq_insn.specs.declared.Insn.{Insn}
 use Rattle.bq_asm.specs.declared.fault.Cause.{Cause}
-use Rattle.bq_asm.specs.Causes.{cause_number}
+use Rattle.bq_asm.specs.declared.fault.AsmFault.TheVariants.{At}
+use Rattle.bq_asm.specs.Causes.{fault_text}
 use Rattle.bq_asm.specs.Lines.{lines_of}
 use Rattle.bq_asm.specs.Assembly.{Assembles}
 use Rattle.bq_asm.specs.Faults.{Faulty}
 use Rattle.bq_program.specs.declared.form.Form.{Form}
 use Rattle.bq_program.specs.Forms.{SpellsForm}
-use Rattle.bq_program.specs.Refusals.{refusal, cause_and_place}
+use Rattle.bq_program.specs.Refusals.{refusal}
 
 -- the text stands for a program: its bytes in that form as hex in lower case, and the line's end
 pub record IsAssembled (form : Form) (text written : List ℕ) : Type 0 where
@@ -25,10 +26,10 @@ pub record IsAssembled (form : Form) (text written : List ℕ) : Type 0 where
 abbrev pub IsNoText : List ℕ → List ℕ → Type 0
 IsNoText text written = (¬ (IsUtf8 text)) × (written ≡ refusal (codes "text"))
 
--- the text has this fault: its cause and its line
+-- the text has this fault
 abbrev pub IsFaultyText : List ℕ → List ℕ → Type 0
 IsFaultyText text written =
-    IsUtf8 text × (line : ℕ) × (cause : Cause) × Faulty (lines_of text) line cause × (written ≡ refusal (cause_and_place (codes "A") (cause_number cause) line))
+    IsUtf8 text × (line : ℕ) × (cause : Cause) × Faulty (lines_of text) line cause × (written ≡ refusal (fault_text (At line cause)))
 
 -- what is written for a text that is accepted, or for one that is not
 abbrev pub AsmWrites : Form → List ℕ → Bool → List ℕ → Type 0

@@ -5,7 +5,7 @@ ghost use Rattle.bq_program.specs.Asm.{AsmWrites};
 
 use crate::Answer;
 use crate::form::Form;
-use bq_asm::{AsmFault, Cause, assemble};
+use bq_asm::{AsmFault, assemble};
 use std::alloc::{AllocError, Global};
 
 /// The lower-case hex of the program that an assembler text stands for, in that form, and LF; else why it is refused.
@@ -23,9 +23,8 @@ pub fn assembled(alloc: Global, form: &Form, text: &[u8]) -> Result<Answer, Allo
             Ok(Answer::accepted(line))
         }
         Err(AsmFault::OutOfMemory) => Err(AllocError),
-        Err(AsmFault::At { line, cause }) => {
-            let number = cause.number();
-            let reason = format!(in alloc; "A{number} {line}")?;
+        Err(fault) => {
+            let reason = format!(in alloc; "{fault}")?;
             Answer::refused(alloc, reason.as_str())
         }
     }

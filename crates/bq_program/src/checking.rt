@@ -7,7 +7,7 @@ ghost use Rattle.bq_program.specs.Check.{CheckWrites, accepted_line};
 
 use crate::Answer;
 use crate::hex_text::bytes_of;
-use bq_load::{Hook, LoadFault, Numbered, load};
+use bq_load::{Hook, LoadFault, load};
 use std::alloc::{AllocError, Global};
 
 /// The hook and the budget of the image whose bytes the hex text spells; else why it is refused. The budget is the
@@ -46,9 +46,6 @@ pub fn fault_text(alloc: Global, fault: LoadFault) -> Result<String, AllocError>
 {
     match fault {
         LoadFault::OutOfMemory => Err(AllocError),
-        fault => {
-            let named = Numbered(fault);
-            format!(in alloc; "{named}")
-        }
+        fault => format!(in alloc; "{fault}"),
     }
 }

@@ -7,7 +7,7 @@ use crate::Answer;
 use crate::hex_text::bytes_of;
 use bq_asm::listing;
 use bq_insn::decode::decode;
-use bq_insn::fault::{Cause, DecodeFault};
+use bq_insn::fault::DecodeFault;
 use std::alloc::{AllocError, Global};
 
 /// The listing of the program whose bytes the hex text spells; else why it is refused. Blanks and line ends in the text
@@ -21,9 +21,8 @@ pub fn disassembled(alloc: Global, hex: &[u8]) -> Result<Answer, AllocError>
     match decode(alloc, bytes.as_slice()) {
         Ok(insns) => Ok(Answer::accepted(listing(alloc, insns.as_slice())?)),
         Err(DecodeFault::OutOfMemory) => Err(AllocError),
-        Err(DecodeFault::At { slot, cause }) => {
-            let number = cause.number();
-            let reason = format!(in alloc; "I{number} {slot}")?;
+        Err(fault) => {
+            let reason = format!(in alloc; "{fault}")?;
             Answer::refused(alloc, reason.as_str())
         }
     }

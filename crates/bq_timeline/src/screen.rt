@@ -12,7 +12,7 @@ use crate::shown::Shown;
 use bq_core::{Event, Refusal, Reply};
 use bq_disc::limits::{PROCESSORS, TASKS};
 use bq_forms::Names;
-use bq_load::LoadFault;
+use bq_load::{FaultInWords, LoadFault};
 use bq_schedule::{Change, Schedule};
 use bq_trace::AnyCore;
 use bq_why::{Because, InWords, Occurrence};
@@ -154,9 +154,10 @@ impl Screen {
 
     /// An image does not load.
     pub fn unloaded(&mut self, number: u64, fault: LoadFault) -> Result<(), AllocError> {
+        let why = FaultInWords(fault);
         write!(
             self.notes(),
-            "line {number}: the image does not load: {fault}\n"
+            "line {number}: the image does not load: {why}\n"
         )
     }
 

@@ -8,7 +8,7 @@ use crate::sink::Sink;
 use crate::telling;
 use bq_core::{Event, Hook, Policy};
 use bq_lines::HexWord;
-use bq_load::{LoadFault, Numbered, load};
+use bq_load::{LoadFault, load};
 use std::alloc::{AllocError, Global};
 
 /// An image that is to be installed, spelled in hex: the processor, the hook and the number under which it comes there.
@@ -69,6 +69,5 @@ pub fn write_fault(text: &mut String, fault: LoadFault) -> Result<(), AllocError
     requires { fault ≢ why.OutOfMemory }
     ensures { OnOk result (string_bytes text.new ≡ string_bytes text.old ++ fault_line fault) }
 {
-    let named = Numbered(fault);
-    write!(text, "refused {named}\n")
+    write!(text, "refused {fault}\n")
 }
