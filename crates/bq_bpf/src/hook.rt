@@ -21,7 +21,18 @@ macro_rules! with_hooks {
         with_hooks!($before, "")
     };
     ($before:literal, $behind:literal) => {
-        concat!($before, "place, preempt or pull", $behind)
+        with_hooks!($before, ", ", " or ", $behind)
+    };
+    ($before:literal, $second:literal, $third:literal, $behind:literal) => {
+        concat!(
+            $before,
+            "place",
+            $second,
+            "preempt",
+            $third,
+            "pull",
+            $behind
+        )
     };
 }
 
@@ -72,7 +83,10 @@ macro_rules! with_versions {
         with_versions!($before, "")
     };
     ($before:literal, $behind:literal) => {
-        concat!($before, "1 or 2", $behind)
+        with_versions!($before, " or ", $behind)
+    };
+    ($before:literal, $between:literal, $behind:literal) => {
+        concat!($before, "1", $between, "2", $behind)
     };
 }
 

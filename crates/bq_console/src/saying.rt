@@ -7,6 +7,8 @@ ghost use Rattle.bq_console.specs.Status.{EndsFor, refused_status};
 use crate::fault::WordsFault;
 use crate::reasons::reason;
 use crate::status::{IO_FAILED, OUT_OF_MEMORY, REFUSED};
+use bq_streams::StreamFault;
+use std::fmt;
 use std::io::{Error, ErrorKind};
 use std::process::ExitCode;
 
@@ -37,8 +39,8 @@ pub fn say_unread(rt: &HostRuntime, name: Option<&str>, error: &Error) -> ExitCo
     ensures { EndsFor (error_kind error.now) result }
 {
     match name {
-        Some(name) => say_failed(rt, name, error),
-        None => say_failed(rt, "a read failed", error),
+        Some(name) => say_failed(rt, &name, error),
+        None => say_failed(rt, &StreamFault::Read, error),
     }
 }
 
@@ -46,11 +48,11 @@ pub fn say_unread(rt: &HostRuntime, name: Option<&str>, error: &Error) -> ExitCo
 pub fn say_unwritten(rt: &HostRuntime, error: &Error) -> ExitCode
     ensures { EndsFor (error_kind error.now) result }
 {
-    say_failed(rt, "a write failed", error)
+    say_failed(rt, &StreamFault::Write, error)
 }
 
 /// Says what failed, and why.
-fn say_failed(rt: &HostRuntime, what: &str, error: &Error) -> ExitCode
+fn say_failed<W: fmt::Display>(rt: &HostRuntime, what: &W, error: &Error) -> ExitCode
     ensures { EndsFor (error_kind error.now) result }
 {
     if error.kind() == ErrorKind::OutOfMemory {

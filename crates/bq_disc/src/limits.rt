@@ -23,6 +23,14 @@ pub const LEAST_SLICE: u64 = 100_000;
 /// The longest slice that a task may ask for, in nanoseconds.
 pub const GREATEST_SLICE: u64 = 100_000_000;
 
+/// A text with the lengths of slices that a task may ask for, in nanoseconds, in it.
+#[macro_export]
+macro_rules! with_slices {
+    ($before:literal, $behind:literal) => {
+        concat!($before, "100000 to 100000000", $behind)
+    };
+}
+
 /// The slice of a task that asks for none of its own, in nanoseconds.
 pub const DEFAULT_SLICE: u64 = 3_000_000;
 

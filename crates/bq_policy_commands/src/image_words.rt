@@ -1,5 +1,5 @@
 //! What an image lacks, in words.
-use bq_bpf::with_map_limits;
+use bq_bpf::{with_hooks, with_map_limits, with_versions};
 use bq_insn::fault::Cause as Spelling;
 use bq_load::LoadFault;
 
@@ -7,8 +7,8 @@ use bq_load::LoadFault;
 pub(crate) fn image_words(fault: LoadFault) -> &'static str {
     match fault {
         LoadFault::Magic => "the bytes do not begin with the letters BQPI: this is no image",
-        LoadFault::Version => "the version, byte 4, is neither 1 nor 2",
-        LoadFault::Hook => "the hook, byte 5, is not 0 (place), 1 (preempt) or 2 (pull)",
+        LoadFault::Version => with_versions!("the version, byte 4, is neither ", " nor ", ""),
+        LoadFault::Hook => with_hooks!("the hook, byte 5, is not 0 (", "), 1 (", ") or 2 (", ")"),
         LoadFault::Shape => with_map_limits!(
             "the size of a value is not ",
             ", or the number of entries is not ",

@@ -7,6 +7,7 @@ use bq_bpf::board::COUNTERS;
 use bq_bpf::hook::NO_HOOK;
 use bq_bpf::with_counters;
 use bq_core::Hook;
+use bq_lines::lines::LONGEST;
 use bq_lines::words::is_allowed_line;
 use bq_lines::{Keyword, numbers};
 use bq_words::numbers::hex_digits;
@@ -223,7 +224,7 @@ impl fmt::Display for Quoted<'_> {
 impl fmt::Display for Fault<'_> {
     fn fmt<W: fmt::Write>(&self, f: &mut fmt::Formatter<W>) -> fmt::Result {
         match self {
-            Fault::TooLong => f.write_str("a line has at most 131072 bytes"),
+            Fault::TooLong => write!(f, "a line has at most {LONGEST} bytes"),
             Fault::Byte => f.write_str("a byte is neither printable ASCII nor a tab"),
             Fault::Name(name) => {
                 let name = Quoted(name);

@@ -1,6 +1,7 @@
 //! Events and refusals in words.
 
 use bq_core::{Event, Refusal};
+use bq_disc::with_slices;
 use bq_lines::Keyword;
 use bq_weights::with_nice_values;
 use std::fmt;
@@ -70,7 +71,7 @@ fn reason(refusal: Refusal) -> &'static str {
         Refusal::TaskExists => "the task is admitted already",
         Refusal::EmptyMask => "the mask has no processor of the machine",
         Refusal::Nice => with_nice_values!("a nice value is from ", ""),
-        Refusal::Slice => "a slice is from 100000 to 100000000 ns",
+        Refusal::Slice => with_slices!("a slice is from ", " ns"),
         Refusal::Idle => "nothing runs there",
         Refusal::SameProcessor => "a processor does not pull from itself",
         Refusal::InHand => "a wake has begun there and has not ended",

@@ -18,7 +18,10 @@ macro_rules! with_rules {
         with_rules!($before, "")
     };
     ($before:literal, $behind:literal) => {
-        concat!($before, "cfs or eevdf", $behind)
+        with_rules!($before, " or ", $behind)
+    };
+    ($before:literal, $between:literal, $behind:literal) => {
+        concat!($before, "cfs", $between, "eevdf", $behind)
     };
 }
 

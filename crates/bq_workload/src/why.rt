@@ -3,10 +3,12 @@
 use crate::duration;
 use crate::fields::span;
 use crate::tables::only;
-use bq_actions::limits::LONGEST;
+use bq_actions::limits::{LONGEST, LONGEST_NAME};
+use bq_disc::limits::TASKS;
 use bq_disc::with_processors;
 use bq_lines::numbers::NO_SIZE;
 use bq_weights::with_nice_values;
+use bq_words::with_rules;
 use std::fmt;
 use toml::{Table, Value};
 
@@ -105,7 +107,7 @@ impl fmt::Display for Why<'_> {
             Why::UnknownTask { name, names: _ } => {
                 write!(f, "wake: no task has the name {name:?}")
             }
-            Why::LongName => f.write_str("name: it has more than 1024 bytes"),
+            Why::LongName => write!(f, "name: it has more than {LONGEST_NAME} bytes"),
             Why::TwoOfName { name, first } => {
                 write!(f, "name: {name:?} is the name of task {first} too")
             }
@@ -120,8 +122,9 @@ impl fmt::Display for Why<'_> {
                     processors.saturating_sub(1)
                 )
             }
-            Why::TooMany => f.write_str(
-                "there are more than 1024 tasks in all; a machine has room for no more",
+            Why::TooMany => write!(
+                f,
+                "there are more than {TASKS} tasks in all; a machine has room for no more"
             ),
         }
     }
@@ -228,7 +231,7 @@ fn no_time<W: fmt::Write>(f: &mut fmt::Formatter<W>, value: &Value, range: &Rang
 fn described(wanted: &Wanted) -> &'static str {
     match wanted {
         Wanted::Nice => with_nice_values!("is no nice value (a whole number from ", ")"),
-        Wanted::Rule => "is no discipline (\"cfs\" or \"eevdf\")",
+        Wanted::Rule => with_rules!("is no discipline (\"", "\" or \"", "\")"),
         Wanted::Size => NO_SIZE,
         Wanted::Processors => with_processors!(
             "is no list of processors (numbers from ",
