@@ -6,3 +6,4 @@ pub mod LoadLemmas
 pub mod CallLemmas
 pub mod WriteLemmas
 pub mod CounterLemmas
+pub mod TransferLemmas
