@@ -119,7 +119,7 @@ fn stack_line(alloc: Global, view: &AbstractState) -> Result<String, AllocError>
 /// Each run of bytes that are set, by their distance from the stack's end.
 #[tactic(auto, using(crate::proofs::RunLemmas::none_yet, crate::proofs::RunLemmas::all_told, crate::proofs::RunLemmas::inside, crate::proofs::RunLemmas::without, crate::proofs::RunLemmas::with_run))]
 fn runs_text(alloc: Global, view: &AbstractState) -> Result<String, AllocError>
-    ensures { IfOk result (λ text. AreRuns view.now.set STACK (string_bytes text)) }
+    ensures { IfOk result (λ text. AreRuns view.now.set 512 (string_bytes text)) }
 {
     let mut text = String::new(alloc);
     let mut past = 0;
@@ -139,10 +139,10 @@ fn runs_text(alloc: Global, view: &AbstractState) -> Result<String, AllocError>
 
 /// The byte past the last of the run that the byte begins.
 fn run_end(set: &[bool; 512], first: usize) -> usize
-    requires inside { first < STACK }
+    requires inside { first < 512 }
     requires begun { slice_index_or set.now first false ≡ true }
     ensures some { first < result }
-    ensures most { result ≤ STACK }
+    ensures most { result ≤ 512 }
     ensures all { AreSet set.now first result }
     ensures ends { EndsAt set.now result }
 {
@@ -157,7 +157,7 @@ fn run_end(set: &[bool; 512], first: usize) -> usize
 /// Bytes of the stack, from the first up to the one past the last.
 fn run_text(alloc: Global, first: usize, past: usize) -> Result<String, AllocError>
     requires some { first < past }
-    requires inside { past ≤ STACK }
+    requires inside { past ≤ 512 }
     ensures { IfOk result (λ text. string_bytes text ≡ run_text first past) }
 {
     let far = STACK - first;
