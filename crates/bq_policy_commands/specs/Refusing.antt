@@ -1,30 +1,18 @@
 -- The line that refuses a file.
-use Rattle.std.specs.Prelude.{◌≡◌, ◌≢◌, ℕ, List, [], ◌++◌, String, codes, string_bytes}
+use Rattle.std.specs.Prelude.{◌≡◌, ◌≢◌, ℕ, List, ◌++◌, String, string_bytes}
 use Rattle.std.specs.declared.alloc.Global.{Global}
-use Rattle.std.specs.Fmt.{decimal}
-use Rattle.bq_load.specs.declared.fault.LoadFault.TheVariants as load
-use Rattle.bq_asm.specs.Causes.{cause_number}
-use Rattle.bq_load.specs.Naming.{fault_text}
-use Rattle.bq_program.specs.Refusals.{refusal, cause_and_place}
+use Rattle.bq_program.specs.Naming.{fault_text}
+use Rattle.bq_program.specs.Refusals.{refusal}
 use Rattle.bq_program.specs.declared.fault.PolicyFault.{PolicyFault}
 use Rattle.bq_program.specs.declared.fault.PolicyFault.TheVariants as fault
 use Rattle.bq_program.specs.declared.head.Head.{Head}
 use Rattle.bq_program.specs.Files.{IsPolicyFault}
-use Rattle.bq_program.specs.Marks.{key_word}
 use Rattle.bq_policy_commands.specs.declared.answered.Answered.{Answered}
 use Rattle.bq_policy_commands.specs.declared.answered.Answered.TheVariants.{Refused}
 
--- each fault by its name, as `asm` and `check` name it; want of memory is none of the file, and is never written
+-- the line by the fault's text
 abbrev pub fault_line : PolicyFault → List ℕ
-fault_line fault.Text = refusal (codes "text")
-fault_line fault.Hex = refusal (codes "hex")
-fault_line (fault.Head line cause) = refusal (codes "head " ++ decimal line)
-fault_line (fault.Assembly line cause) = refusal (cause_and_place (codes "A") (cause_number cause) line)
-fault_line (fault.Image named) = refusal (fault_text named)
-fault_line (fault.Program slot cause) = refusal (fault_text (load.Decode slot cause))
-fault_line (fault.Disagrees key) = refusal (key_word key)
-fault_line fault.NoHook = refusal (codes "hook")
-fault_line fault.OutOfMemory = []
+fault_line named = refusal (fault_text named)
 
 -- the text begins with the line that names the fault
 abbrev pub Refuses : PolicyFault → List ℕ → Type 0

@@ -1,10 +1,6 @@
 //! Why a file is no policy: the line that refuses it, and what is wrong in words.
-ghost use Rattle.std.specs.Prelude.{◌≡◌, ◌≢◌, ◌++◌, IfOk, OnOk, codes, string_bytes};
-ghost use Rattle.std.specs.Fmt.{decimal};
-ghost use Rattle.bq_asm.specs.Causes.{cause_number};
-ghost use Rattle.bq_load.specs.Naming.{fault_text};
+ghost use Rattle.std.specs.Prelude.{◌≡◌, ◌≢◌, IfOk, OnOk, string_bytes};
 ghost use Rattle.bq_policy_commands.specs.Refusing.{fault_line};
-ghost use Rattle.bq_program.specs.Refusals.{cause_and_place, refusal};
 ghost use Rattle.bq_program.specs.declared.fault.PolicyFault.TheVariants.{OutOfMemory};
 
 use crate::image_words::{image_words, spelling_words};
@@ -13,7 +9,6 @@ use bq_asm::Cause;
 use bq_bpf::hook::{NO_HOOK, NO_VERSION};
 use bq_explain::complaint;
 use bq_insn::fault::Cause as Spelling;
-use bq_load::LoadFault;
 use bq_program::{HeadCause, Key, PolicyFault, SHAPES_FORM};
 use std::alloc::{AllocError, Global};
 
@@ -26,49 +21,9 @@ pub fn fault_line(alloc: Global, fault: PolicyFault) -> Result<String, AllocErro
     ensures other { OnOk result (fault ≢ OutOfMemory) }
 {
     match fault {
-        PolicyFault::Text => String::from_str(alloc, "refused text\n"),
-        PolicyFault::Hex => String::from_str(alloc, "refused hex\n"),
-        PolicyFault::Head { line, .. } => head_line(alloc, line),
-        PolicyFault::Assembly { line, cause } => assembly_line(alloc, line, cause),
-        PolicyFault::Image(fault) => loading_line(alloc, fault),
-        PolicyFault::Program { slot, cause } => {
-            loading_line(alloc, LoadFault::Decode { slot, cause })
-        }
-        PolicyFault::Disagrees(key) => refused_line(alloc, key.word()),
-        PolicyFault::NoHook => String::from_str(alloc, "refused hook\n"),
         PolicyFault::OutOfMemory => Err(AllocError),
+        fault => format!(in alloc; "refused {fault}\n"),
     }
-}
-
-/// The line that refuses by a line of the text's head.
-fn head_line(alloc: Global, line: usize) -> Result<String, AllocError>
-    ensures { IfOk result (λ text. string_bytes text ≡ refusal (codes "head " ++ decimal line)) }
-{
-    format!(in alloc; "refused head {line}\n")
-}
-
-/// The line that refuses by a line that the assembler refuses.
-fn assembly_line(alloc: Global, line: usize, cause: Cause) -> Result<String, AllocError>
-    ensures { IfOk result (λ text. string_bytes text ≡ refusal (cause_and_place (codes "A") (cause_number cause) line)) }
-{
-    let number = cause.number();
-    let named = format!(in alloc; "A{number} {line}")?;
-    refused_line(alloc, named.as_str())
-}
-
-/// The line that refuses by a fault of an image or of its program.
-fn loading_line(alloc: Global, fault: LoadFault) -> Result<String, AllocError>
-    ensures { IfOk result (λ text. string_bytes text ≡ refusal (fault_text fault)) }
-{
-    let named = bq_program::fault_text(alloc, fault)?;
-    refused_line(alloc, named.as_str())
-}
-
-/// The line that refuses by that name.
-fn refused_line(alloc: Global, named: &str) -> Result<String, AllocError>
-    ensures { IfOk result (λ text. string_bytes text ≡ refusal named.now) }
-{
-    format!(in alloc; "refused {named}\n")
 }
 
 /// What is wrong with the file of these bytes, by its line or slot where it has one.

@@ -23,7 +23,8 @@ pub fn assembled(alloc: Global, form: &Form, text: &[u8]) -> Result<Answer, Allo
             Ok(Answer::accepted(line))
         }
         Err(AsmFault::OutOfMemory) => Err(AllocError),
-        Err(fault) => {
+        Err(AsmFault::At { line, cause }) => {
+            let fault = AsmFault::At { line, cause };
             let reason = format!(in alloc; "{fault}")?;
             Answer::refused(alloc, reason.as_str())
         }

@@ -78,31 +78,32 @@ pub enum PolicyFault {
     OutOfMemory,
 }
 
+/// The text that an input is answered: `text`, `head 2`, `A1 3`, `L7 I2 slot`, `hook`.
 impl fmt::Display for PolicyFault {
-    fn fmt<W: fmt::Write>(&self, f: &mut fmt::Formatter<W>) -> fmt::Result {
-        let text = match self {
-            PolicyFault::Text => "no text",
-            PolicyFault::Hex => "no hex",
-            PolicyFault::Head { line, cause } => return write_at(f, "line", *line, cause),
-            PolicyFault::Assembly { line, cause } => return write_at(f, "line", *line, cause),
-            PolicyFault::Image(fault) => return write!(f, "{fault}"),
-            PolicyFault::Program { slot, cause } => return write_at(f, "slot", *slot, cause),
-            PolicyFault::Disagrees(key) => return write!(f, "the file says another {key:?}"),
-            PolicyFault::NoHook => "no hook",
-            PolicyFault::OutOfMemory => "out of memory",
-        };
-        f.write_str(text)
-    }
-}
+    ghost use Rattle.std.specs.Prelude.{Some};
+    ghost use Rattle.bq_program.specs.Naming.{fault_text};
 
-/// Writes where the cause of a fault stands, and which it is.
-fn write_at<C: fmt::Debug, W: fmt::Write>(
-    f: &mut fmt::Formatter<W>,
-    place: &str,
-    number: usize,
-    cause: &C,
-) -> fmt::Result {
-    write!(f, "{place} {number}: {cause:?}")
+    ghost output = { λ fault. Some (fault_text fault) };
+
+    fn fmt<W: fmt::Write>(&self, f: &mut fmt::Formatter<W>) -> fmt::Result {
+        match *self {
+            PolicyFault::Text => f.write_str("text"),
+            PolicyFault::Hex => f.write_str("hex"),
+            PolicyFault::Head { line, .. } => write!(f, "head {line}"),
+            PolicyFault::Assembly { line, cause } => {
+                let fault = AsmFault::At { line, cause };
+                write!(f, "{fault}")
+            }
+            PolicyFault::Image(fault) => write!(f, "{fault}"),
+            PolicyFault::Program { slot, cause } => {
+                let fault = LoadFault::Decode { slot, cause };
+                write!(f, "{fault}")
+            }
+            PolicyFault::Disagrees(key) => f.write_str(key.word()),
+            PolicyFault::NoHook => f.write_str("hook"),
+            PolicyFault::OutOfMemory => f.write_str("out of memory"),
+        }
+    }
 }
 
 impl From<AllocError> for PolicyFault {

@@ -21,7 +21,8 @@ pub fn disassembled(alloc: Global, hex: &[u8]) -> Result<Answer, AllocError>
     match decode(alloc, bytes.as_slice()) {
         Ok(insns) => Ok(Answer::accepted(listing(alloc, insns.as_slice())?)),
         Err(DecodeFault::OutOfMemory) => Err(AllocError),
-        Err(fault) => {
+        Err(DecodeFault::At { slot, cause }) => {
+            let fault = DecodeFault::At { slot, cause };
             let reason = format!(in alloc; "{fault}")?;
             Answer::refused(alloc, reason.as_str())
         }
