@@ -64,20 +64,20 @@ event_due at w w' e calls (Err r) h = tt
 event_due at w w' (Admit id nice mask slice) calls (Ok r) h = tt
 event_due at w w' (Retire id) calls (Ok r) h = tt
 event_due at w w' Draw calls (Ok r) h = tt
-event_due at w w' (Install cpu hook g policy) calls (Ok r) h = tt
-event_due at w w' (BeginWake cpu id) calls (Ok r) h = tt
-event_due at w w' (EndWake cpu now) calls (Ok r) h = either_due (own_steps eevdf w (EndWake cpu now) r) [] (at == cpu) tt tt
-event_due at w w' (Tick cpu now) calls (Ok r) h = either_due (own_steps eevdf w (Tick cpu now) r) [] (at == cpu) tt tt
-event_due at w w' (Drain cpu now) calls (Ok r) h =
-    either_due (own_steps eevdf w (Drain cpu now) r) [] (at == cpu) (entries_due (charge eevdf (running_at w cpu) now).kept (inbox w cpu)) tt
-event_due at w w' (Block cpu now) calls (Ok r) h =
-    subst (λ x. EntersDue (steps_at eevdf at w (Block cpu now) (Ok x))) (sym h.1.2.1.2)
-    (either_due (own_steps eevdf w (Block cpu now) (Went h.1.2.0.id (id_of h.1.0.running.current))) [] (at == cpu) tt tt)
-event_due at w w' (Pull cpu from now) calls (Ok r) h =
-    let c = charge eevdf (running_at w cpu) now in
+event_due at w w' (Install processor hook g policy) calls (Ok r) h = tt
+event_due at w w' (BeginWake processor id) calls (Ok r) h = tt
+event_due at w w' (EndWake processor now) calls (Ok r) h = either_due (own_steps eevdf w (EndWake processor now) r) [] (at == processor) tt tt
+event_due at w w' (Tick processor now) calls (Ok r) h = either_due (own_steps eevdf w (Tick processor now) r) [] (at == processor) tt tt
+event_due at w w' (Drain processor now) calls (Ok r) h =
+    either_due (own_steps eevdf w (Drain processor now) r) [] (at == processor) (entries_due (charge eevdf (running_at w processor) now).kept (inbox w processor)) tt
+event_due at w w' (Block processor now) calls (Ok r) h =
+    subst (λ x. EntersDue (steps_at eevdf at w (Block processor now) (Ok x))) (sym h.1.2.1.2)
+    (either_due (own_steps eevdf w (Block processor now) (Went h.1.2.0.id (id_of h.1.0.running.current))) [] (at == processor) tt tt)
+event_due at w w' (Pull processor from now) calls (Ok r) h =
+    let c = charge eevdf (running_at w processor) now in
     let settled : Decision = h.1.2.0 in
     let task = task_numbered settled.choice in
-    subst (λ x. EntersDue (steps_at eevdf at w (Pull cpu from now) (Ok x))) (sym h.1.2.1.2)
-    (either_due (own_steps eevdf w (Pull cpu from now) (Moved task (id_of h.1.0.running.current) settled.by settled.steps)) (cond (at == from) (leaving task) []) (at == cpu)
+    subst (λ x. EntersDue (steps_at eevdf at w (Pull processor from now) (Ok x))) (sym h.1.2.1.2)
+    (either_due (own_steps eevdf w (Pull processor from now) (Moved task (id_of h.1.0.running.current) settled.by settled.steps)) (cond (at == from) (leaving task) []) (at == processor)
     (entry_due c (taken_from (marked eevdf (running_at w from)) task) (begins c.current) (begins_due c.current))
     (either_due (leaving task) [] (at == from) (leaving_due task) tt))

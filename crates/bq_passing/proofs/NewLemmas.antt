@@ -79,20 +79,20 @@ taken_counted p None t e = cc
 taken_counted p (Some id) t e = found_counted p.kept id p.queue p.current (with_id id p.queue) refl t e
 
 -- a task of one processor is not at another
-elsewhere : (d : Discipline) (w : World) (cpu from now : ℕ) (task : Option ℕ) (t : Task) → IsOrderly w → cpu ≢ from → taken_from (marked d (running_at w from)) task ≡ Some t → with_id t.id (present_at (charge d (running_at w cpu) now)) ≡ None
-elsewhere d w cpu from now task t o apart e =
-    let p = running_at w cpu in
+elsewhere : (d : Discipline) (w : World) (processor from now : ℕ) (task : Option ℕ) (t : Task) → IsOrderly w → processor ≢ from → taken_from (marked d (running_at w from)) task ≡ Some t → with_id t.id (present_at (charge d (running_at w processor) now)) ≡ None
+elsewhere d w processor from now task t o apart e =
+    let p = running_at w processor in
     let there = taken_counted (marked d (running_at w from)) task t e in
     with_id-absent t.id (present_at (charge d p now))
-    (omega (arith, each_once_two w cpu from apart o t.id, count_of-append t.id (present_at p) (present_at (running_at w from)), keeps_charge t.id d p now, there))
+    (omega (arith, each_once_two w processor from apart o t.id, count_of-append t.id (present_at p) (present_at (running_at w from)), keeps_charge t.id d p now, there))
 
 if_at : (d : Discipline) (p : Running) (ss rs : List Step) (t : Bool) → (t ≡ true → EachEntersNew d p ss) → (t ≡ false → EachEntersNew d p rs) → EachEntersNew d p (cond t ss rs)
 if_at d p ss rs true h k = h refl
 if_at d p ss rs false h k = k refl
 
 -- what an event does at its own processor, seen from a processor that may be it
-own_new : (d : Discipline) (w : World) (at cpu : ℕ) (ss rs : List Step) → EachEntersNew d (running_at w cpu) ss → EachEntersNew d (running_at w at) rs → EachEntersNew d (running_at w at) (cond (at == cpu) ss rs)
-own_new d w at cpu ss rs h k = if_at d (running_at w at) ss rs (at == cpu) (λ e. subst (λ n. EachEntersNew d (running_at w n) ss) (sym (same_number at cpu e)) h) (λ e. k)
+own_new : (d : Discipline) (w : World) (at processor : ℕ) (ss rs : List Step) → EachEntersNew d (running_at w processor) ss → EachEntersNew d (running_at w at) rs → EachEntersNew d (running_at w at) (cond (at == processor) ss rs)
+own_new d w at processor ss rs h k = if_at d (running_at w at) ss rs (at == processor) (λ e. subst (λ n. EachEntersNew d (running_at w n) ss) (sym (same_number at processor e)) h) (λ e. k)
 
 -- whoever enters by an event is new
 pub event_new : (d : Discipline) (P : Task → Type 0) → IsKept d P → (at : ℕ) (w w' : World) (e : Event) (calls : List Asked) (a : Result Reply Refusal) → IsOrderly w → IsSoundWorld P w → WorldStep (policies d) w e calls a w' → EachEntersNew d (running_at w at) (steps_at d at w e a)
@@ -100,31 +100,31 @@ event_new d P k at w w' e calls (Err r) o s h = tt
 event_new d P k at w w' (Admit id nice mask slice) calls (Ok r) o s h = tt
 event_new d P k at w w' (Retire id) calls (Ok r) o s h = tt
 event_new d P k at w w' Draw calls (Ok r) o s h = tt
-event_new d P k at w w' (Install cpu hook g policy) calls (Ok r) o s h = tt
-event_new d P k at w w' (BeginWake cpu id) calls (Ok r) o s h = tt
-event_new d P k at w w' (EndWake cpu now) calls (Ok r) o s h = own_new d w at cpu (own_steps d w (EndWake cpu now) r) [] (tt, tt) tt
-event_new d P k at w w' (Tick cpu now) calls (Ok r) o s h = own_new d w at cpu (own_steps d w (Tick cpu now) r) [] (tt, (tt, tt)) tt
-event_new d P k at w w' (Drain cpu now) calls (Ok r) o s h =
-    let p = running_at w cpu in
-    let once : HasEachOnce (present_at (charge d p now) ++ inbox w cpu) =
-    λ id. omega (arith, each_once_runnable w cpu o id, count_of-append id (present_at p) (inbox w cpu), count_of-append id (present_at (charge d p now)) (inbox w cpu), keeps_charge id d p now) in
-    own_new d w at cpu (own_steps d w (Drain cpu now) r) [] (tt, entries_new d P k (charge d p now) (charge d p now).kept (inbox w cpu) once (s.placed cpu)) tt
-event_new d P k at w w' (Block cpu now) calls (Ok r) o s h =
-    subst (λ x. EachEntersNew d (running_at w at) (steps_at d at w (Block cpu now) (Ok x))) (sym h.1.2.1.2)
-    (own_new d w at cpu (own_steps d w (Block cpu now) (Went h.1.2.0.id (id_of h.1.0.running.current))) [] (tt, (tt, (tt, tt))) tt)
-event_new d P k at w w' (Pull cpu from now) calls (Ok r) o s h =
-    let c = charge d (running_at w cpu) now in
+event_new d P k at w w' (Install processor hook g policy) calls (Ok r) o s h = tt
+event_new d P k at w w' (BeginWake processor id) calls (Ok r) o s h = tt
+event_new d P k at w w' (EndWake processor now) calls (Ok r) o s h = own_new d w at processor (own_steps d w (EndWake processor now) r) [] (tt, tt) tt
+event_new d P k at w w' (Tick processor now) calls (Ok r) o s h = own_new d w at processor (own_steps d w (Tick processor now) r) [] (tt, (tt, tt)) tt
+event_new d P k at w w' (Drain processor now) calls (Ok r) o s h =
+    let p = running_at w processor in
+    let once : HasEachOnce (present_at (charge d p now) ++ inbox w processor) =
+    λ id. omega (arith, each_once_runnable w processor o id, count_of-append id (present_at p) (inbox w processor), count_of-append id (present_at (charge d p now)) (inbox w processor), keeps_charge id d p now) in
+    own_new d w at processor (own_steps d w (Drain processor now) r) [] (tt, entries_new d P k (charge d p now) (charge d p now).kept (inbox w processor) once (s.placed processor)) tt
+event_new d P k at w w' (Block processor now) calls (Ok r) o s h =
+    subst (λ x. EachEntersNew d (running_at w at) (steps_at d at w (Block processor now) (Ok x))) (sym h.1.2.1.2)
+    (own_new d w at processor (own_steps d w (Block processor now) (Went h.1.2.0.id (id_of h.1.0.running.current))) [] (tt, (tt, (tt, tt))) tt)
+event_new d P k at w w' (Pull processor from now) calls (Ok r) o s h =
+    let c = charge d (running_at w processor) now in
     let source = marked d (running_at w from) in
-    let apart = pulls_apart w cpu from now h.0 in
+    let apart = pulls_apart w processor from now h.0 in
     let there : Holds P source = record { current = (s.running from).current; queue = (s.running from).queue } in
     let settled : Decision = h.1.2.0 in
     let task = task_numbered settled.choice in
     let taken = taken_from source task in
-    subst (λ x. EachEntersNew d (running_at w at) (steps_at d at w (Pull cpu from now) (Ok x))) (sym h.1.2.1.2)
-    (own_new d w at cpu (own_steps d w (Pull cpu from now) (Moved task (id_of h.1.0.running.current) settled.by settled.steps)) (cond (at == from) (leaving task) []) (
+    subst (λ x. EachEntersNew d (running_at w at) (steps_at d at w (Pull processor from now) (Ok x))) (sym h.1.2.1.2)
+    (own_new d w at processor (own_steps d w (Pull processor from now) (Moved task (id_of h.1.0.running.current) settled.by settled.steps)) (cond (at == from) (leaving task) []) (
       tt,
       EachEntersNew-append d c (entry d c taken) (begins c.current)
-          (entry_new d P k c taken (λ t e. (taken_weight d P k source task there t e, elsewhere d w cpu from now task t o apart e)))
+          (entry_new d P k c taken (λ t e. (taken_weight d P k source task there t e, elsewhere d w processor from now task t o apart e)))
           (begins_new d (after d c (entry d c taken)) c.current),
     )
     (own_new d w at from (leaving task) [] (leaving_new d (running_at w from) task) tt))

@@ -19,7 +19,7 @@ use Rattle.bq_parts.specs.declared.reply.Reply.{Reply}
 use Rattle.bq_parts.specs.declared.refusal.Refusal.TheVariants as no
 use Rattle.bq_parts.specs.Processors.{Processor, opening}
 use Rattle.bq_parts.specs.Refusals.{refusal, argument_refusal}
-use Rattle.bq_parts.specs.World.{World, opening_world, processor, inbox, entry, count_in, with_processor, with_inbox, with_lobby}
+use Rattle.bq_parts.specs.World.{World, opening_world, processor_at, inbox, entry, count_in, with_processor, with_inbox, with_lobby}
 use Rattle.bq_parts.specs.Choices.{Regime, Decision}
 use Rattle.bq_parts.specs.Moves.{taken_from, without_task, with_pulled, started_if_idle, admitted}
 use Rattle.bq_parts.specs.Shares.{Decides, after_time, remarked}
@@ -147,25 +147,25 @@ taken_weight d P k p (Some id) h u e = left_weight d P k p.kept (with_id id p.qu
 
 -- it is so of each task at a processor, and each that waits to come to one has a weight of the table
 pub record IsSoundWorld (P : Task → Type 0) (w : World) : Type 0 where
-  pub running : (cpu : ℕ) → Holds P (processor w cpu).running
-  pub hand : (cpu : ℕ) (c : Carried) → (processor w cpu).hand ≡ Some c → HasWeight c.task
-  pub placed : (cpu : ℕ) → Each HasWeight (inbox w cpu)
+  pub running : (processor : ℕ) → Holds P (processor_at w processor).running
+  pub hand : (processor : ℕ) (c : Carried) → (processor_at w processor).hand ≡ Some c → HasWeight c.task
+  pub placed : (processor : ℕ) → Each HasWeight (inbox w processor)
   pub lobby : (id : ℕ) (t : Task) → entry w id ≡ Blocked t → HasWeight t
 
 abbrev HandIsSound : Processor → Type 0
 HandIsSound q = (c : Carried) → q.hand ≡ Some c → HasWeight c.task
 
-sound_processor : (P : Task → Type 0) (w : World) (cpu : ℕ) (q : Processor) → IsSoundWorld P w → Holds P q.running → HandIsSound q → IsSoundWorld P (with_processor w cpu q)
-sound_processor P w cpu q s h k = record {
-  running = at_set (λ n (p : Processor). Holds P p.running) w.processors cpu q opening h s.running;
-  hand = at_set (λ n (p : Processor). HandIsSound p) w.processors cpu q opening k s.hand;
+sound_processor : (P : Task → Type 0) (w : World) (processor : ℕ) (q : Processor) → IsSoundWorld P w → Holds P q.running → HandIsSound q → IsSoundWorld P (with_processor w processor q)
+sound_processor P w processor q s h k = record {
+  running = at_set (λ n (p : Processor). Holds P p.running) w.processors processor q opening h s.running;
+  hand = at_set (λ n (p : Processor). HandIsSound p) w.processors processor q opening k s.hand;
   placed = s.placed;
   lobby = s.lobby;
 }
 
-sound_inbox : (P : Task → Type 0) (w : World) (cpu : ℕ) (tasks : List Task) → IsSoundWorld P w → Each HasWeight tasks → IsSoundWorld P (with_inbox w cpu tasks)
-sound_inbox P w cpu tasks s h =
-    record { running = s.running; hand = s.hand; placed = at_set (λ n (ts : List Task). Each HasWeight ts) w.inboxes cpu tasks [] h s.placed; lobby = s.lobby }
+sound_inbox : (P : Task → Type 0) (w : World) (processor : ℕ) (tasks : List Task) → IsSoundWorld P w → Each HasWeight tasks → IsSoundWorld P (with_inbox w processor tasks)
+sound_inbox P w processor tasks s h =
+    record { running = s.running; hand = s.hand; placed = at_set (λ n (ts : List Task). Each HasWeight ts) w.inboxes processor tasks [] h s.placed; lobby = s.lobby }
 
 abbrev EntryIsSound : LobbyEntry → Type 0
 EntryIsSound x = (t : Task) → x ≡ Blocked t → HasWeight t
@@ -196,11 +196,11 @@ nice_weight (negsuc n) e = weight_there weights (19 - n) all_weights (omega arit
 
 -- Each event
 
-decides_holds : (s : Regime) (P : Task → Type 0) (cpu : ℕ) (p : Processor) (settled : Decision) (q : Processor) → Decides s cpu p settled q → Holds P p.running → Holds P q.running
-decides_holds s P cpu p settled q h k = rw h.1 (holds_decided s.discipline P p.running p.running.current (settled.choice == 1) refl k)
+decides_holds : (s : Regime) (P : Task → Type 0) (processor : ℕ) (p : Processor) (settled : Decision) (q : Processor) → Decides s processor p settled q → Holds P p.running → Holds P q.running
+decides_holds s P processor p settled q h k = rw h.1 (holds_decided s.discipline P p.running p.running.current (settled.choice == 1) refl k)
 
-decides_hand : (s : Regime) (cpu : ℕ) (p : Processor) (settled : Decision) (q : Processor) → Decides s cpu p settled q → HandIsSound p → HandIsSound q
-decides_hand s cpu p settled q h k = rw h.1 k
+decides_hand : (s : Regime) (processor : ℕ) (p : Processor) (settled : Decision) (q : Processor) → Decides s processor p settled q → HandIsSound p → HandIsSound q
+decides_hand s processor p settled q h k = rw h.1 k
 
 held_task : (x c : Carried) → Some x ≡ Some c → x.task ≡ c.task
 held_task x c e = let same : x ≡ c = cc in ap (λ (y : Carried). y.task) same
@@ -213,60 +213,60 @@ performs_sound s P k w (event.Admit id nice mask slice) calls r w' y free h =
     rw (h.3, h.1.2) (sound_entry P w id (Blocked (admitted (count_in w) id nice mask slice)) y (blocked_is _ (nice_weight nice f.0)))
 performs_sound s P k w (event.Retire id) calls r w' y free h = rw (h.3, h.1.2) (sound_entry P w id Absent y (λ t e. cc))
 performs_sound s P k w event.Draw calls r w' y free h = rw h.2 (sound_drawn P w _ y)
-performs_sound s P k w (event.Install cpu hook g policy) calls r w' y free h =
-    rw (h.3, h.1.2) (sound_processor P w cpu _ y (y.running cpu) (y.hand cpu))
-performs_sound s P k w (event.BeginWake cpu id) calls r w' y free h =
+performs_sound s P k w (event.Install processor hook g policy) calls r w' y free h =
+    rw (h.3, h.1.2) (sound_processor P w processor _ y (y.running processor) (y.hand processor))
+performs_sound s P k w (event.BeginWake processor id) calls r w' y free h =
     let b = h.2 in
     let t : Task = b.0 in
-    let one = sound_processor P w cpu (record (processor w cpu) { hand = Some (record { task = t; loads = _ }) }) y (y.running cpu) (λ c e. subst HasWeight (held_task _ c e) (y.lobby id t b.2)) in
+    let one = sound_processor P w processor (record (processor_at w processor) { hand = Some (record { task = t; loads = _ }) }) y (y.running processor) (λ c e. subst HasWeight (held_task _ c e) (y.lobby id t b.2)) in
     rw (h.4, b.4, b.5) (sound_entry P _ id Away one (λ t e. cc))
-performs_sound s P k w (event.EndWake cpu now) calls r w' y free h =
+performs_sound s P k w (event.EndWake processor now) calls r w' y free h =
     let b = h.2 in
     let carried : Carried = b.0 in
-    let one = sound_processor P w cpu h.1 y (rw b.4.5 (holds_charge s.discipline P k (processor w cpu).running now (y.running cpu))) (rw b.4.5 (λ c e. cc)) in
-    let task : HasWeight h.0.task = rw b.3 (y.hand cpu carried b.2) in
-    rw h.4 (sound_inbox P (with_processor w cpu h.1) h.0.to _ one (each_append HasWeight (inbox w h.0.to) (h.0.task ∷ []) (y.placed h.0.to) (task, tt)))
-performs_sound s P k w (event.Drain cpu now) calls r w' y free h =
+    let one = sound_processor P w processor h.1 y (rw b.4.5 (holds_charge s.discipline P k (processor_at w processor).running now (y.running processor))) (rw b.4.5 (λ c e. cc)) in
+    let task : HasWeight h.0.task = rw b.3 (y.hand processor carried b.2) in
+    rw h.4 (sound_inbox P (with_processor w processor h.1) h.0.to _ one (each_append HasWeight (inbox w h.0.to) (h.0.task ∷ []) (y.placed h.0.to) (task, tt)))
+performs_sound s P k w (event.Drain processor now) calls r w' y free h =
     let d = s.discipline in
-    let c = after_time d now (processor w cpu) in
-    let e = record c { running = enter_all d c.running (inbox w cpu) } in
-    let t = holds_charge d P k (processor w cpu).running now (y.running cpu) in
-    let entered : Holds P e.running = record { current = t.current; queue = each_entered d P k c.running.kept c.running.queue (inbox w cpu) t.queue (y.placed cpu) } in
-    let one = sound_processor P w cpu h.0 y (decides_holds s P cpu e h.1.0 h.0 h.1.1 entered) (decides_hand s cpu e h.1.0 h.0 h.1.1 (y.hand cpu)) in
-    rw h.2 (sound_inbox P (with_processor w cpu h.0) cpu [] one tt)
-performs_sound s P k w (event.Tick cpu now) calls r w' y free h =
+    let c = after_time d now (processor_at w processor) in
+    let e = record c { running = enter_all d c.running (inbox w processor) } in
+    let t = holds_charge d P k (processor_at w processor).running now (y.running processor) in
+    let entered : Holds P e.running = record { current = t.current; queue = each_entered d P k c.running.kept c.running.queue (inbox w processor) t.queue (y.placed processor) } in
+    let one = sound_processor P w processor h.0 y (decides_holds s P processor e h.1.0 h.0 h.1.1 entered) (decides_hand s processor e h.1.0 h.0 h.1.1 (y.hand processor)) in
+    rw h.2 (sound_inbox P (with_processor w processor h.0) processor [] one tt)
+performs_sound s P k w (event.Tick processor now) calls r w' y free h =
     let d = s.discipline in
-    let c = after_time d now (processor w cpu) in
-    rw h.2 (sound_processor P w cpu h.0 y (decides_holds s P cpu c h.1.0 h.0 h.1.1 (holds_charge d P k (processor w cpu).running now (y.running cpu))) (decides_hand s cpu c h.1.0 h.0 h.1.1 (y.hand cpu)))
-performs_sound s P k w (event.Block cpu now) calls r w' y free h =
+    let c = after_time d now (processor_at w processor) in
+    rw h.2 (sound_processor P w processor h.0 y (decides_holds s P processor c h.1.0 h.0 h.1.1 (holds_charge d P k (processor_at w processor).running now (y.running processor))) (decides_hand s processor c h.1.0 h.0 h.1.1 (y.hand processor)))
+performs_sound s P k w (event.Block processor now) calls r w' y free h =
     let d = s.discipline in
     let b = h.2 in
-    let c = after_time d now (processor w cpu) in
+    let c = after_time d now (processor_at w processor) in
     let t : Task = b.0 in
-    let charged = holds_charge d P k (processor w cpu).running now (y.running cpu) in
+    let charged = holds_charge d P k (processor_at w processor).running now (y.running processor) in
     let gone : Running = record c.running { current = None } in
     let left = holds_start d P gone (record { current = λ u e. cc; queue = charged.queue }) in
-    let one = sound_processor P w cpu h.0 y (rw b.1.1 left) (rw b.1.1 (y.hand cpu)) in
-    rw (h.4, b.1.3) (sound_entry P (with_processor w cpu h.0) t.id _ one (blocked_is _ (k.weight t (charged.current t b.1.0))))
-performs_sound s P k w (event.Pull cpu from now) calls r w' y free h =
+    let one = sound_processor P w processor h.0 y (rw b.1.1 left) (rw b.1.1 (y.hand processor)) in
+    rw (h.4, b.1.3) (sound_entry P (with_processor w processor h.0) t.id _ one (blocked_is _ (k.weight t (charged.current t b.1.0))))
+performs_sound s P k w (event.Pull processor from now) calls r w' y free h =
     let d = s.discipline in
     let x = h.2 in
-    let c = after_time d now (processor w cpu) in
-    let source = remarked d (processor w from) in
+    let c = after_time d now (processor_at w processor) in
+    let source = remarked d (processor_at w from) in
     let there : Holds P source.running = record { current = (y.running from).current; queue = (y.running from).queue } in
-    let charged = holds_charge d P k (processor w cpu).running now (y.running cpu) in
+    let charged = holds_charge d P k (processor_at w processor).running now (y.running processor) in
     let taken = taken_from source.running _ in
     let in_it = holds_started d P (with_pulled d c.running taken) c.running.current (holds_pulled d P k c.running taken (taken_weight d P k source.running _ there) charged) in
-    let one = sound_processor P w cpu h.0 y (rw x.1.3 in_it) (rw x.1.3 (y.hand cpu)) in
-    rw h.3 (sound_processor P (with_processor w cpu h.0) from h.1 one (rw x.1.4 (holds_taken P source.running _ there)) (rw x.1.4 (y.hand from)))
+    let one = sound_processor P w processor h.0 y (rw x.1.3 in_it) (rw x.1.3 (y.hand processor)) in
+    rw h.3 (sound_processor P (with_processor w processor h.0) from h.1 one (rw x.1.4 (holds_taken P source.running _ there)) (rw x.1.4 (y.hand from)))
 
 -- The opening
 
 -- in the opening world, where no task is, any fact is kept of every task
 pub opening_sound : (P : Task → Type 0) (count : ℕ) → IsSoundWorld P (opening_world count)
 opening_sound P count = record {
-  running = λ cpu. rw (same_everywhere {X = Processor} opening count cpu) (record { current = λ t e. cc; queue = tt });
-  hand = λ cpu c e. let none : None ≡ Some c = sym (ap (λ (p : Processor). p.hand) (same_everywhere {X = Processor} opening count cpu)) ∙ e in cc;
-  placed = λ cpu. rw (same_everywhere {X = List Task} [] count cpu) tt;
+  running = λ processor. rw (same_everywhere {X = Processor} opening count processor) (record { current = λ t e. cc; queue = tt });
+  hand = λ processor c e. let none : None ≡ Some c = sym (ap (λ (p : Processor). p.hand) (same_everywhere {X = Processor} opening count processor)) ∙ e in cc;
+  placed = λ processor. rw (same_everywhere {X = List Task} [] count processor) tt;
   lobby = λ id t e. let none : Absent ≡ Blocked t = sym (same_everywhere {X = LobbyEntry} Absent 1024 id) ∙ e in cc;
 }

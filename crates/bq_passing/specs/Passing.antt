@@ -1,8 +1,7 @@
 -- What a Tick and a Block of the world leave at their processor, where the discipline alone decides.
 use Rattle.std.specs.Prelude.{◌≡◌, ℕ, ◌<◌, List, Option, None, Result, Ok}
 use Rattle.bq_disc.specs.Discipline.{Discipline}
-use Rattle.bq_disc.specs.OneProcessor.{Running, charge, start}
-use Rattle.bq_fair.specs.Histories.{ticked}
+use Rattle.bq_disc.specs.OneProcessor.{Running, charge, start, ticked}
 use Rattle.bq_cfs.specs.Cfs.{cfs}
 use Rattle.bq_cfs.specs.Spread.{passed, Tick as TickAt, Block as BlockAt}
 use Rattle.bq_bpf.specs.declared.board.Call.{Call as Asked}
@@ -11,7 +10,7 @@ use Rattle.bq_parts.specs.declared.event.Event.TheVariants.{Tick, Block}
 use Rattle.bq_parts.specs.declared.reply.Reply.{Reply}
 use Rattle.bq_parts.specs.declared.reply.Reply.TheVariants.{Ticked, Blocked as Went}
 use Rattle.bq_parts.specs.declared.refusal.Refusal.{Refusal}
-use Rattle.bq_parts.specs.World.{World, processor, count_in}
+use Rattle.bq_parts.specs.World.{World, processor_at, count_in}
 use Rattle.bq_parts.specs.declared.lobby_entry.LobbyEntry.{LobbyEntry}
 use Rattle.bq_parts.specs.Processors.{Processor}
 use Rattle.bq_parts.specs.Choices.{policies}
@@ -25,18 +24,18 @@ after_block d p now = start d (record (charge d p now) { current = None })
 -- under any discipline: of a Tick whose answer is the discipline's own, and of a Block that is not refused, in a world and in
 -- any parts of one
 pub record DisciplinePasses : Type 0 where
-  pub tick_share : (d : Discipline) (p q : Processor) (cpu now : ℕ) (calls : List Asked) (run : Option ℕ) (steps : ℕ) →
-      Ticks (policies d) cpu now p calls (Ticked run who.Discipline steps) q → q.running ≡ ticked d p.running now
-  pub block_share : (d : Discipline) (p q : Processor) (cpu now : ℕ) (lobby lobby' : List LobbyEntry) (reply : Reply) →
-      Blocks d cpu now p lobby (Ok reply) q lobby' → q.running ≡ after_block d p.running now
-  pub tick : (d : Discipline) (w w' : World) (cpu now : ℕ) (calls : List Asked) (run : Option ℕ) (steps : ℕ) →
-      WorldStep (policies d) w (Tick cpu now) calls (Ok (Ticked run who.Discipline steps)) w' → (processor w' cpu).running ≡ ticked d (processor w cpu).running now
-  pub block : (d : Discipline) (w w' : World) (cpu now : ℕ) (calls : List Asked) (task : ℕ) (run : Option ℕ) →
-      WorldStep (policies d) w (Block cpu now) calls (Ok (Went task run)) w' → (processor w' cpu).running ≡ after_block d (processor w cpu).running now
+  pub tick_share : (d : Discipline) (p q : Processor) (processor now : ℕ) (calls : List Asked) (run : Option ℕ) (steps : ℕ) →
+      Ticks (policies d) processor now p calls (Ticked run who.Discipline steps) q → q.running ≡ ticked d p.running now
+  pub block_share : (d : Discipline) (p q : Processor) (processor now : ℕ) (lobby lobby' : List LobbyEntry) (reply : Reply) →
+      Blocks d processor now p lobby (Ok reply) q lobby' → q.running ≡ after_block d p.running now
+  pub tick : (d : Discipline) (w w' : World) (processor now : ℕ) (calls : List Asked) (run : Option ℕ) (steps : ℕ) →
+      WorldStep (policies d) w (Tick processor now) calls (Ok (Ticked run who.Discipline steps)) w' → (processor_at w' processor).running ≡ ticked d (processor_at w processor).running now
+  pub block : (d : Discipline) (w w' : World) (processor now : ℕ) (calls : List Asked) (task : ℕ) (run : Option ℕ) →
+      WorldStep (policies d) w (Block processor now) calls (Ok (Went task run)) w' → (processor_at w' processor).running ≡ after_block d (processor_at w processor).running now
 
 -- under CFS: they are the events of its laws, and so is a Block that is refused as nothing runs
 pub record CfsPasses : Type 0 where
-  pub tick : (w w' : World) (cpu now : ℕ) (calls : List Asked) (run : Option ℕ) (steps : ℕ) →
-      WorldStep (policies cfs) w (Tick cpu now) calls (Ok (Ticked run who.Discipline steps)) w' → (processor w' cpu).running ≡ passed (processor w cpu).running (TickAt now)
-  pub block : (w w' : World) (cpu now : ℕ) (calls : List Asked) (answer : Result Reply Refusal) → cpu < count_in w →
-      WorldStep (policies cfs) w (Block cpu now) calls answer w' → (processor w' cpu).running ≡ passed (processor w cpu).running (BlockAt now)
+  pub tick : (w w' : World) (processor now : ℕ) (calls : List Asked) (run : Option ℕ) (steps : ℕ) →
+      WorldStep (policies cfs) w (Tick processor now) calls (Ok (Ticked run who.Discipline steps)) w' → (processor_at w' processor).running ≡ passed (processor_at w processor).running (TickAt now)
+  pub block : (w w' : World) (processor now : ℕ) (calls : List Asked) (answer : Result Reply Refusal) → processor < count_in w →
+      WorldStep (policies cfs) w (Block processor now) calls answer w' → (processor_at w' processor).running ≡ passed (processor_at w processor).running (BlockAt now)

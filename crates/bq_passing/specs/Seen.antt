@@ -13,13 +13,13 @@ use Rattle.bq_parts.specs.declared.reply.Reply.{Reply}
 use Rattle.bq_parts.specs.declared.reply.Reply.TheVariants.{Drained, Ticked, Blocked as Went, Pulled as Moved}
 use Rattle.bq_parts.specs.declared.refusal.Refusal.{Refusal}
 use Rattle.bq_parts.specs.Moves.{taken_from}
-use Rattle.bq_parts.specs.World.{World, processor, inbox, count_in}
+use Rattle.bq_parts.specs.World.{World, processor_at, inbox, count_in}
 use Rattle.bq_parts.specs.StandsOnce.{IsOrderly}
 use Rattle.bq_parts.specs.Choices.{policies}
 use Rattle.bq_parts.specs.Steps.{WorldStep}
 
 abbrev pub running_at : World → ℕ → Running
-running_at w cpu = (processor w cpu).running
+running_at w processor = (processor_at w processor).running
 
 -- a pulled task enters, and where nothing runs the queue's choice does
 abbrev pub entry : Discipline → Running → Option Task → List Step
@@ -32,12 +32,12 @@ begins (Some t) = []
 
 -- what an event does at the processor that it is for, once it is answered
 abbrev pub own_steps : Discipline → World → Event → Reply → List Step
-own_steps d w (event.EndWake cpu now) r = Pass now ∷ []
-own_steps d w (event.Drain cpu now) r = Pass now ∷ entries d (charge d (running_at w cpu) now).kept (inbox w cpu)
-own_steps d w (event.Tick cpu now) r = Pass now ∷ Decide ∷ []
-own_steps d w (event.Block cpu now) (Went task run) = Pass now ∷ Leave task ∷ Decide ∷ []
-own_steps d w (event.Pull cpu from now) (Moved task run by steps) =
-    let c = charge d (running_at w cpu) now in
+own_steps d w (event.EndWake processor now) r = Pass now ∷ []
+own_steps d w (event.Drain processor now) r = Pass now ∷ entries d (charge d (running_at w processor) now).kept (inbox w processor)
+own_steps d w (event.Tick processor now) r = Pass now ∷ Decide ∷ []
+own_steps d w (event.Block processor now) (Went task run) = Pass now ∷ Leave task ∷ Decide ∷ []
+own_steps d w (event.Pull processor from now) (Moved task run by steps) =
+    let c = charge d (running_at w processor) now in
     Pass now ∷ entry d c (taken_from (marked d (running_at w from)) task) ++ begins c.current
 own_steps d w e r = []
 
@@ -47,25 +47,25 @@ leaving None = Mark ∷ []
 leaving (Some id) = Mark ∷ Leave id ∷ []
 
 abbrev pub source_steps : Event → Reply → List Step
-source_steps (event.Pull cpu from now) (Moved task run by steps) = leaving task
+source_steps (event.Pull processor from now) (Moved task run by steps) = leaving task
 source_steps e r = []
 
 -- the processor that an event is for, and the other one of a pull
 abbrev pub own_processor : Event → Option ℕ
-own_processor (event.EndWake cpu now) = Some cpu
-own_processor (event.Drain cpu now) = Some cpu
-own_processor (event.Tick cpu now) = Some cpu
-own_processor (event.Block cpu now) = Some cpu
-own_processor (event.Pull cpu from now) = Some cpu
+own_processor (event.EndWake processor now) = Some processor
+own_processor (event.Drain processor now) = Some processor
+own_processor (event.Tick processor now) = Some processor
+own_processor (event.Block processor now) = Some processor
+own_processor (event.Pull processor from now) = Some processor
 own_processor e = None
 
 abbrev pub source : Event → Option ℕ
-source (event.Pull cpu from now) = Some from
+source (event.Pull processor from now) = Some from
 source e = None
 
 abbrev pub is_at : ℕ → Option ℕ → Bool
 is_at at None = false
-is_at at (Some cpu) = at == cpu
+is_at at (Some processor) = at == processor
 
 -- the steps that an answered event makes at a processor: none, if it was refused
 abbrev pub steps_at : Discipline → ℕ → World → Event → Result Reply Refusal → List Step
@@ -74,8 +74,8 @@ steps_at d at w e (Err r) = []
 
 -- where the event asks who runs at that processor, the discipline answered
 abbrev pub DecidesAlone : ℕ → Event → Result Reply Refusal → Type 0
-DecidesAlone at (event.Drain cpu now) (Ok (Drained count run by steps)) = at ≡ cpu → by ≡ who.Discipline
-DecidesAlone at (event.Tick cpu now) (Ok (Ticked run by steps)) = at ≡ cpu → by ≡ who.Discipline
+DecidesAlone at (event.Drain processor now) (Ok (Drained count run by steps)) = at ≡ processor → by ≡ who.Discipline
+DecidesAlone at (event.Tick processor now) (Ok (Ticked run by steps)) = at ≡ processor → by ≡ who.Discipline
 DecidesAlone at e a = Unit {0}
 
 -- a history of the world, and the steps that it makes at a processor where the discipline alone decides
