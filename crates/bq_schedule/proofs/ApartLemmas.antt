@@ -25,17 +25,17 @@ apart-push (x ∷ xs) y h e lt = (
 
 -- the slice, if it is at that processor
 abbrev pub at_only : ℕ → Option Slice → Option Slice
-at_only cpu None = None
-at_only cpu (Some y) = cond (is_at cpu y) (Some y) None
+at_only processor None = None
+at_only processor (Some y) = cond (is_at processor y) (Some y) None
 
 filter-one_if : (y : Slice) (b : Bool) → cond b (y ∷ []) [] ≡ option_to_list (cond b (Some y) None)
 filter-one_if y true = refl
 filter-one_if y false = refl
 
 -- of at most one slice, those at a processor are that slice, if it is there
-pub filter-one : (cpu : ℕ) (o : Option Slice) → filter (is_at cpu) (option_to_list o) ≡ option_to_list (at_only cpu o)
-filter-one cpu None = refl
-filter-one cpu (Some y) = filter-one_if y (is_at cpu y)
+pub filter-one : (processor : ℕ) (o : Option Slice) → filter (is_at processor) (option_to_list o) ≡ option_to_list (at_only processor o)
+filter-one processor None = refl
+filter-one processor (Some y) = filter-one_if y (is_at processor y)
 
 -- a slice from one time on, that ends by another
 abbrev pub IsNext : ℕ → ℕ → Option Slice → Type 0
@@ -54,28 +54,28 @@ rises true c now = omega arith
 rises false c now = omega arith
 
 -- what a moment ends at a processor begins at its last reading, and ends by the next
-next_at : (x : Sight) (past : History) (cpu : ℕ) (who : Option ℕ) (b e : Bool) → ltb (clock x.cpu past) (reading (clock x.cpu past) x.now) ≡ b → ((e ≡ true) × (x.cpu ≡ cpu)) ⊎ ((e ≡ false) × (x.cpu ≢ cpu)) → eqb x.cpu cpu ≡ e →
-    IsNext (clock cpu past) (cond e (reading (clock cpu past) x.now) (clock cpu past)) (at_only cpu (stretch x.cpu who (clock x.cpu past) (reading (clock x.cpu past) x.now)))
-next_at x past cpu None b e lt t is = rises e (clock cpu past) x.now
-next_at x past cpu (Some id) true true lt (inl same) is =
-    let k : clock x.cpu past ≡ clock cpu past = ap (λ j. clock j past) same.1 in
+next_at : (x : Sight) (past : History) (processor : ℕ) (who : Option ℕ) (b e : Bool) → ltb (clock x.processor past) (reading (clock x.processor past) x.now) ≡ b → ((e ≡ true) × (x.processor ≡ processor)) ⊎ ((e ≡ false) × (x.processor ≢ processor)) → eqb x.processor processor ≡ e →
+    IsNext (clock processor past) (cond e (reading (clock processor past) x.now) (clock processor past)) (at_only processor (stretch x.processor who (clock x.processor past) (reading (clock x.processor past) x.now)))
+next_at x past processor None b e lt t is = rises e (clock processor past) x.now
+next_at x past processor (Some id) true true lt (inl same) is =
+    let k : clock x.processor past ≡ clock processor past = ap (λ j. clock j past) same.1 in
     rw (lt, is) (k, grind (arith, nat_tests), omega (arith, k, ap (λ n. reading n x.now) k))
-next_at x past cpu (Some id) true false lt (inr other) is = rw (lt, is) (omega arith)
-next_at x past cpu (Some id) false e lt t is = rw lt (rises e (clock cpu past) x.now)
-next_at x past cpu (Some id) true true lt (inr other) is = absurd (cc)
-next_at x past cpu (Some id) true false lt (inl same) is = absurd (cc)
+next_at x past processor (Some id) true false lt (inr other) is = rw (lt, is) (omega arith)
+next_at x past processor (Some id) false e lt t is = rw lt (rises e (clock processor past) x.now)
+next_at x past processor (Some id) true true lt (inr other) is = absurd (cc)
+next_at x past processor (Some id) true false lt (inl same) is = absurd (cc)
 
-next_shown : (past : History) (cpu : ℕ) (o : Option Sight) → IsNext (clock cpu past) (clock_after cpu (clock cpu past) o) (at_only cpu (slice_shown past o))
-next_shown past cpu None = omega arith
-next_shown past cpu (Some x) =
-    next_at x past cpu (runner x.cpu past) (ltb (clock x.cpu past) (reading (clock x.cpu past) x.now)) (eqb x.cpu cpu) refl (eqb_tells x.cpu cpu) refl
+next_shown : (past : History) (processor : ℕ) (o : Option Sight) → IsNext (clock processor past) (clock_after processor (clock processor past) o) (at_only processor (slice_shown past o))
+next_shown past processor None = omega arith
+next_shown past processor (Some x) =
+    next_at x past processor (runner x.processor past) (ltb (clock x.processor past) (reading (clock x.processor past) x.now)) (eqb x.processor processor) refl (eqb_tells x.processor processor) refl
 
 -- the slices of a processor do not overlap, and end by its last reading
-pub stand_apart : (past : History) (cpu : ℕ) → StandApart (slices_at cpu past) × All (λ (s : Slice). s.to ≤ clock cpu past) (slices_at cpu past)
-stand_apart [] cpu = (tt, All-nil (λ (s : Slice). s.to ≤ 0))
-stand_apart (m ∷ past) cpu =
+pub stand_apart : (past : History) (processor : ℕ) → StandApart (slices_at processor past) × All (λ (s : Slice). s.to ≤ clock processor past) (slices_at processor past)
+stand_apart [] processor = (tt, All-nil (λ (s : Slice). s.to ≤ 0))
+stand_apart (m ∷ past) processor =
     let o = sight_of m.event m.answer in
-    let is : slices_at cpu (m ∷ past) ≡ slices_at cpu past ++ option_to_list (at_only cpu (slice_shown past o)) =
-    filter-append (is_at cpu) (slices past) (option_to_list (slice_shown past o)) ∙ ap (λ ys. slices_at cpu past ++ ys) (filter-one cpu (slice_shown past o)) in
-    let P : List Slice → Type 0 = λ xs. StandApart xs × All (λ (s : Slice). s.to ≤ clock cpu (m ∷ past)) xs in
-    subst P (sym is) (grow (slices_at cpu past) (at_only cpu (slice_shown past o)) (clock cpu past) (clock cpu (m ∷ past)) (stand_apart past cpu) (next_shown past cpu o))
+    let is : slices_at processor (m ∷ past) ≡ slices_at processor past ++ option_to_list (at_only processor (slice_shown past o)) =
+    filter-append (is_at processor) (slices past) (option_to_list (slice_shown past o)) ∙ ap (λ ys. slices_at processor past ++ ys) (filter-one processor (slice_shown past o)) in
+    let P : List Slice → Type 0 = λ xs. StandApart xs × All (λ (s : Slice). s.to ≤ clock processor (m ∷ past)) xs in
+    subst P (sym is) (grow (slices_at processor past) (at_only processor (slice_shown past o)) (clock processor past) (clock processor (m ∷ past)) (stand_apart past processor) (next_shown past processor o))

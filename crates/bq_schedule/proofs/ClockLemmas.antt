@@ -28,56 +28,56 @@ use Rattle.bq_schedule.proofs.FrameLemmas.{Works, who, KeepsWorks, KeepsRunning,
 -- what a reply does: the clock is read that it shows, and nothing else of the works changes; and it runs who it says
 abbrev pub Shows : Figures → Figures → Option Sight → Type 0
 Shows s s' None = KeepsWorks s s' × KeepsRunning s s'
-Shows s s' (Some x) = KeepsWorks (read_at x.cpu x.now s) s' × RunsAs x.run x.cpu s s'
+Shows s s' (Some x) = KeepsWorks (read_at x.processor x.now s) s' × RunsAs x.run x.processor s s'
 
-shows-placed : (cpu now : ℕ) (d : Decision) (id to : ℕ) (s : Figures) → Shows s (placed cpu now d id to s) (Some (record { cpu = cpu; now = now; run = None }))
-shows-placed cpu now d id to s =
-    let r = read_at cpu now s in
-    let a = asked cpu d r in
-    let at = time_at cpu now s in
+shows-placed : (processor now : ℕ) (d : Decision) (id to : ℕ) (s : Figures) → Shows s (placed processor now d id to s) (Some (record { processor = processor; now = now; run = None }))
+shows-placed processor now d id to s =
+    let r = read_at processor now s in
+    let a = asked processor d r in
+    let at = time_at processor now s in
     let c = comes id to at a in (
-      works-then r a _ (works-asked cpu d r) (works-then a c _ (works-comes id to at a) (works-with_task c id _ refl)),
-      running-then s r _ (running-read_at cpu now s) (running-then r a _ (running-asked cpu d r) (running-then a c _ (running-comes id to at a) (running-with_task c id _))),
+      works-then r a _ (works-asked processor d r) (works-then a c _ (works-comes id to at a) (works-with_task c id _ refl)),
+      running-then s r _ (running-read_at processor now s) (running-then r a _ (running-asked processor d r) (running-then a c _ (running-comes id to at a) (running-with_task c id _))),
     )
 
-shows-decided : (cpu now : ℕ) (d : Decision) (run : Option ℕ) (s : Figures) → cpu < length s.processors → Shows s (decided cpu now d run s) (Some (record { cpu = cpu; now = now; run = Some run }))
-shows-decided cpu now d run s inside =
-    let r = read_at cpu now s in
-    let a = asked cpu d r in
-    let at = time_at cpu now s in
-    let inside' : cpu < length a.processors = omega (arith, count-read_at cpu now s, (works-asked cpu d r).count) in (
-      works-then r a _ (works-asked cpu d r) (works-switched Preempted cpu at run a),
-      runs-after (Some run) cpu s a (switched Preempted cpu at run a) (running-then s r a (running-read_at cpu now s) (running-asked cpu d r)) (runs-switched Preempted cpu at run a inside'),
+shows-decided : (processor now : ℕ) (d : Decision) (run : Option ℕ) (s : Figures) → processor < length s.processors → Shows s (decided processor now d run s) (Some (record { processor = processor; now = now; run = Some run }))
+shows-decided processor now d run s inside =
+    let r = read_at processor now s in
+    let a = asked processor d r in
+    let at = time_at processor now s in
+    let inside' : processor < length a.processors = omega (arith, count-read_at processor now s, (works-asked processor d r).count) in (
+      works-then r a _ (works-asked processor d r) (works-switched Preempted processor at run a),
+      runs-after (Some run) processor s a (switched Preempted processor at run a) (running-then s r a (running-read_at processor now s) (running-asked processor d r)) (runs-switched Preempted processor at run a inside'),
     )
 
-shows-blocked : (cpu now id : ℕ) (run : Option ℕ) (s : Figures) → cpu < length s.processors → Shows s (blocked cpu now id run s) (Some (record { cpu = cpu; now = now; run = Some run }))
-shows-blocked cpu now id run s inside =
-    let r = read_at cpu now s in
+shows-blocked : (processor now id : ℕ) (run : Option ℕ) (s : Figures) → processor < length s.processors → Shows s (blocked processor now id run s) (Some (record { processor = processor; now = now; run = Some run }))
+shows-blocked processor now id run s inside =
+    let r = read_at processor now s in
     let a = leaves id r in
-    let at = time_at cpu now s in
-    let inside' : cpu < length a.processors = omega (arith, count-read_at cpu now s, (works-leaves id r).count) in (
-      works-then r a _ (works-leaves id r) (works-switched Blocked cpu at run a),
-      runs-after (Some run) cpu s a (switched Blocked cpu at run a) (running-then s r a (running-read_at cpu now s) (running-leaves id r)) (runs-switched Blocked cpu at run a inside'),
+    let at = time_at processor now s in
+    let inside' : processor < length a.processors = omega (arith, count-read_at processor now s, (works-leaves id r).count) in (
+      works-then r a _ (works-leaves id r) (works-switched Blocked processor at run a),
+      runs-after (Some run) processor s a (switched Blocked processor at run a) (running-then s r a (running-read_at processor now s) (running-leaves id r)) (runs-switched Blocked processor at run a inside'),
     )
 
-shows-pulled : (cpu now : ℕ) (d : Decision) (task run : Option ℕ) (s : Figures) → cpu < length s.processors → Shows s (pulled cpu now d task run s) (Some (record { cpu = cpu; now = now; run = Some run }))
-shows-pulled cpu now d task run s inside =
-    let r = read_at cpu now s in
-    let a = asked cpu d r in
-    let at = time_at cpu now s in
-    let k = taken cpu at task a in
-    let inside' : cpu < length k.processors = omega (arith, count-read_at cpu now s, (works-asked cpu d r).count, (works-taken cpu at task a).count) in (
-      works-then r a _ (works-asked cpu d r) (works-then a k _ (works-taken cpu at task a) (works-switched Preempted cpu at run k)),
-      runs-after (Some run) cpu s k (switched Preempted cpu at run k)
-          (running-then s r k (running-read_at cpu now s) (running-then r a k (running-asked cpu d r) (running-taken cpu at task a)))
-          (runs-switched Preempted cpu at run k inside'),
+shows-pulled : (processor now : ℕ) (d : Decision) (task run : Option ℕ) (s : Figures) → processor < length s.processors → Shows s (pulled processor now d task run s) (Some (record { processor = processor; now = now; run = Some run }))
+shows-pulled processor now d task run s inside =
+    let r = read_at processor now s in
+    let a = asked processor d r in
+    let at = time_at processor now s in
+    let k = taken processor at task a in
+    let inside' : processor < length k.processors = omega (arith, count-read_at processor now s, (works-asked processor d r).count, (works-taken processor at task a).count) in (
+      works-then r a _ (works-asked processor d r) (works-then a k _ (works-taken processor at task a) (works-switched Preempted processor at run k)),
+      runs-after (Some run) processor s k (switched Preempted processor at run k)
+          (running-then s r k (running-read_at processor now s) (running-then r a k (running-asked processor d r) (running-taken processor at task a)))
+          (runs-switched Preempted processor at run k inside'),
     )
 
-shows-drained : (cpu now : ℕ) (d : Decision) (run : Option ℕ) (s : Figures) → cpu < length s.processors → Shows s (emptied cpu (decided cpu now d run s)) (Some (record { cpu = cpu; now = now; run = Some run }))
-shows-drained cpu now d run s inside =
-    let h = shows-decided cpu now d run s inside in
-    let q = decided cpu now d run s in
-    (works-then _ q _ h.0 (works-with_processor q cpu _ refl), runs-before (Some run) cpu s q (emptied cpu q) h.1 (running-with_processor q cpu _ refl))
+shows-drained : (processor now : ℕ) (d : Decision) (run : Option ℕ) (s : Figures) → processor < length s.processors → Shows s (emptied processor (decided processor now d run s)) (Some (record { processor = processor; now = now; run = Some run }))
+shows-drained processor now d run s inside =
+    let h = shows-decided processor now d run s inside in
+    let q = decided processor now d run s in
+    (works-then _ q _ h.0 (works-with_processor q processor _ refl), runs-before (Some run) processor s q (emptied processor q) h.1 (running-with_processor q processor _ refl))
 
 shows-admitted : (id : ℕ) (s : Figures) (t : Figures) → KeepsWorks (leaves id s) t → KeepsRunning (leaves id s) t → KeepsWorks s t × KeepsRunning s t
 shows-admitted id s t a b = (works-then s (leaves id s) t (works-leaves id s) a, running-then s (leaves id s) t (running-leaves id s) b)
@@ -89,11 +89,11 @@ inside_of a b e = grind (arith, nat_tests)
 -- a reply to an event whose processor is there does to the works, and to who runs, what it shows
 pub shows-performed : (s : Figures) (e : Event) (r : Reply) → is_there s e ≡ true → Shows s (performed s e r) (sight e r)
 shows-performed s (Admit id nice mask slice) Admitted there = shows-admitted id s _ (works-with_task (leaves id s) id _ refl) (running-with_task (leaves id s) id _)
-shows-performed s (EndWake cpu now) (Placed task to by steps) there = shows-placed cpu now (record { hook = Place; by = by; steps = steps }) task to s
-shows-performed s (Drain cpu now) (Drained count run by steps) there = shows-drained cpu now (record { hook = Preempt; by = by; steps = steps }) run s (inside_of cpu (length s.processors) there)
-shows-performed s (Tick cpu now) (Ticked run by steps) there = shows-decided cpu now (record { hook = Preempt; by = by; steps = steps }) run s (inside_of cpu (length s.processors) there)
-shows-performed s (Block cpu now) (Went task run) there = shows-blocked cpu now task run s (inside_of cpu (length s.processors) there)
-shows-performed s (Pull cpu from now) (Pulled task run by steps) there = shows-pulled cpu now (record { hook = OnPull; by = by; steps = steps }) task run s (inside_of cpu (length s.processors) there)
+shows-performed s (EndWake processor now) (Placed task to by steps) there = shows-placed processor now (record { hook = Place; by = by; steps = steps }) task to s
+shows-performed s (Drain processor now) (Drained count run by steps) there = shows-drained processor now (record { hook = Preempt; by = by; steps = steps }) run s (inside_of processor (length s.processors) there)
+shows-performed s (Tick processor now) (Ticked run by steps) there = shows-decided processor now (record { hook = Preempt; by = by; steps = steps }) run s (inside_of processor (length s.processors) there)
+shows-performed s (Block processor now) (Went task run) there = shows-blocked processor now task run s (inside_of processor (length s.processors) there)
+shows-performed s (Pull processor from now) (Pulled task run by steps) there = shows-pulled processor now (record { hook = OnPull; by = by; steps = steps }) task run s (inside_of processor (length s.processors) there)
 shows-performed s e r there = (works-id s, running-id s)
 
 outside : (a b : ℕ) → ltb a b ≡ false → a < b → ⊥
@@ -101,11 +101,11 @@ outside a b e h = grind (arith, nat_tests)
 
 -- where the event's processor is not there, nothing is shown of one that is
 shows-nothing : (s : Figures) (e : Event) (r : Reply) → is_there s e ≡ false → IsWithin (length s.processors) (sight e r) → Shows s s (sight e r)
-shows-nothing s (EndWake cpu now) (Placed task to by steps) none h = absurd (outside cpu (length s.processors) none h)
-shows-nothing s (Drain cpu now) (Drained count run by steps) none h = absurd (outside cpu (length s.processors) none h)
-shows-nothing s (Tick cpu now) (Ticked run by steps) none h = absurd (outside cpu (length s.processors) none h)
-shows-nothing s (Block cpu now) (Went task run) none h = absurd (outside cpu (length s.processors) none h)
-shows-nothing s (Pull cpu from now) (Pulled task run by steps) none h = absurd (outside cpu (length s.processors) none h)
+shows-nothing s (EndWake processor now) (Placed task to by steps) none h = absurd (outside processor (length s.processors) none h)
+shows-nothing s (Drain processor now) (Drained count run by steps) none h = absurd (outside processor (length s.processors) none h)
+shows-nothing s (Tick processor now) (Ticked run by steps) none h = absurd (outside processor (length s.processors) none h)
+shows-nothing s (Block processor now) (Went task run) none h = absurd (outside processor (length s.processors) none h)
+shows-nothing s (Pull processor from now) (Pulled task run by steps) none h = absurd (outside processor (length s.processors) none h)
 shows-nothing s e r none h = (works-id s, running-id s)
 
 shows-if : (b : Bool) (s : Figures) (e : Event) (r : Reply) → is_there s e ≡ b → IsWithin (length s.processors) (sight e r) → Shows s (cond b (performed s e r) s) (sight e r)
@@ -120,7 +120,7 @@ shows-after s e (Err r) h = (record { at = λ j. refl; count = refl; tasks = ref
 -- how many processors there are stays
 count-shown : (s s' : Figures) (o : Option Sight) → Shows s s' o → length s'.processors ≡ length s.processors
 count-shown s s' None h = h.0.count
-count-shown s s' (Some x) h = h.0.count ∙ count-read_at x.cpu x.now s
+count-shown s s' (Some x) h = h.0.count ∙ count-read_at x.processor x.now s
 
 -- after an event and its answer there are as many processors as before
 pub count-after : (s : Figures) (e : Event) (a : Result Reply Refusal) → IsWithin (length s.processors) (sight_of e a) → length (after s e a).processors ≡ length s.processors
@@ -141,74 +141,74 @@ pub within-figures : (count : ℕ) (past : History) (m : Moment) → IsOf count 
 within-figures count past m h = within_same _ _ _ (count-figures count past h.1) h.0
 
 -- a reading at one processor leaves the works of the others
-works-read_at : (cpu now j : ℕ) (s : Figures) → j < length s.processors → (b : Bool) → ((b ≡ true) × (cpu ≡ j)) ⊎ ((b ≡ false) × (cpu ≢ j)) →
-    processor_of (read_at cpu now s) j ≡ cond b (processor_read cpu (processor_of s cpu) now) (processor_of s j)
-works-read_at cpu now j s inside true (inl same) =
-    ap (λ l. get_or l j unread) (processors-read_at cpu now s)
-    ∙ ap (λ k. get_or (slice_set s.processors k (processor_read cpu (processor_of s cpu) now)) j unread) same.1
-    ∙ get_or-set_same s.processors j (processor_read cpu (processor_of s cpu) now) unread inside
-works-read_at cpu now j s inside false (inl same) = absurd (cc)
-works-read_at cpu now j s inside true (inr other) = absurd (cc)
-works-read_at cpu now j s inside false (inr other) =
-    ap (λ l. get_or l j unread) (processors-read_at cpu now s)
-    ∙ get_or-set_other s.processors cpu j (processor_read cpu (processor_of s cpu) now) unread (λ e. other.1 (sym e))
+works-read_at : (processor now j : ℕ) (s : Figures) → j < length s.processors → (b : Bool) → ((b ≡ true) × (processor ≡ j)) ⊎ ((b ≡ false) × (processor ≢ j)) →
+    processor_of (read_at processor now s) j ≡ cond b (processor_read processor (processor_of s processor) now) (processor_of s j)
+works-read_at processor now j s inside true (inl same) =
+    ap (λ l. get_or l j unread) (processors-read_at processor now s)
+    ∙ ap (λ k. get_or (slice_set s.processors k (processor_read processor (processor_of s processor) now)) j unread) same.1
+    ∙ get_or-set_same s.processors j (processor_read processor (processor_of s processor) now) unread inside
+works-read_at processor now j s inside false (inl same) = absurd (cc)
+works-read_at processor now j s inside true (inr other) = absurd (cc)
+works-read_at processor now j s inside false (inr other) =
+    ap (λ l. get_or l j unread) (processors-read_at processor now s)
+    ∙ get_or-set_other s.processors processor j (processor_read processor (processor_of s processor) now) unread (λ e. other.1 (sym e))
 
 -- the processor that was read
-pub read_there : (cpu now : ℕ) (s : Figures) → cpu < length s.processors → processor_of (read_at cpu now s) cpu ≡ processor_read cpu (processor_of s cpu) now
-read_there cpu now s inside = works-read_at cpu now cpu s inside true (inl (refl, refl))
+pub read_there : (processor now : ℕ) (s : Figures) → processor < length s.processors → processor_of (read_at processor now s) processor ≡ processor_read processor (processor_of s processor) now
+read_there processor now s inside = works-read_at processor now processor s inside true (inl (refl, refl))
 
 -- after a reading its processor has what the reading makes of it, and each other what it had
-pub processor-read_at : (cpu now j : ℕ) (s : Figures) → j < length s.processors →
-    processor_of (read_at cpu now s) j ≡ cond (eqb cpu j) (processor_read cpu (processor_of s cpu) now) (processor_of s j)
-processor-read_at cpu now j s inside = works-read_at cpu now j s inside (eqb cpu j) (eqb_tells cpu j)
+pub processor-read_at : (processor now j : ℕ) (s : Figures) → j < length s.processors →
+    processor_of (read_at processor now s) j ≡ cond (eqb processor j) (processor_read processor (processor_of s processor) now) (processor_of s j)
+processor-read_at processor now j s inside = works-read_at processor now j s inside (eqb processor j) (eqb_tells processor j)
 
 last-cond : (b : Bool) (p q : ProcessorFigures) → (cond b p q).last ≡ cond b p.last q.last
 last-cond true p q = refl
 last-cond false p q = refl
 
-last-same : (cpu now j : ℕ) (s : Figures) (b : Bool) → ((b ≡ true) × (cpu ≡ j)) ⊎ ((b ≡ false) × (cpu ≢ j)) →
-    cond b (reading (processor_of s cpu).last now) (processor_of s j).last ≡ cond b (reading (processor_of s j).last now) (processor_of s j).last
-last-same cpu now j s true (inl same) = ap (λ k. reading (processor_of s k).last now) same.1
-last-same cpu now j s false (inl same) = refl
-last-same cpu now j s true (inr other) = absurd (cc)
-last-same cpu now j s false (inr other) = refl
+last-same : (processor now j : ℕ) (s : Figures) (b : Bool) → ((b ≡ true) × (processor ≡ j)) ⊎ ((b ≡ false) × (processor ≢ j)) →
+    cond b (reading (processor_of s processor).last now) (processor_of s j).last ≡ cond b (reading (processor_of s j).last now) (processor_of s j).last
+last-same processor now j s true (inl same) = ap (λ k. reading (processor_of s k).last now) same.1
+last-same processor now j s false (inl same) = refl
+last-same processor now j s true (inr other) = absurd (cc)
+last-same processor now j s false (inr other) = refl
 
 -- the last reading of each clock is the one that is shown
 pub last-shown : (s s' : Figures) (o : Option Sight) (j : ℕ) → j < length s.processors → Shows s s' o → (processor_of s' j).last ≡ clock_after j (processor_of s j).last o
 last-shown s s' None j inside h = ap (λ (w : Works). w.last) (h.0.at j)
 last-shown s s' (Some x) j inside h =
     ap (λ (w : Works). w.last) (h.0.at j)
-    ∙ ap (λ (p : ProcessorFigures). p.last) (processor-read_at x.cpu x.now j s inside)
-    ∙ last-cond (eqb x.cpu j) _ _
-    ∙ last-same x.cpu x.now j s (eqb x.cpu j) (eqb_tells x.cpu j)
+    ∙ ap (λ (p : ProcessorFigures). p.last) (processor-read_at x.processor x.now j s inside)
+    ∙ last-cond (eqb x.processor j) _ _
+    ∙ last-same x.processor x.now j s (eqb x.processor j) (eqb_tells x.processor j)
 
-who-at : (o : Option (Option ℕ)) (s s' : Figures) (cpu j : ℕ) (b : Bool) → ((b ≡ true) × (cpu ≡ j)) ⊎ ((b ≡ false) × (cpu ≢ j)) → RunsAs o cpu s s' →
+who-at : (o : Option (Option ℕ)) (s s' : Figures) (processor j : ℕ) (b : Bool) → ((b ≡ true) × (processor ≡ j)) ⊎ ((b ≡ false) × (processor ≢ j)) → RunsAs o processor s s' →
     who (processor_of s' j) ≡ cond b (unwrap_or o (who (processor_of s j))) (who (processor_of s j))
-who-at None s s' cpu j true t h = ap (option_map (λ (x : Start). x.task)) (h.at j)
-who-at None s s' cpu j false t h = ap (option_map (λ (x : Start). x.task)) (h.at j)
-who-at (Some run) s s' cpu j true (inl same) h = ap (λ k. who (processor_of s' k)) (sym same.1) ∙ h.0
-who-at (Some run) s s' cpu j false (inl same) h = absurd (cc)
-who-at (Some run) s s' cpu j true (inr other) h = absurd (cc)
-who-at (Some run) s s' cpu j false (inr other) h = ap (option_map (λ (x : Start). x.task)) (h.1 j (λ e. other.1 (sym e)))
+who-at None s s' processor j true t h = ap (option_map (λ (x : Start). x.task)) (h.at j)
+who-at None s s' processor j false t h = ap (option_map (λ (x : Start). x.task)) (h.at j)
+who-at (Some run) s s' processor j true (inl same) h = ap (λ k. who (processor_of s' k)) (sym same.1) ∙ h.0
+who-at (Some run) s s' processor j false (inl same) h = absurd (cc)
+who-at (Some run) s s' processor j true (inr other) h = absurd (cc)
+who-at (Some run) s s' processor j false (inr other) h = ap (option_map (λ (x : Start). x.task)) (h.1 j (λ e. other.1 (sym e)))
 
 -- and who runs is who it says
 pub who-shown : (s s' : Figures) (o : Option Sight) (j : ℕ) → Shows s s' o → who (processor_of s' j) ≡ runner_after j (who (processor_of s j)) o
 who-shown s s' None j h = ap (option_map (λ (x : Start). x.task)) (h.1.at j)
-who-shown s s' (Some x) j h = who-at x.run s s' x.cpu j (eqb x.cpu j) (eqb_tells x.cpu j) h.1
+who-shown s s' (Some x) j h = who-at x.run s s' x.processor j (eqb x.processor j) (eqb_tells x.processor j) h.1
 
-opening-at : (count cpu : ℕ) → cpu < count → processor_of (opening count) cpu ≡ unread
-opening-at count cpu inside = get_or-replicate count cpu unread unread inside
+opening-at : (count processor : ℕ) → processor < count → processor_of (opening count) processor ≡ unread
+opening-at count processor inside = get_or-replicate count processor unread unread inside
 
 -- the figures' last reading of each processor, and who runs there, are those of the history
-pub figures-clocks : (count : ℕ) (past : History) (cpu : ℕ) → IsOf count past → cpu < count →
-    ((processor_of (figures count past) cpu).last ≡ clock cpu past) × (who (processor_of (figures count past) cpu) ≡ runner cpu past)
-figures-clocks count [] cpu h inside = (ap (λ (p : ProcessorFigures). p.last) (opening-at count cpu inside), ap who (opening-at count cpu inside))
-figures-clocks count (m ∷ past) cpu h inside =
+pub figures-clocks : (count : ℕ) (past : History) (processor : ℕ) → IsOf count past → processor < count →
+    ((processor_of (figures count past) processor).last ≡ clock processor past) × (who (processor_of (figures count past) processor) ≡ runner processor past)
+figures-clocks count [] processor h inside = (ap (λ (p : ProcessorFigures). p.last) (opening-at count processor inside), ap who (opening-at count processor inside))
+figures-clocks count (m ∷ past) processor h inside =
     let s = figures count past in
     let o = sight_of m.event m.answer in
-    let before = figures-clocks count past cpu h.1 inside in
-    let inside' : cpu < length s.processors = omega (arith, count-figures count past h.1) in
+    let before = figures-clocks count past processor h.1 inside in
+    let inside' : processor < length s.processors = omega (arith, count-figures count past h.1) in
     let shown : Shows s (after s m.event m.answer) o = shows-after s m.event m.answer (within-figures count past m h) in (
-      last-shown s _ o cpu inside' shown ∙ ap (λ n. clock_after cpu n o) before.0,
-      who-shown s _ o cpu shown ∙ ap (λ w. runner_after cpu w o) before.1,
+      last-shown s _ o processor inside' shown ∙ ap (λ n. clock_after processor n o) before.0,
+      who-shown s _ o processor shown ∙ ap (λ w. runner_after processor w o) before.1,
     )

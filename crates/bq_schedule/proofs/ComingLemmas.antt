@@ -20,78 +20,78 @@ pub record Stays (s s' : Figures) : Type 0 where
   pub sound : PurseLemmas.IsSound s'
   pub raws : (j : ℕ) → PurseLemmas.uncapped s' j ≡ PurseLemmas.uncapped s j
 
-weights-joined : (s s' : Figures) (id cpu j w : ℕ) (t' : TaskFigures) (b : Bool) → PurseLemmas.IsSound s → ((b ≡ true) × (cpu ≡ j)) ⊎ ((b ≡ false) × (cpu ≢ j)) → eqb cpu j ≡ b →
-    (task_of s id).place ≡ None → t'.place ≡ Some cpu → t'.weight ≡ (task_of s id).weight → (processor_of s j).weight ≡ weights_at s j →
+weights-joined : (s s' : Figures) (id processor j w : ℕ) (t' : TaskFigures) (b : Bool) → PurseLemmas.IsSound s → ((b ≡ true) × (processor ≡ j)) ⊎ ((b ≡ false) × (processor ≢ j)) → eqb processor j ≡ b →
+    (task_of s id).place ≡ None → t'.place ≡ Some processor → t'.weight ≡ (task_of s id).weight → (processor_of s j).weight ≡ weights_at s j →
     weights_at s' j + weight_there j (task_of s id) ≡ weights_at s j + weight_there j t' →
-    w ≡ cond b (counted (processor_of s cpu).weight (task_of s id).weight) (processor_of s j).weight → w ≡ weights_at s' j
-weights-joined s s' id cpu j w t' true h (inl e) is at place weight old sums new =
-    let same : (processor_of s cpu).weight ≡ (processor_of s j).weight = ap (λ k. (processor_of s k).weight) e.1 in
+    w ≡ cond b (counted (processor_of s processor).weight (task_of s id).weight) (processor_of s j).weight → w ≡ weights_at s' j
+weights-joined s s' id processor j w t' true h (inl e) is at place weight old sums new =
+    let same : (processor_of s processor).weight ≡ (processor_of s j).weight = ap (λ k. (processor_of s k).weight) e.1 in
     let here : weight_there j t' ≡ t'.weight = weight-here j t' (place ∙ ap (λ (k : ℕ). Some k) e.1) in
     omega (arith, same, here, weight, old, sums, new, weight-nowhere j (task_of s id) at, weights-few s j h, h.table id)
-weights-joined s s' id cpu j w t' false h (inl e) is at place weight old sums new = absurd (cc)
-weights-joined s s' id cpu j w t' true h (inr e) is at place weight old sums new = absurd (cc)
-weights-joined s s' id cpu j w t' false h (inr e) is at place weight old sums new =
-    let here : weight_there j t' ≡ 0 = weight-elsewhere j cpu t' false place is in
+weights-joined s s' id processor j w t' false h (inl e) is at place weight old sums new = absurd (cc)
+weights-joined s s' id processor j w t' true h (inr e) is at place weight old sums new = absurd (cc)
+weights-joined s s' id processor j w t' false h (inr e) is at place weight old sums new =
+    let here : weight_there j t' ≡ 0 = weight-elsewhere j processor t' false place is in
     omega (arith, here, old, sums, new, weight-nowhere j (task_of s id) at)
 
-joined-here : (f : ℕ → ℕ) (u : PurseLemmas.Purse) (cpu : ℕ) (o : Option ℕ) → o ≡ Some cpu → u.joined ≡ f cpu → PurseLemmas.JoinedBy f u o
-joined-here f u cpu o e j = rw e (omega (arith, j))
+joined-here : (f : ℕ → ℕ) (u : PurseLemmas.Purse) (processor : ℕ) (o : Option ℕ) → o ≡ Some processor → u.joined ≡ f processor → PurseLemmas.JoinedBy f u o
+joined-here f u processor o e j = rw e (omega (arith, j))
 
-worth-here : (f : ℕ → ℕ) (u : PurseLemmas.Purse) (cpu : ℕ) (o : Option ℕ) → o ≡ Some cpu → u.joined ≡ f cpu → PurseLemmas.worth_at f u o ≡ u.settled
-worth-here f u cpu o e j =
-    let none : f cpu - u.joined ≡ 0 = omega (arith, j) in
+worth-here : (f : ℕ → ℕ) (u : PurseLemmas.Purse) (processor : ℕ) (o : Option ℕ) → o ≡ Some processor → u.joined ≡ f processor → PurseLemmas.worth_at f u o ≡ u.settled
+worth-here f u processor o e j =
+    let none : f processor - u.joined ≡ 0 = omega (arith, j) in
     ap (λ p. PurseLemmas.worth_at f u p) e ∙ ap (λ n. u.settled + u.weight * n) none ∙ omega arith
 
 -- a task with an id of the table comes
-joined-inside : (s : Figures) (id cpu : ℕ) (p : ProcessorFigures) (t' : TaskFigures) → PurseLemmas.IsSound s → id < length s.tasks → (task_of s id).place ≡ None → p.shared ≡ PurseLemmas.shared_at s cpu →
-    p.weight ≡ counted (processor_of s cpu).weight (task_of s id).weight → t'.place ≡ Some cpu → t'.weight ≡ (task_of s id).weight → t'.joined ≡ PurseLemmas.shared_at s cpu → t'.settled ≡ (task_of s id).settled →
-    Stays s (with_task (with_processor s cpu p) id t')
-joined-inside s id cpu p t' h inside at shared weight place same joined settled =
-    let s1 = with_processor s cpu p in
+joined-inside : (s : Figures) (id processor : ℕ) (p : ProcessorFigures) (t' : TaskFigures) → PurseLemmas.IsSound s → id < length s.tasks → (task_of s id).place ≡ None → p.shared ≡ PurseLemmas.shared_at s processor →
+    p.weight ≡ counted (processor_of s processor).weight (task_of s id).weight → t'.place ≡ Some processor → t'.weight ≡ (task_of s id).weight → t'.joined ≡ PurseLemmas.shared_at s processor → t'.settled ≡ (task_of s id).settled →
+    Stays s (with_task (with_processor s processor p) id t')
+joined-inside s id processor p t' h inside at shared weight place same joined settled =
+    let s1 = with_processor s processor p in
     let s2 = with_task s1 id t' in
     let u = PurseLemmas.purse t' in
-    let gives : (j : ℕ) → PurseLemmas.shared_at s2 j ≡ PurseLemmas.shared_at s j = λ j. shared-with_processor s cpu p j shared in
+    let gives : (j : ℕ) → PurseLemmas.shared_at s2 j ≡ PurseLemmas.shared_at s j = λ j. shared-with_processor s processor p j shared in
     let is : (j : ℕ) → PurseLemmas.purse (task_of s2 j) ≡ cond (eqb id j) u (PurseLemmas.purse (task_of s j)) = λ j. set_reads PurseLemmas.purse s1 id j t' (eqb id j) inside (eqb_tells id j) in
     let had : PurseLemmas.uncapped s id ≡ (task_of s id).settled = ap (λ o. PurseLemmas.worth_at (PurseLemmas.shared_at s) (PurseLemmas.purse (task_of s id)) o) at in
     record {
       sound = record {
         weights = λ j there.
-            let there' : j < length s.processors = omega (arith, there, length-set s.processors cpu p) in
-            weights-joined s s2 id cpu j (processor_of s2 j).weight t' (eqb cpu j) h (eqb_tells cpu j) refl at place same (h.weights j there') (weights-set s1 id j t' inside)
-            (set-there s cpu j p (eqb cpu j) there' (eqb_tells cpu j) ∙ ap (λ w. cond (eqb cpu j) w (processor_of s j).weight) weight);
-        joined = λ j. joined-set s s2 j u (eqb id j) gives (is j) (joined-here (PurseLemmas.shared_at s) u cpu t'.place place joined) (h.joined j);
+            let there' : j < length s.processors = omega (arith, there, length-set s.processors processor p) in
+            weights-joined s s2 id processor j (processor_of s2 j).weight t' (eqb processor j) h (eqb_tells processor j) refl at place same (h.weights j there') (weights-set s1 id j t' inside)
+            (set-there s processor j p (eqb processor j) there' (eqb_tells processor j) ∙ ap (λ w. cond (eqb processor j) w (processor_of s j).weight) weight);
+        joined = λ j. joined-set s s2 j u (eqb id j) gives (is j) (joined-here (PurseLemmas.shared_at s) u processor t'.place place joined) (h.joined j);
         table = λ j. omega (arith, h.table j, task_kept (λ (v : TaskFigures). v.weight) s1 id j t' same);
         ids = length-set s.tasks id t' ∙ h.ids;
       };
-      raws = λ j. raw-set s s2 id j u gives (is j) (worth-here (PurseLemmas.shared_at s) u cpu t'.place place joined ∙ settled ∙ sym had);
+      raws = λ j. raw-set s s2 id j u gives (is j) (worth-here (PurseLemmas.shared_at s) u processor t'.place place joined ∙ settled ∙ sym had);
     }
 
 -- what counts nothing more is as it was
-counted-none : (s : Figures) (cpu j w : ℕ) (b : Bool) → PurseLemmas.IsSound s → j < length s.processors → ((b ≡ true) × (cpu ≡ j)) ⊎ ((b ≡ false) × (cpu ≢ j)) →
-    w ≡ cond b (counted (processor_of s cpu).weight 0) (processor_of s j).weight → w ≡ (processor_of s j).weight
-counted-none s cpu j w true h there (inl e) new =
-    let same : (processor_of s cpu).weight ≡ (processor_of s j).weight = ap (λ k. (processor_of s k).weight) e.1 in
+counted-none : (s : Figures) (processor j w : ℕ) (b : Bool) → PurseLemmas.IsSound s → j < length s.processors → ((b ≡ true) × (processor ≡ j)) ⊎ ((b ≡ false) × (processor ≢ j)) →
+    w ≡ cond b (counted (processor_of s processor).weight 0) (processor_of s j).weight → w ≡ (processor_of s j).weight
+counted-none s processor j w true h there (inl e) new =
+    let same : (processor_of s processor).weight ≡ (processor_of s j).weight = ap (λ k. (processor_of s k).weight) e.1 in
     omega (arith, same, new, h.weights j there, weights-few s j h)
-counted-none s cpu j w false h there (inl e) new = absurd (cc)
-counted-none s cpu j w true h there (inr e) new = absurd (cc)
-counted-none s cpu j w false h there (inr e) new = new
+counted-none s processor j w false h there (inl e) new = absurd (cc)
+counted-none s processor j w true h there (inr e) new = absurd (cc)
+counted-none s processor j w false h there (inr e) new = new
 
 -- one without changes nothing
-joined-outside : (s : Figures) (id cpu : ℕ) (p : ProcessorFigures) (t' : TaskFigures) → PurseLemmas.IsSound s → length s.tasks ≤ id → p.shared ≡ PurseLemmas.shared_at s cpu →
-    p.weight ≡ counted (processor_of s cpu).weight (task_of s id).weight → Stays s (with_task (with_processor s cpu p) id t')
-joined-outside s id cpu p t' h past shared weight =
-    let s1 = with_processor s cpu p in
+joined-outside : (s : Figures) (id processor : ℕ) (p : ProcessorFigures) (t' : TaskFigures) → PurseLemmas.IsSound s → length s.tasks ≤ id → p.shared ≡ PurseLemmas.shared_at s processor →
+    p.weight ≡ counted (processor_of s processor).weight (task_of s id).weight → Stays s (with_task (with_processor s processor p) id t')
+joined-outside s id processor p t' h past shared weight =
+    let s1 = with_processor s processor p in
     let s2 = with_task s1 id t' in
     let tasks : s2.tasks ≡ s.tasks = set_past s.tasks id t' past in
-    let gives : (j : ℕ) → PurseLemmas.shared_at s2 j ≡ PurseLemmas.shared_at s j = λ j. shared-with_processor s cpu p j shared in
+    let gives : (j : ℕ) → PurseLemmas.shared_at s2 j ≡ PurseLemmas.shared_at s j = λ j. shared-with_processor s processor p j shared in
     let same : (j : ℕ) → task_of s2 j ≡ task_of s j = λ j. ap (λ l. get_or l j unknown) tasks in
     let none : (task_of s id).weight ≡ 0 = ap (λ (t : TaskFigures). t.weight) (beyond_table s id past) in
     record {
       sound = record {
         weights = λ j there.
-            let there' : j < length s.processors = omega (arith, there, length-set s.processors cpu p) in
-            counted-none s cpu j (processor_of s2 j).weight (eqb cpu j) h there' (eqb_tells cpu j)
-            (set-there s cpu j p (eqb cpu j) there' (eqb_tells cpu j) ∙ ap (λ w. cond (eqb cpu j) w (processor_of s j).weight) (weight ∙ ap (counted (processor_of s cpu).weight) none))
+            let there' : j < length s.processors = omega (arith, there, length-set s.processors processor p) in
+            counted-none s processor j (processor_of s2 j).weight (eqb processor j) h there' (eqb_tells processor j)
+            (set-there s processor j p (eqb processor j) there' (eqb_tells processor j) ∙ ap (λ w. cond (eqb processor j) w (processor_of s j).weight) (weight ∙ ap (counted (processor_of s processor).weight) none))
             ∙ h.weights j there' ∙ ap (λ l. sum_by (weight_there j) l) (sym tasks);
         joined = λ j. PurseLemmas.joined-more (PurseLemmas.shared_at s) (PurseLemmas.shared_at s2) (PurseLemmas.purse (task_of s2 j)) (task_of s2 j).place (λ k. omega (arith, gives k))
             (PurseLemmas.joined-same (PurseLemmas.shared_at s) (PurseLemmas.purse (task_of s2 j)) (PurseLemmas.purse (task_of s j)) (ap PurseLemmas.purse (same j)) (h.joined j));
@@ -101,13 +101,13 @@ joined-outside s id cpu p t' h past shared weight =
       raws = λ j. PurseLemmas.raw-kept s s2 j gives (ap PurseLemmas.purse (same j));
     }
 
-joined-if : (s : Figures) (id cpu now : ℕ) (b : Bool) → PurseLemmas.IsSound s → (task_of s id).place ≡ None → ((b ≡ true) × (length s.tasks ≤ id)) ⊎ ((b ≡ false) × (id < length s.tasks)) → Stays s (joins id cpu now s)
-joined-if s id cpu now b h at (inl past) = joined-outside s id cpu (processor_joined (processor_of s cpu) (task_of s id).weight) _ h past.1 refl refl
-joined-if s id cpu now b h at (inr inside) = joined-inside s id cpu (processor_joined (processor_of s cpu) (task_of s id).weight) _ h inside.1 at refl refl refl refl refl refl
+joined-if : (s : Figures) (id processor now : ℕ) (b : Bool) → PurseLemmas.IsSound s → (task_of s id).place ≡ None → ((b ≡ true) × (length s.tasks ≤ id)) ⊎ ((b ≡ false) × (id < length s.tasks)) → Stays s (joins id processor now s)
+joined-if s id processor now b h at (inl past) = joined-outside s id processor (processor_joined (processor_of s processor) (task_of s id).weight) _ h past.1 refl refl
+joined-if s id processor now b h at (inr inside) = joined-inside s id processor (processor_joined (processor_of s processor) (task_of s id).weight) _ h inside.1 at refl refl refl refl refl refl
 
 -- where a task that is nowhere joins a processor, all stays sound, and each task has what it had
-pub joined : (s : Figures) (id cpu now : ℕ) → PurseLemmas.IsSound s → (task_of s id).place ≡ None → Stays s (joins id cpu now s)
-joined s id cpu now h at = joined-if s id cpu now (leb (length s.tasks) id) h at (leb_tells (length s.tasks) id)
+pub joined : (s : Figures) (id processor now : ℕ) → PurseLemmas.IsSound s → (task_of s id).place ≡ None → Stays s (joins id processor now s)
+joined s id processor now h at = joined-if s id processor now (leb (length s.tasks) id) h at (leb_tells (length s.tasks) id)
 
 table-cond : (b : Bool) (u v : PurseLemmas.Purse) → u.weight ≤ 88761 → v.weight ≤ 88761 → (cond b u v).weight ≤ 88761
 table-cond true u v h l = h

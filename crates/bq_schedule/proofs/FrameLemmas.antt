@@ -109,20 +109,20 @@ pub running-with_task : (s : Figures) (i : ℕ) (t : TaskFigures) → KeepsRunni
 running-with_task s i t = record { at = λ j. refl }
 
 -- a decision that is counted keeps the works
-pub works-asked : (cpu : ℕ) (d : Decision) (s : Figures) → KeepsWorks s (asked cpu d s)
-works-asked cpu d s = works-with_processor s cpu _ (works-processor_asked (processor_of s cpu) d d.hook)
+pub works-asked : (processor : ℕ) (d : Decision) (s : Figures) → KeepsWorks s (asked processor d s)
+works-asked processor d s = works-with_processor s processor _ (works-processor_asked (processor_of s processor) d d.hook)
 
 -- a decision that is counted keeps who runs
-pub running-asked : (cpu : ℕ) (d : Decision) (s : Figures) → KeepsRunning s (asked cpu d s)
-running-asked cpu d s = running-with_processor s cpu _ (running-processor_asked (processor_of s cpu) d d.hook)
+pub running-asked : (processor : ℕ) (d : Decision) (s : Figures) → KeepsRunning s (asked processor d s)
+running-asked processor d s = running-with_processor s processor _ (running-processor_asked (processor_of s processor) d d.hook)
 
 works-left_from : (id : ℕ) (s : Figures) (place : Option ℕ) → KeepsWorks s (left_from id s place)
 works-left_from id s None = works-id s
-works-left_from id s (Some cpu) = works-then _ _ _ (works-with_processor s cpu _ refl) (works-with_task _ id _ refl)
+works-left_from id s (Some processor) = works-then _ _ _ (works-with_processor s processor _ refl) (works-with_task _ id _ refl)
 
 running-left_from : (id : ℕ) (s : Figures) (place : Option ℕ) → KeepsRunning s (left_from id s place)
 running-left_from id s None = running-id s
-running-left_from id s (Some cpu) = running-then _ _ _ (running-with_processor s cpu _ refl) (running-with_task _ id _)
+running-left_from id s (Some processor) = running-then _ _ _ (running-with_processor s processor _ refl) (running-with_task _ id _)
 
 -- a task that leaves its processor keeps the works
 pub works-leaves : (id : ℕ) (s : Figures) → KeepsWorks s (leaves id s)
@@ -133,29 +133,29 @@ pub running-leaves : (id : ℕ) (s : Figures) → KeepsRunning s (leaves id s)
 running-leaves id s = running-left_from id s (task_of s id).place
 
 -- a task that joins a processor keeps the works
-pub works-joins : (id cpu now : ℕ) (s : Figures) → KeepsWorks s (joins id cpu now s)
-works-joins id cpu now s = works-then _ _ _ (works-with_processor s cpu _ refl) (works-with_task _ id _ refl)
+pub works-joins : (id processor now : ℕ) (s : Figures) → KeepsWorks s (joins id processor now s)
+works-joins id processor now s = works-then _ _ _ (works-with_processor s processor _ refl) (works-with_task _ id _ refl)
 
-running-joins : (id cpu now : ℕ) (s : Figures) → KeepsRunning s (joins id cpu now s)
-running-joins id cpu now s = running-then _ _ _ (running-with_processor s cpu _ refl) (running-with_task _ id _)
+running-joins : (id processor now : ℕ) (s : Figures) → KeepsRunning s (joins id processor now s)
+running-joins id processor now s = running-then _ _ _ (running-with_processor s processor _ refl) (running-with_task _ id _)
 
 -- a task that comes from wherever it was keeps the works
-pub works-comes : (id cpu now : ℕ) (s : Figures) → KeepsWorks s (comes id cpu now s)
-works-comes id cpu now s = works-then _ _ _ (works-leaves id s) (works-joins id cpu now (leaves id s))
+pub works-comes : (id processor now : ℕ) (s : Figures) → KeepsWorks s (comes id processor now s)
+works-comes id processor now s = works-then _ _ _ (works-leaves id s) (works-joins id processor now (leaves id s))
 
 -- a task that comes from wherever it was keeps who runs
-pub running-comes : (id cpu now : ℕ) (s : Figures) → KeepsRunning s (comes id cpu now s)
-running-comes id cpu now s = running-then _ _ _ (running-leaves id s) (running-joins id cpu now (leaves id s))
+pub running-comes : (id processor now : ℕ) (s : Figures) → KeepsRunning s (comes id processor now s)
+running-comes id processor now s = running-then _ _ _ (running-leaves id s) (running-joins id processor now (leaves id s))
 
 -- a task that is pulled, if there is one, keeps the works
-pub works-taken : (cpu now : ℕ) (task : Option ℕ) (s : Figures) → KeepsWorks s (taken cpu now task s)
-works-taken cpu now None s = works-id s
-works-taken cpu now (Some id) s = works-then _ _ _ (works-with_task s id _ refl) (works-comes id cpu now (waited_there id now s))
+pub works-taken : (processor now : ℕ) (task : Option ℕ) (s : Figures) → KeepsWorks s (taken processor now task s)
+works-taken processor now None s = works-id s
+works-taken processor now (Some id) s = works-then _ _ _ (works-with_task s id _ refl) (works-comes id processor now (waited_there id now s))
 
 -- a task that is pulled, if there is one, keeps who runs
-pub running-taken : (cpu now : ℕ) (task : Option ℕ) (s : Figures) → KeepsRunning s (taken cpu now task s)
-running-taken cpu now None s = running-id s
-running-taken cpu now (Some id) s = running-then _ _ _ (running-with_task s id _) (running-comes id cpu now (waited_there id now s))
+pub running-taken : (processor now : ℕ) (task : Option ℕ) (s : Figures) → KeepsRunning s (taken processor now task s)
+running-taken processor now None s = running-id s
+running-taken processor now (Some id) s = running-then _ _ _ (running-with_task s id _) (running-comes id processor now (waited_there id now s))
 
 time-with_latency : (t : TaskFigures) (n : Option ℕ) → (with_latency t n).time ≡ t.time
 time-with_latency t None = refl
@@ -172,34 +172,34 @@ running-stopped left now None s = running-id s
 running-stopped Blocked now (Some old) s = running-id s
 running-stopped Preempted now (Some old) s = running-with_task s old.task _
 
-works-begun_if : (cpu now : ℕ) (run : Option ℕ) (s : Figures) → KeepsWorks s (begun_if cpu now run s)
-works-begun_if cpu now None s = works-id s
-works-begun_if cpu now (Some id) s = works-with_task s id _ (time-with_latency (task_of s id) _)
+works-begun_if : (processor now : ℕ) (run : Option ℕ) (s : Figures) → KeepsWorks s (begun_if processor now run s)
+works-begun_if processor now None s = works-id s
+works-begun_if processor now (Some id) s = works-with_task s id _ (time-with_latency (task_of s id) _)
 
 -- a task that begins to run, or none, keeps the processors
-pub processors-begun_if : (cpu now : ℕ) (run : Option ℕ) (s : Figures) → (begun_if cpu now run s).processors ≡ s.processors
-processors-begun_if cpu now None s = refl
-processors-begun_if cpu now (Some id) s = refl
+pub processors-begun_if : (processor now : ℕ) (run : Option ℕ) (s : Figures) → (begun_if processor now run s).processors ≡ s.processors
+processors-begun_if processor now None s = refl
+processors-begun_if processor now (Some id) s = refl
 
 works-processor_runs : (p : ProcessorFigures) (o : Option Start) → works (processor_runs p o) ≡ works p
 works-processor_runs p None = refl
 works-processor_runs p (Some start) = refl
 
-works-started : (cpu now : ℕ) (run : Option ℕ) (s : Figures) → KeepsWorks s (started cpu now run s)
-works-started cpu now run s =
-    let e : processor_of (begun_if cpu now run s) cpu ≡ processor_of s cpu = ap (λ l. get_or l cpu unread) (processors-begun_if cpu now run s) in
-    works-then _ _ _ (works-begun_if cpu now run s)
-    (works-with_processor (begun_if cpu now run s) cpu _ (works-processor_runs (processor_of s cpu) (starts_as cpu now run s) ∙ ap works (sym e)))
+works-started : (processor now : ℕ) (run : Option ℕ) (s : Figures) → KeepsWorks s (started processor now run s)
+works-started processor now run s =
+    let e : processor_of (begun_if processor now run s) processor ≡ processor_of s processor = ap (λ l. get_or l processor unread) (processors-begun_if processor now run s) in
+    works-then _ _ _ (works-begun_if processor now run s)
+    (works-with_processor (begun_if processor now run s) processor _ (works-processor_runs (processor_of s processor) (starts_as processor now run s) ∙ ap works (sym e)))
 
-works-switched_if : (b : Bool) (left : Left) (cpu now : ℕ) (run : Option ℕ) (s : Figures) →
-    KeepsWorks s (cond b s (started cpu now run (stopped left now (processor_of s cpu).running s)))
-works-switched_if true left cpu now run s = works-id s
-works-switched_if false left cpu now run s =
-    works-then _ _ _ (works-stopped left now (processor_of s cpu).running s) (works-started cpu now run (stopped left now (processor_of s cpu).running s))
+works-switched_if : (b : Bool) (left : Left) (processor now : ℕ) (run : Option ℕ) (s : Figures) →
+    KeepsWorks s (cond b s (started processor now run (stopped left now (processor_of s processor).running s)))
+works-switched_if true left processor now run s = works-id s
+works-switched_if false left processor now run s =
+    works-then _ _ _ (works-stopped left now (processor_of s processor).running s) (works-started processor now run (stopped left now (processor_of s processor).running s))
 
 -- a switch to a task, or to none, keeps the works
-pub works-switched : (left : Left) (cpu now : ℕ) (run : Option ℕ) (s : Figures) → KeepsWorks s (switched left cpu now run s)
-works-switched left cpu now run s = works-switched_if (is_run_by (processor_of s cpu).running run) left cpu now run s
+pub works-switched : (left : Left) (processor now : ℕ) (run : Option ℕ) (s : Figures) → KeepsWorks s (switched left processor now run s)
+works-switched left processor now run s = works-switched_if (is_run_by (processor_of s processor).running run) left processor now run s
 
 -- who runs
 abbrev pub who : ProcessorFigures → Option ℕ
@@ -207,29 +207,29 @@ who p = option_map (λ (s : Start). s.task) p.running
 
 -- what is told of who runs at a processor holds afterwards, and at the others it is as it was
 abbrev pub RunsAs : Option (Option ℕ) → ℕ → Figures → Figures → Type 0
-RunsAs None cpu s s' = KeepsRunning s s'
-RunsAs (Some run) cpu s s' = (who (processor_of s' cpu) ≡ run) × ((j : ℕ) → j ≢ cpu → (processor_of s' j).running ≡ (processor_of s j).running)
+RunsAs None processor s s' = KeepsRunning s s'
+RunsAs (Some run) processor s s' = (who (processor_of s' processor) ≡ run) × ((j : ℕ) → j ≢ processor → (processor_of s' j).running ≡ (processor_of s j).running)
 
 -- what is told of who runs holds too where a step stands before it that keeps who runs
-pub runs-after : (o : Option (Option ℕ)) (cpu : ℕ) (s t u : Figures) → KeepsRunning s t → RunsAs o cpu t u → RunsAs o cpu s u
-runs-after None cpu s t u a b = running-then s t u a b
-runs-after (Some run) cpu s t u a b = (b.0, λ j ne. b.1 j ne ∙ a.at j)
+pub runs-after : (o : Option (Option ℕ)) (processor : ℕ) (s t u : Figures) → KeepsRunning s t → RunsAs o processor t u → RunsAs o processor s u
+runs-after None processor s t u a b = running-then s t u a b
+runs-after (Some run) processor s t u a b = (b.0, λ j ne. b.1 j ne ∙ a.at j)
 
 -- what is told of who runs holds too where a step follows it that keeps who runs
-pub runs-before : (o : Option (Option ℕ)) (cpu : ℕ) (s t u : Figures) → RunsAs o cpu s t → KeepsRunning t u → RunsAs o cpu s u
-runs-before None cpu s t u a b = running-then s t u a b
-runs-before (Some run) cpu s t u a b = (ap (option_map (λ (x : Start). x.task)) (b.at cpu) ∙ a.0, λ j ne. b.at j ∙ a.1 j ne)
+pub runs-before : (o : Option (Option ℕ)) (processor : ℕ) (s t u : Figures) → RunsAs o processor s t → KeepsRunning t u → RunsAs o processor s u
+runs-before None processor s t u a b = running-then s t u a b
+runs-before (Some run) processor s t u a b = (ap (option_map (λ (x : Start). x.task)) (b.at processor) ∙ a.0, λ j ne. b.at j ∙ a.1 j ne)
 
-who-processor_runs : (p : ProcessorFigures) (cpu now : ℕ) (run : Option ℕ) (s : Figures) → who (processor_runs p (starts_as cpu now run s)) ≡ run
-who-processor_runs p cpu now None s = refl
-who-processor_runs p cpu now (Some id) s = refl
+who-processor_runs : (p : ProcessorFigures) (processor now : ℕ) (run : Option ℕ) (s : Figures) → who (processor_runs p (starts_as processor now run s)) ≡ run
+who-processor_runs p processor now None s = refl
+who-processor_runs p processor now (Some id) s = refl
 
-runs-started : (cpu now : ℕ) (run : Option ℕ) (s : Figures) → cpu < length s.processors → RunsAs (Some run) cpu s (started cpu now run s)
-runs-started cpu now run s inside =
-    let e : (begun_if cpu now run s).processors ≡ s.processors = processors-begun_if cpu now run s in
-    let q = processor_runs (processor_of s cpu) (starts_as cpu now run s) in (
-      ap (λ l. who (get_or (slice_set l cpu q) cpu unread)) e ∙ ap who (get_or-set_same s.processors cpu q unread inside) ∙ who-processor_runs (processor_of s cpu) cpu now run s,
-      λ j ne. ap (λ l. (get_or (slice_set l cpu q) j unread).running) e ∙ ap (λ (p : ProcessorFigures). p.running) (get_or-set_other s.processors cpu j q unread ne),
+runs-started : (processor now : ℕ) (run : Option ℕ) (s : Figures) → processor < length s.processors → RunsAs (Some run) processor s (started processor now run s)
+runs-started processor now run s inside =
+    let e : (begun_if processor now run s).processors ≡ s.processors = processors-begun_if processor now run s in
+    let q = processor_runs (processor_of s processor) (starts_as processor now run s) in (
+      ap (λ l. who (get_or (slice_set l processor q) processor unread)) e ∙ ap who (get_or-set_same s.processors processor q unread inside) ∙ who-processor_runs (processor_of s processor) processor now run s,
+      λ j ne. ap (λ l. (get_or (slice_set l processor q) j unread).running) e ∙ ap (λ (p : ProcessorFigures). p.running) (get_or-set_other s.processors processor j q unread ne),
     )
 
 -- where a task is the one that runs, or none is, it is who runs
@@ -239,42 +239,42 @@ who_is None (Some id) e = cc
 who_is (Some start) None e = cc
 who_is (Some start) (Some id) e = grind (arith, nat_tests)
 
-runs-switched_if : (b : Bool) (left : Left) (cpu now : ℕ) (run : Option ℕ) (s : Figures) → is_run_by (processor_of s cpu).running run ≡ b → cpu < length s.processors →
-    RunsAs (Some run) cpu s (cond b s (started cpu now run (stopped left now (processor_of s cpu).running s)))
-runs-switched_if true left cpu now run s e inside = (who_is (processor_of s cpu).running run e, λ j ne. refl)
-runs-switched_if false left cpu now run s e inside =
-    let t = stopped left now (processor_of s cpu).running s in
-    let inside' : cpu < length t.processors = omega (arith, (works-stopped left now (processor_of s cpu).running s).count) in
-    runs-after (Some run) cpu s t (started cpu now run t) (running-stopped left now (processor_of s cpu).running s) (runs-started cpu now run t inside')
+runs-switched_if : (b : Bool) (left : Left) (processor now : ℕ) (run : Option ℕ) (s : Figures) → is_run_by (processor_of s processor).running run ≡ b → processor < length s.processors →
+    RunsAs (Some run) processor s (cond b s (started processor now run (stopped left now (processor_of s processor).running s)))
+runs-switched_if true left processor now run s e inside = (who_is (processor_of s processor).running run e, λ j ne. refl)
+runs-switched_if false left processor now run s e inside =
+    let t = stopped left now (processor_of s processor).running s in
+    let inside' : processor < length t.processors = omega (arith, (works-stopped left now (processor_of s processor).running s).count) in
+    runs-after (Some run) processor s t (started processor now run t) (running-stopped left now (processor_of s processor).running s) (runs-started processor now run t inside')
 
 -- after a switch the processor runs whom it was to run, and the others whom they ran
-pub runs-switched : (left : Left) (cpu now : ℕ) (run : Option ℕ) (s : Figures) → cpu < length s.processors → RunsAs (Some run) cpu s (switched left cpu now run s)
-runs-switched left cpu now run s inside = runs-switched_if (is_run_by (processor_of s cpu).running run) left cpu now run s refl inside
+pub runs-switched : (left : Left) (processor now : ℕ) (run : Option ℕ) (s : Figures) → processor < length s.processors → RunsAs (Some run) processor s (switched left processor now run s)
+runs-switched left processor now run s inside = runs-switched_if (is_run_by (processor_of s processor).running run) left processor now run s refl inside
 
 running-with_charged : (s : Figures) (o : Option Slice) → KeepsRunning s (with_charged s o)
 running-with_charged s None = running-id s
 running-with_charged s (Some x) = running-with_task s x.task _
 
 -- a reading of a clock keeps who runs
-pub running-read_at : (cpu now : ℕ) (s : Figures) → KeepsRunning s (read_at cpu now s)
-running-read_at cpu now s = running-then _ _ _ (running-with_processor s cpu _ refl) (running-with_charged _ _)
+pub running-read_at : (processor now : ℕ) (s : Figures) → KeepsRunning s (read_at processor now s)
+running-read_at processor now s = running-then _ _ _ (running-with_processor s processor _ refl) (running-with_charged _ _)
 
 count-with_charged : (s : Figures) (o : Option Slice) → (with_charged s o).processors ≡ s.processors
 count-with_charged s None = refl
 count-with_charged s (Some x) = refl
 
 -- a reading sets the processor whose clock is read, and no other
-pub processors-read_at : (cpu now : ℕ) (s : Figures) → (read_at cpu now s).processors ≡ slice_set s.processors cpu (processor_read cpu (processor_of s cpu) now)
-processors-read_at cpu now s = count-with_charged _ _
+pub processors-read_at : (processor now : ℕ) (s : Figures) → (read_at processor now s).processors ≡ slice_set s.processors processor (processor_read processor (processor_of s processor) now)
+processors-read_at processor now s = count-with_charged _ _
 
 -- after a reading there are as many processors as before
-pub count-read_at : (cpu now : ℕ) (s : Figures) → length (read_at cpu now s).processors ≡ length s.processors
-count-read_at cpu now s = ap (λ (l : List ProcessorFigures). length l) (processors-read_at cpu now s) ∙ length-set s.processors cpu _
+pub count-read_at : (processor now : ℕ) (s : Figures) → length (read_at processor now s).processors ≡ length s.processors
+count-read_at processor now s = ap (λ (l : List ProcessorFigures). length l) (processors-read_at processor now s) ∙ length-set s.processors processor _
 
 tasks-with_charged : (s : Figures) (o : Option Slice) → length (with_charged s o).tasks ≡ length s.tasks
 tasks-with_charged s None = refl
 tasks-with_charged s (Some x) = length-set s.tasks x.task _
 
 -- after a reading there are as many tasks as before
-pub tasks-read_at : (cpu now : ℕ) (s : Figures) → length (read_at cpu now s).tasks ≡ length s.tasks
-tasks-read_at cpu now s = tasks-with_charged (with_processor s cpu (processor_read cpu (processor_of s cpu) now)) _
+pub tasks-read_at : (processor now : ℕ) (s : Figures) → length (read_at processor now s).tasks ≡ length s.tasks
+tasks-read_at processor now s = tasks-with_charged (with_processor s processor (processor_read processor (processor_of s processor) now)) _

@@ -11,7 +11,8 @@ use Rattle.bq_schedule.specs.declared.figures.ProcessorFigures.{ProcessorFigures
 use Rattle.bq_schedule.specs.Figures.{Figures, unread, unknown, processor_of, task_of, with_processor, with_task}
 use Rattle.bq_schedule.specs.Runnable.{fair_at, processor_left, left_from, leaves}
 use Rattle.bq_schedule.specs.Steps.{weight_at}
-use Rattle.bq_schedule.specs.FairTimes.{is_place, weight_there, weights_at}
+use Rattle.bq_schedule.specs.Slices.{is_this}
+use Rattle.bq_schedule.specs.FairTimes.{weight_there, weights_at}
 use Rattle.bq_schedule.proofs.FrameLemmas.{processor_kept, task_kept}
 use Rattle.bq_schedule.proofs.PurseLemmas
 
@@ -43,12 +44,12 @@ pub weight_at-le : (nice : ℤ) → weight_at nice ≤ 88761
 weight_at-le nice = weight_at_if _ (weight_of nice) (weight_of-le nice)
 
 -- a task that is somewhere has an id of the table
-in_table_by : (s : Figures) (id cpu : ℕ) (b : Bool) → (task_of s id).place ≡ Some cpu → ((b ≡ true) × (length s.tasks ≤ id)) ⊎ ((b ≡ false) × (id < length s.tasks)) → id < length s.tasks
-in_table_by s id cpu b e (inl past) = let u : (task_of s id).place ≡ None = ap (λ (t : TaskFigures). t.place) (get_or_past s.tasks id unknown past.1) in cc
-in_table_by s id cpu b e (inr inside) = inside.1
+in_table_by : (s : Figures) (id processor : ℕ) (b : Bool) → (task_of s id).place ≡ Some processor → ((b ≡ true) × (length s.tasks ≤ id)) ⊎ ((b ≡ false) × (id < length s.tasks)) → id < length s.tasks
+in_table_by s id processor b e (inl past) = let u : (task_of s id).place ≡ None = ap (λ (t : TaskFigures). t.place) (get_or_past s.tasks id unknown past.1) in cc
+in_table_by s id processor b e (inr inside) = inside.1
 
-in_table : (s : Figures) (id cpu : ℕ) → (task_of s id).place ≡ Some cpu → id < length s.tasks
-in_table s id cpu e = in_table_by s id cpu (leb (length s.tasks) id) e (leb_tells (length s.tasks) id)
+in_table : (s : Figures) (id processor : ℕ) → (task_of s id).place ≡ Some processor → id < length s.tasks
+in_table s id processor e = in_table_by s id processor (leb (length s.tasks) id) e (leb_tells (length s.tasks) id)
 
 -- one that has none has nothing
 pub beyond_table : (s : Figures) (id : ℕ) → length s.tasks ≤ id → task_of s id ≡ unknown
@@ -63,8 +64,8 @@ set_reads f s id j t true inside (inr e) = absurd (cc)
 set_reads f s id j t false inside (inr e) = ap f (get_or-set_other s.tasks id j t unknown (λ h. e.1 (sym h)))
 
 -- the weights at a processor, where a task is set
-pub weights-set : (s : Figures) (id cpu : ℕ) (t : TaskFigures) → id < length s.tasks → weights_at (with_task s id t) cpu + weight_there cpu (task_of s id) ≡ weights_at s cpu + weight_there cpu t
-weights-set s id cpu t inside = sum_by-set (weight_there cpu) s.tasks id t unknown inside
+pub weights-set : (s : Figures) (id processor : ℕ) (t : TaskFigures) → id < length s.tasks → weights_at (with_task s id t) processor + weight_there processor (task_of s id) ≡ weights_at s processor + weight_there processor t
+weights-set s id processor t inside = sum_by-set (weight_there processor) s.tasks id t unknown inside
 
 there-le : (b : Bool) (n : ℕ) → n ≤ 88761 → cond b n 0 ≤ 88761
 there-le true n h = h
@@ -74,16 +75,16 @@ eqb_refl : (a : ℕ) → eqb a a ≡ true
 eqb_refl a = grind (arith, nat_tests)
 
 -- a task has its weight where it is
-pub weight-here : (cpu : ℕ) (t : TaskFigures) → t.place ≡ Some cpu → weight_there cpu t ≡ t.weight
-weight-here cpu t e = ap (λ o. cond (is_place cpu o) t.weight 0) e ∙ ap (λ b. cond b t.weight 0) (eqb_refl cpu)
+pub weight-here : (processor : ℕ) (t : TaskFigures) → t.place ≡ Some processor → weight_there processor t ≡ t.weight
+weight-here processor t e = ap (λ o. cond (is_this processor o) t.weight 0) e ∙ ap (λ b. cond b t.weight 0) (eqb_refl processor)
 
 -- a task has no weight at a processor where it is not
-pub weight-elsewhere : (cpu k : ℕ) (t : TaskFigures) (b : Bool) → t.place ≡ Some k → eqb k cpu ≡ false → weight_there cpu t ≡ 0
-weight-elsewhere cpu k t b e ne = ap (λ o. cond (is_place cpu o) t.weight 0) e ∙ ap (λ b. cond b t.weight 0) ne
+pub weight-elsewhere : (processor k : ℕ) (t : TaskFigures) (b : Bool) → t.place ≡ Some k → eqb k processor ≡ false → weight_there processor t ≡ 0
+weight-elsewhere processor k t b e ne = ap (λ o. cond (is_this processor o) t.weight 0) e ∙ ap (λ b. cond b t.weight 0) ne
 
 -- a task that is nowhere has no weight at any processor
-pub weight-nowhere : (cpu : ℕ) (t : TaskFigures) → t.place ≡ None → weight_there cpu t ≡ 0
-weight-nowhere cpu t e = ap (λ o. cond (is_place cpu o) t.weight 0) e
+pub weight-nowhere : (processor : ℕ) (t : TaskFigures) → t.place ≡ None → weight_there processor t ≡ 0
+weight-nowhere processor t e = ap (λ o. cond (is_this processor o) t.weight 0) e
 
 -- what a processor's figures are after one is set
 pub set-there : (s : Figures) (i j : ℕ) (p : ProcessorFigures) (b : Bool) → j < length s.processors → ((b ≡ true) × (i ≡ j)) ⊎ ((b ≡ false) × (i ≢ j)) →
@@ -103,18 +104,18 @@ pub record Leaves (id : ℕ) (s s' : Figures) : Type 0 where
   pub raws : (j : ℕ) → PurseLemmas.uncapped s' j ≡ PurseLemmas.uncapped s j
   pub nowhere : (task_of s' id).place ≡ None
 
-weights-left : (s s' : Figures) (id cpu j : ℕ) (b : Bool) (w : ℕ) → ((b ≡ true) × (cpu ≡ j)) ⊎ ((b ≡ false) × (cpu ≢ j)) → eqb cpu j ≡ b → id < length s.tasks →
-    (task_of s id).place ≡ Some cpu → (processor_of s j).weight ≡ weights_at s j →
+weights-left : (s s' : Figures) (id processor j : ℕ) (b : Bool) (w : ℕ) → ((b ≡ true) × (processor ≡ j)) ⊎ ((b ≡ false) × (processor ≢ j)) → eqb processor j ≡ b → id < length s.tasks →
+    (task_of s id).place ≡ Some processor → (processor_of s j).weight ≡ weights_at s j →
     weights_at s' j + weight_there j (task_of s id) ≡ weights_at s j →
-    w ≡ cond b ((processor_of s cpu).weight - (task_of s id).weight) (processor_of s j).weight → w ≡ weights_at s' j
-weights-left s s' id cpu j true w (inl e) is inside at old sums new =
-    let same : (processor_of s cpu).weight ≡ (processor_of s j).weight = ap (λ k. (processor_of s k).weight) e.1 in
+    w ≡ cond b ((processor_of s processor).weight - (task_of s id).weight) (processor_of s j).weight → w ≡ weights_at s' j
+weights-left s s' id processor j true w (inl e) is inside at old sums new =
+    let same : (processor_of s processor).weight ≡ (processor_of s j).weight = ap (λ k. (processor_of s k).weight) e.1 in
     let here : weight_there j (task_of s id) ≡ (task_of s id).weight = weight-here j (task_of s id) (at ∙ ap (λ (k : ℕ). Some k) e.1) in
     omega (arith, same, here, old, sums, new)
-weights-left s s' id cpu j false w (inl e) is inside at old sums new = absurd (cc)
-weights-left s s' id cpu j true w (inr e) is inside at old sums new = absurd (cc)
-weights-left s s' id cpu j false w (inr e) is inside at old sums new =
-    let here : weight_there j (task_of s id) ≡ 0 = weight-elsewhere j cpu (task_of s id) false at is in
+weights-left s s' id processor j false w (inl e) is inside at old sums new = absurd (cc)
+weights-left s s' id processor j true w (inr e) is inside at old sums new = absurd (cc)
+weights-left s s' id processor j false w (inr e) is inside at old sums new =
+    let here : weight_there j (task_of s id) ≡ 0 = weight-elsewhere j processor (task_of s id) false at is in
     omega (arith, here, old, sums, new)
 
 -- the fair time of a purse where it is
@@ -151,24 +152,24 @@ raw-set s s' id j u gives is same =
     ∙ ap (λ v. worth (PurseLemmas.shared_at s) v) is
     ∙ worth-cond s id j u (eqb id j) (eqb_tells id j) same
 
-left-one : (s : Figures) (id cpu : ℕ) (p : ProcessorFigures) (t' : TaskFigures) → PurseLemmas.IsSound s → (task_of s id).place ≡ Some cpu → p.shared ≡ PurseLemmas.shared_at s cpu →
-    p.weight ≡ (processor_of s cpu).weight - (task_of s id).weight → t'.place ≡ None → t'.weight ≡ (task_of s id).weight → t'.settled ≡ PurseLemmas.uncapped s id →
-    Leaves id s (with_task (with_processor s cpu p) id t')
-left-one s id cpu p t' h at shared weight nowhere same settled =
-    let s1 = with_processor s cpu p in
+left-one : (s : Figures) (id processor : ℕ) (p : ProcessorFigures) (t' : TaskFigures) → PurseLemmas.IsSound s → (task_of s id).place ≡ Some processor → p.shared ≡ PurseLemmas.shared_at s processor →
+    p.weight ≡ (processor_of s processor).weight - (task_of s id).weight → t'.place ≡ None → t'.weight ≡ (task_of s id).weight → t'.settled ≡ PurseLemmas.uncapped s id →
+    Leaves id s (with_task (with_processor s processor p) id t')
+left-one s id processor p t' h at shared weight nowhere same settled =
+    let s1 = with_processor s processor p in
     let s2 = with_task s1 id t' in
     let u = PurseLemmas.purse t' in
-    let inside : id < length s.tasks = in_table s id cpu at in
-    let gives : (j : ℕ) → PurseLemmas.shared_at s2 j ≡ PurseLemmas.shared_at s j = λ j. shared-with_processor s cpu p j shared in
+    let inside : id < length s.tasks = in_table s id processor at in
+    let gives : (j : ℕ) → PurseLemmas.shared_at s2 j ≡ PurseLemmas.shared_at s j = λ j. shared-with_processor s processor p j shared in
     let is : (j : ℕ) → PurseLemmas.purse (task_of s2 j) ≡ cond (eqb id j) u (PurseLemmas.purse (task_of s j)) = λ j. set_reads PurseLemmas.purse s1 id j t' (eqb id j) inside (eqb_tells id j) in
     record {
       sound = record {
         weights = λ j there.
-            let there' : j < length s.processors = omega (arith, there, length-set s.processors cpu p) in
+            let there' : j < length s.processors = omega (arith, there, length-set s.processors processor p) in
             let gone : weight_there j t' ≡ 0 = weight-nowhere j t' nowhere in
-            weights-left s s2 id cpu j (eqb cpu j) (processor_of s2 j).weight (eqb_tells cpu j) refl inside at (h.weights j there')
+            weights-left s s2 id processor j (eqb processor j) (processor_of s2 j).weight (eqb_tells processor j) refl inside at (h.weights j there')
             (omega (arith, weights-set s1 id j t' inside, gone))
-            (set-there s cpu j p (eqb cpu j) there' (eqb_tells cpu j) ∙ ap (λ w. cond (eqb cpu j) w (processor_of s j).weight) weight);
+            (set-there s processor j p (eqb processor j) there' (eqb_tells processor j) ∙ ap (λ w. cond (eqb processor j) w (processor_of s j).weight) weight);
         joined = λ j. joined-set s s2 j u (eqb id j) gives (is j) (rw nowhere tt) (h.joined j);
         table = λ j. omega (arith, h.table j, task_kept (λ (v : TaskFigures). v.weight) s1 id j t' same);
         ids = length-set s.tasks id t' ∙ h.ids;
@@ -179,21 +180,21 @@ left-one s id cpu p t' h at shared weight nowhere same settled =
 
 left-if : (s : Figures) (id : ℕ) (o : Option ℕ) → PurseLemmas.IsSound s → (task_of s id).place ≡ o → PurseLemmas.uncapped s id ≤ 340282366920938463463374607431768211455 → Leaves id s (left_from id s o)
 left-if s id None h at small = record { sound = h; raws = λ j. refl; nowhere = at }
-left-if s id (Some cpu) h at small =
+left-if s id (Some processor) h at small =
     let t = task_of s id in
-    let is : PurseLemmas.uncapped s id ≡ t.settled + t.weight * (PurseLemmas.shared_at s cpu - t.joined) = ap (λ o. PurseLemmas.worth_at (PurseLemmas.shared_at s) (PurseLemmas.purse t) o) at in
-    left-one s id cpu (processor_left (processor_of s cpu) t.weight) (record t { settled = fair_at s t (Some cpu); place = None; drains = None }) h at refl refl refl refl (omega (arith, is, small))
+    let is : PurseLemmas.uncapped s id ≡ t.settled + t.weight * (PurseLemmas.shared_at s processor - t.joined) = ap (λ o. PurseLemmas.worth_at (PurseLemmas.shared_at s) (PurseLemmas.purse t) o) at in
+    left-one s id processor (processor_left (processor_of s processor) t.weight) (record t { settled = fair_at s t (Some processor); place = None; drains = None }) h at refl refl refl refl (omega (arith, is, small))
 
 -- a task that leaves is nowhere, all stays sound, and each has what it had, where what it has fits in 128 bits
 pub leaves-stays : (s : Figures) (id : ℕ) → PurseLemmas.IsSound s → PurseLemmas.uncapped s id ≤ 340282366920938463463374607431768211455 → Leaves id s (leaves id s)
 leaves-stays s id h small = left-if s id (task_of s id).place h refl small
 
 -- all weights together are few
-pub weights-few : (s : Figures) (cpu : ℕ) → PurseLemmas.IsSound s → weights_at s cpu ≤ 90891264
-weights-few s cpu h =
+pub weights-few : (s : Figures) (processor : ℕ) → PurseLemmas.IsSound s → weights_at s processor ≤ 90891264
+weights-few s processor h =
     omega (
       arith,
       h.ids,
-      sum_by-le (weight_there cpu) 88761 s.tasks
-          (All-from_get_or (λ (t : TaskFigures). weight_there cpu t ≤ 88761) s.tasks unknown (λ j inside. there-le (is_place cpu (task_of s j).place) (task_of s j).weight (h.table j))),
+      sum_by-le (weight_there processor) 88761 s.tasks
+          (All-from_get_or (λ (t : TaskFigures). weight_there processor t ≤ 88761) s.tasks unknown (λ j inside. there-le (is_this processor (task_of s j).place) (task_of s j).weight (h.table j))),
     )

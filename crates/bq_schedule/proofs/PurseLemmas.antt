@@ -14,7 +14,8 @@ use Rattle.bq_schedule.specs.declared.figures.ProcessorFigures.{ProcessorFigures
 use Rattle.bq_schedule.specs.Figures.{Figures, unread, unknown, processor_of, task_of, with_processor, with_task}
 use Rattle.bq_schedule.specs.Running.{stopped, started, begun_if, starts_as, processor_runs, switched, is_run_by, with_latency}
 use Rattle.bq_schedule.specs.Steps.{processor_asked, asked}
-use Rattle.bq_schedule.specs.FairTimes.{is_place, weight_there, weights_at}
+use Rattle.bq_schedule.specs.Slices.{is_this}
+use Rattle.bq_schedule.specs.FairTimes.{weight_there, weights_at}
 use Rattle.bq_schedule.proofs.FrameLemmas.{processor_kept, task_kept}
 
 -- lists alike under f and g have the same sum
@@ -75,8 +76,8 @@ pot-processor_asked p d Preempt = refl
 pot-processor_asked p d Pull = refl
 
 -- a decision that is counted keeps purses and pots
-pub kept-asked : (cpu : ℕ) (d : Decision) (s : Figures) → KeepsPurses s (asked cpu d s)
-kept-asked cpu d s = kept-with_processor s cpu _ (pot-processor_asked (processor_of s cpu) d d.hook)
+pub kept-asked : (processor : ℕ) (d : Decision) (s : Figures) → KeepsPurses s (asked processor d s)
+kept-asked processor d s = kept-with_processor s processor _ (pot-processor_asked (processor_of s processor) d d.hook)
 
 purse-with_latency : (t : TaskFigures) (n : Option ℕ) → purse (with_latency t n) ≡ purse t
 purse-with_latency t None = refl
@@ -87,43 +88,43 @@ kept-stopped left now None s = kept-id s
 kept-stopped Blocked now (Some old) s = kept-id s
 kept-stopped Preempted now (Some old) s = kept-with_task s old.task _ refl
 
-kept-begun_if : (cpu now : ℕ) (run : Option ℕ) (s : Figures) → KeepsPurses s (begun_if cpu now run s)
-kept-begun_if cpu now None s = kept-id s
-kept-begun_if cpu now (Some id) s = kept-with_task s id _ (purse-with_latency (task_of s id) _)
+kept-begun_if : (processor now : ℕ) (run : Option ℕ) (s : Figures) → KeepsPurses s (begun_if processor now run s)
+kept-begun_if processor now None s = kept-id s
+kept-begun_if processor now (Some id) s = kept-with_task s id _ (purse-with_latency (task_of s id) _)
 
-processors-begun_if : (cpu now : ℕ) (run : Option ℕ) (s : Figures) → (begun_if cpu now run s).processors ≡ s.processors
-processors-begun_if cpu now None s = refl
-processors-begun_if cpu now (Some id) s = refl
+processors-begun_if : (processor now : ℕ) (run : Option ℕ) (s : Figures) → (begun_if processor now run s).processors ≡ s.processors
+processors-begun_if processor now None s = refl
+processors-begun_if processor now (Some id) s = refl
 
 pot-processor_runs : (p : ProcessorFigures) (o : Option Start) → pot (processor_runs p o) ≡ pot p
 pot-processor_runs p None = refl
 pot-processor_runs p (Some start) = refl
 
-kept-started : (cpu now : ℕ) (run : Option ℕ) (s : Figures) → KeepsPurses s (started cpu now run s)
-kept-started cpu now run s =
-    let e : processor_of (begun_if cpu now run s) cpu ≡ processor_of s cpu = ap (λ l. get_or l cpu unread) (processors-begun_if cpu now run s) in
-    kept-then s (begun_if cpu now run s) _ (kept-begun_if cpu now run s)
-    (kept-with_processor (begun_if cpu now run s) cpu _ (pot-processor_runs (processor_of s cpu) (starts_as cpu now run s) ∙ ap pot (sym e)))
+kept-started : (processor now : ℕ) (run : Option ℕ) (s : Figures) → KeepsPurses s (started processor now run s)
+kept-started processor now run s =
+    let e : processor_of (begun_if processor now run s) processor ≡ processor_of s processor = ap (λ l. get_or l processor unread) (processors-begun_if processor now run s) in
+    kept-then s (begun_if processor now run s) _ (kept-begun_if processor now run s)
+    (kept-with_processor (begun_if processor now run s) processor _ (pot-processor_runs (processor_of s processor) (starts_as processor now run s) ∙ ap pot (sym e)))
 
-kept-switched_if : (b : Bool) (left : Left) (cpu now : ℕ) (run : Option ℕ) (s : Figures) →
-    KeepsPurses s (cond b s (started cpu now run (stopped left now (processor_of s cpu).running s)))
-kept-switched_if true left cpu now run s = kept-id s
-kept-switched_if false left cpu now run s =
-    let t = stopped left now (processor_of s cpu).running s in
-    kept-then s t _ (kept-stopped left now (processor_of s cpu).running s) (kept-started cpu now run t)
+kept-switched_if : (b : Bool) (left : Left) (processor now : ℕ) (run : Option ℕ) (s : Figures) →
+    KeepsPurses s (cond b s (started processor now run (stopped left now (processor_of s processor).running s)))
+kept-switched_if true left processor now run s = kept-id s
+kept-switched_if false left processor now run s =
+    let t = stopped left now (processor_of s processor).running s in
+    kept-then s t _ (kept-stopped left now (processor_of s processor).running s) (kept-started processor now run t)
 
 -- a switch to a task, or to none, keeps purses and pots
-pub kept-switched : (left : Left) (cpu now : ℕ) (run : Option ℕ) (s : Figures) → KeepsPurses s (switched left cpu now run s)
-kept-switched left cpu now run s = kept-switched_if (is_run_by (processor_of s cpu).running run) left cpu now run s
+pub kept-switched : (left : Left) (processor now : ℕ) (run : Option ℕ) (s : Figures) → KeepsPurses s (switched left processor now run s)
+kept-switched left processor now run s = kept-switched_if (is_run_by (processor_of s processor).running run) left processor now run s
 
 -- the fair time of a purse, where so much was given at each processor
 abbrev pub worth_at : (ℕ → ℕ) → Purse → Option ℕ → ℕ
 worth_at shared u None = u.settled
-worth_at shared u (Some cpu) = u.settled + u.weight * (shared cpu - u.joined)
+worth_at shared u (Some processor) = u.settled + u.weight * (shared processor - u.joined)
 
 -- what each unit of weight was given at a processor
 abbrev pub shared_at : Figures → ℕ → ℕ
-shared_at s cpu = (processor_of s cpu).shared
+shared_at s processor = (processor_of s processor).shared
 
 -- what a task has, counted without end
 abbrev pub uncapped_of : Figures → TaskFigures → ℕ
@@ -136,7 +137,7 @@ uncapped s id = uncapped_of s (task_of s id)
 -- a purse is worth the same where each processor gave the same
 pub worth-same : (f g : ℕ → ℕ) (u : Purse) (o : Option ℕ) → ((j : ℕ) → f j ≡ g j) → worth_at f u o ≡ worth_at g u o
 worth-same f g u None h = refl
-worth-same f g u (Some cpu) h = ap (λ n. u.settled + u.weight * (n - u.joined)) (h cpu)
+worth-same f g u (Some processor) h = ap (λ n. u.settled + u.weight * (n - u.joined)) (h processor)
 
 -- a task whose purse stays has what it had, where each processor gave the same
 pub raw-kept : (s s' : Figures) (id : ℕ) → ((j : ℕ) → shared_at s' j ≡ shared_at s j) → purse (task_of s' id) ≡ purse (task_of s id) → uncapped s' id ≡ uncapped s id
@@ -146,25 +147,25 @@ raw-kept s s' id h e =
 
 -- the weight of a purse at a processor, if it is there
 abbrev pub weight_of_purse : ℕ → Purse → ℕ
-weight_of_purse cpu u = cond (is_place cpu u.place) u.weight 0
+weight_of_purse processor u = cond (is_this processor u.place) u.weight 0
 
 -- what keeps purses and pots keeps the weights at each processor together
-pub weights-kept : (s s' : Figures) (cpu : ℕ) → KeepsPurses s s' → weights_at s' cpu ≡ weights_at s cpu
-weights-kept s s' cpu k = sums_like (weight_there cpu) (weight_there cpu) unknown s'.tasks s.tasks k.tasks (λ j. ap (weight_of_purse cpu) (k.purses j))
+pub weights-kept : (s s' : Figures) (processor : ℕ) → KeepsPurses s s' → weights_at s' processor ≡ weights_at s processor
+weights-kept s s' processor k = sums_like (weight_there processor) (weight_there processor) unknown s'.tasks s.tasks k.tasks (λ j. ap (weight_of_purse processor) (k.purses j))
 
 -- what had been given where a task came to stand is no more than what is given there now
 abbrev pub JoinedBy : (ℕ → ℕ) → Purse → Option ℕ → Type 0
 JoinedBy shared u None = Unit {0}
-JoinedBy shared u (Some cpu) = u.joined ≤ shared cpu
+JoinedBy shared u (Some processor) = u.joined ≤ shared processor
 
 -- what had been given when a purse came is still no more than what is given, where that falls nowhere
 pub joined-more : (f g : ℕ → ℕ) (u : Purse) (o : Option ℕ) → ((j : ℕ) → f j ≤ g j) → JoinedBy f u o → JoinedBy g u o
 joined-more f g u None h e = tt
-joined-more f g u (Some cpu) h e = omega (arith, h cpu, e)
+joined-more f g u (Some processor) h e = omega (arith, h processor, e)
 
 -- what each processor gives is by the weights there; each task came after what was given before; and weights are the table's
 pub record IsSound (s : Figures) : Type 0 where
-  pub weights : (cpu : ℕ) → cpu < length s.processors → (processor_of s cpu).weight ≡ weights_at s cpu
+  pub weights : (processor : ℕ) → processor < length s.processors → (processor_of s processor).weight ≡ weights_at s processor
   pub joined : (id : ℕ) → JoinedBy (shared_at s) (purse (task_of s id)) (task_of s id).place
   pub table : (id : ℕ) → (task_of s id).weight ≤ 88761
   pub ids : length s.tasks ≡ 1024
@@ -176,7 +177,7 @@ joined-same f u v e h = let P : Purse → Type 0 = λ w. JoinedBy f w w.place in
 -- what keeps purses and pots keeps all sound
 pub sound-kept : (s s' : Figures) → KeepsPurses s s' → IsSound s → IsSound s'
 sound-kept s s' k h = record {
-  weights = λ cpu inside. ap (λ (q : Pot). q.weight) (k.pots cpu) ∙ h.weights cpu (omega (arith, k.count)) ∙ sym (weights-kept s s' cpu k);
+  weights = λ processor inside. ap (λ (q : Pot). q.weight) (k.pots processor) ∙ h.weights processor (omega (arith, k.count)) ∙ sym (weights-kept s s' processor k);
   joined = λ id. joined-same (shared_at s') (purse (task_of s' id)) (purse (task_of s id)) (k.purses id)
       (joined-more (shared_at s) (shared_at s') (purse (task_of s id)) (task_of s id).place (λ j. omega (arith, ap (λ (q : Pot). q.shared) (k.pots j))) (h.joined id));
   table = λ id. omega (arith, h.table id, ap (λ (u : Purse). u.weight) (k.purses id));

@@ -98,22 +98,22 @@ more told (Some r) (Some y) xs h = record {
 -- the run that is told with a slice
 abbrev pub run_seen : Figures → Option Sight → Option Slice
 run_seen s None = None
-run_seen s (Some x) = ended_run (processor_of s x.cpu).run (slice_at x.cpu (processor_of s x.cpu) x.now)
+run_seen s (Some x) = ended_run (processor_of s x.processor).run (slice_at x.processor (processor_of s x.processor) x.now)
 
 seen-performed : (s : Figures) (e : Event) (r : Reply) → (performed_told s e r).run ≡ run_seen s (sight e r)
-seen-performed s (EndWake cpu now) (Placed task to by steps) = refl
-seen-performed s (Drain cpu now) (Drained count run by steps) = refl
-seen-performed s (Tick cpu now) (Ticked run by steps) = refl
-seen-performed s (Block cpu now) (Went task run) = refl
-seen-performed s (Pull cpu from now) (Pulled task run by steps) = refl
+seen-performed s (EndWake processor now) (Placed task to by steps) = refl
+seen-performed s (Drain processor now) (Drained count run by steps) = refl
+seen-performed s (Tick processor now) (Ticked run by steps) = refl
+seen-performed s (Block processor now) (Went task run) = refl
+seen-performed s (Pull processor from now) (Pulled task run by steps) = refl
 seen-performed s e r = refl
 
 seen-nothing : (s : Figures) (e : Event) (r : Reply) → is_there s e ≡ false → IsWithin (length s.processors) (sight e r) → None ≡ run_seen s (sight e r)
-seen-nothing s (EndWake cpu now) (Placed task to by steps) none h = absurd (outside cpu (length s.processors) none h)
-seen-nothing s (Drain cpu now) (Drained count run by steps) none h = absurd (outside cpu (length s.processors) none h)
-seen-nothing s (Tick cpu now) (Ticked run by steps) none h = absurd (outside cpu (length s.processors) none h)
-seen-nothing s (Block cpu now) (Went task run) none h = absurd (outside cpu (length s.processors) none h)
-seen-nothing s (Pull cpu from now) (Pulled task run by steps) none h = absurd (outside cpu (length s.processors) none h)
+seen-nothing s (EndWake processor now) (Placed task to by steps) none h = absurd (outside processor (length s.processors) none h)
+seen-nothing s (Drain processor now) (Drained count run by steps) none h = absurd (outside processor (length s.processors) none h)
+seen-nothing s (Tick processor now) (Ticked run by steps) none h = absurd (outside processor (length s.processors) none h)
+seen-nothing s (Block processor now) (Went task run) none h = absurd (outside processor (length s.processors) none h)
+seen-nothing s (Pull processor from now) (Pulled task run by steps) none h = absurd (outside processor (length s.processors) none h)
 seen-nothing s e r none h = refl
 
 seen-if : (b : Bool) (s : Figures) (e : Event) (r : Reply) → is_there s e ≡ b → IsWithin (length s.processors) (sight e r) → (cond b (performed_told s e r) nothing).run ≡ run_seen s (sight e r)
@@ -125,80 +125,80 @@ seen-change s e (Ok r) h = seen-if (is_there s e) s e r refl h
 seen-change s e (Err r) h = refl
 
 -- what a moment ends at a processor, and which run it makes there
-run-there : (s s' : Figures) (x : Sight) (j : ℕ) (b : Bool) → eqb x.cpu j ≡ b → j < length s.processors → Shows s s' (Some x) →
-    (processor_of s' j).run ≡ cond b (joined_run (processor_of s x.cpu).run (slice_seen s (Some x))) (processor_of s j).run
+run-there : (s s' : Figures) (x : Sight) (j : ℕ) (b : Bool) → eqb x.processor j ≡ b → j < length s.processors → Shows s s' (Some x) →
+    (processor_of s' j).run ≡ cond b (joined_run (processor_of s x.processor).run (slice_seen s (Some x))) (processor_of s j).run
 run-there s s' x j true e inside h =
-    let q = processor_read x.cpu (processor_of s x.cpu) x.now in
-    ap (λ (w : Works). w.run) (h.0.at j) ∙ ap (λ (p : ProcessorFigures). p.run) (processor-read_at x.cpu x.now j s inside ∙ ap (λ c. cond c q (processor_of s j)) e)
+    let q = processor_read x.processor (processor_of s x.processor) x.now in
+    ap (λ (w : Works). w.run) (h.0.at j) ∙ ap (λ (p : ProcessorFigures). p.run) (processor-read_at x.processor x.now j s inside ∙ ap (λ c. cond c q (processor_of s j)) e)
 run-there s s' x j false e inside h =
-    let q = processor_read x.cpu (processor_of s x.cpu) x.now in
-    ap (λ (w : Works). w.run) (h.0.at j) ∙ ap (λ (p : ProcessorFigures). p.run) (processor-read_at x.cpu x.now j s inside ∙ ap (λ c. cond c q (processor_of s j)) e)
+    let q = processor_read x.processor (processor_of s x.processor) x.now in
+    ap (λ (w : Works). w.run) (h.0.at j) ∙ ap (λ (p : ProcessorFigures). p.run) (processor-read_at x.processor x.now j s inside ∙ ap (λ c. cond c q (processor_of s j)) e)
 
 -- a slice of another processor is none here
-only-cond : (l : Bool) (cpu j id from to : ℕ) (b : Bool) → eqb cpu j ≡ b →
-    at_only j (cond l (Some (record { processor = cpu; task = id; from = from; to = to })) None) ≡ cond b (cond l (Some (record { processor = cpu; task = id; from = from; to = to })) None) None
-only-cond true cpu j id from to true e = rw e refl
-only-cond true cpu j id from to false e = rw e refl
-only-cond false cpu j id from to true e = refl
-only-cond false cpu j id from to false e = refl
+only-cond : (l : Bool) (processor j id from to : ℕ) (b : Bool) → eqb processor j ≡ b →
+    at_only j (cond l (Some (record { processor = processor; task = id; from = from; to = to })) None) ≡ cond b (cond l (Some (record { processor = processor; task = id; from = from; to = to })) None) None
+only-cond true processor j id from to true e = rw e refl
+only-cond true processor j id from to false e = rw e refl
+only-cond false processor j id from to true e = refl
+only-cond false processor j id from to false e = refl
 
-only-there : (cpu j from to : ℕ) (who : Option ℕ) (b : Bool) → eqb cpu j ≡ b → at_only j (stretch cpu who from to) ≡ cond b (stretch cpu who from to) None
-only-there cpu j from to None true e = refl
-only-there cpu j from to None false e = refl
-only-there cpu j from to (Some id) true e = only-cond (ltb from to) cpu j id from to true e
-only-there cpu j from to (Some id) false e = only-cond (ltb from to) cpu j id from to false e
+only-there : (processor j from to : ℕ) (who : Option ℕ) (b : Bool) → eqb processor j ≡ b → at_only j (stretch processor who from to) ≡ cond b (stretch processor who from to) None
+only-there processor j from to None true e = refl
+only-there processor j from to None false e = refl
+only-there processor j from to (Some id) true e = only-cond (ltb from to) processor j id from to true e
+only-there processor j from to (Some id) false e = only-cond (ltb from to) processor j id from to false e
 
 -- the runs told of a processor, and the one that may go on, are those that its slices make
 abbrev pub Told : ℕ → ℕ → History → Type 0
-Told count cpu past = AreRuns (told_runs count cpu past) (processor_of (figures count past) cpu).run (slices_at cpu past)
+Told count processor past = AreRuns (told_runs count processor past) (processor_of (figures count past) processor).run (slices_at processor past)
 
 same_runs : (told told' : List Slice) (run run' : Option Slice) (xs xs' : List Slice) → told' ≡ told → run' ≡ run → xs' ≡ xs → AreRuns told run xs → AreRuns told' run' xs'
 same_runs told told' run run' xs xs' t r x h = record { all = ap (λ zs. zs ++ option_to_list run') t ∙ ap (λ o. told ++ option_to_list o) r ∙ h.all ∙ ap runs (sym x); first = λ e. t ∙ h.first (sym r ∙ e) }
 
-told-there : (count : ℕ) (past : History) (cpu : ℕ) (s' : Figures) (x : Sight) (run : Option Slice) (b : Bool) → IsOf count past → IsWithin count (Some x) → cpu < count → Shows (figures count past) s' (Some x) →
-    run ≡ run_seen (figures count past) (Some x) → eqb x.cpu cpu ≡ b → ((b ≡ true) × (x.cpu ≡ cpu)) ⊎ ((b ≡ false) × (x.cpu ≢ cpu)) → Told count cpu past →
-    AreRuns (told_runs count cpu past ++ cond b (option_to_list run) []) (processor_of s' cpu).run (slices_at cpu past ++ option_to_list (at_only cpu (slice_shown past (Some x))))
-told-there count past cpu s' x run true h w inside k is e (inl same) t =
+told-there : (count : ℕ) (past : History) (processor : ℕ) (s' : Figures) (x : Sight) (run : Option Slice) (b : Bool) → IsOf count past → IsWithin count (Some x) → processor < count → Shows (figures count past) s' (Some x) →
+    run ≡ run_seen (figures count past) (Some x) → eqb x.processor processor ≡ b → ((b ≡ true) × (x.processor ≡ processor)) ⊎ ((b ≡ false) × (x.processor ≢ processor)) → Told count processor past →
+    AreRuns (told_runs count processor past ++ cond b (option_to_list run) []) (processor_of s' processor).run (slices_at processor past ++ option_to_list (at_only processor (slice_shown past (Some x))))
+told-there count past processor s' x run true h w inside k is e (inl same) t =
     let s = figures count past in
-    let p = processor_of s x.cpu in
-    let here : p.run ≡ (processor_of s cpu).run = ap (λ k. (processor_of s k).run) same.1 in
+    let p = processor_of s x.processor in
+    let here : p.run ≡ (processor_of s processor).run = ap (λ k. (processor_of s k).run) same.1 in
     let o = slice_seen s (Some x) in
     let shown : slice_shown past (Some x) ≡ o = sym (shown-seen count past (Some x) h w) in
-    let only : at_only cpu (slice_shown past (Some x)) ≡ o = only-there x.cpu cpu _ _ (runner x.cpu past) true e ∙ shown in
+    let only : at_only processor (slice_shown past (Some x)) ≡ o = only-there x.processor processor _ _ (runner x.processor past) true e ∙ shown in
     same_runs _ _ _ _ _ _
-    (ap (λ z. told_runs count cpu past ++ option_to_list z) (is ∙ ap (λ z. ended_run z o) here))
-    (run-there s s' x cpu true e (omega (arith, inside, count-figures count past h)) k ∙ ap (λ z. joined_run z o) here)
-    (ap (λ z. slices_at cpu past ++ option_to_list z) only)
-    (more (told_runs count cpu past) (processor_of s cpu).run o (slices_at cpu past) t)
-told-there count past cpu s' x run false h w inside k is e (inr other) t =
+    (ap (λ z. told_runs count processor past ++ option_to_list z) (is ∙ ap (λ z. ended_run z o) here))
+    (run-there s s' x processor true e (omega (arith, inside, count-figures count past h)) k ∙ ap (λ z. joined_run z o) here)
+    (ap (λ z. slices_at processor past ++ option_to_list z) only)
+    (more (told_runs count processor past) (processor_of s processor).run o (slices_at processor past) t)
+told-there count past processor s' x run false h w inside k is e (inr other) t =
     let s = figures count past in
     same_runs _ _ _ _ _ _
-    (append-nil (told_runs count cpu past))
-    (run-there s s' x cpu false e (omega (arith, inside, count-figures count past h)) k)
-    (ap (λ z. slices_at cpu past ++ option_to_list z) (only-there x.cpu cpu _ _ (runner x.cpu past) false e) ∙ append-nil (slices_at cpu past))
+    (append-nil (told_runs count processor past))
+    (run-there s s' x processor false e (omega (arith, inside, count-figures count past h)) k)
+    (ap (λ z. slices_at processor past ++ option_to_list z) (only-there x.processor processor _ _ (runner x.processor past) false e) ∙ append-nil (slices_at processor past))
     t
-told-there count past cpu s' x run true h w inside k is e (inr other) t = absurd (cc)
-told-there count past cpu s' x run false h w inside k is e (inl same) t = absurd (cc)
+told-there count past processor s' x run true h w inside k is e (inr other) t = absurd (cc)
+told-there count past processor s' x run false h w inside k is e (inl same) t = absurd (cc)
 
-told-step : (count : ℕ) (past : History) (cpu : ℕ) (s' : Figures) (o : Option Sight) (run : Option Slice) → IsOf count past → IsWithin count o → cpu < count → Shows (figures count past) s' o → run ≡ run_seen (figures count past) o →
-    Told count cpu past → AreRuns (told_runs count cpu past ++ told_if cpu o run) (processor_of s' cpu).run (slices_at cpu past ++ option_to_list (at_only cpu (slice_shown past o)))
-told-step count past cpu s' None run h w inside k is t =
-    same_runs _ _ _ _ _ _ (append-nil (told_runs count cpu past)) (ap (λ (v : Works). v.run) (k.0.at cpu)) (append-nil (slices_at cpu past)) t
-told-step count past cpu s' (Some x) run h w inside k is t = told-there count past cpu s' x run (eqb x.cpu cpu) h w inside k is refl (eqb_tells x.cpu cpu) t
+told-step : (count : ℕ) (past : History) (processor : ℕ) (s' : Figures) (o : Option Sight) (run : Option Slice) → IsOf count past → IsWithin count o → processor < count → Shows (figures count past) s' o → run ≡ run_seen (figures count past) o →
+    Told count processor past → AreRuns (told_runs count processor past ++ told_if processor o run) (processor_of s' processor).run (slices_at processor past ++ option_to_list (at_only processor (slice_shown past o)))
+told-step count past processor s' None run h w inside k is t =
+    same_runs _ _ _ _ _ _ (append-nil (told_runs count processor past)) (ap (λ (v : Works). v.run) (k.0.at processor)) (append-nil (slices_at processor past)) t
+told-step count past processor s' (Some x) run h w inside k is t = told-there count past processor s' x run (eqb x.processor processor) h w inside k is refl (eqb_tells x.processor processor) t
 
-told : (count : ℕ) (past : History) (cpu : ℕ) → IsOf count past → cpu < count → Told count cpu past
-told count [] cpu h inside =
-    let none : (processor_of (figures count []) cpu).run ≡ None = ap (λ (p : ProcessorFigures). p.run) (get_or-replicate count cpu unread unread inside) in
+told : (count : ℕ) (past : History) (processor : ℕ) → IsOf count past → processor < count → Told count processor past
+told count [] processor h inside =
+    let none : (processor_of (figures count []) processor).run ≡ None = ap (λ (p : ProcessorFigures). p.run) (get_or-replicate count processor unread unread inside) in
     record { all = ap (λ o. [] ++ option_to_list o) none; first = λ e. refl }
-told count (m ∷ past) cpu h inside =
+told count (m ∷ past) processor h inside =
     let s = figures count past in
     let o = sight_of m.event m.answer in
     let w = within-figures count past m h in
-    let is : slices_at cpu (m ∷ past) ≡ slices_at cpu past ++ option_to_list (at_only cpu (slice_shown past o)) =
-    filter-append (is_at cpu) (slices past) (option_to_list (slice_shown past o)) ∙ ap (λ ys. slices_at cpu past ++ ys) (filter-one cpu (slice_shown past o)) in
+    let is : slices_at processor (m ∷ past) ≡ slices_at processor past ++ option_to_list (at_only processor (slice_shown past o)) =
+    filter-append (is_at processor) (slices past) (option_to_list (slice_shown past o)) ∙ ap (λ ys. slices_at processor past ++ ys) (filter-one processor (slice_shown past o)) in
     same_runs _ _ _ _ _ _ refl refl is
-    (told-step count past cpu (after s m.event m.answer) o (change s m.event m.answer).run h.1 h.0 inside (shows-after s m.event m.answer w) (seen-change s m.event m.answer w) (told count past cpu h.1 inside))
+    (told-step count past processor (after s m.event m.answer) o (change s m.event m.answer).run h.1 h.0 inside (shows-after s m.event m.answer w) (seen-change s m.event m.answer w) (told count past processor h.1 inside))
 
 -- in each history the runs told of a processor, with the last one, are the runs of its slices
 pub tells_runs : TellsRuns
-tells_runs count past cpu h inside = (told count past cpu h inside).all
+tells_runs count past processor h inside = (told count past processor h inside).all

@@ -23,14 +23,14 @@ use Rattle.bq_schedule.proofs.ClockLemmas.{figures-clocks, within-figures}
 -- the slice that figures show
 abbrev pub slice_seen : Figures → Option Sight → Option Slice
 slice_seen s None = None
-slice_seen s (Some x) = slice_at x.cpu (processor_of s x.cpu) x.now
+slice_seen s (Some x) = slice_at x.processor (processor_of s x.processor) x.now
 
 seen-performed : (s : Figures) (e : Event) (r : Reply) → (performed_told s e r).slice ≡ slice_seen s (sight e r)
-seen-performed s (EndWake cpu now) (Placed task to by steps) = refl
-seen-performed s (Drain cpu now) (Drained count run by steps) = refl
-seen-performed s (Tick cpu now) (Ticked run by steps) = refl
-seen-performed s (Block cpu now) (Went task run) = refl
-seen-performed s (Pull cpu from now) (Pulled task run by steps) = refl
+seen-performed s (EndWake processor now) (Placed task to by steps) = refl
+seen-performed s (Drain processor now) (Drained count run by steps) = refl
+seen-performed s (Tick processor now) (Ticked run by steps) = refl
+seen-performed s (Block processor now) (Went task run) = refl
+seen-performed s (Pull processor from now) (Pulled task run by steps) = refl
 seen-performed s e r = refl
 
 -- what is not below a number is not below it
@@ -38,11 +38,11 @@ pub outside : (a b : ℕ) → ltb a b ≡ false → a < b → ⊥
 outside a b e h = grind (arith, nat_tests)
 
 seen-nothing : (s : Figures) (e : Event) (r : Reply) → is_there s e ≡ false → IsWithin (length s.processors) (sight e r) → None ≡ slice_seen s (sight e r)
-seen-nothing s (EndWake cpu now) (Placed task to by steps) none h = absurd (outside cpu (length s.processors) none h)
-seen-nothing s (Drain cpu now) (Drained count run by steps) none h = absurd (outside cpu (length s.processors) none h)
-seen-nothing s (Tick cpu now) (Ticked run by steps) none h = absurd (outside cpu (length s.processors) none h)
-seen-nothing s (Block cpu now) (Went task run) none h = absurd (outside cpu (length s.processors) none h)
-seen-nothing s (Pull cpu from now) (Pulled task run by steps) none h = absurd (outside cpu (length s.processors) none h)
+seen-nothing s (EndWake processor now) (Placed task to by steps) none h = absurd (outside processor (length s.processors) none h)
+seen-nothing s (Drain processor now) (Drained count run by steps) none h = absurd (outside processor (length s.processors) none h)
+seen-nothing s (Tick processor now) (Ticked run by steps) none h = absurd (outside processor (length s.processors) none h)
+seen-nothing s (Block processor now) (Went task run) none h = absurd (outside processor (length s.processors) none h)
+seen-nothing s (Pull processor from now) (Pulled task run by steps) none h = absurd (outside processor (length s.processors) none h)
 seen-nothing s e r none h = refl
 
 seen-if : (b : Bool) (s : Figures) (e : Event) (r : Reply) → is_there s e ≡ b → IsWithin (length s.processors) (sight e r) → (cond b (performed_told s e r) nothing).slice ≡ slice_seen s (sight e r)
@@ -54,19 +54,19 @@ seen-change s e (Ok r) h = seen-if (is_there s e) s e r refl h
 seen-change s e (Err r) h = refl
 
 -- a slice by who runs
-stretch_is : (cpu from to : ℕ) (running : Option Start) → slice_between cpu from to running ≡ stretch cpu (option_map (λ (x : Start). x.task) running) from to
-stretch_is cpu from to None = refl
-stretch_is cpu from to (Some start) = refl
+stretch_is : (processor from to : ℕ) (running : Option Start) → slice_between processor from to running ≡ stretch processor (option_map (λ (x : Start). x.task) running) from to
+stretch_is processor from to None = refl
+stretch_is processor from to (Some start) = refl
 
 -- the slice that figures show of a sight is the one that their history shows
 pub shown-seen : (count : ℕ) (past : History) (o : Option Sight) → IsOf count past → IsWithin count o → slice_seen (figures count past) o ≡ slice_shown past o
 shown-seen count past None h w = refl
 shown-seen count past (Some x) h w =
-    let c = figures-clocks count past x.cpu h w in
-    let p = processor_of (figures count past) x.cpu in
-    stretch_is x.cpu p.last (reading p.last x.now) p.running
-    ∙ ap (λ n. stretch x.cpu (who p) n (reading n x.now)) c.0
-    ∙ ap (λ y. stretch x.cpu y (clock x.cpu past) (reading (clock x.cpu past) x.now)) c.1
+    let c = figures-clocks count past x.processor h w in
+    let p = processor_of (figures count past) x.processor in
+    stretch_is x.processor p.last (reading p.last x.now) p.running
+    ∙ ap (λ n. stretch x.processor (who p) n (reading n x.now)) c.0
+    ∙ ap (λ y. stretch x.processor y (clock x.processor past) (reading (clock x.processor past) x.now)) c.1
 
 -- the slice that is told of a moment is the one that it ends
 pub slice-told : (count : ℕ) (past : History) (m : Moment) → IsOf count (m ∷ past) → (change (figures count past) m.event m.answer).slice ≡ slice_shown past (sight_of m.event m.answer)

@@ -62,23 +62,23 @@ last_of p = p.last
 abbrev pub clocks_of : Figures → ℕ
 clocks_of s = sum_by last_of s.processors
 
-worth-le-rise : (cpu from to : ℕ) (running : Option Start) (b : Bool) → ltb from to ≡ b → from ≤ to → time_of any (slice_between cpu from to running) ≤ to - from
-worth-le-rise cpu from to None b e h = omega arith
-worth-le-rise cpu from to (Some start) true e h = rw e (omega arith)
-worth-le-rise cpu from to (Some start) false e h = rw e (omega arith)
+worth-le-rise : (processor from to : ℕ) (running : Option Start) (b : Bool) → ltb from to ≡ b → from ≤ to → time_of any (slice_between processor from to running) ≤ to - from
+worth-le-rise processor from to None b e h = omega arith
+worth-le-rise processor from to (Some start) true e h = rw e (omega arith)
+worth-le-rise processor from to (Some start) false e h = rw e (omega arith)
 
 -- a slice is no longer than its clock has risen
-slice-le-rise : (cpu now : ℕ) (p : ProcessorFigures) → time_of any (slice_at cpu p now) + p.last ≤ reading p.last now
-slice-le-rise cpu now p = omega (arith, worth-le-rise cpu p.last (reading p.last now) p.running (ltb p.last (reading p.last now)) refl (omega arith))
+slice-le-rise : (processor now : ℕ) (p : ProcessorFigures) → time_of any (slice_at processor p now) + p.last ≤ reading p.last now
+slice-le-rise processor now p = omega (arith, worth-le-rise processor p.last (reading p.last now) p.running (ltb p.last (reading p.last now)) refl (omega arith))
 
-clocks-read_at : (cpu now : ℕ) (s : Figures) → cpu < length s.processors → clocks_of s + time_of any (slice_at cpu (processor_of s cpu) now) ≤ clocks_of (read_at cpu now s)
-clocks-read_at cpu now s inside =
-    let p = processor_of s cpu in
+clocks-read_at : (processor now : ℕ) (s : Figures) → processor < length s.processors → clocks_of s + time_of any (slice_at processor (processor_of s processor) now) ≤ clocks_of (read_at processor now s)
+clocks-read_at processor now s inside =
+    let p = processor_of s processor in
     omega (
       arith,
-      slice-le-rise cpu now p,
-      sum_by-set last_of s.processors cpu (processor_read cpu p now) unread inside,
-      ap (λ l. sum_by last_of l) (processors-read_at cpu now s),
+      slice-le-rise processor now p,
+      sum_by-set last_of s.processors processor (processor_read processor p now) unread inside,
+      ap (λ l. sum_by last_of l) (processors-read_at processor now s),
     )
 
 clocks-kept : (s t : Figures) → KeepsWorks s t → clocks_of t ≡ clocks_of s
@@ -86,7 +86,7 @@ clocks-kept s t h = sums_alike last_of t.processors s.processors h.count (λ j. 
 
 clocks-shown : (s s' : Figures) (o : Option Sight) → IsWithin (length s.processors) o → Shows s s' o → clocks_of s + time_of any (slice_seen s o) ≤ clocks_of s'
 clocks-shown s s' None w h = omega (arith, clocks-kept s s' h.0)
-clocks-shown s s' (Some x) w h = omega (arith, clocks-kept (read_at x.cpu x.now s) s' h.0, clocks-read_at x.cpu x.now s w)
+clocks-shown s s' (Some x) w h = omega (arith, clocks-kept (read_at x.processor x.now s) s' h.0, clocks-read_at x.processor x.now s w)
 
 -- all slices together are no longer than all clocks
 slices-le-clocks : (count : ℕ) (past : History) → IsOf count past → time_in any (slices past) ≤ clocks_of (figures count past)
@@ -107,13 +107,13 @@ short_if : (b : Bool) (last now : ℕ) → last ≤ 281474976710655 → cond b (
 short_if true last now h = omega arith
 short_if false last now h = h
 
-short_after : (cpu last : ℕ) (o : Option Sight) → last ≤ 281474976710655 → clock_after cpu last o ≤ 281474976710655
-short_after cpu last None h = h
-short_after cpu last (Some x) h = short_if (eqb x.cpu cpu) last x.now h
+short_after : (processor last : ℕ) (o : Option Sight) → last ≤ 281474976710655 → clock_after processor last o ≤ 281474976710655
+short_after processor last None h = h
+short_after processor last (Some x) h = short_if (eqb x.processor processor) last x.now h
 
-clock-is-short : (cpu : ℕ) (past : History) → clock cpu past ≤ 281474976710655
-clock-is-short cpu [] = omega arith
-clock-is-short cpu (m ∷ past) = short_after cpu (clock cpu past) (sight_of m.event m.answer) (clock-is-short cpu past)
+clock-is-short : (processor : ℕ) (past : History) → clock processor past ≤ 281474976710655
+clock-is-short processor [] = omega arith
+clock-is-short processor (m ∷ past) = short_after processor (clock processor past) (sight_of m.event m.answer) (clock-is-short processor past)
 
 -- all clocks together stay below 2^64
 pub clocks-are-short : (count : ℕ) (past : History) → count ≤ 255 → IsOf count past → clocks_of (figures count past) ≤ 71776119061217025
@@ -150,11 +150,11 @@ time-shown : (s s' : Figures) (o : Option Sight) (id : ℕ) → id < length s.ta
     (task_of s' id).time ≡ (task_of s id).time + time_of (is_of id) (slice_seen s o)
 time-shown s s' None id inside fits h = omega (arith, h.0.times id)
 time-shown s s' (Some x) id inside fits h =
-    h.0.times id ∙ time-charged (with_processor s x.cpu (processor_read x.cpu (processor_of s x.cpu) x.now)) (slice_at x.cpu (processor_of s x.cpu) x.now) id inside fits
+    h.0.times id ∙ time-charged (with_processor s x.processor (processor_read x.processor (processor_of s x.processor) x.now)) (slice_at x.processor (processor_of s x.processor) x.now) id inside fits
 
 tasks-shown : (s s' : Figures) (o : Option Sight) → Shows s s' o → length s'.tasks ≡ length s.tasks
 tasks-shown s s' None h = h.0.tasks
-tasks-shown s s' (Some x) h = h.0.tasks ∙ tasks-read_at x.cpu x.now s
+tasks-shown s s' (Some x) h = h.0.tasks ∙ tasks-read_at x.processor x.now s
 
 -- the figures of a history have 1024 tasks
 pub tasks-figures : (count : ℕ) (past : History) → IsOf count past → length (figures count past).tasks ≡ 1024
@@ -194,61 +194,61 @@ times count (m ∷ past) few h id inside =
     )
 
 -- the busy time of a processor rises by the slices that are there
-busy-read_at : (cpu now j : ℕ) (s : Figures) (b : Bool) → j < length s.processors → ((b ≡ true) × (cpu ≡ j)) ⊎ ((b ≡ false) × (cpu ≢ j)) →
-    (cond b (processor_read cpu (processor_of s cpu) now) (processor_of s j)).busy ≡ cond b (counted (processor_of s j).busy (length_of (slice_at cpu (processor_of s cpu) now))) (processor_of s j).busy
-busy-read_at cpu now j s true inside (inl same) = ap (λ k. counted (processor_of s k).busy (length_of (slice_at cpu (processor_of s cpu) now))) same.1
-busy-read_at cpu now j s false inside (inl same) = refl
-busy-read_at cpu now j s true inside (inr other) = absurd (cc)
-busy-read_at cpu now j s false inside (inr other) = refl
+busy-read_at : (processor now j : ℕ) (s : Figures) (b : Bool) → j < length s.processors → ((b ≡ true) × (processor ≡ j)) ⊎ ((b ≡ false) × (processor ≢ j)) →
+    (cond b (processor_read processor (processor_of s processor) now) (processor_of s j)).busy ≡ cond b (counted (processor_of s j).busy (length_of (slice_at processor (processor_of s processor) now))) (processor_of s j).busy
+busy-read_at processor now j s true inside (inl same) = ap (λ k. counted (processor_of s k).busy (length_of (slice_at processor (processor_of s processor) now))) same.1
+busy-read_at processor now j s false inside (inl same) = refl
+busy-read_at processor now j s true inside (inr other) = absurd (cc)
+busy-read_at processor now j s false inside (inr other) = refl
 
 -- all slices of a reading are at its processor
 worth-none : (b : Bool) → ◌≡◌ {A = ℕ} (cond b 0 0) 0
 worth-none true = refl
 worth-none false = refl
 
-worth-some : (cpu j from to : ℕ) (start : Start) (b : Bool) →
-    time_of (is_at j) (cond b (Some (record { processor = cpu; task = start.task; from = from; to = to })) None)
-    ≡ cond (eqb cpu j) (length_of (cond b (Some (record { processor = cpu; task = start.task; from = from; to = to })) None)) 0
-worth-some cpu j from to start true = refl
-worth-some cpu j from to start false = sym (worth-none (eqb cpu j))
+worth-some : (processor j from to : ℕ) (start : Start) (b : Bool) →
+    time_of (is_at j) (cond b (Some (record { processor = processor; task = start.task; from = from; to = to })) None)
+    ≡ cond (eqb processor j) (length_of (cond b (Some (record { processor = processor; task = start.task; from = from; to = to })) None)) 0
+worth-some processor j from to start true = refl
+worth-some processor j from to start false = sym (worth-none (eqb processor j))
 
-worth-at : (cpu j from to : ℕ) (running : Option Start) → time_of (is_at j) (slice_between cpu from to running) ≡ cond (eqb cpu j) (length_of (slice_between cpu from to running)) 0
-worth-at cpu j from to None = sym (worth-none (eqb cpu j))
-worth-at cpu j from to (Some start) = worth-some cpu j from to start (ltb from to)
+worth-at : (processor j from to : ℕ) (running : Option Start) → time_of (is_at j) (slice_between processor from to running) ≡ cond (eqb processor j) (length_of (slice_between processor from to running)) 0
+worth-at processor j from to None = sym (worth-none (eqb processor j))
+worth-at processor j from to (Some start) = worth-some processor j from to start (ltb from to)
 
 busy-shown : (s s' : Figures) (o : Option Sight) (j : ℕ) → j < length s.processors → (processor_of s j).busy + time_of (is_at j) (slice_seen s o) ≤ 18446744073709551615 → Shows s s' o →
     (processor_of s' j).busy ≡ (processor_of s j).busy + time_of (is_at j) (slice_seen s o)
 busy-shown s s' None j inside fits h = ap (λ (w : Works). w.busy) (h.0.at j) ∙ omega arith
 busy-shown s s' (Some x) j inside fits h =
-    let p = processor_of s x.cpu in
-    let at = worth-at x.cpu j p.last (reading p.last x.now) p.running in
-    let fits' : (processor_of s j).busy + cond (eqb x.cpu j) (length_of (slice_at x.cpu p x.now)) 0 ≤ 18446744073709551615 = omega (arith, at, fits) in
+    let p = processor_of s x.processor in
+    let at = worth-at x.processor j p.last (reading p.last x.now) p.running in
+    let fits' : (processor_of s j).busy + cond (eqb x.processor j) (length_of (slice_at x.processor p x.now)) 0 ≤ 18446744073709551615 = omega (arith, at, fits) in
     ap (λ (w : Works). w.busy) (h.0.at j)
-    ∙ ap (λ (q : ProcessorFigures). q.busy) (processor-read_at x.cpu x.now j s inside)
-    ∙ busy-read_at x.cpu x.now j s (eqb x.cpu j) inside (eqb_tells x.cpu j)
-    ∙ counted-is (eqb x.cpu j) (processor_of s j).busy (length_of (slice_at x.cpu p x.now)) fits'
+    ∙ ap (λ (q : ProcessorFigures). q.busy) (processor-read_at x.processor x.now j s inside)
+    ∙ busy-read_at x.processor x.now j s (eqb x.processor j) inside (eqb_tells x.processor j)
+    ∙ counted-is (eqb x.processor j) (processor_of s j).busy (length_of (slice_at x.processor p x.now)) fits'
     ∙ omega (arith, at)
 
 -- the busy time of a processor is the sum of its slices
-pub busy : (count : ℕ) (past : History) → count ≤ 255 → IsOf count past → (cpu : ℕ) → cpu < count → (processor_of (figures count past) cpu).busy ≡ time_in (is_at cpu) (slices past)
-busy count [] few h cpu inside = ap (λ (p : ProcessorFigures). p.busy) (get_or-replicate count cpu unread unread inside)
-busy count (m ∷ past) few h cpu inside =
+pub busy : (count : ℕ) (past : History) → count ≤ 255 → IsOf count past → (processor : ℕ) → processor < count → (processor_of (figures count past) processor).busy ≡ time_in (is_at processor) (slices past)
+busy count [] few h processor inside = ap (λ (p : ProcessorFigures). p.busy) (get_or-replicate count processor unread unread inside)
+busy count (m ∷ past) few h processor inside =
     let s = figures count past in
     let o = sight_of m.event m.answer in
-    let before = busy count past few h.1 cpu inside in
-    let seen = ap (time_of (is_at cpu)) (shown-seen count past o h.1 h.0) in
-    let inside' : cpu < length s.processors = omega (arith, count-figures count past h.1) in
-    let fits : (processor_of s cpu).busy + time_of (is_at cpu) (slice_seen s o) ≤ 18446744073709551615 = omega (arith, before, seen, fits-next (is_at cpu) count past m few h) in
+    let before = busy count past few h.1 processor inside in
+    let seen = ap (time_of (is_at processor)) (shown-seen count past o h.1 h.0) in
+    let inside' : processor < length s.processors = omega (arith, count-figures count past h.1) in
+    let fits : (processor_of s processor).busy + time_of (is_at processor) (slice_seen s o) ≤ 18446744073709551615 = omega (arith, before, seen, fits-next (is_at processor) count past m few h) in
     omega (
       arith,
       before,
       seen,
-      time_in-more (is_at cpu) (slices past) (slice_shown past o),
-      busy-shown s (after s m.event m.answer) o cpu inside' fits (shows-after s m.event m.answer (within-figures count past m h)),
+      time_in-more (is_at processor) (slices past) (slice_shown past o),
+      busy-shown s (after s m.event m.answer) o processor inside' fits (shows-after s m.event m.answer (within-figures count past m h)),
     )
 
 -- the times of tasks and the busy times of processors are the sums of their slices
 pub adds_up : (count : ℕ) (past : History) → count ≤ 255 → IsOf count past →
     ((id : ℕ) → id < 1024 → (task_of (figures count past) id).time ≡ time_in (is_of id) (slices past))
-    × ((cpu : ℕ) → cpu < count → (processor_of (figures count past) cpu).busy ≡ time_in (is_at cpu) (slices past))
+    × ((processor : ℕ) → processor < count → (processor_of (figures count past) processor).busy ≡ time_in (is_at processor) (slices past))
 adds_up count past few h = (times count past few h, busy count past few h)

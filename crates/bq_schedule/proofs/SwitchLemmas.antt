@@ -32,104 +32,104 @@ use Rattle.bq_schedule.proofs.SliceTimeLemmas.{outside}
 use Rattle.bq_schedule.proofs.ClockLemmas.{inside_of, figures-clocks, shows-performed, within-figures}
 
 -- a switch at a processor: what is told of it, and what runs afterwards
-pub record Switches (s s' : Figures) (left : Left) (cpu at : ℕ) (run : Option ℕ) (stop : Option Stop) (start : Option Start) : Type 0 where
+pub record Switches (s s' : Figures) (left : Left) (processor at : ℕ) (run : Option ℕ) (stop : Option Stop) (start : Option Start) : Type 0 where
   pub before : Figures
-  pub stops : stop ≡ cond (is_run_by (processor_of s cpu).running run) None (stop_of left at (processor_of s cpu).running)
-  pub starts : start ≡ cond (is_run_by (processor_of s cpu).running run) None (starts_as cpu at run before)
-  pub runs : (processor_of s' cpu).running ≡ cond (is_run_by (processor_of s cpu).running run) (processor_of s cpu).running (starts_as cpu at run before)
-  pub others : (j : ℕ) → j ≢ cpu → (processor_of s' j).running ≡ (processor_of s j).running
+  pub stops : stop ≡ cond (is_run_by (processor_of s processor).running run) None (stop_of left at (processor_of s processor).running)
+  pub starts : start ≡ cond (is_run_by (processor_of s processor).running run) None (starts_as processor at run before)
+  pub runs : (processor_of s' processor).running ≡ cond (is_run_by (processor_of s processor).running run) (processor_of s processor).running (starts_as processor at run before)
+  pub others : (j : ℕ) → j ≢ processor → (processor_of s' j).running ≡ (processor_of s j).running
 
 running-processor_runs : (p : ProcessorFigures) (o : Option Start) → (processor_runs p o).running ≡ o
 running-processor_runs p None = refl
 running-processor_runs p (Some start) = refl
 
-running-started : (cpu at : ℕ) (run : Option ℕ) (u : Figures) → cpu < length u.processors → (processor_of (started cpu at run u) cpu).running ≡ starts_as cpu at run u
-running-started cpu at run u inside =
-    let q = processor_runs (processor_of u cpu) (starts_as cpu at run u) in
-    ap (λ l. (get_or (slice_set l cpu q) cpu unread).running) (processors-begun_if cpu at run u)
-    ∙ ap (λ (p : ProcessorFigures). p.running) (get_or-set_same u.processors cpu q unread inside)
-    ∙ running-processor_runs (processor_of u cpu) (starts_as cpu at run u)
+running-started : (processor at : ℕ) (run : Option ℕ) (u : Figures) → processor < length u.processors → (processor_of (started processor at run u) processor).running ≡ starts_as processor at run u
+running-started processor at run u inside =
+    let q = processor_runs (processor_of u processor) (starts_as processor at run u) in
+    ap (λ l. (get_or (slice_set l processor q) processor unread).running) (processors-begun_if processor at run u)
+    ∙ ap (λ (p : ProcessorFigures). p.running) (get_or-set_same u.processors processor q unread inside)
+    ∙ running-processor_runs (processor_of u processor) (starts_as processor at run u)
 
-running-switched_if : (b : Bool) (left : Left) (cpu at : ℕ) (run : Option ℕ) (t : Figures) → cpu < length t.processors →
-    let u = stopped left at (processor_of t cpu).running t in
-    (processor_of (cond b t (started cpu at run u)) cpu).running ≡ cond b (processor_of t cpu).running (starts_as cpu at run u)
-running-switched_if true left cpu at run t inside = refl
-running-switched_if false left cpu at run t inside =
-    let u = stopped left at (processor_of t cpu).running t in
-    running-started cpu at run u (omega (arith, (works-stopped left at (processor_of t cpu).running t).count))
+running-switched_if : (b : Bool) (left : Left) (processor at : ℕ) (run : Option ℕ) (t : Figures) → processor < length t.processors →
+    let u = stopped left at (processor_of t processor).running t in
+    (processor_of (cond b t (started processor at run u)) processor).running ≡ cond b (processor_of t processor).running (starts_as processor at run u)
+running-switched_if true left processor at run t inside = refl
+running-switched_if false left processor at run t inside =
+    let u = stopped left at (processor_of t processor).running t in
+    running-started processor at run u (omega (arith, (works-stopped left at (processor_of t processor).running t).count))
 
 -- after a step that keeps who runs, and before another, a switch is one of the whole
-switch : (left : Left) (cpu at : ℕ) (run : Option ℕ) (s t s' : Figures) → KeepsRunning s t → cpu < length t.processors → KeepsRunning (switched left cpu at run t) s' →
-    Switches s s' left cpu at run (stop_at left cpu at run t) (start_at left cpu at run t)
-switch left cpu at run s t s' k inside k' =
-    let u = stopped left at (processor_of t cpu).running t in
+switch : (left : Left) (processor at : ℕ) (run : Option ℕ) (s t s' : Figures) → KeepsRunning s t → processor < length t.processors → KeepsRunning (switched left processor at run t) s' →
+    Switches s s' left processor at run (stop_at left processor at run t) (start_at left processor at run t)
+switch left processor at run s t s' k inside k' =
+    let u = stopped left at (processor_of t processor).running t in
     record {
       before = u;
-      stops = ap (λ o. cond (is_run_by o run) None (stop_of left at o)) (k.at cpu);
-      starts = ap (λ o. cond (is_run_by o run) None (starts_as cpu at run u)) (k.at cpu);
-      runs = k'.at cpu ∙ running-switched_if (is_run_by (processor_of t cpu).running run) left cpu at run t inside ∙ ap (λ o. cond (is_run_by o run) o (starts_as cpu at run u)) (k.at cpu);
-      others = λ j ne. k'.at j ∙ (runs-switched left cpu at run t inside).1 j ne ∙ k.at j;
+      stops = ap (λ o. cond (is_run_by o run) None (stop_of left at o)) (k.at processor);
+      starts = ap (λ o. cond (is_run_by o run) None (starts_as processor at run u)) (k.at processor);
+      runs = k'.at processor ∙ running-switched_if (is_run_by (processor_of t processor).running run) left processor at run t inside ∙ ap (λ o. cond (is_run_by o run) o (starts_as processor at run u)) (k.at processor);
+      others = λ j ne. k'.at j ∙ (runs-switched left processor at run t inside).1 j ne ∙ k.at j;
     }
 
 -- what an answer tells of who runs, by what it shows: nothing where it does not say who does
 abbrev pub TellsRun : Figures → Figures → Left → ℕ → ℕ → Option (Option ℕ) → Option Stop → Option Start → Type 0
-TellsRun s s' left cpu at None stop start = (stop ≡ None) × (start ≡ None) × KeepsRunning s s'
-TellsRun s s' left cpu at (Some run) stop start = Switches s s' left cpu at run stop start
+TellsRun s s' left processor at None stop start = (stop ≡ None) × (start ≡ None) × KeepsRunning s s'
+TellsRun s s' left processor at (Some run) stop start = Switches s s' left processor at run stop start
 
 -- the same by the sight of an event and its answer
 abbrev pub TellsSwitch : Figures → Figures → Event → Option Sight → Option Stop → Option Start → Type 0
 TellsSwitch s s' e None stop start = (stop ≡ None) × (start ≡ None) × KeepsRunning s s'
-TellsSwitch s s' e (Some x) stop start = TellsRun s s' (why_left e) x.cpu (time_at x.cpu x.now s) x.run stop start
+TellsSwitch s s' e (Some x) stop start = TellsRun s s' (why_left e) x.processor (time_at x.processor x.now s) x.run stop start
 
-decided-tells : (cpu now : ℕ) (d : Decision) (run : Option ℕ) (s s' : Figures) → cpu < length s.processors → KeepsRunning (decided cpu now d run s) s' →
-    let t = asked cpu d (read_at cpu now s) in
-    Switches s s' Preempted cpu (time_at cpu now s) run (stop_at Preempted cpu (time_at cpu now s) run t) (start_at Preempted cpu (time_at cpu now s) run t)
-decided-tells cpu now d run s s' inside k =
-    let r = read_at cpu now s in
-    let t = asked cpu d r in
-    switch Preempted cpu (time_at cpu now s) run s t s' (running-then s r t (running-read_at cpu now s) (running-asked cpu d r))
-    (omega (arith, count-read_at cpu now s, (works-asked cpu d r).count)) k
+decided-tells : (processor now : ℕ) (d : Decision) (run : Option ℕ) (s s' : Figures) → processor < length s.processors → KeepsRunning (decided processor now d run s) s' →
+    let t = asked processor d (read_at processor now s) in
+    Switches s s' Preempted processor (time_at processor now s) run (stop_at Preempted processor (time_at processor now s) run t) (start_at Preempted processor (time_at processor now s) run t)
+decided-tells processor now d run s s' inside k =
+    let r = read_at processor now s in
+    let t = asked processor d r in
+    switch Preempted processor (time_at processor now s) run s t s' (running-then s r t (running-read_at processor now s) (running-asked processor d r))
+    (omega (arith, count-read_at processor now s, (works-asked processor d r).count)) k
 
-blocked-tells : (cpu now id : ℕ) (run : Option ℕ) (s : Figures) → cpu < length s.processors →
-    let t = leaves id (read_at cpu now s) in
-    Switches s (blocked cpu now id run s) Blocked cpu (time_at cpu now s) run (stop_at Blocked cpu (time_at cpu now s) run t) (start_at Blocked cpu (time_at cpu now s) run t)
-blocked-tells cpu now id run s inside =
-    let r = read_at cpu now s in
+blocked-tells : (processor now id : ℕ) (run : Option ℕ) (s : Figures) → processor < length s.processors →
+    let t = leaves id (read_at processor now s) in
+    Switches s (blocked processor now id run s) Blocked processor (time_at processor now s) run (stop_at Blocked processor (time_at processor now s) run t) (start_at Blocked processor (time_at processor now s) run t)
+blocked-tells processor now id run s inside =
+    let r = read_at processor now s in
     let t = leaves id r in
-    switch Blocked cpu (time_at cpu now s) run s t (blocked cpu now id run s) (running-then s r t (running-read_at cpu now s) (running-leaves id r))
-    (omega (arith, count-read_at cpu now s, (works-leaves id r).count)) (running-id (blocked cpu now id run s))
+    switch Blocked processor (time_at processor now s) run s t (blocked processor now id run s) (running-then s r t (running-read_at processor now s) (running-leaves id r))
+    (omega (arith, count-read_at processor now s, (works-leaves id r).count)) (running-id (blocked processor now id run s))
 
-pulled-tells : (cpu now : ℕ) (d : Decision) (task run : Option ℕ) (s : Figures) → cpu < length s.processors →
-    let t = taken cpu (time_at cpu now s) task (asked cpu d (read_at cpu now s)) in
-    Switches s (pulled cpu now d task run s) Preempted cpu (time_at cpu now s) run (stop_at Preempted cpu (time_at cpu now s) run t) (start_at Preempted cpu (time_at cpu now s) run t)
-pulled-tells cpu now d task run s inside =
-    let r = read_at cpu now s in
-    let a = asked cpu d r in
-    let at = time_at cpu now s in
-    let t = taken cpu at task a in
-    switch Preempted cpu at run s t (pulled cpu now d task run s) (running-then s r t (running-read_at cpu now s) (running-then r a t (running-asked cpu d r) (running-taken cpu at task a)))
-    (omega (arith, count-read_at cpu now s, (works-asked cpu d r).count, (works-taken cpu at task a).count)) (running-id (pulled cpu now d task run s))
+pulled-tells : (processor now : ℕ) (d : Decision) (task run : Option ℕ) (s : Figures) → processor < length s.processors →
+    let t = taken processor (time_at processor now s) task (asked processor d (read_at processor now s)) in
+    Switches s (pulled processor now d task run s) Preempted processor (time_at processor now s) run (stop_at Preempted processor (time_at processor now s) run t) (start_at Preempted processor (time_at processor now s) run t)
+pulled-tells processor now d task run s inside =
+    let r = read_at processor now s in
+    let a = asked processor d r in
+    let at = time_at processor now s in
+    let t = taken processor at task a in
+    switch Preempted processor at run s t (pulled processor now d task run s) (running-then s r t (running-read_at processor now s) (running-then r a t (running-asked processor d r) (running-taken processor at task a)))
+    (omega (arith, count-read_at processor now s, (works-asked processor d r).count, (works-taken processor at task a).count)) (running-id (pulled processor now d task run s))
 
 performed-tells : (s : Figures) (e : Event) (r : Reply) → is_there s e ≡ true → TellsSwitch s (performed s e r) e (sight e r) (performed_told s e r).stop (performed_told s e r).start
 performed-tells s (Admit id nice mask slice) Admitted there = (refl, refl, (shows-performed s (Admit id nice mask slice) Admitted there).1)
-performed-tells s (EndWake cpu now) (Placed task to by steps) there = (refl, refl, (shows-performed s (EndWake cpu now) (Placed task to by steps) there).1)
-performed-tells s (Drain cpu now) (Drained count run by steps) there =
+performed-tells s (EndWake processor now) (Placed task to by steps) there = (refl, refl, (shows-performed s (EndWake processor now) (Placed task to by steps) there).1)
+performed-tells s (Drain processor now) (Drained count run by steps) there =
     let d : Decision = record { hook = Preempt; by = by; steps = steps } in
-    let q = decided cpu now d run s in
-    decided-tells cpu now d run s (emptied cpu q) (inside_of cpu (length s.processors) there) (running-with_processor q cpu _ refl)
-performed-tells s (Tick cpu now) (Ticked run by steps) there =
+    let q = decided processor now d run s in
+    decided-tells processor now d run s (emptied processor q) (inside_of processor (length s.processors) there) (running-with_processor q processor _ refl)
+performed-tells s (Tick processor now) (Ticked run by steps) there =
     let d : Decision = record { hook = Preempt; by = by; steps = steps } in
-    decided-tells cpu now d run s (decided cpu now d run s) (inside_of cpu (length s.processors) there) (running-id (decided cpu now d run s))
-performed-tells s (Block cpu now) (Went task run) there = blocked-tells cpu now task run s (inside_of cpu (length s.processors) there)
-performed-tells s (Pull cpu from now) (Pulled task run by steps) there = pulled-tells cpu now (record { hook = OnPull; by = by; steps = steps }) task run s (inside_of cpu (length s.processors) there)
+    decided-tells processor now d run s (decided processor now d run s) (inside_of processor (length s.processors) there) (running-id (decided processor now d run s))
+performed-tells s (Block processor now) (Went task run) there = blocked-tells processor now task run s (inside_of processor (length s.processors) there)
+performed-tells s (Pull processor from now) (Pulled task run by steps) there = pulled-tells processor now (record { hook = OnPull; by = by; steps = steps }) task run s (inside_of processor (length s.processors) there)
 performed-tells s e r there = (refl, refl, running-id s)
 
 nothing-tells : (s : Figures) (e : Event) (r : Reply) → is_there s e ≡ false → IsWithin (length s.processors) (sight e r) → TellsSwitch s s e (sight e r) None None
-nothing-tells s (EndWake cpu now) (Placed task to by steps) none h = absurd (outside cpu (length s.processors) none h)
-nothing-tells s (Drain cpu now) (Drained count run by steps) none h = absurd (outside cpu (length s.processors) none h)
-nothing-tells s (Tick cpu now) (Ticked run by steps) none h = absurd (outside cpu (length s.processors) none h)
-nothing-tells s (Block cpu now) (Went task run) none h = absurd (outside cpu (length s.processors) none h)
-nothing-tells s (Pull cpu from now) (Pulled task run by steps) none h = absurd (outside cpu (length s.processors) none h)
+nothing-tells s (EndWake processor now) (Placed task to by steps) none h = absurd (outside processor (length s.processors) none h)
+nothing-tells s (Drain processor now) (Drained count run by steps) none h = absurd (outside processor (length s.processors) none h)
+nothing-tells s (Tick processor now) (Ticked run by steps) none h = absurd (outside processor (length s.processors) none h)
+nothing-tells s (Block processor now) (Went task run) none h = absurd (outside processor (length s.processors) none h)
+nothing-tells s (Pull processor from now) (Pulled task run by steps) none h = absurd (outside processor (length s.processors) none h)
 nothing-tells s e r none h = (refl, refl, running-id s)
 
 tells-if : (b : Bool) (s : Figures) (e : Event) (r : Reply) → is_there s e ≡ b → IsWithin (length s.processors) (sight e r) →
@@ -156,18 +156,18 @@ is_new running run true e ne = absurd (ne (who_is running run e))
 is_new running run false e ne = refl
 
 -- a start that a switch tells
-pub record IsStart (running : Option Start) (cpu at : ℕ) (run : Option ℕ) (start : Start) : Type 0 where
-  pub here : start.processor ≡ cpu
+pub record IsStart (running : Option Start) (processor at : ℕ) (run : Option ℕ) (start : Start) : Type 0 where
+  pub here : start.processor ≡ processor
   pub task : run ≡ Some start.task
   pub time : start.at ≡ at
   pub new : option_map (λ (x : Start). x.task) running ≢ run
 
-start_if : (b : Bool) (running : Option Start) (cpu at : ℕ) (run : Option ℕ) (u : Figures) (start : Start) → is_run_by running run ≡ b → cond b None (starts_as cpu at run u) ≡ Some start → IsStart running cpu at run start
-start_if true running cpu at run u start is e = cc
-start_if false running cpu at None u start is e = cc
-start_if false running cpu at (Some id) u start is e =
-    let x : start_of cpu id at (task_of u id) ≡ start = cc in
-    let P : Start → Type 0 = λ st. IsStart running cpu at (Some id) st in
+start_if : (b : Bool) (running : Option Start) (processor at : ℕ) (run : Option ℕ) (u : Figures) (start : Start) → is_run_by running run ≡ b → cond b None (starts_as processor at run u) ≡ Some start → IsStart running processor at run start
+start_if true running processor at run u start is e = cc
+start_if false running processor at None u start is e = cc
+start_if false running processor at (Some id) u start is e =
+    let x : start_of processor id at (task_of u id) ≡ start = cc in
+    let P : Start → Type 0 = λ st. IsStart running processor at (Some id) st in
     subst P x (record { here = refl; task = refl; time = refl; new = not_who running (Some id) is })
 
 -- a stop that a switch tells
@@ -201,11 +201,11 @@ eqb-refl : (a : ℕ) → eqb a a ≡ true
 eqb-refl a = grind (arith, nat_tests)
 
 -- what a sight of a processor makes of the clock, and of who runs there
-clock-there : (j last : ℕ) (x : Sight) → j ≡ x.cpu → clock_after j last (Some x) ≡ reading last x.now
-clock-there j last x e = rw e (rw (eqb-refl x.cpu) refl)
+clock-there : (j last : ℕ) (x : Sight) → j ≡ x.processor → clock_after j last (Some x) ≡ reading last x.now
+clock-there j last x e = rw e (rw (eqb-refl x.processor) refl)
 
-runner-there : (j : ℕ) (w : Option ℕ) (x : Sight) → j ≡ x.cpu → runner_after j w (Some x) ≡ unwrap_or x.run w
-runner-there j w x e = rw e (rw (eqb-refl x.cpu) refl)
+runner-there : (j : ℕ) (w : Option ℕ) (x : Sight) → j ≡ x.processor → runner_after j w (Some x) ≡ unwrap_or x.run w
+runner-there j w x e = rw e (rw (eqb-refl x.processor) refl)
 
 same-cond : (b : Bool) (w : Option ℕ) → cond b w w ≡ w
 same-cond true w = refl
@@ -223,16 +223,16 @@ CeasesWith j task past o = (runner j past ≡ Some task) × (runner_after j (run
 abbrev pub IsStartOf : ℕ → History → Option Sight → Start → Type 0
 IsStartOf count past o st = (st.processor < count) × BeginsWith st.processor st.task past o × (st.at ≡ clock_after st.processor (clock st.processor past) o)
 
-start-run : (count : ℕ) (past : History) (cpu now : ℕ) (o : Option (Option ℕ)) (s' : Figures) (left : Left) (stop : Option Stop) (start : Option Start) (st : Start) → IsOf count past → cpu < count →
-    TellsRun (figures count past) s' left cpu (time_at cpu now (figures count past)) o stop start → start ≡ Some st → IsStartOf count past (Some (record { cpu = cpu; now = now; run = o })) st
-start-run count past cpu now None s' left stop start st h w t e =
+start-run : (count : ℕ) (past : History) (processor now : ℕ) (o : Option (Option ℕ)) (s' : Figures) (left : Left) (stop : Option Stop) (start : Option Start) (st : Start) → IsOf count past → processor < count →
+    TellsRun (figures count past) s' left processor (time_at processor now (figures count past)) o stop start → start ≡ Some st → IsStartOf count past (Some (record { processor = processor; now = now; run = o })) st
+start-run count past processor now None s' left stop start st h w t e =
     let t1 = t.1 in
     cc
-start-run count past cpu now (Some run) s' left stop start st h w t e =
+start-run count past processor now (Some run) s' left stop start st h w t e =
     let s = figures count past in
-    let x : Sight = record { cpu = cpu; now = now; run = Some run } in
-    let c = figures-clocks count past cpu h w in
-    let i = start_if (is_run_by (processor_of s cpu).running run) (processor_of s cpu).running cpu (time_at cpu now s) run t.before st refl (sym t.starts ∙ e) in
+    let x : Sight = record { processor = processor; now = now; run = Some run } in
+    let c = figures-clocks count past processor h w in
+    let i = start_if (is_run_by (processor_of s processor).running run) (processor_of s processor).running processor (time_at processor now s) run t.before st refl (sym t.starts ∙ e) in
     let here = i.here in (
       omega arith,
       (
@@ -247,35 +247,35 @@ start-shown : (count : ℕ) (past : History) (o : Option Sight) (s' : Figures) (
 start-shown count past None s' e stop start st h w t is =
     let t1 = t.1 in
     cc
-start-shown count past (Some x) s' e stop start st h w t is = start-run count past x.cpu x.now x.run s' (why_left e) stop start st h w t is
+start-shown count past (Some x) s' e stop start st h w t is = start-run count past x.processor x.now x.run s' (why_left e) stop start st h w t is
 
 -- and each that begins is told
-begun-there : (count : ℕ) (past : History) (cpu now j task : ℕ) (run : Option ℕ) (s' : Figures) (left : Left) (stop : Option Stop) (start : Option Start) (b : Bool) → IsOf count past → cpu < count →
-    Switches (figures count past) s' left cpu (time_at cpu now (figures count past)) run stop start → ((b ≡ true) × (cpu ≡ j)) ⊎ ((b ≡ false) × (cpu ≢ j)) →
+begun-there : (count : ℕ) (past : History) (processor now j task : ℕ) (run : Option ℕ) (s' : Figures) (left : Left) (stop : Option Stop) (start : Option Start) (b : Bool) → IsOf count past → processor < count →
+    Switches (figures count past) s' left processor (time_at processor now (figures count past)) run stop start → ((b ≡ true) × (processor ≡ j)) ⊎ ((b ≡ false) × (processor ≢ j)) →
     cond b run (runner j past) ≡ Some task → runner j past ≢ Some task → IsSomeAnd start (λ st. (st.processor ≡ j) × (st.task ≡ task))
-begun-there count past cpu now j task run s' left stop start true h w t (inl same) is new =
+begun-there count past processor now j task run s' left stop start true h w t (inl same) is new =
     let s = figures count past in
-    let c = figures-clocks count past cpu h w in
-    let off : is_run_by (processor_of s cpu).running run ≡ false =
-    is_new (processor_of s cpu).running run (is_run_by (processor_of s cpu).running run) refl (λ e. new (ap (λ k. runner k past) (sym same.1) ∙ sym c.1 ∙ e ∙ is)) in
-    and_some start _ (start_of cpu task (time_at cpu now s) (task_of t.before task))
-    (t.starts ∙ ap (λ v. cond v None (starts_as cpu (time_at cpu now s) run t.before)) off ∙ ap (λ r. starts_as cpu (time_at cpu now s) r t.before) is)
+    let c = figures-clocks count past processor h w in
+    let off : is_run_by (processor_of s processor).running run ≡ false =
+    is_new (processor_of s processor).running run (is_run_by (processor_of s processor).running run) refl (λ e. new (ap (λ k. runner k past) (sym same.1) ∙ sym c.1 ∙ e ∙ is)) in
+    and_some start _ (start_of processor task (time_at processor now s) (task_of t.before task))
+    (t.starts ∙ ap (λ v. cond v None (starts_as processor (time_at processor now s) run t.before)) off ∙ ap (λ r. starts_as processor (time_at processor now s) r t.before) is)
     (same.1, refl)
-begun-there count past cpu now j task run s' left stop start false h w t (inl same) is new = absurd (cc)
-begun-there count past cpu now j task run s' left stop start true h w t (inr other) is new = absurd (cc)
-begun-there count past cpu now j task run s' left stop start false h w t (inr other) is new = absurd (new is)
+begun-there count past processor now j task run s' left stop start false h w t (inl same) is new = absurd (cc)
+begun-there count past processor now j task run s' left stop start true h w t (inr other) is new = absurd (cc)
+begun-there count past processor now j task run s' left stop start false h w t (inr other) is new = absurd (new is)
 
-begun-run : (count : ℕ) (past : History) (cpu now j task : ℕ) (o : Option (Option ℕ)) (s' : Figures) (left : Left) (stop : Option Stop) (start : Option Start) → IsOf count past → cpu < count →
-    TellsRun (figures count past) s' left cpu (time_at cpu now (figures count past)) o stop start → BeginsWith j task past (Some (record { cpu = cpu; now = now; run = o })) →
+begun-run : (count : ℕ) (past : History) (processor now j task : ℕ) (o : Option (Option ℕ)) (s' : Figures) (left : Left) (stop : Option Stop) (start : Option Start) → IsOf count past → processor < count →
+    TellsRun (figures count past) s' left processor (time_at processor now (figures count past)) o stop start → BeginsWith j task past (Some (record { processor = processor; now = now; run = o })) →
     IsSomeAnd start (λ st. (st.processor ≡ j) × (st.task ≡ task))
-begun-run count past cpu now j task None s' left stop start h w t begins = absurd (begins.1 (sym (same-cond (eqb cpu j) (runner j past)) ∙ begins.0))
-begun-run count past cpu now j task (Some run) s' left stop start h w t begins =
-    begun-there count past cpu now j task run s' left stop start (eqb cpu j) h w t (eqb_tells cpu j) begins.0 begins.1
+begun-run count past processor now j task None s' left stop start h w t begins = absurd (begins.1 (sym (same-cond (eqb processor j) (runner j past)) ∙ begins.0))
+begun-run count past processor now j task (Some run) s' left stop start h w t begins =
+    begun-there count past processor now j task run s' left stop start (eqb processor j) h w t (eqb_tells processor j) begins.0 begins.1
 
 begun-shown : (count : ℕ) (past : History) (o : Option Sight) (s' : Figures) (e : Event) (stop : Option Stop) (start : Option Start) (j task : ℕ) → IsOf count past → IsWithin count o →
     TellsSwitch (figures count past) s' e o stop start → BeginsWith j task past o → IsSomeAnd start (λ st. (st.processor ≡ j) × (st.task ≡ task))
 begun-shown count past None s' e stop start j task h w t begins = absurd (begins.1 begins.0)
-begun-shown count past (Some x) s' e stop start j task h w t begins = begun-run count past x.cpu x.now j task x.run s' (why_left e) stop start h w t begins
+begun-shown count past (Some x) s' e stop start j task h w t begins = begun-run count past x.processor x.now j task x.run s' (why_left e) stop start h w t begins
 
 -- what the moment tells
 told : (count : ℕ) (past : History) (m : Moment) → IsOf count (m ∷ past) →
@@ -288,7 +288,7 @@ tells_starts count past m h =
     let o = sight_of m.event m.answer in
     let s' = figures count (m ∷ past) in
     let c = change (figures count past) m.event m.answer in (
-      λ cpu task inside begins. begun-shown count past o s' m.event c.stop c.start cpu task h.1 h.0 (told count past m h) begins,
+      λ processor task inside begins. begun-shown count past o s' m.event c.stop c.start processor task h.1 h.0 (told count past m h) begins,
       of_some c.start _ (λ st is. start-shown count past o s' m.event c.stop c.start st h.1 h.0 (told count past m h) is),
     )
 
@@ -296,30 +296,30 @@ tells_starts count past m h =
 abbrev pub RunsHere : ℕ → History → Type 0
 RunsHere count past = (j : ℕ) (st : Start) → j < count → (processor_of (figures count past) j).running ≡ Some st → st.processor ≡ j
 
-begun-here : (b : Bool) (cpu at : ℕ) (run : Option ℕ) (u : Figures) (running : Option Start) (st : Start) → cond b running (starts_as cpu at run u) ≡ Some st → (running ≡ Some st → st.processor ≡ cpu) → st.processor ≡ cpu
-begun-here true cpu at run u running st e before = before e
-begun-here false cpu at None u running st e before = cc
-begun-here false cpu at (Some id) u running st e before =
-    let x : start_of cpu id at (task_of u id) ≡ st = cc in
+begun-here : (b : Bool) (processor at : ℕ) (run : Option ℕ) (u : Figures) (running : Option Start) (st : Start) → cond b running (starts_as processor at run u) ≡ Some st → (running ≡ Some st → st.processor ≡ processor) → st.processor ≡ processor
+begun-here true processor at run u running st e before = before e
+begun-here false processor at None u running st e before = cc
+begun-here false processor at (Some id) u running st e before =
+    let x : start_of processor id at (task_of u id) ≡ st = cc in
     ap (λ (y : Start). y.processor) (sym x)
 
-here-there : (s s' : Figures) (left : Left) (cpu at : ℕ) (run : Option ℕ) (stop : Option Stop) (start : Option Start) (j : ℕ) (st : Start) (b : Bool) → Switches s s' left cpu at run stop start →
-    ((b ≡ true) × (cpu ≡ j)) ⊎ ((b ≡ false) × (cpu ≢ j)) → ((processor_of s j).running ≡ Some st → st.processor ≡ j) → (processor_of s' j).running ≡ Some st → st.processor ≡ j
-here-there s s' left cpu at run stop start j st b t (inl same) before e =
-    begun-here (is_run_by (processor_of s cpu).running run) cpu at run t.before (processor_of s cpu).running st (sym t.runs ∙ ap (λ k. (processor_of s' k).running) same.1 ∙ e)
+here-there : (s s' : Figures) (left : Left) (processor at : ℕ) (run : Option ℕ) (stop : Option Stop) (start : Option Start) (j : ℕ) (st : Start) (b : Bool) → Switches s s' left processor at run stop start →
+    ((b ≡ true) × (processor ≡ j)) ⊎ ((b ≡ false) × (processor ≢ j)) → ((processor_of s j).running ≡ Some st → st.processor ≡ j) → (processor_of s' j).running ≡ Some st → st.processor ≡ j
+here-there s s' left processor at run stop start j st b t (inl same) before e =
+    begun-here (is_run_by (processor_of s processor).running run) processor at run t.before (processor_of s processor).running st (sym t.runs ∙ ap (λ k. (processor_of s' k).running) same.1 ∙ e)
     (λ is. before (ap (λ k. (processor_of s k).running) (sym same.1) ∙ is) ∙ sym same.1)
     ∙ same.1
-here-there s s' left cpu at run stop start j st b t (inr other) before e = before (sym (t.others j (λ is. other.1 (sym is))) ∙ e)
+here-there s s' left processor at run stop start j st b t (inr other) before e = before (sym (t.others j (λ is. other.1 (sym is))) ∙ e)
 
-here-run : (s s' : Figures) (left : Left) (cpu at : ℕ) (o : Option (Option ℕ)) (stop : Option Stop) (start : Option Start) (j : ℕ) (st : Start) → TellsRun s s' left cpu at o stop start →
+here-run : (s s' : Figures) (left : Left) (processor at : ℕ) (o : Option (Option ℕ)) (stop : Option Stop) (start : Option Start) (j : ℕ) (st : Start) → TellsRun s s' left processor at o stop start →
     ((processor_of s j).running ≡ Some st → st.processor ≡ j) → (processor_of s' j).running ≡ Some st → st.processor ≡ j
-here-run s s' left cpu at None stop start j st t before e = before (sym (t.2.at j) ∙ e)
-here-run s s' left cpu at (Some run) stop start j st t before e = here-there s s' left cpu at run stop start j st (eqb cpu j) t (eqb_tells cpu j) before e
+here-run s s' left processor at None stop start j st t before e = before (sym (t.2.at j) ∙ e)
+here-run s s' left processor at (Some run) stop start j st t before e = here-there s s' left processor at run stop start j st (eqb processor j) t (eqb_tells processor j) before e
 
 here-shown : (s s' : Figures) (e : Event) (o : Option Sight) (stop : Option Stop) (start : Option Start) (j : ℕ) (st : Start) → TellsSwitch s s' e o stop start →
     ((processor_of s j).running ≡ Some st → st.processor ≡ j) → (processor_of s' j).running ≡ Some st → st.processor ≡ j
 here-shown s s' e None stop start j st t before is = before (sym (t.2.at j) ∙ is)
-here-shown s s' e (Some x) stop start j st t before is = here-run s s' (why_left e) x.cpu (time_at x.cpu x.now s) x.run stop start j st t before is
+here-shown s s' e (Some x) stop start j st t before is = here-run s s' (why_left e) x.processor (time_at x.processor x.now s) x.run stop start j st t before is
 
 runs_here : (count : ℕ) (past : History) → IsOf count past → RunsHere count past
 runs_here count [] h j st inside e =
@@ -334,18 +334,18 @@ abbrev pub IsStopOf : ℕ → History → Event → Option Sight → Stop → Ty
 IsStopOf count past e o sp =
     (sp.start.processor < count) × CeasesWith sp.start.processor sp.start.task past o × (sp.at ≡ clock_after sp.start.processor (clock sp.start.processor past) o) × (sp.left ≡ why_left e)
 
-stop-run : (count : ℕ) (past : History) (e : Event) (cpu now : ℕ) (o : Option (Option ℕ)) (s' : Figures) (stop : Option Stop) (start : Option Start) (sp : Stop) → IsOf count past → cpu < count →
-    TellsRun (figures count past) s' (why_left e) cpu (time_at cpu now (figures count past)) o stop start → stop ≡ Some sp → IsStopOf count past e (Some (record { cpu = cpu; now = now; run = o })) sp
-stop-run count past e cpu now None s' stop start sp h w t is =
+stop-run : (count : ℕ) (past : History) (e : Event) (processor now : ℕ) (o : Option (Option ℕ)) (s' : Figures) (stop : Option Stop) (start : Option Start) (sp : Stop) → IsOf count past → processor < count →
+    TellsRun (figures count past) s' (why_left e) processor (time_at processor now (figures count past)) o stop start → stop ≡ Some sp → IsStopOf count past e (Some (record { processor = processor; now = now; run = o })) sp
+stop-run count past e processor now None s' stop start sp h w t is =
     let t0 = t.0 in
     cc
-stop-run count past e cpu now (Some run) s' stop start sp h w t is =
+stop-run count past e processor now (Some run) s' stop start sp h w t is =
     let s = figures count past in
-    let x : Sight = record { cpu = cpu; now = now; run = Some run } in
-    let c = figures-clocks count past cpu h w in
-    let i = stop_if (is_run_by (processor_of s cpu).running run) (processor_of s cpu).running (why_left e) (time_at cpu now s) run sp refl (sym t.stops ∙ is) in
-    let here : sp.start.processor ≡ cpu = runs_here count past h cpu sp.start w i.start in
-    let ran : runner cpu past ≡ Some sp.start.task = sym c.1 ∙ ap (option_map (λ (y : Start). y.task)) i.start in (
+    let x : Sight = record { processor = processor; now = now; run = Some run } in
+    let c = figures-clocks count past processor h w in
+    let i = stop_if (is_run_by (processor_of s processor).running run) (processor_of s processor).running (why_left e) (time_at processor now s) run sp refl (sym t.stops ∙ is) in
+    let here : sp.start.processor ≡ processor = runs_here count past h processor sp.start w i.start in
+    let ran : runner processor past ≡ Some sp.start.task = sym c.1 ∙ ap (option_map (λ (y : Start). y.task)) i.start in (
       omega arith,
       (
         ap (λ k. runner k past) here ∙ ran,
@@ -360,7 +360,7 @@ stop-shown : (count : ℕ) (past : History) (o : Option Sight) (s' : Figures) (e
 stop-shown count past None s' e stop start sp h w t is =
     let t0 = t.0 in
     cc
-stop-shown count past (Some x) s' e stop start sp h w t is = stop-run count past e x.cpu x.now x.run s' stop start sp h w t is
+stop-shown count past (Some x) s' e stop start sp h w t is = stop-run count past e x.processor x.now x.run s' stop start sp h w t is
 
 -- of what ran something is told where it is another than runs now
 ceased-told : (running : Option Start) (left : Left) (at j task : ℕ) (stop : Option Stop) → stop ≡ stop_of left at running → option_map (λ (x : Start). x.task) running ≡ Some task →
@@ -370,33 +370,33 @@ ceased-told (Some old) left at j task stop is e here =
     let same : old.task ≡ task = cc in
     and_some stop _ (record { start = old; at = at; left = left }) is (here old refl, same)
 
-ceased-there : (count : ℕ) (past : History) (cpu now j task : ℕ) (run : Option ℕ) (s' : Figures) (left : Left) (stop : Option Stop) (start : Option Start) (b : Bool) → IsOf count past → cpu < count →
-    Switches (figures count past) s' left cpu (time_at cpu now (figures count past)) run stop start → ((b ≡ true) × (cpu ≡ j)) ⊎ ((b ≡ false) × (cpu ≢ j)) →
+ceased-there : (count : ℕ) (past : History) (processor now j task : ℕ) (run : Option ℕ) (s' : Figures) (left : Left) (stop : Option Stop) (start : Option Start) (b : Bool) → IsOf count past → processor < count →
+    Switches (figures count past) s' left processor (time_at processor now (figures count past)) run stop start → ((b ≡ true) × (processor ≡ j)) ⊎ ((b ≡ false) × (processor ≢ j)) →
     runner j past ≡ Some task → cond b run (runner j past) ≢ Some task → IsSomeAnd stop (λ sp. (sp.start.processor ≡ j) × (sp.start.task ≡ task))
-ceased-there count past cpu now j task run s' left stop start true h w t (inl same) ran new =
+ceased-there count past processor now j task run s' left stop start true h w t (inl same) ran new =
     let s = figures count past in
-    let c = figures-clocks count past cpu h w in
-    let ran' : option_map (λ (x : Start). x.task) (processor_of s cpu).running ≡ Some task = c.1 ∙ ap (λ k. runner k past) same.1 ∙ ran in
-    let off : is_run_by (processor_of s cpu).running run ≡ false =
-    is_new (processor_of s cpu).running run (is_run_by (processor_of s cpu).running run) refl (λ e. new (sym e ∙ ran')) in
-    ceased-told (processor_of s cpu).running left (time_at cpu now s) j task stop
-    (t.stops ∙ ap (λ v. cond v None (stop_of left (time_at cpu now s) (processor_of s cpu).running)) off)
-    ran' (λ st e. runs_here count past h cpu st w e ∙ same.1)
-ceased-there count past cpu now j task run s' left stop start false h w t (inl same) ran new = absurd (cc)
-ceased-there count past cpu now j task run s' left stop start true h w t (inr other) ran new = absurd (cc)
-ceased-there count past cpu now j task run s' left stop start false h w t (inr other) ran new = absurd (new ran)
+    let c = figures-clocks count past processor h w in
+    let ran' : option_map (λ (x : Start). x.task) (processor_of s processor).running ≡ Some task = c.1 ∙ ap (λ k. runner k past) same.1 ∙ ran in
+    let off : is_run_by (processor_of s processor).running run ≡ false =
+    is_new (processor_of s processor).running run (is_run_by (processor_of s processor).running run) refl (λ e. new (sym e ∙ ran')) in
+    ceased-told (processor_of s processor).running left (time_at processor now s) j task stop
+    (t.stops ∙ ap (λ v. cond v None (stop_of left (time_at processor now s) (processor_of s processor).running)) off)
+    ran' (λ st e. runs_here count past h processor st w e ∙ same.1)
+ceased-there count past processor now j task run s' left stop start false h w t (inl same) ran new = absurd (cc)
+ceased-there count past processor now j task run s' left stop start true h w t (inr other) ran new = absurd (cc)
+ceased-there count past processor now j task run s' left stop start false h w t (inr other) ran new = absurd (new ran)
 
-ceased-run : (count : ℕ) (past : History) (cpu now j task : ℕ) (o : Option (Option ℕ)) (s' : Figures) (left : Left) (stop : Option Stop) (start : Option Start) → IsOf count past → cpu < count →
-    TellsRun (figures count past) s' left cpu (time_at cpu now (figures count past)) o stop start → CeasesWith j task past (Some (record { cpu = cpu; now = now; run = o })) →
+ceased-run : (count : ℕ) (past : History) (processor now j task : ℕ) (o : Option (Option ℕ)) (s' : Figures) (left : Left) (stop : Option Stop) (start : Option Start) → IsOf count past → processor < count →
+    TellsRun (figures count past) s' left processor (time_at processor now (figures count past)) o stop start → CeasesWith j task past (Some (record { processor = processor; now = now; run = o })) →
     IsSomeAnd stop (λ sp. (sp.start.processor ≡ j) × (sp.start.task ≡ task))
-ceased-run count past cpu now j task None s' left stop start h w t ceases = absurd (ceases.1 (same-cond (eqb cpu j) (runner j past) ∙ ceases.0))
-ceased-run count past cpu now j task (Some run) s' left stop start h w t ceases =
-    ceased-there count past cpu now j task run s' left stop start (eqb cpu j) h w t (eqb_tells cpu j) ceases.0 ceases.1
+ceased-run count past processor now j task None s' left stop start h w t ceases = absurd (ceases.1 (same-cond (eqb processor j) (runner j past) ∙ ceases.0))
+ceased-run count past processor now j task (Some run) s' left stop start h w t ceases =
+    ceased-there count past processor now j task run s' left stop start (eqb processor j) h w t (eqb_tells processor j) ceases.0 ceases.1
 
 ceased-shown : (count : ℕ) (past : History) (o : Option Sight) (s' : Figures) (e : Event) (stop : Option Stop) (start : Option Start) (j task : ℕ) → IsOf count past → IsWithin count o →
     TellsSwitch (figures count past) s' e o stop start → CeasesWith j task past o → IsSomeAnd stop (λ sp. (sp.start.processor ≡ j) × (sp.start.task ≡ task))
 ceased-shown count past None s' e stop start j task h w t ceases = absurd (ceases.1 ceases.0)
-ceased-shown count past (Some x) s' e stop start j task h w t ceases = ceased-run count past x.cpu x.now j task x.run s' (why_left e) stop start h w t ceases
+ceased-shown count past (Some x) s' e stop start j task h w t ceases = ceased-run count past x.processor x.now j task x.run s' (why_left e) stop start h w t ceases
 
 -- a stop is told just where a task ceases to run
 pub tells_stops : TellsStops
@@ -404,7 +404,7 @@ tells_stops count past m h =
     let o = sight_of m.event m.answer in
     let s' = figures count (m ∷ past) in
     let c = change (figures count past) m.event m.answer in (
-      λ cpu task inside ceases. ceased-shown count past o s' m.event c.stop c.start cpu task h.1 h.0 (told count past m h) ceases,
+      λ processor task inside ceases. ceased-shown count past o s' m.event c.stop c.start processor task h.1 h.0 (told count past m h) ceases,
       of_some c.stop _ (λ sp is. stop-shown count past o s' m.event c.stop c.start sp h.1 h.0 (told count past m h) is),
     )
 
@@ -443,49 +443,49 @@ pairs-new j at left (Some old) start ran begun =
     rw (ran old refl) (rw (eqb-refl j) refl) in
     ap (λ l. old ∷ l) (filter-starts j start begun) ∙ ap (λ l. map (λ (sp : Stop). sp.start) l ++ option_to_list start) (sym stops)
 
-pairs-if : (b : Bool) (j cpu at : ℕ) (left : Left) (run : Option ℕ) (u : Figures) (running running' : Option Start) (stop : Option Stop) (start : Option Start) → cpu ≡ j →
-    ((st : Start) → running ≡ Some st → st.processor ≡ j) → stop ≡ cond b None (stop_of left at running) → start ≡ cond b None (starts_as cpu at run u) → running' ≡ cond b running (starts_as cpu at run u) →
+pairs-if : (b : Bool) (j processor at : ℕ) (left : Left) (run : Option ℕ) (u : Figures) (running running' : Option Start) (stop : Option Stop) (start : Option Start) → processor ≡ j →
+    ((st : Start) → running ≡ Some st → st.processor ≡ j) → stop ≡ cond b None (stop_of left at running) → start ≡ cond b None (starts_as processor at run u) → running' ≡ cond b running (starts_as processor at run u) →
     Pairs j running running' stop start
-pairs-if true j cpu at left run u running running' stop start same ran stops starts runs =
+pairs-if true j processor at left run u running running' stop start same ran stops starts runs =
     pairs-none j running running' stop start (ap (λ o. filter (is_stop_at j) (option_to_list o)) stops) (ap (λ o. filter (is_start_at j) (option_to_list o)) starts) runs
-pairs-if false j cpu at left run u running running' stop start same ran stops starts runs =
-    let begun : (st : Start) → starts_as cpu at run u ≡ Some st → st.processor ≡ j = λ st e. begun-here false cpu at run u None st e (λ none. cc) ∙ same in
+pairs-if false j processor at left run u running running' stop start same ran stops starts runs =
+    let begun : (st : Start) → starts_as processor at run u ≡ Some st → st.processor ≡ j = λ st e. begun-here false processor at run u None st e (λ none. cc) ∙ same in
     let P : Option Stop → Option Start → Option Start → Type 0 = λ sp st r. Pairs j running r sp st in
-    let p1 : P (stop_of left at running) (starts_as cpu at run u) (starts_as cpu at run u) = pairs-new j at left running (starts_as cpu at run u) ran begun in
+    let p1 : P (stop_of left at running) (starts_as processor at run u) (starts_as processor at run u) = pairs-new j at left running (starts_as processor at run u) ran begun in
     rw (stops, starts, runs) p1
 
-pairs-there : (s s' : Figures) (left : Left) (cpu at : ℕ) (run : Option ℕ) (stop : Option Stop) (start : Option Start) (j : ℕ) (b : Bool) → Switches s s' left cpu at run stop start →
-    ((b ≡ true) × (cpu ≡ j)) ⊎ ((b ≡ false) × (cpu ≢ j)) → ((i : ℕ) (st : Start) → ((i ≡ j) ⊎ (i ≡ cpu)) → (processor_of s i).running ≡ Some st → st.processor ≡ i) →
+pairs-there : (s s' : Figures) (left : Left) (processor at : ℕ) (run : Option ℕ) (stop : Option Stop) (start : Option Start) (j : ℕ) (b : Bool) → Switches s s' left processor at run stop start →
+    ((b ≡ true) × (processor ≡ j)) ⊎ ((b ≡ false) × (processor ≢ j)) → ((i : ℕ) (st : Start) → ((i ≡ j) ⊎ (i ≡ processor)) → (processor_of s i).running ≡ Some st → st.processor ≡ i) →
     Pairs j (processor_of s j).running (processor_of s' j).running stop start
-pairs-there s s' left cpu at run stop start j b t (inl same) here =
-    let running = (processor_of s cpu).running in
-    let p : Pairs j running (processor_of s' cpu).running stop start = pairs-if (is_run_by running run) j cpu at left run t.before running (processor_of s' cpu).running stop start same.1
-    (λ st e. here cpu st (inr refl) e ∙ same.1) t.stops t.starts t.runs in
+pairs-there s s' left processor at run stop start j b t (inl same) here =
+    let running = (processor_of s processor).running in
+    let p : Pairs j running (processor_of s' processor).running stop start = pairs-if (is_run_by running run) j processor at left run t.before running (processor_of s' processor).running stop start same.1
+    (λ st e. here processor st (inr refl) e ∙ same.1) t.stops t.starts t.runs in
     let P : ℕ → Type 0 = λ k. Pairs j (processor_of s k).running (processor_of s' k).running stop start in
     subst P same.1 p
-pairs-there s s' left cpu at run stop start j b t (inr other) here =
-    let running = (processor_of s cpu).running in
+pairs-there s s' left processor at run stop start j b t (inr other) here =
+    let running = (processor_of s processor).running in
     pairs-none j (processor_of s j).running (processor_of s' j).running stop start
-    (filter-no_stops j stop (λ sp e is. other.1 (sym (here cpu sp.start (inr refl) (stop_if (is_run_by running run) running left at run sp refl (sym t.stops ∙ e)).start) ∙ is)))
-    (filter-no_starts j start (λ st e is. other.1 (sym (start_if (is_run_by running run) running cpu at run t.before st refl (sym t.starts ∙ e)).here ∙ is)))
+    (filter-no_stops j stop (λ sp e is. other.1 (sym (here processor sp.start (inr refl) (stop_if (is_run_by running run) running left at run sp refl (sym t.stops ∙ e)).start) ∙ is)))
+    (filter-no_starts j start (λ st e is. other.1 (sym (start_if (is_run_by running run) running processor at run t.before st refl (sym t.starts ∙ e)).here ∙ is)))
     (t.others j (λ is. other.1 (sym is)))
 
-pairs-run : (s s' : Figures) (left : Left) (cpu at : ℕ) (o : Option (Option ℕ)) (stop : Option Stop) (start : Option Start) (j : ℕ) → TellsRun s s' left cpu at o stop start →
-    ((i : ℕ) (st : Start) → ((i ≡ j) ⊎ (i ≡ cpu)) → (processor_of s i).running ≡ Some st → st.processor ≡ i) → Pairs j (processor_of s j).running (processor_of s' j).running stop start
-pairs-run s s' left cpu at None stop start j t here =
+pairs-run : (s s' : Figures) (left : Left) (processor at : ℕ) (o : Option (Option ℕ)) (stop : Option Stop) (start : Option Start) (j : ℕ) → TellsRun s s' left processor at o stop start →
+    ((i : ℕ) (st : Start) → ((i ≡ j) ⊎ (i ≡ processor)) → (processor_of s i).running ≡ Some st → st.processor ≡ i) → Pairs j (processor_of s j).running (processor_of s' j).running stop start
+pairs-run s s' left processor at None stop start j t here =
     pairs-none j (processor_of s j).running (processor_of s' j).running stop start (ap (λ o. filter (is_stop_at j) (option_to_list o)) t.0) (ap (λ o. filter (is_start_at j) (option_to_list o)) t.1) (t.2.at j)
-pairs-run s s' left cpu at (Some run) stop start j t here = pairs-there s s' left cpu at run stop start j (eqb cpu j) t (eqb_tells cpu j) here
+pairs-run s s' left processor at (Some run) stop start j t here = pairs-there s s' left processor at run stop start j (eqb processor j) t (eqb_tells processor j) here
 
-is_inside : (count i j cpu : ℕ) → (i ≡ j) ⊎ (i ≡ cpu) → j < count → cpu < count → i < count
-is_inside count i j cpu (inl e) a b = omega arith
-is_inside count i j cpu (inr e) a b = omega arith
+is_inside : (count i j processor : ℕ) → (i ≡ j) ⊎ (i ≡ processor) → j < count → processor < count → i < count
+is_inside count i j processor (inl e) a b = omega arith
+is_inside count i j processor (inr e) a b = omega arith
 
 pairs-shown : (count : ℕ) (past : History) (s' : Figures) (e : Event) (o : Option Sight) (stop : Option Stop) (start : Option Start) (j : ℕ) → IsOf count past → IsWithin count o → j < count →
     TellsSwitch (figures count past) s' e o stop start → Pairs j (processor_of (figures count past) j).running (processor_of s' j).running stop start
 pairs-shown count past s' e None stop start j h w inside t =
     pairs-none j (processor_of (figures count past) j).running (processor_of s' j).running stop start (ap (λ o. filter (is_stop_at j) (option_to_list o)) t.0) (ap (λ o. filter (is_start_at j) (option_to_list o)) t.1) (t.2.at j)
 pairs-shown count past s' e (Some x) stop start j h w inside t =
-    pairs-run (figures count past) s' (why_left e) x.cpu (time_at x.cpu x.now (figures count past)) x.run stop start j t (λ i st which is. runs_here count past h i st (is_inside count i j x.cpu which inside w) is)
+    pairs-run (figures count past) s' (why_left e) x.processor (time_at x.processor x.now (figures count past)) x.run stop start j t (λ i st which is. runs_here count past h i st (is_inside count i j x.processor which inside w) is)
 
 grown-pairs : (a r f r' : List Start) (b g : List Stop) → a ≡ map (λ (sp : Stop). sp.start) b ++ r → r ++ f ≡ map (λ (sp : Stop). sp.start) g ++ r' → a ++ f ≡ map (λ (sp : Stop). sp.start) (b ++ g) ++ r'
 grown-pairs a r f r' b g before now =
@@ -495,14 +495,14 @@ grown-pairs a r f r' b g before now =
 
 -- each start ends with one stop, but for that of the task which runs
 pub ends_starts : EndsStarts
-ends_starts count [] cpu h inside = sym (ap (λ (p : ProcessorFigures). option_to_list p.running) (get_or-replicate count cpu unread unread inside))
-ends_starts count (m ∷ past) cpu h inside =
+ends_starts count [] processor h inside = sym (ap (λ (p : ProcessorFigures). option_to_list p.running) (get_or-replicate count processor unread unread inside))
+ends_starts count (m ∷ past) processor h inside =
     let c = change (figures count past) m.event m.answer in
-    let starts : starts_told_at count cpu (m ∷ past) ≡ starts_told_at count cpu past ++ filter (is_start_at cpu) (option_to_list c.start) = filter-append (is_start_at cpu) (told_starts count past) (option_to_list c.start) in
-    let stops : stops_told_at count cpu (m ∷ past) ≡ stops_told_at count cpu past ++ filter (is_stop_at cpu) (option_to_list c.stop) = filter-append (is_stop_at cpu) (told_stops count past) (option_to_list c.stop) in
+    let starts : starts_told_at count processor (m ∷ past) ≡ starts_told_at count processor past ++ filter (is_start_at processor) (option_to_list c.start) = filter-append (is_start_at processor) (told_starts count past) (option_to_list c.start) in
+    let stops : stops_told_at count processor (m ∷ past) ≡ stops_told_at count processor past ++ filter (is_stop_at processor) (option_to_list c.stop) = filter-append (is_stop_at processor) (told_stops count past) (option_to_list c.stop) in
     starts
-    ∙ grown-pairs (starts_told_at count cpu past) (option_to_list (processor_of (figures count past) cpu).running) (filter (is_start_at cpu) (option_to_list c.start))
-    (option_to_list (processor_of (figures count (m ∷ past)) cpu).running) (stops_told_at count cpu past) (filter (is_stop_at cpu) (option_to_list c.stop))
-    (ends_starts count past cpu h.1 inside)
-    (pairs-shown count past (figures count (m ∷ past)) m.event (sight_of m.event m.answer) c.stop c.start cpu h.1 h.0 inside (told count past m h))
-    ∙ ap (λ l. map (λ (sp : Stop). sp.start) l ++ option_to_list (processor_of (figures count (m ∷ past)) cpu).running) (sym stops)
+    ∙ grown-pairs (starts_told_at count processor past) (option_to_list (processor_of (figures count past) processor).running) (filter (is_start_at processor) (option_to_list c.start))
+    (option_to_list (processor_of (figures count (m ∷ past)) processor).running) (stops_told_at count processor past) (filter (is_stop_at processor) (option_to_list c.stop))
+    (ends_starts count past processor h.1 inside)
+    (pairs-shown count past (figures count (m ∷ past)) m.event (sight_of m.event m.answer) c.stop c.start processor h.1 h.0 inside (told count past m h))
+    ∙ ap (λ l. map (λ (sp : Stop). sp.start) l ++ option_to_list (processor_of (figures count (m ∷ past)) processor).running) (sym stops)

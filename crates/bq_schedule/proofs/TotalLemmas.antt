@@ -24,9 +24,9 @@ use Rattle.bq_schedule.specs.Figures.{Figures, opening, unread, unknown, process
 use Rattle.bq_schedule.specs.Passing.{slice_at, length_of, part_of, processor_read, read_at, with_charged}
 use Rattle.bq_schedule.specs.Runnable.{fair_at, fair_of, leaves, comes}
 use Rattle.bq_schedule.specs.Running.{switched}
-use Rattle.bq_schedule.specs.Slices.{Sight, sight, sight_of}
+use Rattle.bq_schedule.specs.Slices.{Sight, sight, sight_of, is_this}
 use Rattle.bq_schedule.specs.Steps.{asked, admitted, waited_there, emptied, taken, placed, decided, blocked, pulled, performed, time_at, is_there, after, figures}
-use Rattle.bq_schedule.specs.FairTimes.{is_place, weight_there, weights_at, share, all_fair, all_unshared, all_busy}
+use Rattle.bq_schedule.specs.FairTimes.{weight_there, weights_at, share, all_fair, all_unshared, all_busy}
 use Rattle.bq_schedule.specs.Laws.{IsWithin, IsOf, SharesOut, AddsUpFairTimes}
 use Rattle.bq_schedule.proofs.FrameLemmas.{Works, KeepsWorks, works-id, works-then, processor_kept, task_kept, works-with_processor, works-with_task, works-asked, works-leaves, works-comes, works-switched, processors-read_at, count-read_at, tasks-read_at}
 use Rattle.bq_schedule.proofs.ClockLemmas.{count-figures, within-figures}
@@ -76,7 +76,7 @@ small s id f short = small_by s id (leb (length s.tasks) id) f short (leb_tells 
 fair-raw_if : (s : Figures) (t : TaskFigures) (o : Option ℕ) → PurseLemmas.worth_at (PurseLemmas.shared_at s) (PurseLemmas.purse t) o ≤ 340282366920938463463374607431768211455 →
     fair_at s t o ≡ PurseLemmas.worth_at (PurseLemmas.shared_at s) (PurseLemmas.purse t) o
 fair-raw_if s t None h = refl
-fair-raw_if s t (Some cpu) h = omega (arith, h)
+fair-raw_if s t (Some processor) h = omega (arith, h)
 
 fair-raw : (s : Figures) (id : ℕ) → IsFull s → IsShort s → fair_of s id ≡ PurseLemmas.uncapped s id
 fair-raw s id f short = fair-raw_if s (task_of s id) (task_of s id).place (small s id f short)
@@ -111,11 +111,11 @@ goes-purses s s' w k = record {
 goes-with_task : (s : Figures) (id : ℕ) (t : TaskFigures) → t.time ≡ (task_of s id).time → PurseLemmas.purse t ≡ PurseLemmas.purse (task_of s id) → Goes s (with_task s id t)
 goes-with_task s id t e p = goes-purses s _ (works-with_task s id t e) (PurseLemmas.kept-with_task s id t p)
 
-goes-asked : (cpu : ℕ) (d : Decision) (s : Figures) → Goes s (asked cpu d s)
-goes-asked cpu d s = goes-purses s _ (works-asked cpu d s) (PurseLemmas.kept-asked cpu d s)
+goes-asked : (processor : ℕ) (d : Decision) (s : Figures) → Goes s (asked processor d s)
+goes-asked processor d s = goes-purses s _ (works-asked processor d s) (PurseLemmas.kept-asked processor d s)
 
-goes-emptied : (cpu : ℕ) (s : Figures) → Goes s (emptied cpu s)
-goes-emptied cpu s = goes-purses s _ (works-with_processor s cpu _ refl) (PurseLemmas.kept-with_processor s cpu _ refl)
+goes-emptied : (processor : ℕ) (s : Figures) → Goes s (emptied processor s)
+goes-emptied processor s = goes-purses s _ (works-with_processor s processor _ refl) (PurseLemmas.kept-with_processor s processor _ refl)
 
 goes-leaves : (id : ℕ) (s : Figures) → Goes s (leaves id s)
 goes-leaves id s = record {
@@ -123,12 +123,12 @@ goes-leaves id s = record {
   goes = λ f short. let l = Leaving.leaves-stays s id f.sound (small s id f short) in record { sound = l.sound; raws = l.raws };
 }
 
-goes-comes : (id cpu now : ℕ) (s : Figures) → Goes s (comes id cpu now s)
-goes-comes id cpu now s = record {
-  keeps = works-comes id cpu now s;
+goes-comes : (id processor now : ℕ) (s : Figures) → Goes s (comes id processor now s)
+goes-comes id processor now s = record {
+  keeps = works-comes id processor now s;
   goes = λ f short.
       let l = Leaving.leaves-stays s id f.sound (small s id f short) in
-      let c = Coming.joined (leaves id s) id cpu now l.sound l.nowhere in
+      let c = Coming.joined (leaves id s) id processor now l.sound l.nowhere in
       record { sound = c.sound; raws = λ j. c.raws j ∙ l.raws j };
 }
 
@@ -141,62 +141,62 @@ goes-admitted id nice s = record {
       record { sound = c.sound; raws = λ j. c.raws j ∙ l.raws j };
 }
 
-goes-switched : (left : Left) (cpu now : ℕ) (run : Option ℕ) (s : Figures) → Goes s (switched left cpu now run s)
-goes-switched left cpu now run s = goes-purses s _ (works-switched left cpu now run s) (PurseLemmas.kept-switched left cpu now run s)
+goes-switched : (left : Left) (processor now : ℕ) (run : Option ℕ) (s : Figures) → Goes s (switched left processor now run s)
+goes-switched left processor now run s = goes-purses s _ (works-switched left processor now run s) (PurseLemmas.kept-switched left processor now run s)
 
-goes-taken : (cpu now : ℕ) (task : Option ℕ) (s : Figures) → Goes s (taken cpu now task s)
-goes-taken cpu now None s = goes-id s
-goes-taken cpu now (Some id) s = goes-then s (waited_there id now s) _ (goes-with_task s id _ refl refl) (goes-comes id cpu now (waited_there id now s))
+goes-taken : (processor now : ℕ) (task : Option ℕ) (s : Figures) → Goes s (taken processor now task s)
+goes-taken processor now None s = goes-id s
+goes-taken processor now (Some id) s = goes-then s (waited_there id now s) _ (goes-with_task s id _ refl refl) (goes-comes id processor now (waited_there id now s))
 
 -- after its reading, what an event does
 abbrev pub GoesFrom : Figures → Option Sight → Figures → Type 0
 GoesFrom s None s' = Goes s s'
-GoesFrom s (Some x) s' = Goes (read_at x.cpu x.now s) s'
+GoesFrom s (Some x) s' = Goes (read_at x.processor x.now s) s'
 
-goes-decided : (cpu now : ℕ) (d : Decision) (run : Option ℕ) (s : Figures) → Goes (read_at cpu now s) (decided cpu now d run s)
-goes-decided cpu now d run s =
-    let r = read_at cpu now s in
-    goes-then r (asked cpu d r) _ (goes-asked cpu d r) (goes-switched Preempted cpu (time_at cpu now s) run (asked cpu d r))
+goes-decided : (processor now : ℕ) (d : Decision) (run : Option ℕ) (s : Figures) → Goes (read_at processor now s) (decided processor now d run s)
+goes-decided processor now d run s =
+    let r = read_at processor now s in
+    goes-then r (asked processor d r) _ (goes-asked processor d r) (goes-switched Preempted processor (time_at processor now s) run (asked processor d r))
 
-goes-placed : (cpu now : ℕ) (d : Decision) (id to : ℕ) (s : Figures) → Goes (read_at cpu now s) (placed cpu now d id to s)
-goes-placed cpu now d id to s =
-    let r = read_at cpu now s in
-    let a = asked cpu d r in
-    let c = comes id to (time_at cpu now s) a in
-    goes-then r a _ (goes-asked cpu d r) (goes-then a c _ (goes-comes id to (time_at cpu now s) a) (goes-with_task c id _ refl refl))
+goes-placed : (processor now : ℕ) (d : Decision) (id to : ℕ) (s : Figures) → Goes (read_at processor now s) (placed processor now d id to s)
+goes-placed processor now d id to s =
+    let r = read_at processor now s in
+    let a = asked processor d r in
+    let c = comes id to (time_at processor now s) a in
+    goes-then r a _ (goes-asked processor d r) (goes-then a c _ (goes-comes id to (time_at processor now s) a) (goes-with_task c id _ refl refl))
 
-goes-pulled : (cpu now : ℕ) (d : Decision) (task run : Option ℕ) (s : Figures) → Goes (read_at cpu now s) (pulled cpu now d task run s)
-goes-pulled cpu now d task run s =
-    let r = read_at cpu now s in
-    let a = asked cpu d r in
-    let k = taken cpu (time_at cpu now s) task a in
-    goes-then r a _ (goes-asked cpu d r) (goes-then a k _ (goes-taken cpu (time_at cpu now s) task a) (goes-switched Preempted cpu (time_at cpu now s) run k))
+goes-pulled : (processor now : ℕ) (d : Decision) (task run : Option ℕ) (s : Figures) → Goes (read_at processor now s) (pulled processor now d task run s)
+goes-pulled processor now d task run s =
+    let r = read_at processor now s in
+    let a = asked processor d r in
+    let k = taken processor (time_at processor now s) task a in
+    goes-then r a _ (goes-asked processor d r) (goes-then a k _ (goes-taken processor (time_at processor now s) task a) (goes-switched Preempted processor (time_at processor now s) run k))
 
-goes-blocked : (cpu now id : ℕ) (run : Option ℕ) (s : Figures) → Goes (read_at cpu now s) (blocked cpu now id run s)
-goes-blocked cpu now id run s =
-    let r = read_at cpu now s in
-    goes-then r (leaves id r) _ (goes-leaves id r) (goes-switched Blocked cpu (time_at cpu now s) run (leaves id r))
+goes-blocked : (processor now id : ℕ) (run : Option ℕ) (s : Figures) → Goes (read_at processor now s) (blocked processor now id run s)
+goes-blocked processor now id run s =
+    let r = read_at processor now s in
+    goes-then r (leaves id r) _ (goes-leaves id r) (goes-switched Blocked processor (time_at processor now s) run (leaves id r))
 
 goes-performed : (s : Figures) (e : Event) (r : Reply) → GoesFrom s (sight e r) (performed s e r)
 goes-performed s (Admit id nice mask slice) Admitted = goes-admitted id nice s
-goes-performed s (EndWake cpu now) (Placed task to by steps) = goes-placed cpu now (record { hook = Place; by = by; steps = steps }) task to s
-goes-performed s (Drain cpu now) (Drained count run by steps) =
+goes-performed s (EndWake processor now) (Placed task to by steps) = goes-placed processor now (record { hook = Place; by = by; steps = steps }) task to s
+goes-performed s (Drain processor now) (Drained count run by steps) =
     let d : Decision = record { hook = Preempt; by = by; steps = steps } in
-    goes-then _ (decided cpu now d run s) _ (goes-decided cpu now d run s) (goes-emptied cpu (decided cpu now d run s))
-goes-performed s (Tick cpu now) (Ticked run by steps) = goes-decided cpu now (record { hook = Preempt; by = by; steps = steps }) run s
-goes-performed s (Block cpu now) (Went task run) = goes-blocked cpu now task run s
-goes-performed s (Pull cpu from now) (Pulled task run by steps) = goes-pulled cpu now (record { hook = OnPull; by = by; steps = steps }) task run s
+    goes-then _ (decided processor now d run s) _ (goes-decided processor now d run s) (goes-emptied processor (decided processor now d run s))
+goes-performed s (Tick processor now) (Ticked run by steps) = goes-decided processor now (record { hook = Preempt; by = by; steps = steps }) run s
+goes-performed s (Block processor now) (Went task run) = goes-blocked processor now task run s
+goes-performed s (Pull processor from now) (Pulled task run by steps) = goes-pulled processor now (record { hook = OnPull; by = by; steps = steps }) task run s
 goes-performed s e r = goes-id s
 
 outside : (a b : ℕ) → ltb a b ≡ false → a < b → ⊥
 outside a b e h = grind (arith, nat_tests)
 
 goes-nothing : (s : Figures) (e : Event) (r : Reply) → is_there s e ≡ false → IsWithin (length s.processors) (sight e r) → GoesFrom s (sight e r) s
-goes-nothing s (EndWake cpu now) (Placed task to by steps) none h = absurd (outside cpu (length s.processors) none h)
-goes-nothing s (Drain cpu now) (Drained count run by steps) none h = absurd (outside cpu (length s.processors) none h)
-goes-nothing s (Tick cpu now) (Ticked run by steps) none h = absurd (outside cpu (length s.processors) none h)
-goes-nothing s (Block cpu now) (Went task run) none h = absurd (outside cpu (length s.processors) none h)
-goes-nothing s (Pull cpu from now) (Pulled task run by steps) none h = absurd (outside cpu (length s.processors) none h)
+goes-nothing s (EndWake processor now) (Placed task to by steps) none h = absurd (outside processor (length s.processors) none h)
+goes-nothing s (Drain processor now) (Drained count run by steps) none h = absurd (outside processor (length s.processors) none h)
+goes-nothing s (Tick processor now) (Ticked run by steps) none h = absurd (outside processor (length s.processors) none h)
+goes-nothing s (Block processor now) (Went task run) none h = absurd (outside processor (length s.processors) none h)
+goes-nothing s (Pull processor from now) (Pulled task run by steps) none h = absurd (outside processor (length s.processors) none h)
 goes-nothing s e r none h = goes-id s
 
 goes-if : (b : Bool) (s : Figures) (e : Event) (r : Reply) → is_there s e ≡ b → IsWithin (length s.processors) (sight e r) → GoesFrom s (sight e r) (cond b (performed s e r) s)
@@ -212,57 +212,57 @@ purse-with_charged : (s : Figures) (o : Option Slice) (id : ℕ) → PurseLemmas
 purse-with_charged s None id = refl
 purse-with_charged s (Some x) id = task_kept PurseLemmas.purse s x.task id _ refl
 
-purse-read_at : (cpu now : ℕ) (s : Figures) (id : ℕ) → PurseLemmas.purse (task_of (read_at cpu now s) id) ≡ PurseLemmas.purse (task_of s id)
-purse-read_at cpu now s id = purse-with_charged (with_processor s cpu (processor_read cpu (processor_of s cpu) now)) (slice_at cpu (processor_of s cpu) now) id
+purse-read_at : (processor now : ℕ) (s : Figures) (id : ℕ) → PurseLemmas.purse (task_of (read_at processor now s) id) ≡ PurseLemmas.purse (task_of s id)
+purse-read_at processor now s id = purse-with_charged (with_processor s processor (processor_read processor (processor_of s processor) now)) (slice_at processor (processor_of s processor) now) id
 
 -- what each unit of weight is given at a reading
 abbrev pub given : ℕ → ℕ → Figures → ℕ
-given cpu now s = part_of (length_of (slice_at cpu (processor_of s cpu) now)) (processor_of s cpu).weight
+given processor now s = part_of (length_of (slice_at processor (processor_of s processor) now)) (processor_of s processor).weight
 
-shared-read : (cpu now j : ℕ) (s : Figures) (b : Bool) → cpu < length s.processors → PurseLemmas.shared_at s cpu + given cpu now s ≤ 340282366920938463463374607431768211455 →
-    ((b ≡ true) × (cpu ≡ j)) ⊎ ((b ≡ false) × (cpu ≢ j)) → (get_or (slice_set s.processors cpu (processor_read cpu (processor_of s cpu) now)) j unread).shared ≡ PurseLemmas.shared_at s j + cond b (given cpu now s) 0
-shared-read cpu now j s true inside fits (inl e) =
-    let q = processor_read cpu (processor_of s cpu) now in
-    let same : PurseLemmas.shared_at s cpu ≡ PurseLemmas.shared_at s j = ap (PurseLemmas.shared_at s) e.1 in
-    ap (λ k. (get_or (slice_set s.processors cpu q) k unread).shared) (sym e.1) ∙ ap (λ (p : ProcessorFigures). p.shared) (get_or-set_same s.processors cpu q unread inside)
+shared-read : (processor now j : ℕ) (s : Figures) (b : Bool) → processor < length s.processors → PurseLemmas.shared_at s processor + given processor now s ≤ 340282366920938463463374607431768211455 →
+    ((b ≡ true) × (processor ≡ j)) ⊎ ((b ≡ false) × (processor ≢ j)) → (get_or (slice_set s.processors processor (processor_read processor (processor_of s processor) now)) j unread).shared ≡ PurseLemmas.shared_at s j + cond b (given processor now s) 0
+shared-read processor now j s true inside fits (inl e) =
+    let q = processor_read processor (processor_of s processor) now in
+    let same : PurseLemmas.shared_at s processor ≡ PurseLemmas.shared_at s j = ap (PurseLemmas.shared_at s) e.1 in
+    ap (λ k. (get_or (slice_set s.processors processor q) k unread).shared) (sym e.1) ∙ ap (λ (p : ProcessorFigures). p.shared) (get_or-set_same s.processors processor q unread inside)
     ∙ omega (arith, same, fits)
-shared-read cpu now j s false inside fits (inl e) = absurd (cc)
-shared-read cpu now j s true inside fits (inr e) = absurd (cc)
-shared-read cpu now j s false inside fits (inr e) =
-    ap (λ (p : ProcessorFigures). p.shared) (get_or-set_other s.processors cpu j (processor_read cpu (processor_of s cpu) now) unread (λ h. e.1 (sym h))) ∙ omega arith
+shared-read processor now j s false inside fits (inl e) = absurd (cc)
+shared-read processor now j s true inside fits (inr e) = absurd (cc)
+shared-read processor now j s false inside fits (inr e) =
+    ap (λ (p : ProcessorFigures). p.shared) (get_or-set_other s.processors processor j (processor_read processor (processor_of s processor) now) unread (λ h. e.1 (sym h))) ∙ omega arith
 
-shared-read_at : (cpu now j : ℕ) (s : Figures) → cpu < length s.processors → PurseLemmas.shared_at s cpu + given cpu now s ≤ 340282366920938463463374607431768211455 →
-    PurseLemmas.shared_at (read_at cpu now s) j ≡ PurseLemmas.shared_at s j + cond (eqb cpu j) (given cpu now s) 0
-shared-read_at cpu now j s inside fits =
-    ap (λ l. (get_or l j unread).shared) (processors-read_at cpu now s) ∙ shared-read cpu now j s (eqb cpu j) inside fits (eqb_tells cpu j)
+shared-read_at : (processor now j : ℕ) (s : Figures) → processor < length s.processors → PurseLemmas.shared_at s processor + given processor now s ≤ 340282366920938463463374607431768211455 →
+    PurseLemmas.shared_at (read_at processor now s) j ≡ PurseLemmas.shared_at s j + cond (eqb processor j) (given processor now s) 0
+shared-read_at processor now j s inside fits =
+    ap (λ l. (get_or l j unread).shared) (processors-read_at processor now s) ∙ shared-read processor now j s (eqb processor j) inside fits (eqb_tells processor j)
 
 -- a task that is there is given its weight times as much
-worth-more_if : (f g : ℕ → ℕ) (cpu k part : ℕ) (u : PurseLemmas.Purse) (b c : Bool) → ((b ≡ true) × (cpu ≡ k)) ⊎ ((b ≡ false) × (cpu ≢ k)) → ((c ≡ true) × (k ≡ cpu)) ⊎ ((c ≡ false) × (k ≢ cpu)) →
+worth-more_if : (f g : ℕ → ℕ) (processor k part : ℕ) (u : PurseLemmas.Purse) (b c : Bool) → ((b ≡ true) × (processor ≡ k)) ⊎ ((b ≡ false) × (processor ≢ k)) → ((c ≡ true) × (k ≡ processor)) ⊎ ((c ≡ false) × (k ≢ processor)) →
     g k ≡ f k + cond b part 0 → u.joined ≤ f k → u.settled + u.weight * (g k - u.joined) ≡ (u.settled + u.weight * (f k - u.joined)) + cond c u.weight 0 * part
-worth-more_if f g cpu k part u true true s t e h =
+worth-more_if f g processor k part u true true s t e h =
     let more : g k - u.joined ≡ (f k - u.joined) + part = omega (arith, e, h) in
     ap (λ n. u.settled + u.weight * n) more ∙ omega arith
-worth-more_if f g cpu k part u false false s t e h =
+worth-more_if f g processor k part u false false s t e h =
     let same : g k - u.joined ≡ f k - u.joined = omega (arith, e) in
     ap (λ n. u.settled + u.weight * n) same ∙ omega arith
-worth-more_if f g cpu k part u true false (inl s) (inr t) e h = absurd (t.1 (sym s.1))
-worth-more_if f g cpu k part u true false (inl s) (inl t) e h = absurd (cc)
-worth-more_if f g cpu k part u true false (inr s) t e h = absurd (cc)
-worth-more_if f g cpu k part u false true (inr s) (inl t) e h = absurd (s.1 (sym t.1))
-worth-more_if f g cpu k part u false true (inr s) (inr t) e h = absurd (cc)
-worth-more_if f g cpu k part u false true (inl s) t e h = absurd (cc)
+worth-more_if f g processor k part u true false (inl s) (inr t) e h = absurd (t.1 (sym s.1))
+worth-more_if f g processor k part u true false (inl s) (inl t) e h = absurd (cc)
+worth-more_if f g processor k part u true false (inr s) t e h = absurd (cc)
+worth-more_if f g processor k part u false true (inr s) (inl t) e h = absurd (s.1 (sym t.1))
+worth-more_if f g processor k part u false true (inr s) (inr t) e h = absurd (cc)
+worth-more_if f g processor k part u false true (inl s) t e h = absurd (cc)
 
-worth-more : (f g : ℕ → ℕ) (cpu part : ℕ) (u : PurseLemmas.Purse) (o : Option ℕ) → ((j : ℕ) → g j ≡ f j + cond (eqb cpu j) part 0) → PurseLemmas.JoinedBy f u o →
-    PurseLemmas.worth_at g u o ≡ PurseLemmas.worth_at f u o + cond (is_place cpu o) u.weight 0 * part
-worth-more f g cpu part u None e h = omega arith
-worth-more f g cpu part u (Some k) e h = worth-more_if f g cpu k part u (eqb cpu k) (eqb k cpu) (eqb_tells cpu k) (eqb_tells k cpu) (e k) h
+worth-more : (f g : ℕ → ℕ) (processor part : ℕ) (u : PurseLemmas.Purse) (o : Option ℕ) → ((j : ℕ) → g j ≡ f j + cond (eqb processor j) part 0) → PurseLemmas.JoinedBy f u o →
+    PurseLemmas.worth_at g u o ≡ PurseLemmas.worth_at f u o + cond (is_this processor o) u.weight 0 * part
+worth-more f g processor part u None e h = omega arith
+worth-more f g processor part u (Some k) e h = worth-more_if f g processor k part u (eqb processor k) (eqb k processor) (eqb_tells processor k) (eqb_tells k processor) (e k) h
 
-raw-read_at : (cpu now id : ℕ) (s : Figures) → PurseLemmas.IsSound s → cpu < length s.processors → PurseLemmas.shared_at s cpu + given cpu now s ≤ 340282366920938463463374607431768211455 →
-    PurseLemmas.uncapped (read_at cpu now s) id ≡ PurseLemmas.uncapped s id + weight_there cpu (task_of s id) * given cpu now s
-raw-read_at cpu now id s h inside fits =
-    let r = read_at cpu now s in
-    ap (λ (u : PurseLemmas.Purse). PurseLemmas.worth_at (PurseLemmas.shared_at r) u u.place) (purse-read_at cpu now s id)
-    ∙ worth-more (PurseLemmas.shared_at s) (PurseLemmas.shared_at r) cpu (given cpu now s) (PurseLemmas.purse (task_of s id)) (task_of s id).place (λ j. shared-read_at cpu now j s inside fits) (h.joined id)
+raw-read_at : (processor now id : ℕ) (s : Figures) → PurseLemmas.IsSound s → processor < length s.processors → PurseLemmas.shared_at s processor + given processor now s ≤ 340282366920938463463374607431768211455 →
+    PurseLemmas.uncapped (read_at processor now s) id ≡ PurseLemmas.uncapped s id + weight_there processor (task_of s id) * given processor now s
+raw-read_at processor now id s h inside fits =
+    let r = read_at processor now s in
+    ap (λ (u : PurseLemmas.Purse). PurseLemmas.worth_at (PurseLemmas.shared_at r) u u.place) (purse-read_at processor now s id)
+    ∙ worth-more (PurseLemmas.shared_at s) (PurseLemmas.shared_at r) processor (given processor now s) (PurseLemmas.purse (task_of s id)) (task_of s id).place (λ j. shared-read_at processor now j s inside fits) (h.joined id)
 
 -- two sums at once
 sums_both : (f g : TaskFigures → ℕ) (n : ℕ) (xs : List TaskFigures) → sum_by (λ (t : TaskFigures). f t + g t * n) xs ≡ sum_by f xs + sum_by g xs * n
@@ -270,79 +270,79 @@ sums_both f g n [] = omega arith
 sums_both f g n (x ∷ xs) =
     omega (arith, sum_by-cons (λ (t : TaskFigures). f t + g t * n) x xs, sum_by-cons f x xs, ap (λ k. k * n) (sum_by-cons g x xs), sums_both f g n xs)
 
-sound-read_at : (cpu now : ℕ) (s : Figures) → PurseLemmas.IsSound s → cpu < length s.processors → PurseLemmas.shared_at s cpu + given cpu now s ≤ 340282366920938463463374607431768211455 → PurseLemmas.IsSound (read_at cpu now s)
-sound-read_at cpu now s h inside fits =
-    let r = read_at cpu now s in
-    let q = processor_read cpu (processor_of s cpu) now in
+sound-read_at : (processor now : ℕ) (s : Figures) → PurseLemmas.IsSound s → processor < length s.processors → PurseLemmas.shared_at s processor + given processor now s ≤ 340282366920938463463374607431768211455 → PurseLemmas.IsSound (read_at processor now s)
+sound-read_at processor now s h inside fits =
+    let r = read_at processor now s in
+    let q = processor_read processor (processor_of s processor) now in
     record {
       weights = λ j there.
-          ap (λ l. (get_or l j unread).weight) (processors-read_at cpu now s)
-          ∙ processor_kept (λ (p : ProcessorFigures). p.weight) s cpu j q refl
-          ∙ h.weights j (omega (arith, there, count-read_at cpu now s))
-          ∙ sym (PurseLemmas.sums_like (weight_there j) (weight_there j) unknown r.tasks s.tasks (tasks-read_at cpu now s) (λ i. ap (PurseLemmas.weight_of_purse j) (purse-read_at cpu now s i)));
+          ap (λ l. (get_or l j unread).weight) (processors-read_at processor now s)
+          ∙ processor_kept (λ (p : ProcessorFigures). p.weight) s processor j q refl
+          ∙ h.weights j (omega (arith, there, count-read_at processor now s))
+          ∙ sym (PurseLemmas.sums_like (weight_there j) (weight_there j) unknown r.tasks s.tasks (tasks-read_at processor now s) (λ i. ap (PurseLemmas.weight_of_purse j) (purse-read_at processor now s i)));
       joined = λ id.
-          PurseLemmas.joined-more (PurseLemmas.shared_at s) (PurseLemmas.shared_at r) (PurseLemmas.purse (task_of r id)) (task_of r id).place (λ j. omega (arith, shared-read_at cpu now j s inside fits))
-          (PurseLemmas.joined-same (PurseLemmas.shared_at s) (PurseLemmas.purse (task_of r id)) (PurseLemmas.purse (task_of s id)) (purse-read_at cpu now s id) (h.joined id));
-      table = λ id. omega (arith, h.table id, ap (λ (u : PurseLemmas.Purse). u.weight) (purse-read_at cpu now s id));
-      ids = tasks-read_at cpu now s ∙ h.ids;
+          PurseLemmas.joined-more (PurseLemmas.shared_at s) (PurseLemmas.shared_at r) (PurseLemmas.purse (task_of r id)) (task_of r id).place (λ j. omega (arith, shared-read_at processor now j s inside fits))
+          (PurseLemmas.joined-same (PurseLemmas.shared_at s) (PurseLemmas.purse (task_of r id)) (PurseLemmas.purse (task_of s id)) (purse-read_at processor now s id) (h.joined id));
+      table = λ id. omega (arith, h.table id, ap (λ (u : PurseLemmas.Purse). u.weight) (purse-read_at processor now s id));
+      ids = tasks-read_at processor now s ∙ h.ids;
     }
 
 -- a reading, all of whose numbers fit
-pub record Reads (cpu now : ℕ) (s : Figures) : Type 0 where
-  pub full : IsFull (read_at cpu now s)
-  pub raws : (id : ℕ) → PurseLemmas.uncapped (read_at cpu now s) id ≡ PurseLemmas.uncapped s id + weight_there cpu (task_of s id) * given cpu now s
+pub record Reads (processor now : ℕ) (s : Figures) : Type 0 where
+  pub full : IsFull (read_at processor now s)
+  pub raws : (id : ℕ) → PurseLemmas.uncapped (read_at processor now s) id ≡ PurseLemmas.uncapped s id + weight_there processor (task_of s id) * given processor now s
 
-ahead-read : (cpu now j : ℕ) (s : Figures) (b : Bool) → cpu < length s.processors → ((b ≡ true) × (cpu ≡ j)) ⊎ ((b ≡ false) × (cpu ≢ j)) →
-    (processor_of (read_at cpu now s) j).busy ≡ cond b (processor_read cpu (processor_of s cpu) now).busy (processor_of s j).busy
-ahead-read cpu now j s true inside (inl e) =
-    let q = processor_read cpu (processor_of s cpu) now in
-    ap (λ l. (get_or l j unread).busy) (processors-read_at cpu now s)
-    ∙ ap (λ k. (get_or (slice_set s.processors cpu q) k unread).busy) (sym e.1) ∙ ap (λ (p : ProcessorFigures). p.busy) (get_or-set_same s.processors cpu q unread inside)
-ahead-read cpu now j s false inside (inl e) = absurd (cc)
-ahead-read cpu now j s true inside (inr e) = absurd (cc)
-ahead-read cpu now j s false inside (inr e) =
-    ap (λ l. (get_or l j unread).busy) (processors-read_at cpu now s)
-    ∙ ap (λ (p : ProcessorFigures). p.busy) (get_or-set_other s.processors cpu j (processor_read cpu (processor_of s cpu) now) unread (λ h. e.1 (sym h)))
+ahead-read : (processor now j : ℕ) (s : Figures) (b : Bool) → processor < length s.processors → ((b ≡ true) × (processor ≡ j)) ⊎ ((b ≡ false) × (processor ≢ j)) →
+    (processor_of (read_at processor now s) j).busy ≡ cond b (processor_read processor (processor_of s processor) now).busy (processor_of s j).busy
+ahead-read processor now j s true inside (inl e) =
+    let q = processor_read processor (processor_of s processor) now in
+    ap (λ l. (get_or l j unread).busy) (processors-read_at processor now s)
+    ∙ ap (λ k. (get_or (slice_set s.processors processor q) k unread).busy) (sym e.1) ∙ ap (λ (p : ProcessorFigures). p.busy) (get_or-set_same s.processors processor q unread inside)
+ahead-read processor now j s false inside (inl e) = absurd (cc)
+ahead-read processor now j s true inside (inr e) = absurd (cc)
+ahead-read processor now j s false inside (inr e) =
+    ap (λ l. (get_or l j unread).busy) (processors-read_at processor now s)
+    ∙ ap (λ (p : ProcessorFigures). p.busy) (get_or-set_other s.processors processor j (processor_read processor (processor_of s processor) now) unread (λ h. e.1 (sym h)))
 
-ahead-if : (s : Figures) (cpu j shared busy part time busy' : ℕ) (b : Bool) → ((b ≡ true) × (cpu ≡ j)) ⊎ ((b ≡ false) × (cpu ≢ j)) → IsFull s →
-    shared ≡ PurseLemmas.shared_at s j + cond b part 0 → busy ≡ cond b busy' (processor_of s j).busy → busy' ≡ (processor_of s cpu).busy + time → part ≤ time * parts → shared ≤ parts * busy
-ahead-if s cpu j shared busy part time busy' true (inl e) f is now more le =
-    let same : (processor_of s cpu).busy ≡ (processor_of s j).busy = ap (λ k. (processor_of s k).busy) e.1 in
+ahead-if : (s : Figures) (processor j shared busy part time busy' : ℕ) (b : Bool) → ((b ≡ true) × (processor ≡ j)) ⊎ ((b ≡ false) × (processor ≢ j)) → IsFull s →
+    shared ≡ PurseLemmas.shared_at s j + cond b part 0 → busy ≡ cond b busy' (processor_of s j).busy → busy' ≡ (processor_of s processor).busy + time → part ≤ time * parts → shared ≤ parts * busy
+ahead-if s processor j shared busy part time busy' true (inl e) f is now more le =
+    let same : (processor_of s processor).busy ≡ (processor_of s j).busy = ap (λ k. (processor_of s k).busy) e.1 in
     omega (arith, f.ahead j, is, now, more, le, same)
-ahead-if s cpu j shared busy part time busy' false (inl e) f is now more le = absurd (cc)
-ahead-if s cpu j shared busy part time busy' true (inr e) f is now more le = absurd (cc)
-ahead-if s cpu j shared busy part time busy' false (inr e) f is now more le = omega (arith, f.ahead j, is, now)
+ahead-if s processor j shared busy part time busy' false (inl e) f is now more le = absurd (cc)
+ahead-if s processor j shared busy part time busy' true (inr e) f is now more le = absurd (cc)
+ahead-if s processor j shared busy part time busy' false (inr e) f is now more le = omega (arith, f.ahead j, is, now)
 
 -- a reading leaves all full, and gives each task its part by its weight there, if busy times stay short
-pub read_at-full : (cpu now : ℕ) (s : Figures) → IsFull s → cpu < length s.processors → IsShort (read_at cpu now s) → Reads cpu now s
-read_at-full cpu now s f inside short =
-    let r = read_at cpu now s in
-    let p = processor_of s cpu in
-    let q = processor_read cpu p now in
-    let time = length_of (slice_at cpu p now) in
-    let part = given cpu now s in
-    let busies : sum_by (λ (x : ProcessorFigures). x.busy) (slice_set s.processors cpu q) + p.busy ≡ all_busy s + q.busy = sum_by-set (λ (x : ProcessorFigures). x.busy) s.processors cpu q unread inside in
-    let is-busy : all_busy r ≡ sum_by (λ (x : ProcessorFigures). x.busy) (slice_set s.processors cpu q) = ap (λ l. sum_by (λ (x : ProcessorFigures). x.busy) l) (processors-read_at cpu now s) in
-    let part-of-all : p.busy ≤ all_busy s = get_or-le-sum_by (λ (x : ProcessorFigures). x.busy) s.processors cpu unread inside in
-    let unshareds : sum_by (λ (x : ProcessorFigures). x.unshared) (slice_set s.processors cpu q) + p.unshared ≡ all_unshared s + q.unshared = sum_by-set (λ (x : ProcessorFigures). x.unshared) s.processors cpu q unread inside in
-    let is-unshared : all_unshared r ≡ sum_by (λ (x : ProcessorFigures). x.unshared) (slice_set s.processors cpu q) = ap (λ l. sum_by (λ (x : ProcessorFigures). x.unshared) l) (processors-read_at cpu now s) in
-    let part-of-rest : p.unshared ≤ all_unshared s = get_or-le-sum_by (λ (x : ProcessorFigures). x.unshared) s.processors cpu unread inside in
+pub read_at-full : (processor now : ℕ) (s : Figures) → IsFull s → processor < length s.processors → IsShort (read_at processor now s) → Reads processor now s
+read_at-full processor now s f inside short =
+    let r = read_at processor now s in
+    let p = processor_of s processor in
+    let q = processor_read processor p now in
+    let time = length_of (slice_at processor p now) in
+    let part = given processor now s in
+    let busies : sum_by (λ (x : ProcessorFigures). x.busy) (slice_set s.processors processor q) + p.busy ≡ all_busy s + q.busy = sum_by-set (λ (x : ProcessorFigures). x.busy) s.processors processor q unread inside in
+    let is-busy : all_busy r ≡ sum_by (λ (x : ProcessorFigures). x.busy) (slice_set s.processors processor q) = ap (λ l. sum_by (λ (x : ProcessorFigures). x.busy) l) (processors-read_at processor now s) in
+    let part-of-all : p.busy ≤ all_busy s = get_or-le-sum_by (λ (x : ProcessorFigures). x.busy) s.processors processor unread inside in
+    let unshareds : sum_by (λ (x : ProcessorFigures). x.unshared) (slice_set s.processors processor q) + p.unshared ≡ all_unshared s + q.unshared = sum_by-set (λ (x : ProcessorFigures). x.unshared) s.processors processor q unread inside in
+    let is-unshared : all_unshared r ≡ sum_by (λ (x : ProcessorFigures). x.unshared) (slice_set s.processors processor q) = ap (λ l. sum_by (λ (x : ProcessorFigures). x.unshared) l) (processors-read_at processor now s) in
+    let part-of-rest : p.unshared ≤ all_unshared s = get_or-le-sum_by (λ (x : ProcessorFigures). x.unshared) s.processors processor unread inside in
     let busy : q.busy ≡ p.busy + time = omega (arith, short, busies, is-busy, part-of-all) in
     let little : part ≤ time * parts = div-le_self (time * parts) p.weight in
     let shares : p.weight * part ≤ time * parts = mul-div-le (time * parts) p.weight in
-    let fits : PurseLemmas.shared_at s cpu + part ≤ 340282366920938463463374607431768211455 = omega (arith, f.ahead cpu, little, busy, short, busies, is-busy, part-of-all) in
+    let fits : PurseLemmas.shared_at s processor + part ≤ 340282366920938463463374607431768211455 = omega (arith, f.ahead processor, little, busy, short, busies, is-busy, part-of-all) in
     let unshared : q.unshared ≡ p.unshared + (time * parts - p.weight * part) = omega (arith, part-of-rest, f.total, short, busies, is-busy, part-of-all, busy) in
-    let raws : (id : ℕ) → PurseLemmas.uncapped r id ≡ PurseLemmas.uncapped s id + weight_there cpu (task_of s id) * part = λ id. raw-read_at cpu now id s f.sound inside fits in
-    let all : all_raw r ≡ all_raw s + weights_at s cpu * part =
-    PurseLemmas.sums_like (PurseLemmas.uncapped_of r) (λ (t : TaskFigures). PurseLemmas.uncapped_of s t + weight_there cpu t * part) unknown r.tasks s.tasks (tasks-read_at cpu now s) raws
-    ∙ sums_both (PurseLemmas.uncapped_of s) (weight_there cpu) part s.tasks in
-    let weights : p.weight * part ≡ weights_at s cpu * part = ap (λ n. n * part) (f.sound.weights cpu inside) in
+    let raws : (id : ℕ) → PurseLemmas.uncapped r id ≡ PurseLemmas.uncapped s id + weight_there processor (task_of s id) * part = λ id. raw-read_at processor now id s f.sound inside fits in
+    let all : all_raw r ≡ all_raw s + weights_at s processor * part =
+    PurseLemmas.sums_like (PurseLemmas.uncapped_of r) (λ (t : TaskFigures). PurseLemmas.uncapped_of s t + weight_there processor t * part) unknown r.tasks s.tasks (tasks-read_at processor now s) raws
+    ∙ sums_both (PurseLemmas.uncapped_of s) (weight_there processor) part s.tasks in
+    let weights : p.weight * part ≡ weights_at s processor * part = ap (λ n. n * part) (f.sound.weights processor inside) in
     record {
       full = record {
-        sound = sound-read_at cpu now s f.sound inside fits;
+        sound = sound-read_at processor now s f.sound inside fits;
         total = omega (arith, all, weights, unshared, unshareds, is-unshared, busies, is-busy, busy, f.total, shares);
-        ahead = λ j. ahead-if s cpu j (PurseLemmas.shared_at r j) (processor_of r j).busy part time q.busy (eqb cpu j) (eqb_tells cpu j) f
-            (shared-read_at cpu now j s inside fits) (ahead-read cpu now j s (eqb cpu j) inside (eqb_tells cpu j)) busy little;
+        ahead = λ j. ahead-if s processor j (PurseLemmas.shared_at r j) (processor_of r j).busy part time q.busy (eqb processor j) (eqb_tells processor j) f
+            (shared-read_at processor now j s inside fits) (ahead-read processor now j s (eqb processor j) inside (eqb_tells processor j)) busy little;
       };
       raws = raws;
     }
@@ -384,7 +384,7 @@ opening-full count =
     let s = opening count in
     record {
       sound = record {
-        weights = λ cpu inside. ap (λ (p : ProcessorFigures). p.weight) (same_everywhere count cpu unread) ∙ sym (sum-none (weight_there cpu) unknown 1024 refl);
+        weights = λ processor inside. ap (λ (p : ProcessorFigures). p.weight) (same_everywhere count processor unread) ∙ sym (sum-none (weight_there processor) unknown 1024 refl);
         joined = λ id. PurseLemmas.joined-same (PurseLemmas.shared_at s) (PurseLemmas.purse (task_of s id)) (PurseLemmas.purse unknown) (ap PurseLemmas.purse (same_everywhere 1024 id unknown)) tt;
         table = λ id. omega (arith, ap (λ (t : TaskFigures). t.weight) (same_everywhere 1024 id unknown));
         ids = length-replicate 1024 unknown;
@@ -403,14 +403,14 @@ rises s s' None f short short' w g =
     let m = g.goes f short in
     record { full = full-kept s s' f g.keeps m; raws = λ id. m.raws id ∙ omega arith }
 rises s s' (Some x) f short short' w g =
-    let r = read_at x.cpu x.now s in
+    let r = read_at x.processor x.now s in
     let short-r : IsShort r = omega (arith, short', busy-kept r s' g.keeps) in
-    let k = read_at-full x.cpu x.now s f w short-r in
+    let k = read_at-full x.processor x.now s f w short-r in
     let m = g.goes k.full short-r in
     record {
       full = full-kept r s' k.full g.keeps m;
       raws = λ id. m.raws id ∙ k.raws id
-          ∙ ap (λ n. PurseLemmas.uncapped s id + weight_there x.cpu (task_of s id) * part_of (length_of (slice_at x.cpu (processor_of s x.cpu) x.now)) n) (f.sound.weights x.cpu w);
+          ∙ ap (λ n. PurseLemmas.uncapped s id + weight_there x.processor (task_of s id) * part_of (length_of (slice_at x.processor (processor_of s x.processor) x.now)) n) (f.sound.weights x.processor w);
     }
 
 step : (count : ℕ) (past : History) (m : Moment) → count ≤ 255 → IsOf count (m ∷ past) → IsFull (figures count past) → Rises (figures count past) (figures count (m ∷ past)) (sight_of m.event m.answer)

@@ -26,8 +26,7 @@ use Rattle.bq_schedule.specs.Figures.{Figures, unknown, processor_of, task_of, w
 use Rattle.bq_schedule.specs.Passing.{read_at, with_charged, processor_read, slice_at}
 use Rattle.bq_schedule.specs.Runnable.{left_from, leaves, processor_joined, comes}
 use Rattle.bq_schedule.specs.Running.{stopped, started, starts_as, start_of, start_at, begun_if, switched, is_run_by, with_latency}
-use Rattle.bq_schedule.specs.Slices.{sight, sight_of, clock}
-use Rattle.bq_schedule.specs.Wakes.{is_run}
+use Rattle.bq_schedule.specs.Slices.{sight, sight_of, clock, is_this}
 use Rattle.bq_schedule.specs.Steps.{nothing, asked, waited_there, taken, move_of, moves_as, placed, pulled, performed, performed_told, time_at, is_there, after, change, figures}
 use Rattle.bq_schedule.specs.Waits.{gives_way, then_if, wait_begins, waits_since, wait_of_pull, wait_of_start, wait_told}
 use Rattle.bq_schedule.specs.Laws.{IsWithin, IsOf, TellsWaits, AddsUpWaits}
@@ -64,22 +63,22 @@ kept-with_charged : (s : Figures) (o : Option Slice) → KeepsWaits s (with_char
 kept-with_charged s None = same s
 kept-with_charged s (Some x) = with_one s x.task _ refl refl
 
-kept-ask : (cpu now : ℕ) (d : Decision) (s : Figures) → KeepsWaits s (asked cpu d (read_at cpu now s))
-kept-ask cpu now d s =
-    let r = with_processor s cpu (processor_read cpu (processor_of s cpu) now) in
-    both s (read_at cpu now s) _ (both s r _ (of_processor s cpu _) (kept-with_charged r (slice_at cpu (processor_of s cpu) now))) (of_processor (read_at cpu now s) cpu _)
+kept-ask : (processor now : ℕ) (d : Decision) (s : Figures) → KeepsWaits s (asked processor d (read_at processor now s))
+kept-ask processor now d s =
+    let r = with_processor s processor (processor_read processor (processor_of s processor) now) in
+    both s (read_at processor now s) _ (both s r _ (of_processor s processor _) (kept-with_charged r (slice_at processor (processor_of s processor) now))) (of_processor (read_at processor now s) processor _)
 
 kept-left_from : (id : ℕ) (s : Figures) (place : Option ℕ) → KeepsWaits s (left_from id s place)
 kept-left_from id s None = same s
-kept-left_from id s (Some cpu) = both s _ _ (of_processor s cpu _) (with_one _ id _ refl refl)
+kept-left_from id s (Some processor) = both s _ _ (of_processor s processor _) (with_one _ id _ refl refl)
 
 kept-leaves : (id : ℕ) (s : Figures) → KeepsWaits s (leaves id s)
 kept-leaves id s = kept-left_from id s (task_of s id).place
 
-kept-block : (cpu now id : ℕ) (s : Figures) → KeepsWaits s (leaves id (read_at cpu now s))
-kept-block cpu now id s =
-    let r = with_processor s cpu (processor_read cpu (processor_of s cpu) now) in
-    both s (read_at cpu now s) _ (both s r _ (of_processor s cpu _) (kept-with_charged r (slice_at cpu (processor_of s cpu) now))) (kept-leaves id (read_at cpu now s))
+kept-block : (processor now id : ℕ) (s : Figures) → KeepsWaits s (leaves id (read_at processor now s))
+kept-block processor now id s =
+    let r = with_processor s processor (processor_read processor (processor_of s processor) now) in
+    both s (read_at processor now s) _ (both s r _ (of_processor s processor _) (kept-with_charged r (slice_at processor (processor_of s processor) now))) (kept-leaves id (read_at processor now s))
 
 -- what is read of a task where one is set
 set-at : (f : TaskFigures → ℕ) (s : Figures) (i j : ℕ) (t : TaskFigures) (b : Bool) → j < length s.tasks → ((b ≡ true) × (i ≡ j)) ⊎ ((b ≡ false) × (i ≢ j)) →
@@ -102,33 +101,33 @@ counted-at s i j more true (inr e) h = absurd (cc)
 counted-at s i j more false (inr e) h = omega arith
 
 -- a task that comes to a processor waits from then on
-since-comes : (id cpu at : ℕ) (s : Figures) (j : ℕ) → j < length s.tasks → (task_of (comes id cpu at s) j).since ≡ cond (eqb id j) at (task_of s j).since
-since-comes id cpu at s j inside =
+since-comes : (id processor at : ℕ) (s : Figures) (j : ℕ) → j < length s.tasks → (task_of (comes id processor at s) j).since ≡ cond (eqb id j) at (task_of s j).since
+since-comes id processor at s j inside =
     let l = leaves id s in
     let k = kept-leaves id s in
-    let q = with_processor l cpu (processor_joined (processor_of l cpu) (task_of l id).weight) in
+    let q = with_processor l processor (processor_joined (processor_of l processor) (task_of l id).weight) in
     set-at (λ t. t.since) q id j _ (eqb id j) (omega (arith, k.tasks)) (eqb_tells id j) ∙ ap (λ n. cond (eqb id j) at n) (k.since j)
 
-waited-comes : (id cpu at : ℕ) (s : Figures) (j : ℕ) → (task_of (comes id cpu at s) j).waited ≡ (task_of s j).waited
-waited-comes id cpu at s j =
+waited-comes : (id processor at : ℕ) (s : Figures) (j : ℕ) → (task_of (comes id processor at s) j).waited ≡ (task_of s j).waited
+waited-comes id processor at s j =
     let l = leaves id s in
-    let q = with_processor l cpu (processor_joined (processor_of l cpu) (task_of l id).weight) in
+    let q = with_processor l processor (processor_joined (processor_of l processor) (task_of l id).weight) in
     task_kept (λ (t : TaskFigures). t.waited) q id j _ refl ∙ (kept-leaves id s).waited j
 
 -- and so does one that is pulled, if there is one
-since-taken : (cpu at : ℕ) (task : Option ℕ) (s : Figures) (j : ℕ) → j < length s.tasks → (task_of (taken cpu at task s) j).since ≡ cond (is_run j task) at (task_of s j).since
-since-taken cpu at None s j inside = refl
-since-taken cpu at (Some id) s j inside =
+since-taken : (processor at : ℕ) (task : Option ℕ) (s : Figures) (j : ℕ) → j < length s.tasks → (task_of (taken processor at task s) j).since ≡ cond (is_this j task) at (task_of s j).since
+since-taken processor at None s j inside = refl
+since-taken processor at (Some id) s j inside =
     let w = waited_there id at s in
-    since-comes id cpu at w j (omega (arith, length-set s.tasks id (record (task_of s id) { waited = counted (task_of s id).waited (at - (task_of s id).since) })))
+    since-comes id processor at w j (omega (arith, length-set s.tasks id (record (task_of s id) { waited = counted (task_of s id).waited (at - (task_of s id).since) })))
     ∙ ap (λ n. cond (eqb id j) at n) (task_kept (λ (t : TaskFigures). t.since) s id j _ refl)
 
 -- what it has waited counts
-waited-taken : (cpu from at : ℕ) (task : Option ℕ) (s : Figures) (j : ℕ) → j < length s.tasks → (task_of s j).waited ≤ 18446744073709551615 →
-    (task_of (taken cpu at task s) j).waited ≡ counted (task_of s j).waited (wait_of_pull j (moves_as from cpu at task s))
-waited-taken cpu from at None s j inside h = counted-none (task_of s j).waited h
-waited-taken cpu from at (Some id) s j inside h =
-    waited-comes id cpu at (waited_there id at s) j
+waited-taken : (processor from at : ℕ) (task : Option ℕ) (s : Figures) (j : ℕ) → j < length s.tasks → (task_of s j).waited ≤ 18446744073709551615 →
+    (task_of (taken processor at task s) j).waited ≡ counted (task_of s j).waited (wait_of_pull j (moves_as from processor at task s))
+waited-taken processor from at None s j inside h = counted-none (task_of s j).waited h
+waited-taken processor from at (Some id) s j inside h =
+    waited-comes id processor at (waited_there id at s) j
     ∙ set-at (λ t. t.waited) s id j _ (eqb id j) inside (eqb_tells id j)
     ∙ counted-at s id j (at - (task_of s id).since) (eqb id j) (eqb_tells id j) h
 
@@ -138,7 +137,7 @@ if_preempted Preempted b = b
 if_preempted Blocked b = false
 
 since-stopped : (left : Left) (at : ℕ) (running : Option Start) (s : Figures) (j : ℕ) → j < length s.tasks →
-    (task_of (stopped left at running s) j).since ≡ cond (if_preempted left (is_run j (option_map (λ (x : Start). x.task) running))) at (task_of s j).since
+    (task_of (stopped left at running s) j).since ≡ cond (if_preempted left (is_this j (option_map (λ (x : Start). x.task) running))) at (task_of s j).since
 since-stopped Preempted at None s j inside = refl
 since-stopped Blocked at None s j inside = refl
 since-stopped Blocked at (Some old) s j inside = refl
@@ -158,25 +157,25 @@ since-with_latency : (t : TaskFigures) (o : Option ℕ) → (with_latency t o).s
 since-with_latency t None = refl
 since-with_latency t (Some n) = refl
 
-since-begun_if : (cpu at : ℕ) (run : Option ℕ) (s : Figures) (j : ℕ) → (task_of (begun_if cpu at run s) j).since ≡ (task_of s j).since
-since-begun_if cpu at None s j = refl
-since-begun_if cpu at (Some id) s j = task_kept (λ (t : TaskFigures). t.since) s id j _ (since-with_latency (task_of s id) _)
+since-begun_if : (processor at : ℕ) (run : Option ℕ) (s : Figures) (j : ℕ) → (task_of (begun_if processor at run s) j).since ≡ (task_of s j).since
+since-begun_if processor at None s j = refl
+since-begun_if processor at (Some id) s j = task_kept (λ (t : TaskFigures). t.since) s id j _ (since-with_latency (task_of s id) _)
 
-waited-begun_if : (cpu at : ℕ) (run : Option ℕ) (s : Figures) (j : ℕ) → j < length s.tasks → (task_of s j).waited ≤ 18446744073709551615 →
-    (task_of (begun_if cpu at run s) j).waited ≡ counted (task_of s j).waited (wait_of_start j (starts_as cpu at run s))
-waited-begun_if cpu at None s j inside h = counted-none (task_of s j).waited h
-waited-begun_if cpu at (Some id) s j inside h =
+waited-begun_if : (processor at : ℕ) (run : Option ℕ) (s : Figures) (j : ℕ) → j < length s.tasks → (task_of s j).waited ≤ 18446744073709551615 →
+    (task_of (begun_if processor at run s) j).waited ≡ counted (task_of s j).waited (wait_of_start j (starts_as processor at run s))
+waited-begun_if processor at None s j inside h = counted-none (task_of s j).waited h
+waited-begun_if processor at (Some id) s j inside h =
     set-at (λ t. t.waited) s id j _ (eqb id j) inside (eqb_tells id j) ∙ counted-at s id j (at - (task_of s id).since) (eqb id j) (eqb_tells id j) h
 
-is_run-says : (j : ℕ) (o : Option ℕ) → is_run j o ≡ true → o ≡ Some j
-is_run-says j None e = cc
-is_run-says j (Some k) e =
+is_this-says : (j : ℕ) (o : Option ℕ) → is_this j o ≡ true → o ≡ Some j
+is_this-says j None e = cc
+is_this-says j (Some k) e =
     let same : k ≡ j = grind (arith, nat_tests) in
     ap (λ (n : ℕ). Some n) same
 
 -- who ran gives way where another runs now
-gives_way-new : (j : ℕ) (w run : Option ℕ) (b c : Bool) → is_run j w ≡ b → is_run j run ≡ c → w ≢ run → (b && not c) ≡ b
-gives_way-new j w run true true e f ne = absurd (ne (is_run-says j w e ∙ sym (is_run-says j run f)))
+gives_way-new : (j : ℕ) (w run : Option ℕ) (b c : Bool) → is_this j w ≡ b → is_this j run ≡ c → w ≢ run → (b && not c) ≡ b
+gives_way-new j w run true true e f ne = absurd (ne (is_this-says j w e ∙ sym (is_this-says j run f)))
 gives_way-new j w run true false e f ne = refl
 gives_way-new j w run false c e f ne = refl
 
@@ -188,65 +187,65 @@ none-preempted : (left : Left) → if_preempted left false ≡ false
 none-preempted Preempted = refl
 none-preempted Blocked = refl
 
-since-switched_if : (b : Bool) (left : Left) (cpu at : ℕ) (run : Option ℕ) (s : Figures) (j : ℕ) → is_run_by (processor_of s cpu).running run ≡ b → j < length s.tasks →
-    (task_of (cond b s (started cpu at run (stopped left at (processor_of s cpu).running s))) j).since ≡ cond (if_preempted left (gives_way j (who (processor_of s cpu)) run)) at (task_of s j).since
-since-switched_if true left cpu at run s j e inside =
-    let running = (processor_of s cpu).running in
-    let same : who (processor_of s cpu) ≡ run = who_is running run e in
-    sym (ap (λ b. cond (if_preempted left b) at (task_of s j).since) (ap (λ w. is_run j w && not (is_run j run)) same ∙ gives_way-same (is_run j run)) ∙ ap (λ b. cond b at (task_of s j).since) (none-preempted left))
-since-switched_if false left cpu at run s j e inside =
-    let running = (processor_of s cpu).running in
-    since-begun_if cpu at run (stopped left at running s) j ∙ since-stopped left at running s j inside
-    ∙ ap (λ b. cond (if_preempted left b) at (task_of s j).since) (sym (gives_way-new j (who (processor_of s cpu)) run (is_run j (who (processor_of s cpu))) (is_run j run) refl refl (not_who running run e)))
+since-switched_if : (b : Bool) (left : Left) (processor at : ℕ) (run : Option ℕ) (s : Figures) (j : ℕ) → is_run_by (processor_of s processor).running run ≡ b → j < length s.tasks →
+    (task_of (cond b s (started processor at run (stopped left at (processor_of s processor).running s))) j).since ≡ cond (if_preempted left (gives_way j (who (processor_of s processor)) run)) at (task_of s j).since
+since-switched_if true left processor at run s j e inside =
+    let running = (processor_of s processor).running in
+    let same : who (processor_of s processor) ≡ run = who_is running run e in
+    sym (ap (λ b. cond (if_preempted left b) at (task_of s j).since) (ap (λ w. is_this j w && not (is_this j run)) same ∙ gives_way-same (is_this j run)) ∙ ap (λ b. cond b at (task_of s j).since) (none-preempted left))
+since-switched_if false left processor at run s j e inside =
+    let running = (processor_of s processor).running in
+    since-begun_if processor at run (stopped left at running s) j ∙ since-stopped left at running s j inside
+    ∙ ap (λ b. cond (if_preempted left b) at (task_of s j).since) (sym (gives_way-new j (who (processor_of s processor)) run (is_this j (who (processor_of s processor))) (is_this j run) refl refl (not_who running run e)))
 
 -- after a switch the task that gave way waits, where it is preempted
-since-switched : (left : Left) (cpu at : ℕ) (run : Option ℕ) (s : Figures) (j : ℕ) → j < length s.tasks →
-    (task_of (switched left cpu at run s) j).since ≡ cond (if_preempted left (gives_way j (who (processor_of s cpu)) run)) at (task_of s j).since
-since-switched left cpu at run s j inside = since-switched_if (is_run_by (processor_of s cpu).running run) left cpu at run s j refl inside
+since-switched : (left : Left) (processor at : ℕ) (run : Option ℕ) (s : Figures) (j : ℕ) → j < length s.tasks →
+    (task_of (switched left processor at run s) j).since ≡ cond (if_preempted left (gives_way j (who (processor_of s processor)) run)) at (task_of s j).since
+since-switched left processor at run s j inside = since-switched_if (is_run_by (processor_of s processor).running run) left processor at run s j refl inside
 
-waited-switched_if : (b : Bool) (left : Left) (cpu at : ℕ) (run : Option ℕ) (s : Figures) (j : ℕ) → j < length s.tasks → (task_of s j).waited ≤ 18446744073709551615 →
-    let u = stopped left at (processor_of s cpu).running s in
-    (task_of (cond b s (started cpu at run u)) j).waited ≡ counted (task_of s j).waited (wait_of_start j (cond b None (starts_as cpu at run u)))
-waited-switched_if true left cpu at run s j inside h = counted-none (task_of s j).waited h
-waited-switched_if false left cpu at run s j inside h =
-    let running = (processor_of s cpu).running in
+waited-switched_if : (b : Bool) (left : Left) (processor at : ℕ) (run : Option ℕ) (s : Figures) (j : ℕ) → j < length s.tasks → (task_of s j).waited ≤ 18446744073709551615 →
+    let u = stopped left at (processor_of s processor).running s in
+    (task_of (cond b s (started processor at run u)) j).waited ≡ counted (task_of s j).waited (wait_of_start j (cond b None (starts_as processor at run u)))
+waited-switched_if true left processor at run s j inside h = counted-none (task_of s j).waited h
+waited-switched_if false left processor at run s j inside h =
+    let running = (processor_of s processor).running in
     let u = stopped left at running s in
     let w = waited-stopped left at running s j in
-    waited-begun_if cpu at run u j (omega (arith, tasks-stopped left at running s)) (omega (arith, w)) ∙ ap (λ n. counted n (wait_of_start j (starts_as cpu at run u))) w
+    waited-begun_if processor at run u j (omega (arith, tasks-stopped left at running s)) (omega (arith, w)) ∙ ap (λ n. counted n (wait_of_start j (starts_as processor at run u))) w
 
 -- and what the one that begins has waited counts
-waited-switched : (left : Left) (cpu at : ℕ) (run : Option ℕ) (s : Figures) (j : ℕ) → j < length s.tasks → (task_of s j).waited ≤ 18446744073709551615 →
-    (task_of (switched left cpu at run s) j).waited ≡ counted (task_of s j).waited (wait_of_start j (start_at left cpu at run s))
-waited-switched left cpu at run s j inside h = waited-switched_if (is_run_by (processor_of s cpu).running run) left cpu at run s j inside h
+waited-switched : (left : Left) (processor at : ℕ) (run : Option ℕ) (s : Figures) (j : ℕ) → j < length s.tasks → (task_of s j).waited ≤ 18446744073709551615 →
+    (task_of (switched left processor at run s) j).waited ≡ counted (task_of s j).waited (wait_of_start j (start_at left processor at run s))
+waited-switched left processor at run s j inside h = waited-switched_if (is_run_by (processor_of s processor).running run) left processor at run s j inside h
 
-starts-waited_if : (b : Bool) (left : Left) (cpu at : ℕ) (run : Option ℕ) (s : Figures) (st : Start) →
-    let u = stopped left at (processor_of s cpu).running s in
-    cond b None (starts_as cpu at run u) ≡ Some st → st.waited ≡ st.at - (task_of (cond b s (started cpu at run u)) st.task).since
-starts-waited_if true left cpu at run s st e = cc
-starts-waited_if false left cpu at None s st e = cc
-starts-waited_if false left cpu at (Some id) s st e =
-    let u = stopped left at (processor_of s cpu).running s in
-    let x : start_of cpu id at (task_of u id) ≡ st = cc in
-    let P : Start → Type 0 = λ y. y.waited ≡ y.at - (task_of (started cpu at (Some id) u) y.task).since in
-    subst P x (ap (λ n. at - n) (sym (since-begun_if cpu at (Some id) u id)))
+starts-waited_if : (b : Bool) (left : Left) (processor at : ℕ) (run : Option ℕ) (s : Figures) (st : Start) →
+    let u = stopped left at (processor_of s processor).running s in
+    cond b None (starts_as processor at run u) ≡ Some st → st.waited ≡ st.at - (task_of (cond b s (started processor at run u)) st.task).since
+starts-waited_if true left processor at run s st e = cc
+starts-waited_if false left processor at None s st e = cc
+starts-waited_if false left processor at (Some id) s st e =
+    let u = stopped left at (processor_of s processor).running s in
+    let x : start_of processor id at (task_of u id) ≡ st = cc in
+    let P : Start → Type 0 = λ y. y.waited ≡ y.at - (task_of (started processor at (Some id) u) y.task).since in
+    subst P x (ap (λ n. at - n) (sym (since-begun_if processor at (Some id) u id)))
 
 -- a start that a switch tells says how long its task has waited
-starts-waited : (left : Left) (cpu at : ℕ) (run : Option ℕ) (s : Figures) (st : Start) → start_at left cpu at run s ≡ Some st → st.waited ≡ st.at - (task_of (switched left cpu at run s) st.task).since
-starts-waited left cpu at run s st e = starts-waited_if (is_run_by (processor_of s cpu).running run) left cpu at run s st e
+starts-waited : (left : Left) (processor at : ℕ) (run : Option ℕ) (s : Figures) (st : Start) → start_at left processor at run s ≡ Some st → st.waited ≡ st.at - (task_of (switched left processor at run s) st.task).since
+starts-waited left processor at run s st e = starts-waited_if (is_run_by (processor_of s processor).running run) left processor at run s st e
 
-pull-waited : (from cpu at : ℕ) (task : Option ℕ) (s : Figures) (p : Moved) → moves_as from cpu at task s ≡ Some p → p.waited ≡ p.at - (task_of s p.task).since
-pull-waited from cpu at None s p e = cc
-pull-waited from cpu at (Some id) s p e =
-    let x : move_of from cpu at id s ≡ p = cc in
+pull-waited : (from processor at : ℕ) (task : Option ℕ) (s : Figures) (p : Moved) → moves_as from processor at task s ≡ Some p → p.waited ≡ p.at - (task_of s p.task).since
+pull-waited from processor at None s p e = cc
+pull-waited from processor at (Some id) s p e =
+    let x : move_of from processor at id s ≡ p = cc in
     let P : Moved → Type 0 = λ y. y.waited ≡ y.at - (task_of s y.task).since in
     subst P x refl
 
 -- when an answer has a task wait, by who ran in the figures
 abbrev pub wait_seen : ℕ → Figures → Event → Result Reply Refusal → Option ℕ
-wait_seen j s (EndWake cpu now) (Ok (Placed task to by steps)) = then_if (eqb task j) (time_at cpu now s)
-wait_seen j s (Drain cpu now) (Ok (Drained count run by steps)) = then_if (gives_way j (who (processor_of s cpu)) run) (time_at cpu now s)
-wait_seen j s (Tick cpu now) (Ok (Ticked run by steps)) = then_if (gives_way j (who (processor_of s cpu)) run) (time_at cpu now s)
-wait_seen j s (Pull cpu from now) (Ok (Pulled task run by steps)) = then_if (is_run j task || gives_way j (who (processor_of s cpu)) run) (time_at cpu now s)
+wait_seen j s (EndWake processor now) (Ok (Placed task to by steps)) = then_if (eqb task j) (time_at processor now s)
+wait_seen j s (Drain processor now) (Ok (Drained count run by steps)) = then_if (gives_way j (who (processor_of s processor)) run) (time_at processor now s)
+wait_seen j s (Tick processor now) (Ok (Ticked run by steps)) = then_if (gives_way j (who (processor_of s processor)) run) (time_at processor now s)
+wait_seen j s (Pull processor from now) (Ok (Pulled task run by steps)) = then_if (is_this j task || gives_way j (who (processor_of s processor)) run) (time_at processor now s)
 wait_seen j s e a = None
 
 -- since when a task waits, and how long it has, after an answer; and what that tells
@@ -258,12 +257,12 @@ then-is : (b : Bool) (at since : ℕ) → cond b at since ≡ unwrap_or (then_if
 then-is true at since = refl
 then-is false at since = refl
 
-placed-tells : (cpu now : ℕ) (d : Decision) (id to : ℕ) (s : Figures) (j : ℕ) (c : Change) → j < length s.tasks → c.pull ≡ None → c.start ≡ None →
-    Tells s (placed cpu now d id to s) j (then_if (eqb id j) (time_at cpu now s)) c
-placed-tells cpu now d id to s j c inside p st =
-    let at = time_at cpu now s in
-    let a = asked cpu d (read_at cpu now s) in
-    let k = kept-ask cpu now d s in
+placed-tells : (processor now : ℕ) (d : Decision) (id to : ℕ) (s : Figures) (j : ℕ) (c : Change) → j < length s.tasks → c.pull ≡ None → c.start ≡ None →
+    Tells s (placed processor now d id to s) j (then_if (eqb id j) (time_at processor now s)) c
+placed-tells processor now d id to s j c inside p st =
+    let at = time_at processor now s in
+    let a = asked processor d (read_at processor now s) in
+    let k = kept-ask processor now d s in
     let m = comes id to at a in
     record {
       since = task_kept (λ (t : TaskFigures). t.since) m id j _ refl ∙ since-comes id to at a j (omega (arith, k.tasks)) ∙ ap (λ n. cond (eqb id j) at n) (k.since j) ∙ then-is (eqb id j) at (task_of s j).since;
@@ -272,29 +271,29 @@ placed-tells cpu now d id to s j c inside p st =
           ∙ sym (ap (λ o. counted (task_of s j).waited (wait_of_pull j o + wait_of_start j c.start)) p ∙ ap (λ o. counted (task_of s j).waited (0 + wait_of_start j o)) st);
     }
 
-switch-tells : (left : Left) (cpu at : ℕ) (run : Option ℕ) (s t : Figures) (j : ℕ) (c : Change) → j < length s.tasks → KeepsWaits s t → (processor_of t cpu).running ≡ (processor_of s cpu).running →
-    c.pull ≡ None → c.start ≡ start_at left cpu at run t →
-    Tells s (switched left cpu at run t) j (then_if (if_preempted left (gives_way j (who (processor_of s cpu)) run)) at) c
-switch-tells left cpu at run s t j c inside k r p st =
+switch-tells : (left : Left) (processor at : ℕ) (run : Option ℕ) (s t : Figures) (j : ℕ) (c : Change) → j < length s.tasks → KeepsWaits s t → (processor_of t processor).running ≡ (processor_of s processor).running →
+    c.pull ≡ None → c.start ≡ start_at left processor at run t →
+    Tells s (switched left processor at run t) j (then_if (if_preempted left (gives_way j (who (processor_of s processor)) run)) at) c
+switch-tells left processor at run s t j c inside k r p st =
     let inside' : j < length t.tasks = omega (arith, k.tasks) in
     record {
-      since = since-switched left cpu at run t j inside'
-          ∙ ap (λ n. cond (if_preempted left (gives_way j (who (processor_of t cpu)) run)) at n) (k.since j)
+      since = since-switched left processor at run t j inside'
+          ∙ ap (λ n. cond (if_preempted left (gives_way j (who (processor_of t processor)) run)) at n) (k.since j)
           ∙ ap (λ o. cond (if_preempted left (gives_way j (option_map (λ (x : Start). x.task) o) run)) at (task_of s j).since) r
-          ∙ then-is (if_preempted left (gives_way j (who (processor_of s cpu)) run)) at (task_of s j).since;
+          ∙ then-is (if_preempted left (gives_way j (who (processor_of s processor)) run)) at (task_of s j).since;
       waited = λ h.
-          waited-switched left cpu at run t j inside' (omega (arith, k.waited j))
-          ∙ ap (λ n. counted n (wait_of_start j (start_at left cpu at run t))) (k.waited j)
-          ∙ ap (counted (task_of s j).waited) (sym (zero-add (wait_of_start j (start_at left cpu at run t))))
+          waited-switched left processor at run t j inside' (omega (arith, k.waited j))
+          ∙ ap (λ n. counted n (wait_of_start j (start_at left processor at run t))) (k.waited j)
+          ∙ ap (counted (task_of s j).waited) (sym (zero-add (wait_of_start j (start_at left processor at run t))))
           ∙ sym (ap (λ o. counted (task_of s j).waited (wait_of_pull j o + wait_of_start j c.start)) p ∙ ap (λ o. counted (task_of s j).waited (0 + wait_of_start j o)) st);
     }
 
-tasks-comes : (id cpu at : ℕ) (s : Figures) → length (comes id cpu at s).tasks ≡ length s.tasks
-tasks-comes id cpu at s = length-set (leaves id s).tasks id _ ∙ (kept-leaves id s).tasks
+tasks-comes : (id processor at : ℕ) (s : Figures) → length (comes id processor at s).tasks ≡ length s.tasks
+tasks-comes id processor at s = length-set (leaves id s).tasks id _ ∙ (kept-leaves id s).tasks
 
-tasks-taken : (cpu at : ℕ) (task : Option ℕ) (s : Figures) → length (taken cpu at task s).tasks ≡ length s.tasks
-tasks-taken cpu at None s = refl
-tasks-taken cpu at (Some id) s = tasks-comes id cpu at (waited_there id at s) ∙ length-set s.tasks id _
+tasks-taken : (processor at : ℕ) (task : Option ℕ) (s : Figures) → length (taken processor at task s).tasks ≡ length s.tasks
+tasks-taken processor at None s = refl
+tasks-taken processor at (Some id) s = tasks-comes id processor at (waited_there id at s) ∙ length-set s.tasks id _
 
 or-is : (b c : Bool) (at since : ℕ) → cond c at (cond b at since) ≡ cond (b || c) at since
 or-is true true at since = refl
@@ -305,30 +304,30 @@ or-is false false at since = refl
 counted-both : (n a b : ℕ) → counted (counted n a) b ≡ counted n (a + b)
 counted-both n a b = omega arith
 
-pulled-tells : (cpu from now : ℕ) (d : Decision) (task run : Option ℕ) (s : Figures) (j : ℕ) (c : Change) → j < length s.tasks →
-    c.pull ≡ moves_as from cpu (time_at cpu now s) task (asked cpu d (read_at cpu now s)) →
-    c.start ≡ start_at Preempted cpu (time_at cpu now s) run (taken cpu (time_at cpu now s) task (asked cpu d (read_at cpu now s))) →
-    Tells s (pulled cpu now d task run s) j (then_if (is_run j task || gives_way j (who (processor_of s cpu)) run) (time_at cpu now s)) c
-pulled-tells cpu from now d task run s j c inside p st =
-    let at = time_at cpu now s in
-    let a = asked cpu d (read_at cpu now s) in
-    let t = taken cpu at task a in
-    let k = kept-ask cpu now d s in
+pulled-tells : (processor from now : ℕ) (d : Decision) (task run : Option ℕ) (s : Figures) (j : ℕ) (c : Change) → j < length s.tasks →
+    c.pull ≡ moves_as from processor (time_at processor now s) task (asked processor d (read_at processor now s)) →
+    c.start ≡ start_at Preempted processor (time_at processor now s) run (taken processor (time_at processor now s) task (asked processor d (read_at processor now s))) →
+    Tells s (pulled processor now d task run s) j (then_if (is_this j task || gives_way j (who (processor_of s processor)) run) (time_at processor now s)) c
+pulled-tells processor from now d task run s j c inside p st =
+    let at = time_at processor now s in
+    let a = asked processor d (read_at processor now s) in
+    let t = taken processor at task a in
+    let k = kept-ask processor now d s in
     let inside' : j < length a.tasks = omega (arith, k.tasks) in
-    let inside'' : j < length t.tasks = omega (arith, inside', tasks-taken cpu at task a) in
+    let inside'' : j < length t.tasks = omega (arith, inside', tasks-taken processor at task a) in
     record {
-      since = since-switched Preempted cpu at run t j inside''
-          ∙ ap (λ n. cond (gives_way j (who (processor_of t cpu)) run) at n) (since-taken cpu at task a j inside' ∙ ap (λ n. cond (is_run j task) at n) (k.since j))
-          ∙ ap (λ o. cond (gives_way j (option_map (λ (x : Start). x.task) o) run) at (cond (is_run j task) at (task_of s j).since)) (runs-pull cpu now d task s cpu)
-          ∙ or-is (is_run j task) (gives_way j (who (processor_of s cpu)) run) at (task_of s j).since
-          ∙ then-is (is_run j task || gives_way j (who (processor_of s cpu)) run) at (task_of s j).since;
+      since = since-switched Preempted processor at run t j inside''
+          ∙ ap (λ n. cond (gives_way j (who (processor_of t processor)) run) at n) (since-taken processor at task a j inside' ∙ ap (λ n. cond (is_this j task) at n) (k.since j))
+          ∙ ap (λ o. cond (gives_way j (option_map (λ (x : Start). x.task) o) run) at (cond (is_this j task) at (task_of s j).since)) (runs-pull processor now d task s processor)
+          ∙ or-is (is_this j task) (gives_way j (who (processor_of s processor)) run) at (task_of s j).since
+          ∙ then-is (is_this j task || gives_way j (who (processor_of s processor)) run) at (task_of s j).since;
       waited = λ h.
-          let w : (task_of t j).waited ≡ counted (task_of s j).waited (wait_of_pull j (moves_as from cpu at task a)) =
-          waited-taken cpu from at task a j inside' (omega (arith, h, k.waited j)) ∙ ap (λ n. counted n (wait_of_pull j (moves_as from cpu at task a))) (k.waited j) in
-          waited-switched Preempted cpu at run t j inside'' (omega (arith, w))
-          ∙ ap (λ n. counted n (wait_of_start j (start_at Preempted cpu at run t))) w
-          ∙ counted-both (task_of s j).waited (wait_of_pull j (moves_as from cpu at task a)) (wait_of_start j (start_at Preempted cpu at run t))
-          ∙ sym (ap (λ o. counted (task_of s j).waited (wait_of_pull j o + wait_of_start j c.start)) p ∙ ap (λ o. counted (task_of s j).waited (wait_of_pull j (moves_as from cpu at task a) + wait_of_start j o)) st);
+          let w : (task_of t j).waited ≡ counted (task_of s j).waited (wait_of_pull j (moves_as from processor at task a)) =
+          waited-taken processor from at task a j inside' (omega (arith, h, k.waited j)) ∙ ap (λ n. counted n (wait_of_pull j (moves_as from processor at task a))) (k.waited j) in
+          waited-switched Preempted processor at run t j inside'' (omega (arith, w))
+          ∙ ap (λ n. counted n (wait_of_start j (start_at Preempted processor at run t))) w
+          ∙ counted-both (task_of s j).waited (wait_of_pull j (moves_as from processor at task a)) (wait_of_start j (start_at Preempted processor at run t))
+          ∙ sym (ap (λ o. counted (task_of s j).waited (wait_of_pull j o + wait_of_start j c.start)) p ∙ ap (λ o. counted (task_of s j).waited (wait_of_pull j (moves_as from processor at task a) + wait_of_start j o)) st);
     }
 
 nothing-tells : (s : Figures) (j : ℕ) (c : Change) → c.pull ≡ None → c.start ≡ None → Tells s s j None c
@@ -348,29 +347,29 @@ performed-tells : (s : Figures) (e : Event) (r : Reply) (j : ℕ) → j < length
 performed-tells s (Admit id nice mask slice) Admitted j inside =
     let l = leaves id s in
     admitted-tells s (performed s (Admit id nice mask slice) Admitted) j nothing (both s l _ (kept-leaves id s) (with_one l id _ refl refl)) refl refl
-performed-tells s (EndWake cpu now) (Placed task to by steps) j inside =
+performed-tells s (EndWake processor now) (Placed task to by steps) j inside =
     let d : Decision = record { hook = Place; by = by; steps = steps } in
-    placed-tells cpu now d task to s j (performed_told s (EndWake cpu now) (Placed task to by steps)) inside refl refl
-performed-tells s (Drain cpu now) (Drained count run by steps) j inside =
+    placed-tells processor now d task to s j (performed_told s (EndWake processor now) (Placed task to by steps)) inside refl refl
+performed-tells s (Drain processor now) (Drained count run by steps) j inside =
     let d : Decision = record { hook = Preempt; by = by; steps = steps } in
-    let t = switch-tells Preempted cpu (time_at cpu now s) run s (asked cpu d (read_at cpu now s)) j (performed_told s (Drain cpu now) (Drained count run by steps)) inside (kept-ask cpu now d s) (runs-ask cpu now d s cpu) refl refl in
+    let t = switch-tells Preempted processor (time_at processor now s) run s (asked processor d (read_at processor now s)) j (performed_told s (Drain processor now) (Drained count run by steps)) inside (kept-ask processor now d s) (runs-ask processor now d s processor) refl refl in
     record { since = t.since; waited = t.waited }
-performed-tells s (Tick cpu now) (Ticked run by steps) j inside =
+performed-tells s (Tick processor now) (Ticked run by steps) j inside =
     let d : Decision = record { hook = Preempt; by = by; steps = steps } in
-    switch-tells Preempted cpu (time_at cpu now s) run s (asked cpu d (read_at cpu now s)) j (performed_told s (Tick cpu now) (Ticked run by steps)) inside (kept-ask cpu now d s) (runs-ask cpu now d s cpu) refl refl
-performed-tells s (Block cpu now) (Went task run) j inside =
-    switch-tells Blocked cpu (time_at cpu now s) run s (leaves task (read_at cpu now s)) j (performed_told s (Block cpu now) (Went task run)) inside (kept-block cpu now task s) (runs-block cpu now task s cpu) refl refl
-performed-tells s (Pull cpu from now) (Pulled task run by steps) j inside =
+    switch-tells Preempted processor (time_at processor now s) run s (asked processor d (read_at processor now s)) j (performed_told s (Tick processor now) (Ticked run by steps)) inside (kept-ask processor now d s) (runs-ask processor now d s processor) refl refl
+performed-tells s (Block processor now) (Went task run) j inside =
+    switch-tells Blocked processor (time_at processor now s) run s (leaves task (read_at processor now s)) j (performed_told s (Block processor now) (Went task run)) inside (kept-block processor now task s) (runs-block processor now task s processor) refl refl
+performed-tells s (Pull processor from now) (Pulled task run by steps) j inside =
     let d : Decision = record { hook = OnPull; by = by; steps = steps } in
-    pulled-tells cpu from now d task run s j (performed_told s (Pull cpu from now) (Pulled task run by steps)) inside refl refl
+    pulled-tells processor from now d task run s j (performed_told s (Pull processor from now) (Pulled task run by steps)) inside refl refl
 performed-tells s e r j inside = nothing-tells s j nothing refl refl
 
 none-tells : (s : Figures) (e : Event) (r : Reply) (j : ℕ) → is_there s e ≡ false → IsWithin (length s.processors) (sight e r) → Tells s s j (wait_seen j s e (Ok r)) nothing
-none-tells s (EndWake cpu now) (Placed task to by steps) j none h = absurd (outside cpu (length s.processors) none h)
-none-tells s (Drain cpu now) (Drained count run by steps) j none h = absurd (outside cpu (length s.processors) none h)
-none-tells s (Tick cpu now) (Ticked run by steps) j none h = absurd (outside cpu (length s.processors) none h)
-none-tells s (Block cpu now) (Went task run) j none h = absurd (outside cpu (length s.processors) none h)
-none-tells s (Pull cpu from now) (Pulled task run by steps) j none h = absurd (outside cpu (length s.processors) none h)
+none-tells s (EndWake processor now) (Placed task to by steps) j none h = absurd (outside processor (length s.processors) none h)
+none-tells s (Drain processor now) (Drained count run by steps) j none h = absurd (outside processor (length s.processors) none h)
+none-tells s (Tick processor now) (Ticked run by steps) j none h = absurd (outside processor (length s.processors) none h)
+none-tells s (Block processor now) (Went task run) j none h = absurd (outside processor (length s.processors) none h)
+none-tells s (Pull processor from now) (Pulled task run by steps) j none h = absurd (outside processor (length s.processors) none h)
 none-tells s e r j none h = nothing-tells s j nothing refl refl
 
 tells-if : (b : Bool) (s : Figures) (e : Event) (r : Reply) (j : ℕ) → is_there s e ≡ b → j < length s.tasks → IsWithin (length s.processors) (sight e r) →
@@ -380,7 +379,7 @@ tells-if false s e r j there inside h = none-tells s e r j there h
 
 tells-after : (s : Figures) (e : Event) (a : Result Reply Refusal) (j : ℕ) → j < length s.tasks → IsWithin (length s.processors) (sight_of e a) → Tells s (after s e a) j (wait_seen j s e a) (change s e a)
 tells-after s e (Ok r) j inside h = tells-if (is_there s e) s e r j refl inside h
-tells-after s (EndWake cpu now) (Err r) j inside h =
+tells-after s (EndWake processor now) (Err r) j inside h =
     let t = nothing-tells s j nothing refl refl in
     record { since = t.since; waited = t.waited }
 tells-after s e (Err r) j inside h =
@@ -389,17 +388,17 @@ tells-after s e (Err r) j inside h =
 
 -- the figures' waits are those of the history
 seen-wait : (count : ℕ) (past : History) (e : Event) (a : Result Reply Refusal) (j : ℕ) → IsOf count past → IsWithin count (sight_of e a) → wait_seen j (figures count past) e a ≡ wait_begins j past e a
-seen-wait count past (EndWake cpu now) (Ok (Placed task to by steps)) j h w = ap (λ n. then_if (eqb task j) (reading n now)) (figures-clocks count past cpu h w).0
-seen-wait count past (Drain cpu now) (Ok (Drained n run by steps)) j h w =
-    let c = figures-clocks count past cpu h w in
-    ap (λ n. then_if (gives_way j (who (processor_of (figures count past) cpu)) run) (reading n now)) c.0 ∙ ap (λ y. then_if (gives_way j y run) (reading (clock cpu past) now)) c.1
-seen-wait count past (Tick cpu now) (Ok (Ticked run by steps)) j h w =
-    let c = figures-clocks count past cpu h w in
-    ap (λ n. then_if (gives_way j (who (processor_of (figures count past) cpu)) run) (reading n now)) c.0 ∙ ap (λ y. then_if (gives_way j y run) (reading (clock cpu past) now)) c.1
-seen-wait count past (Pull cpu from now) (Ok (Pulled task run by steps)) j h w =
-    let c = figures-clocks count past cpu h w in
-    ap (λ n. then_if (is_run j task || gives_way j (who (processor_of (figures count past) cpu)) run) (reading n now)) c.0
-    ∙ ap (λ y. then_if (is_run j task || gives_way j y run) (reading (clock cpu past) now)) c.1
+seen-wait count past (EndWake processor now) (Ok (Placed task to by steps)) j h w = ap (λ n. then_if (eqb task j) (reading n now)) (figures-clocks count past processor h w).0
+seen-wait count past (Drain processor now) (Ok (Drained n run by steps)) j h w =
+    let c = figures-clocks count past processor h w in
+    ap (λ n. then_if (gives_way j (who (processor_of (figures count past) processor)) run) (reading n now)) c.0 ∙ ap (λ y. then_if (gives_way j y run) (reading (clock processor past) now)) c.1
+seen-wait count past (Tick processor now) (Ok (Ticked run by steps)) j h w =
+    let c = figures-clocks count past processor h w in
+    ap (λ n. then_if (gives_way j (who (processor_of (figures count past) processor)) run) (reading n now)) c.0 ∙ ap (λ y. then_if (gives_way j y run) (reading (clock processor past) now)) c.1
+seen-wait count past (Pull processor from now) (Ok (Pulled task run by steps)) j h w =
+    let c = figures-clocks count past processor h w in
+    ap (λ n. then_if (is_this j task || gives_way j (who (processor_of (figures count past) processor)) run) (reading n now)) c.0
+    ∙ ap (λ y. then_if (is_this j task || gives_way j y run) (reading (clock processor past) now)) c.1
 seen-wait count past e a j h w = refl
 
 -- what the figures know of waits after a moment
@@ -417,12 +416,12 @@ since-shown count (m ∷ past) j h inside =
 
 -- a start and a pull say how long their task has waited, by the figures
 start-performed : (s : Figures) (e : Event) (r : Reply) (st : Start) → (performed_told s e r).start ≡ Some st → st.waited ≡ st.at - (task_of (performed s e r) st.task).since
-start-performed s (EndWake cpu now) (Placed task to by steps) st e = cc
-start-performed s (Drain cpu now) (Drained count run by steps) st e = starts-waited Preempted cpu (time_at cpu now s) run (asked cpu (record { hook = Preempt; by = by; steps = steps }) (read_at cpu now s)) st e
-start-performed s (Tick cpu now) (Ticked run by steps) st e = starts-waited Preempted cpu (time_at cpu now s) run (asked cpu (record { hook = Preempt; by = by; steps = steps }) (read_at cpu now s)) st e
-start-performed s (Block cpu now) (Went task run) st e = starts-waited Blocked cpu (time_at cpu now s) run (leaves task (read_at cpu now s)) st e
-start-performed s (Pull cpu from now) (Pulled task run by steps) st e =
-    starts-waited Preempted cpu (time_at cpu now s) run (taken cpu (time_at cpu now s) task (asked cpu (record { hook = OnPull; by = by; steps = steps }) (read_at cpu now s))) st e
+start-performed s (EndWake processor now) (Placed task to by steps) st e = cc
+start-performed s (Drain processor now) (Drained count run by steps) st e = starts-waited Preempted processor (time_at processor now s) run (asked processor (record { hook = Preempt; by = by; steps = steps }) (read_at processor now s)) st e
+start-performed s (Tick processor now) (Ticked run by steps) st e = starts-waited Preempted processor (time_at processor now s) run (asked processor (record { hook = Preempt; by = by; steps = steps }) (read_at processor now s)) st e
+start-performed s (Block processor now) (Went task run) st e = starts-waited Blocked processor (time_at processor now s) run (leaves task (read_at processor now s)) st e
+start-performed s (Pull processor from now) (Pulled task run by steps) st e =
+    starts-waited Preempted processor (time_at processor now s) run (taken processor (time_at processor now s) task (asked processor (record { hook = OnPull; by = by; steps = steps }) (read_at processor now s))) st e
 start-performed s e r st h = cc
 
 start-told_if : (b : Bool) (s : Figures) (e : Event) (r : Reply) (st : Start) → (cond b (performed_told s e r) nothing).start ≡ Some st → st.waited ≡ st.at - (task_of (cond b (performed s e r) s) st.task).since
@@ -434,13 +433,13 @@ start-told s e (Ok r) st h = start-told_if (is_there s e) s e r st h
 start-told s e (Err r) st h = cc
 
 pull-performed : (s : Figures) (e : Event) (r : Reply) (p : Moved) → (performed_told s e r).pull ≡ Some p → p.waited ≡ p.at - (task_of s p.task).since
-pull-performed s (EndWake cpu now) (Placed task to by steps) p e = cc
-pull-performed s (Drain cpu now) (Drained count run by steps) p e = cc
-pull-performed s (Tick cpu now) (Ticked run by steps) p e = cc
-pull-performed s (Block cpu now) (Went task run) p e = cc
-pull-performed s (Pull cpu from now) (Pulled task run by steps) p e =
+pull-performed s (EndWake processor now) (Placed task to by steps) p e = cc
+pull-performed s (Drain processor now) (Drained count run by steps) p e = cc
+pull-performed s (Tick processor now) (Ticked run by steps) p e = cc
+pull-performed s (Block processor now) (Went task run) p e = cc
+pull-performed s (Pull processor from now) (Pulled task run by steps) p e =
     let d : Decision = record { hook = OnPull; by = by; steps = steps } in
-    pull-waited from cpu (time_at cpu now s) task (asked cpu d (read_at cpu now s)) p e ∙ ap (λ n. p.at - n) ((kept-ask cpu now d s).since p.task)
+    pull-waited from processor (time_at processor now s) task (asked processor d (read_at processor now s)) p e ∙ ap (λ n. p.at - n) ((kept-ask processor now d s).since p.task)
 pull-performed s e r p h = cc
 
 pull-told_if : (b : Bool) (s : Figures) (e : Event) (r : Reply) (p : Moved) → (cond b (performed_told s e r) nothing).pull ≡ Some p → p.waited ≡ p.at - (task_of s p.task).since

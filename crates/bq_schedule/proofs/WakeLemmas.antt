@@ -23,8 +23,8 @@ use Rattle.bq_schedule.specs.Figures.{Figures, unknown, processor_of, task_of, w
 use Rattle.bq_schedule.specs.Passing.{read_at, with_charged, processor_read, slice_at}
 use Rattle.bq_schedule.specs.Runnable.{left_from, leaves, comes}
 use Rattle.bq_schedule.specs.Running.{stopped, started, starts_as, start_of, start_at, begun_if, switched, is_run_by}
-use Rattle.bq_schedule.specs.Slices.{Sight, sight, sight_of, clock, clock_after, runner}
-use Rattle.bq_schedule.specs.Wakes.{is_run, begins_as, begins, wake_end, awaited_after, awaited}
+use Rattle.bq_schedule.specs.Slices.{Sight, sight, sight_of, clock, clock_after, runner, is_this}
+use Rattle.bq_schedule.specs.Wakes.{begins_as, begins, wake_end, awaited_after, awaited}
 use Rattle.bq_schedule.specs.Steps.{nothing, asked, waited_there, taken, placed, decided, blocked, pulled, performed, performed_told, time_at, is_there, after, change, figures}
 use Rattle.bq_schedule.specs.Laws.{IsWithin, IsOf, TellsLatencies}
 use Rattle.bq_schedule.proofs.FrameLemmas.{who, task_kept, running-asked, running-leaves, running-taken, running-read_at}
@@ -52,22 +52,22 @@ kept-with_charged : (s : Figures) (o : Option Slice) → KeepsWakes s (with_char
 kept-with_charged s None = same s
 kept-with_charged s (Some x) = with_one s x.task _ refl
 
-kept-read_at : (cpu now : ℕ) (s : Figures) → KeepsWakes s (read_at cpu now s)
-kept-read_at cpu now s = both s (with_processor s cpu (processor_read cpu (processor_of s cpu) now)) _ (of_processor s cpu _) (kept-with_charged _ (slice_at cpu (processor_of s cpu) now))
+kept-read_at : (processor now : ℕ) (s : Figures) → KeepsWakes s (read_at processor now s)
+kept-read_at processor now s = both s (with_processor s processor (processor_read processor (processor_of s processor) now)) _ (of_processor s processor _) (kept-with_charged _ (slice_at processor (processor_of s processor) now))
 
 kept-left_from : (id : ℕ) (s : Figures) (place : Option ℕ) → KeepsWakes s (left_from id s place)
 kept-left_from id s None = same s
-kept-left_from id s (Some cpu) = both s _ _ (of_processor s cpu _) (with_one _ id _ refl)
+kept-left_from id s (Some processor) = both s _ _ (of_processor s processor _) (with_one _ id _ refl)
 
 kept-leaves : (id : ℕ) (s : Figures) → KeepsWakes s (leaves id s)
 kept-leaves id s = kept-left_from id s (task_of s id).place
 
-kept-comes : (id cpu now : ℕ) (s : Figures) → KeepsWakes s (comes id cpu now s)
-kept-comes id cpu now s = both s (leaves id s) _ (kept-leaves id s) (both (leaves id s) _ _ (of_processor (leaves id s) cpu _) (with_one _ id _ refl))
+kept-comes : (id processor now : ℕ) (s : Figures) → KeepsWakes s (comes id processor now s)
+kept-comes id processor now s = both s (leaves id s) _ (kept-leaves id s) (both (leaves id s) _ _ (of_processor (leaves id s) processor _) (with_one _ id _ refl))
 
-kept-taken : (cpu now : ℕ) (task : Option ℕ) (s : Figures) → KeepsWakes s (taken cpu now task s)
-kept-taken cpu now None s = same s
-kept-taken cpu now (Some id) s = both s (waited_there id now s) _ (with_one s id _ refl) (kept-comes id cpu now (waited_there id now s))
+kept-taken : (processor now : ℕ) (task : Option ℕ) (s : Figures) → KeepsWakes s (taken processor now task s)
+kept-taken processor now None s = same s
+kept-taken processor now (Some id) s = both s (waited_there id now s) _ (with_one s id _ refl) (kept-comes id processor now (waited_there id now s))
 
 kept-stopped : (left : Left) (now : ℕ) (running : Option Start) (s : Figures) → KeepsWakes s (stopped left now running s)
 kept-stopped left now None s = same s
@@ -82,9 +82,9 @@ set-one s i j t false inside (inl e) = absurd (cc)
 set-one s i j t true inside (inr e) = absurd (cc)
 set-one s i j t false inside (inr e) = ap (λ (u : TaskFigures). u.woken) (get_or-set_other s.tasks i j t unknown (λ h. e.1 (sym h)))
 
-woken-begun_if : (cpu now : ℕ) (run : Option ℕ) (s : Figures) (j : ℕ) → j < length s.tasks → (task_of (begun_if cpu now run s) j).woken ≡ cond (is_run j run) None (task_of s j).woken
-woken-begun_if cpu now None s j inside = refl
-woken-begun_if cpu now (Some id) s j inside = set-one s id j _ (eqb id j) inside (eqb_tells id j)
+woken-begun_if : (processor now : ℕ) (run : Option ℕ) (s : Figures) (j : ℕ) → j < length s.tasks → (task_of (begun_if processor now run s) j).woken ≡ cond (is_this j run) None (task_of s j).woken
+woken-begun_if processor now None s j inside = refl
+woken-begun_if processor now (Some id) s j inside = set-one s id j _ (eqb id j) inside (eqb_tells id j)
 
 begins_alone : (b : Bool) → (b && true) ≡ b
 begins_alone true = refl
@@ -111,7 +111,7 @@ old_at j old id true false (inr e) f same = absurd (cc)
 old_at j old id false c e f same = refl
 
 -- where it is not yet who runs, begins and runs are one
-begins-new : (j : ℕ) (running : Option Start) (run : Option ℕ) → is_run_by running run ≡ false → begins_as j (option_map (λ (x : Start). x.task) running) (Some run) ≡ is_run j run
+begins-new : (j : ℕ) (running : Option Start) (run : Option ℕ) → is_run_by running run ≡ false → begins_as j (option_map (λ (x : Start). x.task) running) (Some run) ≡ is_this j run
 begins-new j None None e = refl
 begins-new j None (Some id) e = begins_alone (eqb id j)
 begins-new j (Some start) None e = refl
@@ -124,28 +124,28 @@ begins-old j None (Some id) e = cc
 begins-old j (Some start) None e = cc
 begins-old j (Some start) (Some id) e = old_at j start.task id (eqb id j) (eqb start.task j) (eqb_tells id j) (eqb_tells start.task j) (equals start.task id e)
 
-woken-switched_if : (b : Bool) (left : Left) (cpu now : ℕ) (run : Option ℕ) (s : Figures) (j : ℕ) → is_run_by (processor_of s cpu).running run ≡ b → j < length s.tasks →
-    (task_of (cond b s (started cpu now run (stopped left now (processor_of s cpu).running s))) j).woken ≡ cond (begins_as j (who (processor_of s cpu)) (Some run)) None (task_of s j).woken
-woken-switched_if true left cpu now run s j e inside = rw (begins-old j (processor_of s cpu).running run e) refl
-woken-switched_if false left cpu now run s j e inside =
-    let t = stopped left now (processor_of s cpu).running s in
-    let k = kept-stopped left now (processor_of s cpu).running s in
-    woken-begun_if cpu now run t j (omega (arith, k.tasks)) ∙ ap (λ o. cond (is_run j run) None o) (k.at j)
-    ∙ ap (λ b. cond b None (task_of s j).woken) (sym (begins-new j (processor_of s cpu).running run e))
+woken-switched_if : (b : Bool) (left : Left) (processor now : ℕ) (run : Option ℕ) (s : Figures) (j : ℕ) → is_run_by (processor_of s processor).running run ≡ b → j < length s.tasks →
+    (task_of (cond b s (started processor now run (stopped left now (processor_of s processor).running s))) j).woken ≡ cond (begins_as j (who (processor_of s processor)) (Some run)) None (task_of s j).woken
+woken-switched_if true left processor now run s j e inside = rw (begins-old j (processor_of s processor).running run e) refl
+woken-switched_if false left processor now run s j e inside =
+    let t = stopped left now (processor_of s processor).running s in
+    let k = kept-stopped left now (processor_of s processor).running s in
+    woken-begun_if processor now run t j (omega (arith, k.tasks)) ∙ ap (λ o. cond (is_this j run) None o) (k.at j)
+    ∙ ap (λ b. cond b None (task_of s j).woken) (sym (begins-new j (processor_of s processor).running run e))
 
-woken-switched : (left : Left) (cpu now : ℕ) (run : Option ℕ) (s : Figures) (j : ℕ) → j < length s.tasks →
-    (task_of (switched left cpu now run s) j).woken ≡ cond (begins_as j (who (processor_of s cpu)) (Some run)) None (task_of s j).woken
-woken-switched left cpu now run s j inside = woken-switched_if (is_run_by (processor_of s cpu).running run) left cpu now run s j refl inside
+woken-switched : (left : Left) (processor now : ℕ) (run : Option ℕ) (s : Figures) (j : ℕ) → j < length s.tasks →
+    (task_of (switched left processor now run s) j).woken ≡ cond (begins_as j (who (processor_of s processor)) (Some run)) None (task_of s j).woken
+woken-switched left processor now run s j inside = woken-switched_if (is_run_by (processor_of s processor).running run) left processor now run s j refl inside
 
 -- what becomes of the wake that a task has waited for
 abbrev pub wake_seen : ℕ → Figures → Event → Result Reply Refusal → Option ℕ
-wake_seen j s (EndWake cpu now) (Ok (Placed task to by steps)) = cond (eqb task j) (Some (time_at cpu now s)) None
+wake_seen j s (EndWake processor now) (Ok (Placed task to by steps)) = cond (eqb task j) (Some (time_at processor now s)) None
 wake_seen j s e a = None
 
 -- a task begins to run with a sight, by who ran in the figures
 abbrev pub begins_seen : ℕ → Figures → Option Sight → Bool
 begins_seen j s None = false
-begins_seen j s (Some x) = begins_as j (who (processor_of s x.cpu)) x.run
+begins_seen j s (Some x) = begins_as j (who (processor_of s x.processor)) x.run
 
 -- the wake that figures show after an event
 abbrev pub AwaitsAfter : ℕ → Figures → Figures → Event → Result Reply Refusal → Type 0
@@ -155,78 +155,78 @@ awaits-placed : (b : Bool) (at : ℕ) (before : Option ℕ) → cond b (Some at)
 awaits-placed true at before = refl
 awaits-placed false at before = refl
 
-placed-awaits : (cpu now : ℕ) (d : Decision) (id to : ℕ) (s : Figures) (j : ℕ) → j < length s.tasks →
-    (task_of (placed cpu now d id to s) j).woken ≡ awaited_after (cond (eqb id j) (Some (time_at cpu now s)) None) false (task_of s j).woken
-placed-awaits cpu now d id to s j inside =
-    let at = time_at cpu now s in
-    let r = read_at cpu now s in
-    let a = asked cpu d r in
+placed-awaits : (processor now : ℕ) (d : Decision) (id to : ℕ) (s : Figures) (j : ℕ) → j < length s.tasks →
+    (task_of (placed processor now d id to s) j).woken ≡ awaited_after (cond (eqb id j) (Some (time_at processor now s)) None) false (task_of s j).woken
+placed-awaits processor now d id to s j inside =
+    let at = time_at processor now s in
+    let r = read_at processor now s in
+    let a = asked processor d r in
     let c = comes id to at a in
-    let k : KeepsWakes s c = both s r c (kept-read_at cpu now s) (both r a c (of_processor r cpu _) (kept-comes id to at a)) in
+    let k : KeepsWakes s c = both s r c (kept-read_at processor now s) (both r a c (of_processor r processor _) (kept-comes id to at a)) in
     set-one c id j _ (eqb id j) (omega (arith, k.tasks)) (eqb_tells id j)
     ∙ ap (λ o. cond (eqb id j) (Some at) o) (k.at j)
     ∙ awaits-placed (eqb id j) at (task_of s j).woken
 
 -- after moves that keep wakes and who runs
-switched-awaits : (left : Left) (cpu now : ℕ) (run : Option ℕ) (s t : Figures) (j : ℕ) → j < length s.tasks → KeepsWakes s t → (processor_of t cpu).running ≡ (processor_of s cpu).running →
-    (task_of (switched left cpu now run t) j).woken ≡ cond (begins_as j (who (processor_of s cpu)) (Some run)) None (task_of s j).woken
-switched-awaits left cpu now run s t j inside k r =
-    woken-switched left cpu now run t j (omega (arith, k.tasks))
+switched-awaits : (left : Left) (processor now : ℕ) (run : Option ℕ) (s t : Figures) (j : ℕ) → j < length s.tasks → KeepsWakes s t → (processor_of t processor).running ≡ (processor_of s processor).running →
+    (task_of (switched left processor now run t) j).woken ≡ cond (begins_as j (who (processor_of s processor)) (Some run)) None (task_of s j).woken
+switched-awaits left processor now run s t j inside k r =
+    woken-switched left processor now run t j (omega (arith, k.tasks))
     ∙ ap (λ o. cond (begins_as j (option_map (λ (x : Start). x.task) o) (Some run)) None (task_of t j).woken) r
-    ∙ ap (λ o. cond (begins_as j (who (processor_of s cpu)) (Some run)) None o) (k.at j)
+    ∙ ap (λ o. cond (begins_as j (who (processor_of s processor)) (Some run)) None o) (k.at j)
 
-kept-ask : (cpu now : ℕ) (d : Decision) (s : Figures) → KeepsWakes s (asked cpu d (read_at cpu now s))
-kept-ask cpu now d s = both s (read_at cpu now s) _ (kept-read_at cpu now s) (of_processor (read_at cpu now s) cpu _)
+kept-ask : (processor now : ℕ) (d : Decision) (s : Figures) → KeepsWakes s (asked processor d (read_at processor now s))
+kept-ask processor now d s = both s (read_at processor now s) _ (kept-read_at processor now s) (of_processor (read_at processor now s) processor _)
 
 -- counting a decision and reading a clock keep who runs
-pub runs-ask : (cpu now : ℕ) (d : Decision) (s : Figures) (j : ℕ) → (processor_of (asked cpu d (read_at cpu now s)) j).running ≡ (processor_of s j).running
-runs-ask cpu now d s j = (running-asked cpu d (read_at cpu now s)).at j ∙ (running-read_at cpu now s).at j
+pub runs-ask : (processor now : ℕ) (d : Decision) (s : Figures) (j : ℕ) → (processor_of (asked processor d (read_at processor now s)) j).running ≡ (processor_of s j).running
+runs-ask processor now d s j = (running-asked processor d (read_at processor now s)).at j ∙ (running-read_at processor now s).at j
 
-decided-awaits : (cpu now : ℕ) (d : Decision) (run : Option ℕ) (s : Figures) (j : ℕ) → j < length s.tasks →
-    (task_of (decided cpu now d run s) j).woken ≡ cond (begins_as j (who (processor_of s cpu)) (Some run)) None (task_of s j).woken
-decided-awaits cpu now d run s j inside = switched-awaits Preempted cpu (time_at cpu now s) run s _ j inside (kept-ask cpu now d s) (runs-ask cpu now d s cpu)
+decided-awaits : (processor now : ℕ) (d : Decision) (run : Option ℕ) (s : Figures) (j : ℕ) → j < length s.tasks →
+    (task_of (decided processor now d run s) j).woken ≡ cond (begins_as j (who (processor_of s processor)) (Some run)) None (task_of s j).woken
+decided-awaits processor now d run s j inside = switched-awaits Preempted processor (time_at processor now s) run s _ j inside (kept-ask processor now d s) (runs-ask processor now d s processor)
 
-kept-block : (cpu now id : ℕ) (s : Figures) → KeepsWakes s (leaves id (read_at cpu now s))
-kept-block cpu now id s = both s (read_at cpu now s) _ (kept-read_at cpu now s) (kept-leaves id (read_at cpu now s))
+kept-block : (processor now id : ℕ) (s : Figures) → KeepsWakes s (leaves id (read_at processor now s))
+kept-block processor now id s = both s (read_at processor now s) _ (kept-read_at processor now s) (kept-leaves id (read_at processor now s))
 
 -- so does a task's leaving
-pub runs-block : (cpu now id : ℕ) (s : Figures) (j : ℕ) → (processor_of (leaves id (read_at cpu now s)) j).running ≡ (processor_of s j).running
-runs-block cpu now id s j = (running-leaves id (read_at cpu now s)).at j ∙ (running-read_at cpu now s).at j
+pub runs-block : (processor now id : ℕ) (s : Figures) (j : ℕ) → (processor_of (leaves id (read_at processor now s)) j).running ≡ (processor_of s j).running
+runs-block processor now id s j = (running-leaves id (read_at processor now s)).at j ∙ (running-read_at processor now s).at j
 
-blocked-awaits : (cpu now id : ℕ) (run : Option ℕ) (s : Figures) (j : ℕ) → j < length s.tasks →
-    (task_of (blocked cpu now id run s) j).woken ≡ cond (begins_as j (who (processor_of s cpu)) (Some run)) None (task_of s j).woken
-blocked-awaits cpu now id run s j inside = switched-awaits Blocked cpu (time_at cpu now s) run s _ j inside (kept-block cpu now id s) (runs-block cpu now id s cpu)
+blocked-awaits : (processor now id : ℕ) (run : Option ℕ) (s : Figures) (j : ℕ) → j < length s.tasks →
+    (task_of (blocked processor now id run s) j).woken ≡ cond (begins_as j (who (processor_of s processor)) (Some run)) None (task_of s j).woken
+blocked-awaits processor now id run s j inside = switched-awaits Blocked processor (time_at processor now s) run s _ j inside (kept-block processor now id s) (runs-block processor now id s processor)
 
-kept-pull : (cpu now : ℕ) (d : Decision) (task : Option ℕ) (s : Figures) → KeepsWakes s (taken cpu (time_at cpu now s) task (asked cpu d (read_at cpu now s)))
-kept-pull cpu now d task s = both s (asked cpu d (read_at cpu now s)) _ (kept-ask cpu now d s) (kept-taken cpu (time_at cpu now s) task _)
+kept-pull : (processor now : ℕ) (d : Decision) (task : Option ℕ) (s : Figures) → KeepsWakes s (taken processor (time_at processor now s) task (asked processor d (read_at processor now s)))
+kept-pull processor now d task s = both s (asked processor d (read_at processor now s)) _ (kept-ask processor now d s) (kept-taken processor (time_at processor now s) task _)
 
 -- and a pull
-pub runs-pull : (cpu now : ℕ) (d : Decision) (task : Option ℕ) (s : Figures) (j : ℕ) →
-    (processor_of (taken cpu (time_at cpu now s) task (asked cpu d (read_at cpu now s))) j).running ≡ (processor_of s j).running
-runs-pull cpu now d task s j = (running-taken cpu (time_at cpu now s) task (asked cpu d (read_at cpu now s))).at j ∙ runs-ask cpu now d s j
+pub runs-pull : (processor now : ℕ) (d : Decision) (task : Option ℕ) (s : Figures) (j : ℕ) →
+    (processor_of (taken processor (time_at processor now s) task (asked processor d (read_at processor now s))) j).running ≡ (processor_of s j).running
+runs-pull processor now d task s j = (running-taken processor (time_at processor now s) task (asked processor d (read_at processor now s))).at j ∙ runs-ask processor now d s j
 
-pulled-awaits : (cpu now : ℕ) (d : Decision) (task run : Option ℕ) (s : Figures) (j : ℕ) → j < length s.tasks →
-    (task_of (pulled cpu now d task run s) j).woken ≡ cond (begins_as j (who (processor_of s cpu)) (Some run)) None (task_of s j).woken
-pulled-awaits cpu now d task run s j inside = switched-awaits Preempted cpu (time_at cpu now s) run s _ j inside (kept-pull cpu now d task s) (runs-pull cpu now d task s cpu)
+pulled-awaits : (processor now : ℕ) (d : Decision) (task run : Option ℕ) (s : Figures) (j : ℕ) → j < length s.tasks →
+    (task_of (pulled processor now d task run s) j).woken ≡ cond (begins_as j (who (processor_of s processor)) (Some run)) None (task_of s j).woken
+pulled-awaits processor now d task run s j inside = switched-awaits Preempted processor (time_at processor now s) run s _ j inside (kept-pull processor now d task s) (runs-pull processor now d task s processor)
 
 performed-awaits : (s : Figures) (e : Event) (r : Reply) (j : ℕ) → j < length s.tasks → AwaitsAfter j s (performed s e r) e (Ok r)
 performed-awaits s (Admit id nice mask slice) Admitted j inside = (with_one (leaves id s) id _ refl).at j ∙ (kept-leaves id s).at j
-performed-awaits s (EndWake cpu now) (Placed task to by steps) j inside = placed-awaits cpu now (record { hook = Place; by = by; steps = steps }) task to s j inside
-performed-awaits s (Drain cpu now) (Drained count run by steps) j inside = decided-awaits cpu now (record { hook = Preempt; by = by; steps = steps }) run s j inside
-performed-awaits s (Tick cpu now) (Ticked run by steps) j inside = decided-awaits cpu now (record { hook = Preempt; by = by; steps = steps }) run s j inside
-performed-awaits s (Block cpu now) (Went task run) j inside = blocked-awaits cpu now task run s j inside
-performed-awaits s (Pull cpu from now) (Pulled task run by steps) j inside = pulled-awaits cpu now (record { hook = OnPull; by = by; steps = steps }) task run s j inside
+performed-awaits s (EndWake processor now) (Placed task to by steps) j inside = placed-awaits processor now (record { hook = Place; by = by; steps = steps }) task to s j inside
+performed-awaits s (Drain processor now) (Drained count run by steps) j inside = decided-awaits processor now (record { hook = Preempt; by = by; steps = steps }) run s j inside
+performed-awaits s (Tick processor now) (Ticked run by steps) j inside = decided-awaits processor now (record { hook = Preempt; by = by; steps = steps }) run s j inside
+performed-awaits s (Block processor now) (Went task run) j inside = blocked-awaits processor now task run s j inside
+performed-awaits s (Pull processor from now) (Pulled task run by steps) j inside = pulled-awaits processor now (record { hook = OnPull; by = by; steps = steps }) task run s j inside
 performed-awaits s e r j inside = refl
 
 outside : (a b : ℕ) → ltb a b ≡ false → a < b → ⊥
 outside a b e h = grind (arith, nat_tests)
 
 nothing-awaits : (s : Figures) (e : Event) (r : Reply) (j : ℕ) → is_there s e ≡ false → IsWithin (length s.processors) (sight e r) → AwaitsAfter j s s e (Ok r)
-nothing-awaits s (EndWake cpu now) (Placed task to by steps) j none h = absurd (outside cpu (length s.processors) none h)
-nothing-awaits s (Drain cpu now) (Drained count run by steps) j none h = absurd (outside cpu (length s.processors) none h)
-nothing-awaits s (Tick cpu now) (Ticked run by steps) j none h = absurd (outside cpu (length s.processors) none h)
-nothing-awaits s (Block cpu now) (Went task run) j none h = absurd (outside cpu (length s.processors) none h)
-nothing-awaits s (Pull cpu from now) (Pulled task run by steps) j none h = absurd (outside cpu (length s.processors) none h)
+nothing-awaits s (EndWake processor now) (Placed task to by steps) j none h = absurd (outside processor (length s.processors) none h)
+nothing-awaits s (Drain processor now) (Drained count run by steps) j none h = absurd (outside processor (length s.processors) none h)
+nothing-awaits s (Tick processor now) (Ticked run by steps) j none h = absurd (outside processor (length s.processors) none h)
+nothing-awaits s (Block processor now) (Went task run) j none h = absurd (outside processor (length s.processors) none h)
+nothing-awaits s (Pull processor from now) (Pulled task run by steps) j none h = absurd (outside processor (length s.processors) none h)
 nothing-awaits s e r j none h = refl
 
 awaits-if : (b : Bool) (s : Figures) (e : Event) (r : Reply) (j : ℕ) → is_there s e ≡ b → j < length s.tasks → IsWithin (length s.processors) (sight e r) → AwaitsAfter j s (cond b (performed s e r) s) e (Ok r)
@@ -236,16 +236,16 @@ awaits-if false s e r j there inside h = nothing-awaits s e r j there h
 -- which wake is awaited after an event is what it was, but for what the answer shows
 awaits-after : (s : Figures) (e : Event) (a : Result Reply Refusal) (j : ℕ) → j < length s.tasks → IsWithin (length s.processors) (sight_of e a) → AwaitsAfter j s (after s e a) e a
 awaits-after s e (Ok r) j inside h = awaits-if (is_there s e) s e r j refl inside h
-awaits-after s (EndWake cpu now) (Err r) j inside h = refl
+awaits-after s (EndWake processor now) (Err r) j inside h = refl
 awaits-after s e (Err r) j inside h = refl
 
 seen-wake : (count : ℕ) (past : History) (e : Event) (a : Result Reply Refusal) (j : ℕ) → IsOf count past → IsWithin count (sight_of e a) → wake_seen j (figures count past) e a ≡ wake_end j past e a
-seen-wake count past (EndWake cpu now) (Ok (Placed task to by steps)) j h w = ap (λ n. cond (eqb task j) (Some (reading n now)) None) (figures-clocks count past cpu h w).0
+seen-wake count past (EndWake processor now) (Ok (Placed task to by steps)) j h w = ap (λ n. cond (eqb task j) (Some (reading n now)) None) (figures-clocks count past processor h w).0
 seen-wake count past e a j h w = refl
 
 seen-begins : (count : ℕ) (past : History) (o : Option Sight) (j : ℕ) → IsOf count past → IsWithin count o → begins_seen j (figures count past) o ≡ begins j past o
 seen-begins count past None j h w = refl
-seen-begins count past (Some x) j h w = ap (λ y. begins_as j y x.run) (figures-clocks count past x.cpu h w).1
+seen-begins count past (Some x) j h w = ap (λ y. begins_as j y x.run) (figures-clocks count past x.processor h w).1
 
 -- figures show the wakes that are awaited
 awaits : (count : ℕ) (past : History) (j : ℕ) → IsOf count past → j < 1024 → (task_of (figures count past) j).woken ≡ awaited j past
@@ -259,58 +259,58 @@ awaits count (m ∷ past) j h inside =
     ∙ ap (λ before. awaited_after (wake_end j past m.event m.answer) (begins j past o) before) (awaits count past j h.1 inside)
 
 -- a start at a processor, at a reading of its clock
-pub record Starts (s : Figures) (cpu now : ℕ) (run : Option ℕ) (start : Start) : Type 0 where
-  pub here : start.processor ≡ cpu
-  pub new : begins_as start.task (who (processor_of s cpu)) (Some run) ≡ true
-  pub reading : start.at ≡ time_at cpu now s
+pub record Starts (s : Figures) (processor now : ℕ) (run : Option ℕ) (start : Start) : Type 0 where
+  pub here : start.processor ≡ processor
+  pub new : begins_as start.task (who (processor_of s processor)) (Some run) ≡ true
+  pub reading : start.at ≡ time_at processor now s
   pub late : start.latency ≡ option_map (λ (woken : ℕ). start.at - woken) (task_of s start.task).woken
 
 eqb-refl : (a : ℕ) → eqb a a ≡ true
 eqb-refl a = grind (arith, nat_tests)
 
-starts_by : (s u : Figures) (cpu now : ℕ) (run : Option ℕ) (start : Start) → KeepsWakes s u → is_run_by (processor_of s cpu).running run ≡ false → starts_as cpu (time_at cpu now s) run u ≡ Some start → Starts s cpu now run start
-starts_by s u cpu now None start k new e = cc
-starts_by s u cpu now (Some id) start k new e =
-    let x = start_of cpu id (time_at cpu now s) (task_of u id) in
+starts_by : (s u : Figures) (processor now : ℕ) (run : Option ℕ) (start : Start) → KeepsWakes s u → is_run_by (processor_of s processor).running run ≡ false → starts_as processor (time_at processor now s) run u ≡ Some start → Starts s processor now run start
+starts_by s u processor now None start k new e = cc
+starts_by s u processor now (Some id) start k new e =
+    let x = start_of processor id (time_at processor now s) (task_of u id) in
     let is : x ≡ start = cc in
-    let P : Start → Type 0 = λ st. Starts s cpu now (Some id) st in
+    let P : Start → Type 0 = λ st. Starts s processor now (Some id) st in
     subst P is (record {
       here = refl;
-      new = begins-new id (processor_of s cpu).running (Some id) new ∙ eqb-refl id;
+      new = begins-new id (processor_of s processor).running (Some id) new ∙ eqb-refl id;
       reading = refl;
-      late = ap (option_map (λ (woken : ℕ). time_at cpu now s - woken)) (k.at id);
+      late = ap (option_map (λ (woken : ℕ). time_at processor now s - woken)) (k.at id);
     })
 
-starts_if : (b : Bool) (left : Left) (s t : Figures) (cpu now : ℕ) (run : Option ℕ) (start : Start) → KeepsWakes s t → (processor_of t cpu).running ≡ (processor_of s cpu).running → is_run_by (processor_of t cpu).running run ≡ b →
-    cond b None (starts_as cpu (time_at cpu now s) run (stopped left (time_at cpu now s) (processor_of t cpu).running t)) ≡ Some start → Starts s cpu now run start
-starts_if true left s t cpu now run start k r is e = cc
-starts_if false left s t cpu now run start k r is e =
-    let u = stopped left (time_at cpu now s) (processor_of t cpu).running t in
-    starts_by s u cpu now run start (both s t u k (kept-stopped left (time_at cpu now s) (processor_of t cpu).running t))
+starts_if : (b : Bool) (left : Left) (s t : Figures) (processor now : ℕ) (run : Option ℕ) (start : Start) → KeepsWakes s t → (processor_of t processor).running ≡ (processor_of s processor).running → is_run_by (processor_of t processor).running run ≡ b →
+    cond b None (starts_as processor (time_at processor now s) run (stopped left (time_at processor now s) (processor_of t processor).running t)) ≡ Some start → Starts s processor now run start
+starts_if true left s t processor now run start k r is e = cc
+starts_if false left s t processor now run start k r is e =
+    let u = stopped left (time_at processor now s) (processor_of t processor).running t in
+    starts_by s u processor now run start (both s t u k (kept-stopped left (time_at processor now s) (processor_of t processor).running t))
     (ap (λ o. is_run_by o run) (sym r) ∙ is) e
 
-starts : (left : Left) (s t : Figures) (cpu now : ℕ) (run : Option ℕ) (start : Start) → KeepsWakes s t → (processor_of t cpu).running ≡ (processor_of s cpu).running → start_at left cpu (time_at cpu now s) run t ≡ Some start →
-    Starts s cpu now run start
-starts left s t cpu now run start k r e = starts_if (is_run_by (processor_of t cpu).running run) left s t cpu now run start k r refl e
+starts : (left : Left) (s t : Figures) (processor now : ℕ) (run : Option ℕ) (start : Start) → KeepsWakes s t → (processor_of t processor).running ≡ (processor_of s processor).running → start_at left processor (time_at processor now s) run t ≡ Some start →
+    Starts s processor now run start
+starts left s t processor now run start k r e = starts_if (is_run_by (processor_of t processor).running run) left s t processor now run start k r refl e
 
 -- what is told of a start, by what the answer shows
 abbrev pub StartsAs : Figures → Option Sight → Start → Type 0
 StartsAs s None start = ⊥
-StartsAs s (Some x) start = (run : Option ℕ) × (x.run ≡ Some run) × Starts s x.cpu x.now run start
+StartsAs s (Some x) start = (run : Option ℕ) × (x.run ≡ Some run) × Starts s x.processor x.now run start
 
 starts-performed : (s : Figures) (e : Event) (r : Reply) (start : Start) → (performed_told s e r).start ≡ Some start → StartsAs s (sight e r) start
-starts-performed s (Drain cpu now) (Drained count run by steps) start e =
+starts-performed s (Drain processor now) (Drained count run by steps) start e =
     let d : Decision = record { hook = Preempt; by = by; steps = steps } in
-    (run, refl, starts Preempted s (asked cpu d (read_at cpu now s)) cpu now run start (kept-ask cpu now d s) (runs-ask cpu now d s cpu) e)
-starts-performed s (Tick cpu now) (Ticked run by steps) start e =
+    (run, refl, starts Preempted s (asked processor d (read_at processor now s)) processor now run start (kept-ask processor now d s) (runs-ask processor now d s processor) e)
+starts-performed s (Tick processor now) (Ticked run by steps) start e =
     let d : Decision = record { hook = Preempt; by = by; steps = steps } in
-    (run, refl, starts Preempted s (asked cpu d (read_at cpu now s)) cpu now run start (kept-ask cpu now d s) (runs-ask cpu now d s cpu) e)
-starts-performed s (Block cpu now) (Went task run) start e =
-    (run, refl, starts Blocked s (leaves task (read_at cpu now s)) cpu now run start (kept-block cpu now task s) (runs-block cpu now task s cpu) e)
-starts-performed s (Pull cpu from now) (Pulled task run by steps) start e =
+    (run, refl, starts Preempted s (asked processor d (read_at processor now s)) processor now run start (kept-ask processor now d s) (runs-ask processor now d s processor) e)
+starts-performed s (Block processor now) (Went task run) start e =
+    (run, refl, starts Blocked s (leaves task (read_at processor now s)) processor now run start (kept-block processor now task s) (runs-block processor now task s processor) e)
+starts-performed s (Pull processor from now) (Pulled task run by steps) start e =
     let d : Decision = record { hook = OnPull; by = by; steps = steps } in
-    (run, refl, starts Preempted s (taken cpu (time_at cpu now s) task (asked cpu d (read_at cpu now s))) cpu now run start (kept-pull cpu now d task s) (runs-pull cpu now d task s cpu) e)
-starts-performed s (EndWake cpu now) (Placed task to by steps) start e = cc
+    (run, refl, starts Preempted s (taken processor (time_at processor now s) task (asked processor d (read_at processor now s))) processor now run start (kept-pull processor now d task s) (runs-pull processor now d task s processor) e)
+starts-performed s (EndWake processor now) (Placed task to by steps) start e = cc
 starts-performed s e r start h = cc
 
 starts-told_if : (b : Bool) (s : Figures) (e : Event) (r : Reply) (start : Start) → (cond b (performed_told s e r) nothing).start ≡ Some start → StartsAs s (sight e r) start
@@ -322,16 +322,16 @@ starts-told s e (Ok r) start h = starts-told_if (is_there s e) s e r start h
 starts-told s e (Err r) start h = cc
 
 -- the clock that a sight reads
-clock-there : (cpu : ℕ) (past : History) (x : Sight) → x.cpu ≡ cpu → clock_after cpu (clock cpu past) (Some x) ≡ reading (clock cpu past) x.now
-clock-there cpu past x e = rw e (rw (eqb-refl cpu) refl)
+clock-there : (processor : ℕ) (past : History) (x : Sight) → x.processor ≡ processor → clock_after processor (clock processor past) (Some x) ≡ reading (clock processor past) x.now
+clock-there processor past x e = rw e (rw (eqb-refl processor) refl)
 
 latency-shown : (count : ℕ) (past : History) (o : Option Sight) (start : Start) → IsOf count past → IsWithin count o → start.task < 1024 → StartsAs (figures count past) o start →
     (begins start.task past o ≡ true) × (start.at ≡ clock_after start.processor (clock start.processor past) o) × (start.latency ≡ option_map (λ (woken : ℕ). start.at - woken) (awaited start.task past))
 latency-shown count past None start h w inside t = absurd t
 latency-shown count past (Some x) start h w inside t =
-    let c = figures-clocks count past x.cpu h w in (
-      ap (λ r. begins_as start.task (runner x.cpu past) r) t.1 ∙ ap (λ y. begins_as start.task y (Some t.0)) (sym c.1) ∙ t.2.new,
-      t.2.reading ∙ ap (λ n. reading n x.now) c.0 ∙ sym (ap (λ j. clock_after j (clock j past) (Some x)) t.2.here ∙ clock-there x.cpu past x refl),
+    let c = figures-clocks count past x.processor h w in (
+      ap (λ r. begins_as start.task (runner x.processor past) r) t.1 ∙ ap (λ y. begins_as start.task y (Some t.0)) (sym c.1) ∙ t.2.new,
+      t.2.reading ∙ ap (λ n. reading n x.now) c.0 ∙ sym (ap (λ j. clock_after j (clock j past) (Some x)) t.2.here ∙ clock-there x.processor past x refl),
       t.2.late ∙ ap (option_map (λ (woken : ℕ). start.at - woken)) (awaits count past start.task h inside),
     )
 

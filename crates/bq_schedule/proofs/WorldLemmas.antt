@@ -15,7 +15,7 @@ use Rattle.bq_parts.specs.declared.reply.Reply.TheVariants.{Admitted, Retired, D
 use Rattle.bq_parts.specs.declared.refusal.Refusal.{Refusal}
 use Rattle.bq_parts.specs.declared.refusal.Refusal.TheVariants as no
 use Rattle.bq_parts.specs.Processors.{Processor, opening}
-use Rattle.bq_parts.specs.World.{World, opening_world, processor, count_in, with_processor}
+use Rattle.bq_parts.specs.World.{World, opening_world, processor_at, count_in, with_processor}
 use Rattle.bq_parts.specs.Refusals.{refusal, argument_refusal, state_refusal, either}
 use Rattle.bq_parts.specs.Moves.{with_pulled, started_if_idle, without_task, taken_from}
 use Rattle.bq_parts.specs.Choices.{Regime}
@@ -31,11 +31,11 @@ use Rattle.bq_schedule.proofs.FrameLemmas.{get_or-set_like}
 
 -- the last reading of a processor's clock
 abbrev pub last_at : World → ℕ → ℕ
-last_at w j = (processor w j).running.last
+last_at w j = (processor_at w j).running.last
 
 -- who runs at a processor
 abbrev pub who_at : World → ℕ → Option ℕ
-who_at w j = id_of (processor w j).running.current
+who_at w j = id_of (processor_at w j).running.current
 
 -- a world shows of its processors what an answer says
 pub record Shown (w w' : World) (o : Option Sight) : Type 0 where
@@ -81,12 +81,12 @@ who_there w i j run p true inside l (inr e) = absurd (cc)
 who_there w i j run p false inside l (inr e) = ap (λ (q : Processor). id_of q.running.current) (get_or-set_other w.processors i j p opening (λ h. e.1 (sym h)))
 
 -- a processor's clock is read, and who runs there is told or stays
-read_there : (w : World) (x : Sight) (p : Processor) → p.running.last ≡ reading (last_at w x.cpu) x.now → id_of p.running.current ≡ unwrap_or x.run (who_at w x.cpu) →
-    Shown w (with_processor w x.cpu p) (Some x)
+read_there : (w : World) (x : Sight) (p : Processor) → p.running.last ≡ reading (last_at w x.processor) x.now → id_of p.running.current ≡ unwrap_or x.run (who_at w x.processor) →
+    Shown w (with_processor w x.processor p) (Some x)
 read_there w x p l c = record {
-  count = length-set w.processors x.cpu p;
-  last = λ j inside. last_there w x.cpu j x.now p (eqb x.cpu j) inside l (eqb_tells x.cpu j);
-  who = λ j inside. who_there w x.cpu j x.run p (eqb x.cpu j) inside c (eqb_tells x.cpu j);
+  count = length-set w.processors x.processor p;
+  last = λ j inside. last_there w x.processor j x.now p (eqb x.processor j) inside l (eqb_tells x.processor j);
+  who = λ j inside. who_there w x.processor j x.run p (eqb x.processor j) inside c (eqb_tells x.processor j);
 }
 
 -- then a step that shows nothing
@@ -153,57 +153,57 @@ shown-performs s w (Admit id nice mask slice) calls r w' h k =
     shown_as w w' (Admit id nice mask slice) r Admitted k.1.1 (like w w w' None (ap (λ (v : World). v.processors) (sym k.3)) (same w))
 shown-performs s w (Retire id) calls r w' h k = shown_as w w' (Retire id) r Retired k.1.1 (like w w w' None (ap (λ (v : World). v.processors) (sym k.3)) (same w))
 shown-performs s w Draw calls r w' h k = shown_as w w' Draw r (Drawn _) k.0 (like w w w' None (ap (λ (v : World). v.processors) (sym k.2)) (same w))
-shown-performs s w (Install cpu hook g policy) calls r w' h k =
+shown-performs s w (Install processor hook g policy) calls r w' h k =
     let i = k.1 in
-    shown_as w w' (Install cpu hook g policy) r Installed i.1
-    (like w (with_processor w cpu k.0) w' None (ap (λ (v : World). v.processors) (sym k.3)) (kept w cpu k.0 (ap (λ (q : Processor). q.running.last) i.2) (ap (λ (q : Processor). id_of q.running.current) i.2)))
-shown-performs s w (BeginWake cpu id) calls r w' h k =
+    shown_as w w' (Install processor hook g policy) r Installed i.1
+    (like w (with_processor w processor k.0) w' None (ap (λ (v : World). v.processors) (sym k.3)) (kept w processor k.0 (ap (λ (q : Processor). q.running.last) i.2) (ap (λ (q : Processor). id_of q.running.current) i.2)))
+shown-performs s w (BeginWake processor id) calls r w' h k =
     let b = k.2 in
-    shown_as w w' (BeginWake cpu id) r (Begun id _) b.3
-    (like w (with_processor w cpu k.0) w' None (ap (λ (v : World). v.processors) (sym k.4)) (kept w cpu k.0 (ap (λ (q : Processor). q.running.last) b.4) (ap (λ (q : Processor). id_of q.running.current) b.4)))
-shown-performs s w (EndWake cpu now) calls r w' h k =
+    shown_as w w' (BeginWake processor id) r (Begun id _) b.3
+    (like w (with_processor w processor k.0) w' None (ap (λ (v : World). v.processors) (sym k.4)) (kept w processor k.0 (ap (λ (q : Processor). q.running.last) b.4) (ap (λ (q : Processor). id_of q.running.current) b.4)))
+shown-performs s w (EndWake processor now) calls r w' h k =
     let written = k.2.4.5 in
-    shown_as w w' (EndWake cpu now) r (Placed k.0.task.id k.0.to k.0.by k.0.steps) k.3
-    (like w (with_processor w cpu k.1) w' _ (ap (λ (v : World). v.processors) (sym k.4))
-    (read_there w (record { cpu = cpu; now = now; run = None }) k.1 (ap (λ (q : Processor). q.running.last) written)
-    (ap (λ (q : Processor). id_of q.running.current) written ∙ id-charged s.discipline (processor w cpu).running.current _)))
-shown-performs s w (Drain cpu now) calls r w' h k =
-    let p = enter_all s.discipline (charge s.discipline (processor w cpu).running now) (get_or w.inboxes cpu []) in
+    shown_as w w' (EndWake processor now) r (Placed k.0.task.id k.0.to k.0.by k.0.steps) k.3
+    (like w (with_processor w processor k.1) w' _ (ap (λ (v : World). v.processors) (sym k.4))
+    (read_there w (record { processor = processor; now = now; run = None }) k.1 (ap (λ (q : Processor). q.running.last) written)
+    (ap (λ (q : Processor). id_of q.running.current) written ∙ id-charged s.discipline (processor_at w processor).running.current _)))
+shown-performs s w (Drain processor now) calls r w' h k =
+    let p = enter_all s.discipline (charge s.discipline (processor_at w processor).running now) (get_or w.inboxes processor []) in
     let x = k.1 in
-    shown_as w w' (Drain cpu now) r (Drained _ (id_of k.0.running.current) x.0.by x.0.steps) x.3
-    (like w (with_processor w cpu k.0) w' _ (ap (λ (v : World). v.processors) (sym k.2))
-    (read_there w (record { cpu = cpu; now = now; run = Some (id_of k.0.running.current) }) k.0
+    shown_as w w' (Drain processor now) r (Drained _ (id_of k.0.running.current) x.0.by x.0.steps) x.3
+    (like w (with_processor w processor k.0) w' _ (ap (λ (v : World). v.processors) (sym k.2))
+    (read_there w (record { processor = processor; now = now; run = Some (id_of k.0.running.current) }) k.0
     (ap (λ (q : Processor). q.running.last) x.1.1 ∙ last-decided s.discipline p p.current (x.0.choice == 1)) refl))
-shown-performs s w (Tick cpu now) calls r w' h k =
-    let p = charge s.discipline (processor w cpu).running now in
+shown-performs s w (Tick processor now) calls r w' h k =
+    let p = charge s.discipline (processor_at w processor).running now in
     let x = k.1 in
-    shown_as w w' (Tick cpu now) r (Ticked (id_of k.0.running.current) x.0.by x.0.steps) x.3
-    (like w (with_processor w cpu k.0) w' _ (ap (λ (v : World). v.processors) (sym k.2))
-    (read_there w (record { cpu = cpu; now = now; run = Some (id_of k.0.running.current) }) k.0
+    shown_as w w' (Tick processor now) r (Ticked (id_of k.0.running.current) x.0.by x.0.steps) x.3
+    (like w (with_processor w processor k.0) w' _ (ap (λ (v : World). v.processors) (sym k.2))
+    (read_there w (record { processor = processor; now = now; run = Some (id_of k.0.running.current) }) k.0
     (ap (λ (q : Processor). q.running.last) x.1.1 ∙ last-decided s.discipline p p.current (x.0.choice == 1)) refl))
-shown-performs s w (Block cpu now) calls r w' h k =
-    let p = charge s.discipline (processor w cpu).running now in
+shown-performs s w (Block processor now) calls r w' h k =
+    let p = charge s.discipline (processor_at w processor).running now in
     let rest : Running = record p { current = None } in
     let x = k.2 in
-    shown_as w w' (Block cpu now) r (Went x.0.id (id_of k.0.running.current)) x.1.2
-    (like w (with_processor w cpu k.0) w' _ (ap (λ (v : World). v.processors) (sym k.4))
-    (read_there w (record { cpu = cpu; now = now; run = Some (id_of k.0.running.current) }) k.0
+    shown_as w w' (Block processor now) r (Went x.0.id (id_of k.0.running.current)) x.1.2
+    (like w (with_processor w processor k.0) w' _ (ap (λ (v : World). v.processors) (sym k.4))
+    (read_there w (record { processor = processor; now = now; run = Some (id_of k.0.running.current) }) k.0
     (ap (λ (q : Processor). q.running.last) x.1.1 ∙ last-run_id rest (id_of (s.discipline.choice rest.queue))) refl))
-shown-performs s w (Pull cpu from now) calls r w' h k =
+shown-performs s w (Pull processor from now) calls r w' h k =
     let d = s.discipline in
-    let f = there (count_in w) cpu _ (accepted w (Pull cpu from now) h) in
+    let f = there (count_in w) processor _ (accepted w (Pull processor from now) h) in
     let g = there (count_in w) from _ f.1 in
-    let apart : cpu ≢ from = differs cpu from (passed (cpu == from) no.SameProcessor None g.1).0 in
+    let apart : processor ≢ from = differs processor from (passed (processor == from) no.SameProcessor None g.1).0 in
     let x = k.2 in
     let task = task_numbered x.0.choice in
-    let c : Processor = after_time d now (processor w cpu) in
-    let other : Processor = remarked d (processor w from) in
+    let c : Processor = after_time d now (processor_at w processor) in
+    let other : Processor = remarked d (processor_at w from) in
     let taken = taken_from other.running task in
-    let u = with_processor w cpu k.0 in
-    let there' : processor u from ≡ processor w from = get_or-set_other w.processors cpu from k.0 opening (λ e. apart (sym e)) in
-    shown_as w w' (Pull cpu from now) r (Moved task (id_of k.0.running.current) x.0.by x.0.steps) x.1.2
-    (then_kept w u w' (Some (record { cpu = cpu; now = now; run = Some (id_of k.0.running.current) }))
-    (read_there w (record { cpu = cpu; now = now; run = Some (id_of k.0.running.current) }) k.0
+    let u = with_processor w processor k.0 in
+    let there' : processor_at u from ≡ processor_at w from = get_or-set_other w.processors processor from k.0 opening (λ e. apart (sym e)) in
+    shown_as w w' (Pull processor from now) r (Moved task (id_of k.0.running.current) x.0.by x.0.steps) x.1.2
+    (then_kept w u w' (Some (record { processor = processor; now = now; run = Some (id_of k.0.running.current) }))
+    (read_there w (record { processor = processor; now = now; run = Some (id_of k.0.running.current) }) k.0
     (ap (λ (q : Processor). q.running.last) x.1.3 ∙ last-started_if_idle d (with_pulled d c.running taken) c.running.current ∙ last-with_pulled d c.running taken) refl)
     (like u (with_processor u from k.1) w' None (ap (λ (v : World). v.processors) (sym k.3))
     (kept u from k.1
@@ -215,21 +215,21 @@ within_as n e r x h k = rw h k
 
 -- an event that is not refused names a processor that is there
 within-performs : (s : Regime) (w : World) (e : Event) (calls : List Asked) (r : Reply) (w' : World) → refusal w e ≡ None → Performs s w e calls r w' → IsWithin (count_in w) (sight e r)
-within-performs s w (EndWake cpu now) calls r w' h k =
-    within_as (count_in w) (EndWake cpu now) r (Placed k.0.task.id k.0.to k.0.by k.0.steps) k.3 (there (count_in w) cpu None (accepted w (EndWake cpu now) h)).0
-within-performs s w (Drain cpu now) calls r w' h k =
-    within_as (count_in w) (Drain cpu now) r (Drained _ _ k.1.0.by k.1.0.steps) k.1.3 (there (count_in w) cpu None (accepted w (Drain cpu now) h)).0
-within-performs s w (Tick cpu now) calls r w' h k =
-    within_as (count_in w) (Tick cpu now) r (Ticked _ k.1.0.by k.1.0.steps) k.1.3 (there (count_in w) cpu None (accepted w (Tick cpu now) h)).0
-within-performs s w (Block cpu now) calls r w' h k =
-    within_as (count_in w) (Block cpu now) r (Went k.2.0.id _) k.2.1.2 (there (count_in w) cpu None (accepted w (Block cpu now) h)).0
-within-performs s w (Pull cpu from now) calls r w' h k =
-    within_as (count_in w) (Pull cpu from now) r (Moved (task_numbered k.2.0.choice) _ k.2.0.by k.2.0.steps) k.2.1.2 (there (count_in w) cpu _ (accepted w (Pull cpu from now) h)).0
+within-performs s w (EndWake processor now) calls r w' h k =
+    within_as (count_in w) (EndWake processor now) r (Placed k.0.task.id k.0.to k.0.by k.0.steps) k.3 (there (count_in w) processor None (accepted w (EndWake processor now) h)).0
+within-performs s w (Drain processor now) calls r w' h k =
+    within_as (count_in w) (Drain processor now) r (Drained _ _ k.1.0.by k.1.0.steps) k.1.3 (there (count_in w) processor None (accepted w (Drain processor now) h)).0
+within-performs s w (Tick processor now) calls r w' h k =
+    within_as (count_in w) (Tick processor now) r (Ticked _ k.1.0.by k.1.0.steps) k.1.3 (there (count_in w) processor None (accepted w (Tick processor now) h)).0
+within-performs s w (Block processor now) calls r w' h k =
+    within_as (count_in w) (Block processor now) r (Went k.2.0.id _) k.2.1.2 (there (count_in w) processor None (accepted w (Block processor now) h)).0
+within-performs s w (Pull processor from now) calls r w' h k =
+    within_as (count_in w) (Pull processor from now) r (Moved (task_numbered k.2.0.choice) _ k.2.0.by k.2.0.steps) k.2.1.2 (there (count_in w) processor _ (accepted w (Pull processor from now) h)).0
 within-performs s w (Admit id nice mask slice) calls r w' h k = within_as (count_in w) (Admit id nice mask slice) r Admitted k.1.1 tt
 within-performs s w (Retire id) calls r w' h k = within_as (count_in w) (Retire id) r Retired k.1.1 tt
 within-performs s w Draw calls r w' h k = within_as (count_in w) Draw r (Drawn _) k.0 tt
-within-performs s w (Install cpu hook g policy) calls r w' h k = within_as (count_in w) (Install cpu hook g policy) r Installed k.1.1 tt
-within-performs s w (BeginWake cpu id) calls r w' h k = within_as (count_in w) (BeginWake cpu id) r (Begun id _) k.2.3 tt
+within-performs s w (Install processor hook g policy) calls r w' h k = within_as (count_in w) (Install processor hook g policy) r Installed k.1.1 tt
+within-performs s w (BeginWake processor id) calls r w' h k = within_as (count_in w) (BeginWake processor id) r (Begun id _) k.2.3 tt
 
 -- each step shows what its answer says, refused or not
 shown-step : (s : Regime) (w : World) (e : Event) (calls : List Asked) (a : Result Reply Refusal) (w' : World) → WorldStep s w e calls a w' → Shown w w' (sight_of e a) × IsWithin (count_in w) (sight_of e a)
@@ -276,4 +276,4 @@ opening-told count = record {
 pub is_charged : IsCharged
 is_charged d count es calls answers w' run =
     let t = told-run count (under_any_answers d) (opening_world count) [] es calls answers w' (opening-told count) run in
-    (t.within, λ cpu inside. (t.last cpu inside, t.who cpu inside))
+    (t.within, λ processor inside. (t.last processor inside, t.who processor inside))

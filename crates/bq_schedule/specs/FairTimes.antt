@@ -1,31 +1,26 @@
 -- Fair times: what each reading of a clock gives to those that are runnable there.
-use Rattle.std.specs.Prelude.{ℕ, ◌*◌, ◌==◌, Bool, false, Option, Some, None, if◌then◌else◌}
+use Rattle.std.specs.Prelude.{ℕ, ◌*◌, Option, Some, None, if◌then◌else◌}
 use Rattle.std.specs.List.{sum_by}
 use Rattle.bq_schedule.specs.declared.figures.TaskFigures.{TaskFigures}
 use Rattle.bq_schedule.specs.declared.figures.ProcessorFigures.{ProcessorFigures}
 use Rattle.bq_schedule.specs.Figures.{Figures, processor_of, task_of}
 use Rattle.bq_schedule.specs.Passing.{slice_at, length_of, part_of}
 use Rattle.bq_schedule.specs.Runnable.{fair_at}
-use Rattle.bq_schedule.specs.Slices.{Sight}
+use Rattle.bq_schedule.specs.Slices.{is_this, Sight}
 
--- a task is runnable at that processor
-abbrev pub is_place : ℕ → Option ℕ → Bool
-is_place cpu None = false
-is_place cpu (Some k) = k == cpu
-
--- the weight that it has there
+-- the weight that a task has at a processor: its own where it is runnable there
 abbrev pub weight_there : ℕ → TaskFigures → ℕ
-weight_there cpu t = if is_place cpu t.place then t.weight else 0
+weight_there processor t = if is_this processor t.place then t.weight else 0
 
 -- the weights together of all that are runnable at a processor
 abbrev pub weights_at : Figures → ℕ → ℕ
-weights_at s cpu = sum_by (weight_there cpu) s.tasks
+weights_at s processor = sum_by (weight_there processor) s.tasks
 
 -- what a reading gives to a task: its weight there, times what each unit of weight is given of the slice
 abbrev pub share : Figures → Option Sight → ℕ → ℕ
 share s None id = 0
 share s (Some x) id =
-    weight_there x.cpu (task_of s id) * part_of (length_of (slice_at x.cpu (processor_of s x.cpu) x.now)) (weights_at s x.cpu)
+    weight_there x.processor (task_of s id) * part_of (length_of (slice_at x.processor (processor_of s x.processor) x.now)) (weights_at s x.processor)
 
 -- the fair times of all tasks together, what was not shared out, and the time in which any task ran
 abbrev pub all_fair : Figures → ℕ

@@ -61,13 +61,13 @@ abbrev pub opening : ℕ → Figures
 opening count = record { processors = replicate count unread; tasks = replicate 1024 unknown; refused = 0 }
 
 abbrev pub processor_of : Figures → ℕ → ProcessorFigures
-processor_of s cpu = slice_index_or s.processors cpu unread
+processor_of s processor = slice_index_or s.processors processor unread
 
 abbrev pub task_of : Figures → ℕ → TaskFigures
 task_of s id = slice_index_or s.tasks id unknown
 
 abbrev pub with_processor : Figures → ℕ → ProcessorFigures → Figures
-with_processor s cpu p = record s { processors = slice_set s.processors cpu p }
+with_processor s processor p = record s { processors = slice_set s.processors processor p }
 
 abbrev pub with_task : Figures → ℕ → TaskFigures → Figures
 with_task s id t = record s { tasks = slice_set s.tasks id t }

@@ -7,7 +7,7 @@ use Rattle.bq_bpf.specs.declared.board.Call.{Call as Asked}
 use Rattle.bq_parts.specs.declared.event.Event.{Event}
 use Rattle.bq_parts.specs.declared.reply.Reply.{Reply}
 use Rattle.bq_parts.specs.declared.refusal.Refusal.{Refusal}
-use Rattle.bq_parts.specs.World.{World, opening_world, processor}
+use Rattle.bq_parts.specs.World.{World, opening_world, processor_at}
 use Rattle.bq_parts.specs.Steps.{WorldRun}
 use Rattle.bq_core.specs.Laws.{under_any_answers}
 use Rattle.bq_schedule.specs.declared.slice.Slice.{Slice}
@@ -28,7 +28,7 @@ use Rattle.bq_schedule.specs.Waits.{waits_since, waits_told}
 -- what is shown is of a processor that is there
 abbrev pub IsWithin : ℕ → Option Sight → Type 0
 IsWithin count None = Unit {0}
-IsWithin count (Some s) = s.cpu < count
+IsWithin count (Some s) = s.processor < count
 
 -- a history of so many processors
 abbrev pub IsOf : ℕ → History → Type 0
@@ -48,13 +48,13 @@ IsCharged = (d : Discipline) (count : ℕ) (es : List Event) (calls : List (List
     WorldRun (under_any_answers d) (opening_world count) es calls answers w →
     let past = grown [] es answers in
     IsOf count past
-    × ((cpu : ℕ) → cpu < count → ((processor w cpu).running.last ≡ clock cpu past) × (id_of (processor w cpu).running.current ≡ runner cpu past))
+    × ((processor : ℕ) → processor < count → ((processor_at w processor).running.last ≡ clock processor past) × (id_of (processor_at w processor).running.current ≡ runner processor past))
 
 -- the figures show each processor's last reading and who runs there
 abbrev pub ShowsClocks : Type 0
-ShowsClocks = (count : ℕ) (past : History) (cpu : ℕ) → IsOf count past → cpu < count →
-    ((processor_of (figures count past) cpu).last ≡ clock cpu past)
-    × (option_map (λ (s : Start). s.task) (processor_of (figures count past) cpu).running ≡ runner cpu past)
+ShowsClocks = (count : ℕ) (past : History) (processor : ℕ) → IsOf count past → processor < count →
+    ((processor_of (figures count past) processor).last ≡ clock processor past)
+    × (option_map (λ (s : Start). s.task) (processor_of (figures count past) processor).running ≡ runner processor past)
 
 -- what is told of each moment is the slice that it ends
 abbrev pub TellsSlices : Type 0
@@ -65,11 +65,11 @@ TellsSlices = (count : ℕ) (past : History) (m : Moment) → IsOf count (m ∷ 
 abbrev pub AddsUpSlices : Type 0
 AddsUpSlices = (count : ℕ) (past : History) → count ≤ 255 → IsOf count past →
     ((id : ℕ) → id < 1024 → (task_of (figures count past) id).time ≡ time_in (is_of id) (slices past))
-    × ((cpu : ℕ) → cpu < count → (processor_of (figures count past) cpu).busy ≡ time_in (is_at cpu) (slices past))
+    × ((processor : ℕ) → processor < count → (processor_of (figures count past) processor).busy ≡ time_in (is_at processor) (slices past))
 
 -- the slices of a processor do not overlap, and end by its last reading
 abbrev pub SlicesStandApart : Type 0
-SlicesStandApart = (past : History) (cpu : ℕ) → StandApart (slices_at cpu past) × All (λ s. s.to ≤ clock cpu past) (slices_at cpu past)
+SlicesStandApart = (past : History) (processor : ℕ) → StandApart (slices_at processor past) × All (λ s. s.to ≤ clock processor past) (slices_at processor past)
 
 -- the time from the first reading of a processor's clock to the last
 abbrev pub window_since : Option ℕ → ℕ → ℕ
@@ -78,9 +78,9 @@ window_since (Some first) last = last - first
 
 -- slices and idle time fill it
 abbrev pub FillsWindow : Type 0
-FillsWindow = (count : ℕ) (past : History) (cpu : ℕ) → count ≤ 255 → IsOf count past → cpu < count →
-    let p = processor_of (figures count past) cpu in
-    time_in (is_at cpu) (slices past) + idle_of p ≡ window_since p.first p.last
+FillsWindow = (count : ℕ) (past : History) (processor : ℕ) → count ≤ 255 → IsOf count past → processor < count →
+    let p = processor_of (figures count past) processor in
+    time_in (is_at processor) (slices past) + idle_of p ≡ window_since p.first p.last
 
 -- A start is told where its task begins to run, and with it the distance from the end of its last wake, where it has not run
 -- since that: so a wake has at most one latency, the distance to its task's first run
@@ -108,32 +108,32 @@ LeavesLittle = (time weight : ℕ) → 0 < weight → time * parts - weight * pa
 
 -- the runs that were told of a processor, in their order
 abbrev pub told_if : ℕ → Option Sight → Option Slice → List Slice
-told_if cpu None run = []
-told_if cpu (Some s) run = if s.cpu == cpu then option_to_list run else []
+told_if processor None run = []
+told_if processor (Some s) run = if s.processor == processor then option_to_list run else []
 
 abbrev pub told_runs : ℕ → ℕ → History → List Slice
-told_runs count cpu [] = []
-told_runs count cpu (m ∷ past) =
-    told_runs count cpu past ++ told_if cpu (sight_of m.event m.answer) (change (figures count past) m.event m.answer).run
+told_runs count processor [] = []
+told_runs count processor (m ∷ past) =
+    told_runs count processor past ++ told_if processor (sight_of m.event m.answer) (change (figures count past) m.event m.answer).run
 
 -- they and the last one, which may go on, are the runs that the slices there make
 abbrev pub TellsRuns : Type 0
-TellsRuns = (count : ℕ) (past : History) (cpu : ℕ) → IsOf count past → cpu < count →
-    told_runs count cpu past ++ option_to_list (processor_of (figures count past) cpu).run ≡ runs (slices_at cpu past)
+TellsRuns = (count : ℕ) (past : History) (processor : ℕ) → IsOf count past → processor < count →
+    told_runs count processor past ++ option_to_list (processor_of (figures count past) processor).run ≡ runs (slices_at processor past)
 
 -- a start is told just where a task begins to run: each that begins is told, and what is told is of one that begins there, at
 -- that processor's clock
 abbrev pub TellsStarts : Type 0
 TellsStarts = (count : ℕ) (past : History) (m : Moment) → IsOf count (m ∷ past) →
     let told = (change (figures count past) m.event m.answer).start in
-    ((cpu task : ℕ) → cpu < count → BeginsAt cpu task m past → IsSomeAnd told (λ s. (s.processor ≡ cpu) × (s.task ≡ task)))
+    ((processor task : ℕ) → processor < count → BeginsAt processor task m past → IsSomeAnd told (λ s. (s.processor ≡ processor) × (s.task ≡ task)))
     × IfSome told (λ s. (s.processor < count) × BeginsAt s.processor s.task m past × (s.at ≡ clock s.processor (m ∷ past)))
 
 -- and a stop just where one ceases to, with the reason
 abbrev pub TellsStops : Type 0
 TellsStops = (count : ℕ) (past : History) (m : Moment) → IsOf count (m ∷ past) →
     let told = (change (figures count past) m.event m.answer).stop in
-    ((cpu task : ℕ) → cpu < count → CeasesAt cpu task m past → IsSomeAnd told (λ s. (s.start.processor ≡ cpu) × (s.start.task ≡ task)))
+    ((processor task : ℕ) → processor < count → CeasesAt processor task m past → IsSomeAnd told (λ s. (s.start.processor ≡ processor) × (s.start.task ≡ task)))
     × IfSome told (λ s.
     (s.start.processor < count)
     × CeasesAt s.start.processor s.start.task m past
@@ -143,8 +143,8 @@ TellsStops = (count : ℕ) (past : History) (m : Moment) → IsOf count (m ∷ p
 -- the starts told of a processor are, in their order, those that its stops ended, and the one of the task that runs there: so
 -- each start ends with one stop, and starts and stops alternate
 abbrev pub EndsStarts : Type 0
-EndsStarts = (count : ℕ) (past : History) (cpu : ℕ) → IsOf count past → cpu < count →
-    starts_told_at count cpu past ≡ map (λ (s : Stop). s.start) (stops_told_at count cpu past) ++ option_to_list (processor_of (figures count past) cpu).running
+EndsStarts = (count : ℕ) (past : History) (processor : ℕ) → IsOf count past → processor < count →
+    starts_told_at count processor past ≡ map (λ (s : Stop). s.start) (stops_told_at count processor past) ++ option_to_list (processor_of (figures count past) processor).running
 
 -- a start says how long its task has waited there: the distance from the moment at which it was placed, preempted or pulled to
 -- the start; and a pull says how long it had waited till then. Where the clocks disagree the other way that is 0

@@ -11,16 +11,16 @@ use Rattle.bq_schedule.specs.Figures.{Figures, processor_of, task_of, with_proce
 
 -- the reading itself. It goes back where it is below the last
 abbrev pub reading_at : ℕ → ProcessorFigures → ℕ → Reading
-reading_at cpu p now = record { processor = cpu; from = p.last; to = reading p.last now; is_back = nat_lt now p.last }
+reading_at processor p now = record { processor = processor; from = p.last; to = reading p.last now; is_back = nat_lt now p.last }
 
 -- the stretch from one reading to another, of the task that ran; one of no length is none
 abbrev pub slice_between : ℕ → ℕ → ℕ → Option Start → Option Slice
-slice_between cpu from to None = None
-slice_between cpu from to (Some start) =
-    if nat_lt from to then Some (record { processor = cpu; task = start.task; from = from; to = to }) else None
+slice_between processor from to None = None
+slice_between processor from to (Some start) =
+    if nat_lt from to then Some (record { processor = processor; task = start.task; from = from; to = to }) else None
 
 abbrev pub slice_at : ℕ → ProcessorFigures → ℕ → Option Slice
-slice_at cpu p now = slice_between cpu p.last (reading p.last now) p.running
+slice_at processor p now = slice_between processor p.last (reading p.last now) p.running
 
 abbrev pub length_of : Option Slice → ℕ
 length_of None = 0
@@ -60,7 +60,7 @@ passed p to s =
     }
 
 abbrev pub processor_read : ℕ → ProcessorFigures → ℕ → ProcessorFigures
-processor_read cpu p now = passed p (reading p.last now) (slice_at cpu p now)
+processor_read processor p now = passed p (reading p.last now) (slice_at processor p now)
 
 abbrev pub task_charged : TaskFigures → ℕ → TaskFigures
 task_charged t length = record t { time = counted t.time length }
@@ -71,9 +71,9 @@ with_charged s None = s
 with_charged s (Some slice) = with_task s slice.task (task_charged (task_of s slice.task) (length_of (Some slice)))
 
 abbrev pub read_at : ℕ → ℕ → Figures → Figures
-read_at cpu now s =
-    let p = processor_of s cpu in
-    with_charged (with_processor s cpu (processor_read cpu p now)) (slice_at cpu p now)
+read_at processor now s =
+    let p = processor_of s processor in
+    with_charged (with_processor s processor (processor_read processor p now)) (slice_at processor p now)
 
 -- the time from the first reading to the last in which nothing ran
 abbrev pub idle_since : Option ℕ → ℕ → ℕ → ℕ

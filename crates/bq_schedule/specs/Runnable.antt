@@ -12,14 +12,14 @@ pending p t = min (t.weight * (p.shared - t.joined)) (2 ^ 128 - 1)
 -- the fair time of a task, in parts: at all processors where it was, and where it is
 abbrev pub fair_at : Figures → TaskFigures → Option ℕ → ℕ
 fair_at s t None = t.settled
-fair_at s t (Some cpu) = counted_wide t.settled (pending (processor_of s cpu) t)
+fair_at s t (Some processor) = counted_wide t.settled (pending (processor_of s processor) t)
 
 abbrev pub fair_of : Figures → ℕ → ℕ
 fair_of s id = let t = task_of s id in fair_at s t t.place
 
 -- the processor on which it was placed, where that has made no more drains since
 abbrev pub undrained_at : Figures → Option ℕ → Option ℕ → Option ℕ
-undrained_at s (Some cpu) (Some drains) = if (processor_of s cpu).drains == drains then Some cpu else None
+undrained_at s (Some processor) (Some drains) = if (processor_of s processor).drains == drains then Some processor else None
 undrained_at s place drains = None
 
 abbrev pub undrained : Figures → ℕ → Option ℕ
@@ -34,22 +34,22 @@ processor_joined p weight = record p { runnable = counted p.runnable 1; weight =
 -- a task is runnable no longer, where it was
 abbrev pub left_from : ℕ → Figures → Option ℕ → Figures
 left_from id s None = s
-left_from id s (Some cpu) =
+left_from id s (Some processor) =
     let t = task_of s id in
-    with_task (with_processor s cpu (processor_left (processor_of s cpu) t.weight)) id
-    (record t { settled = fair_at s t (Some cpu); place = None; drains = None })
+    with_task (with_processor s processor (processor_left (processor_of s processor) t.weight)) id
+    (record t { settled = fair_at s t (Some processor); place = None; drains = None })
 
 abbrev pub leaves : ℕ → Figures → Figures
 leaves id s = left_from id s (task_of s id).place
 
 -- a task that is runnable nowhere is runnable here from now on, and waits
 abbrev pub joins : ℕ → ℕ → ℕ → Figures → Figures
-joins id cpu now s =
+joins id processor now s =
     let t = task_of s id in
-    let p = processor_of s cpu in
-    with_task (with_processor s cpu (processor_joined p t.weight)) id
-    (record t { place = Some cpu; since = now; joined = p.shared })
+    let p = processor_of s processor in
+    with_task (with_processor s processor (processor_joined p t.weight)) id
+    (record t { place = Some processor; since = now; joined = p.shared })
 
 -- a task comes from wherever it was
 abbrev pub comes : ℕ → ℕ → ℕ → Figures → Figures
-comes id cpu now s = joins id cpu now (leaves id s)
+comes id processor now s = joins id processor now (leaves id s)

@@ -22,13 +22,13 @@ is_run_by running run = false
 
 -- how a task begins to run: how long it has waited, and how long its wake is past if it has not run since
 abbrev pub start_of : ℕ → ℕ → ℕ → TaskFigures → Start
-start_of cpu id now t =
-    record { processor = cpu; task = id; at = now; waited = now - t.since; latency = option_map (λ (woken : ℕ). now - woken) t.woken; before = t.before }
+start_of processor id now t =
+    record { processor = processor; task = id; at = now; waited = now - t.since; latency = option_map (λ (woken : ℕ). now - woken) t.woken; before = t.before }
 
 -- it ran elsewhere before
 abbrev pub is_elsewhere : Option ℕ → ℕ → Bool
-is_elsewhere None cpu = false
-is_elsewhere (Some before) cpu = not (before == cpu)
+is_elsewhere None processor = false
+is_elsewhere (Some before) processor = not (before == processor)
 
 abbrev pub has_migrated : Start → Bool
 has_migrated s = is_elsewhere s.before s.processor
@@ -61,14 +61,14 @@ stopped Preempted now (Some old) s = with_task s old.task (task_preempted (task_
 
 -- the task begins to run
 abbrev pub begun : ℕ → ℕ → ℕ → Figures → Figures
-begun cpu now id s = with_task s id (task_started (task_of s id) (start_of cpu id now (task_of s id)))
+begun processor now id s = with_task s id (task_started (task_of s id) (start_of processor id now (task_of s id)))
 
 abbrev pub begun_if : ℕ → ℕ → Option ℕ → Figures → Figures
-begun_if cpu now None s = s
-begun_if cpu now (Some id) s = begun cpu now id s
+begun_if processor now None s = s
+begun_if processor now (Some id) s = begun processor now id s
 
 abbrev pub starts_as : ℕ → ℕ → Option ℕ → Figures → Option Start
-starts_as cpu now run s = option_map (λ (id : ℕ). start_of cpu id now (task_of s id)) run
+starts_as processor now run s = option_map (λ (id : ℕ). start_of processor id now (task_of s id)) run
 
 -- this is what runs from now on
 abbrev pub processor_runs : ProcessorFigures → Option Start → ProcessorFigures
@@ -77,24 +77,24 @@ processor_runs p (Some start) = record p { running = Some start; switches = coun
 
 -- a task begins to run, or none
 abbrev pub started : ℕ → ℕ → Option ℕ → Figures → Figures
-started cpu now run s = with_processor (begun_if cpu now run s) cpu (processor_runs (processor_of s cpu) (starts_as cpu now run s))
+started processor now run s = with_processor (begun_if processor now run s) processor (processor_runs (processor_of s processor) (starts_as processor now run s))
 
 -- from now on this task runs, or none; where it is the one that ran before, nothing changes
 abbrev pub switched : Left → ℕ → ℕ → Option ℕ → Figures → Figures
-switched left cpu now run s =
-    let p = processor_of s cpu in
-    if is_run_by p.running run then s else started cpu now run (stopped left now p.running s)
+switched left processor now run s =
+    let p = processor_of s processor in
+    if is_run_by p.running run then s else started processor now run (stopped left now p.running s)
 
 -- what is told of that
 abbrev pub stop_of : Left → ℕ → Option Start → Option Stop
 stop_of left now running = option_map (λ (old : Start). record { start = old; at = now; left = left }) running
 
 abbrev pub stop_at : Left → ℕ → ℕ → Option ℕ → Figures → Option Stop
-stop_at left cpu now run s =
-    let p = processor_of s cpu in
+stop_at left processor now run s =
+    let p = processor_of s processor in
     if is_run_by p.running run then None else stop_of left now p.running
 
 abbrev pub start_at : Left → ℕ → ℕ → Option ℕ → Figures → Option Start
-start_at left cpu now run s =
-    let p = processor_of s cpu in
-    if is_run_by p.running run then None else starts_as cpu now run (stopped left now p.running s)
+start_at left processor now run s =
+    let p = processor_of s processor in
+    if is_run_by p.running run then None else starts_as processor now run (stopped left now p.running s)

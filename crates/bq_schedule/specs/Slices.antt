@@ -1,5 +1,5 @@
 -- The slices of a history, from its events and answers alone: who ran at a processor between two readings of its clock.
-use Rattle.std.specs.Prelude.{ℕ, ◌-◌, ◌<◌, ◌≤◌, All, filter, ◌==◌, nat_lt, Bool, List, [], ◌∷◌, ◌++◌, Option, Some, None, Result, Ok, Err, if◌then◌else◌, unwrap_or, option_to_list}
+use Rattle.std.specs.Prelude.{ℕ, ◌-◌, ◌<◌, ◌≤◌, All, filter, ◌==◌, nat_lt, Bool, false, List, [], ◌∷◌, ◌++◌, Option, Some, None, Result, Ok, Err, if◌then◌else◌, unwrap_or, option_to_list}
 use Rattle.std.specs.List.{sum_by}
 use Rattle.bq_disc.specs.OneProcessor.{reading}
 use Rattle.bq_parts.specs.declared.event.Event.{Event}
@@ -11,19 +11,24 @@ use Rattle.bq_schedule.specs.declared.slice.Slice.{Slice}
 use Rattle.bq_schedule.specs.Moments.{History}
 use Rattle.bq_schedule.specs.Passing.{goes_on}
 
+-- there is a task or a processor, and it has this number
+abbrev pub is_this : ℕ → Option ℕ → Bool
+is_this number None = false
+is_this number (Some k) = k == number
+
 -- what an answer shows of a processor: what was read of its clock, and who runs there from then on, where that is told
 pub record Sight : Type 0 where
-  pub cpu : ℕ
+  pub processor : ℕ
   pub now : ℕ
   pub run : Option (Option ℕ)
 
 -- what a reply to an event shows; one that is not of its kind shows nothing
 abbrev pub sight : Event → Reply → Option Sight
-sight (EndWake cpu now) (Placed task to by steps) = Some (record { cpu = cpu; now = now; run = None })
-sight (Drain cpu now) (Drained count run by steps) = Some (record { cpu = cpu; now = now; run = Some run })
-sight (Tick cpu now) (Ticked run by steps) = Some (record { cpu = cpu; now = now; run = Some run })
-sight (Block cpu now) (Blocked task run) = Some (record { cpu = cpu; now = now; run = Some run })
-sight (Pull cpu from now) (Pulled task run by steps) = Some (record { cpu = cpu; now = now; run = Some run })
+sight (EndWake processor now) (Placed task to by steps) = Some (record { processor = processor; now = now; run = None })
+sight (Drain processor now) (Drained count run by steps) = Some (record { processor = processor; now = now; run = Some run })
+sight (Tick processor now) (Ticked run by steps) = Some (record { processor = processor; now = now; run = Some run })
+sight (Block processor now) (Blocked task run) = Some (record { processor = processor; now = now; run = Some run })
+sight (Pull processor from now) (Pulled task run by steps) = Some (record { processor = processor; now = now; run = Some run })
 sight e r = None
 
 -- a refused event shows nothing
@@ -33,31 +38,31 @@ sight_of e (Err r) = None
 
 -- the last reading of a processor's clock
 abbrev pub clock_after : ℕ → ℕ → Option Sight → ℕ
-clock_after cpu last None = last
-clock_after cpu last (Some s) = if s.cpu == cpu then reading last s.now else last
+clock_after processor last None = last
+clock_after processor last (Some s) = if s.processor == processor then reading last s.now else last
 
 abbrev pub clock : ℕ → History → ℕ
-clock cpu [] = 0
-clock cpu (m ∷ past) = clock_after cpu (clock cpu past) (sight_of m.event m.answer)
+clock processor [] = 0
+clock processor (m ∷ past) = clock_after processor (clock processor past) (sight_of m.event m.answer)
 
 -- who runs at a processor
 abbrev pub runner_after : ℕ → Option ℕ → Option Sight → Option ℕ
-runner_after cpu who None = who
-runner_after cpu who (Some s) = if s.cpu == cpu then unwrap_or s.run who else who
+runner_after processor who None = who
+runner_after processor who (Some s) = if s.processor == processor then unwrap_or s.run who else who
 
 abbrev pub runner : ℕ → History → Option ℕ
-runner cpu [] = None
-runner cpu (m ∷ past) = runner_after cpu (runner cpu past) (sight_of m.event m.answer)
+runner processor [] = None
+runner processor (m ∷ past) = runner_after processor (runner processor past) (sight_of m.event m.answer)
 
 -- the stretch between two readings, of who ran; one of no length is none
 abbrev pub stretch : ℕ → Option ℕ → ℕ → ℕ → Option Slice
-stretch cpu None from to = None
-stretch cpu (Some id) from to = if nat_lt from to then Some (record { processor = cpu; task = id; from = from; to = to }) else None
+stretch processor None from to = None
+stretch processor (Some id) from to = if nat_lt from to then Some (record { processor = processor; task = id; from = from; to = to }) else None
 
 -- the slice that a moment ends, where a history has come before it
 abbrev pub slice_shown : History → Option Sight → Option Slice
 slice_shown past None = None
-slice_shown past (Some s) = stretch s.cpu (runner s.cpu past) (clock s.cpu past) (reading (clock s.cpu past) s.now)
+slice_shown past (Some s) = stretch s.processor (runner s.processor past) (clock s.processor past) (reading (clock s.processor past) s.now)
 
 -- all slices, in the order in which they ended
 abbrev pub slices : History → List Slice
@@ -75,7 +80,7 @@ abbrev pub is_of : ℕ → Slice → Bool
 is_of id s = s.task == id
 
 abbrev pub is_at : ℕ → Slice → Bool
-is_at cpu s = s.processor == cpu
+is_at processor s = s.processor == processor
 
 -- no slice begins before one that stands before it has ended, and none is empty
 abbrev pub StandApart : List Slice → Type 0
@@ -84,7 +89,7 @@ StandApart (s ∷ xs) = (s.from < s.to) × All (λ next. s.to ≤ next.from) xs 
 
 -- those of one processor
 abbrev pub slices_at : ℕ → History → List Slice
-slices_at cpu past = filter (is_at cpu) (slices past)
+slices_at processor past = filter (is_at processor) (slices past)
 
 -- slices that touch are one run, as long as they are of one task
 abbrev pub joined : Slice → List Slice → List Slice

@@ -54,7 +54,7 @@ processor_asked p d Preempt = record p { preempt = hook_asked p.preempt d }
 processor_asked p d OnPull = record p { pull = hook_asked p.pull d }
 
 abbrev pub asked : ℕ → Decision → Figures → Figures
-asked cpu d s = with_processor s cpu (processor_asked (processor_of s cpu) d d.hook)
+asked processor d s = with_processor s processor (processor_asked (processor_of s processor) d d.hook)
 
 -- the weight of a nice value; none is outside the table
 abbrev pub weight_at : ℤ → ℕ
@@ -66,9 +66,9 @@ admitted id nice s = with_task s id (record (task_of s id) { is_admitted = true;
 
 -- a wake of the task ended then
 abbrev pub woken : ℕ → ℕ → ℕ → Figures → Figures
-woken id cpu now s =
+woken id processor now s =
     let t = task_of s id in
-    with_task s id (record t { wakes = counted t.wakes 1; woken = Some now; drains = Some (processor_of s cpu).drains })
+    with_task s id (record t { wakes = counted t.wakes 1; woken = Some now; drains = Some (processor_of s processor).drains })
 
 -- how long it has waited where it is taken from counts
 abbrev pub waited_there : ℕ → ℕ → Figures → Figures
@@ -78,12 +78,12 @@ waited_there id now s =
 
 -- the inbox was drained
 abbrev pub emptied : ℕ → Figures → Figures
-emptied cpu s = let p = processor_of s cpu in with_processor s cpu (record p { drains = counted p.drains 1 })
+emptied processor s = let p = processor_of s processor in with_processor s processor (record p { drains = counted p.drains 1 })
 
 -- a task may have been pulled
 abbrev pub taken : ℕ → ℕ → Option ℕ → Figures → Figures
-taken cpu now None s = s
-taken cpu now (Some id) s = comes id cpu now (waited_there id now s)
+taken processor now None s = s
+taken processor now (Some id) s = comes id processor now (waited_there id now s)
 
 -- what is told of a task that is pulled
 abbrev pub move_of : ℕ → ℕ → ℕ → ℕ → Figures → Moved
@@ -94,87 +94,87 @@ moves_as from to at task s = option_map (λ (id : ℕ). move_of from to at id s)
 
 -- the reading of the clock, as it counts
 abbrev pub time_at : ℕ → ℕ → Figures → ℕ
-time_at cpu now s = reading (processor_of s cpu).last now
+time_at processor now s = reading (processor_of s processor).last now
 
 -- where nothing but a reading is told
 abbrev pub read_told : ℕ → ℕ → Figures → Change
-read_told cpu now s =
-    let p = processor_of s cpu in
-    record nothing { reading = Some (reading_at cpu p now); slice = slice_at cpu p now; run = ended_run p.run (slice_at cpu p now) }
+read_told processor now s =
+    let p = processor_of s processor in
+    record nothing { reading = Some (reading_at processor p now); slice = slice_at processor p now; run = ended_run p.run (slice_at processor p now) }
 
 abbrev pub placed : ℕ → ℕ → Decision → ℕ → ℕ → Figures → Figures
-placed cpu now d id to s =
-    let at = time_at cpu now s in
-    woken id to at (comes id to at (asked cpu d (read_at cpu now s)))
+placed processor now d id to s =
+    let at = time_at processor now s in
+    woken id to at (comes id to at (asked processor d (read_at processor now s)))
 
 abbrev pub placed_told : ℕ → ℕ → Decision → ℕ → ℕ → Figures → Change
-placed_told cpu now d id to s =
-    record (read_told cpu now s) { decision = Some d; wake = Some (record { task = id; from = cpu; to = to; at = time_at cpu now s }) }
+placed_told processor now d id to s =
+    record (read_told processor now s) { decision = Some d; wake = Some (record { task = id; from = processor; to = to; at = time_at processor now s }) }
 
 -- a hook has answered, and this task runs
 abbrev pub decided : ℕ → ℕ → Decision → Option ℕ → Figures → Figures
-decided cpu now d run s = switched Preempted cpu (time_at cpu now s) run (asked cpu d (read_at cpu now s))
+decided processor now d run s = switched Preempted processor (time_at processor now s) run (asked processor d (read_at processor now s))
 
 abbrev pub decided_told : ℕ → ℕ → Decision → Option ℕ → Figures → Change
-decided_told cpu now d run s =
-    let s' = asked cpu d (read_at cpu now s) in
-    let at = time_at cpu now s in
-    record (read_told cpu now s) { decision = Some d; stop = stop_at Preempted cpu at run s'; start = start_at Preempted cpu at run s' }
+decided_told processor now d run s =
+    let s' = asked processor d (read_at processor now s) in
+    let at = time_at processor now s in
+    record (read_told processor now s) { decision = Some d; stop = stop_at Preempted processor at run s'; start = start_at Preempted processor at run s' }
 
 -- the task went to sleep, and this one runs
 abbrev pub blocked : ℕ → ℕ → ℕ → Option ℕ → Figures → Figures
-blocked cpu now id run s = switched Blocked cpu (time_at cpu now s) run (leaves id (read_at cpu now s))
+blocked processor now id run s = switched Blocked processor (time_at processor now s) run (leaves id (read_at processor now s))
 
 abbrev pub blocked_told : ℕ → ℕ → ℕ → Option ℕ → Figures → Change
-blocked_told cpu now id run s =
-    let s' = leaves id (read_at cpu now s) in
-    let at = time_at cpu now s in
-    record (read_told cpu now s) { stop = stop_at Blocked cpu at run s'; start = start_at Blocked cpu at run s' }
+blocked_told processor now id run s =
+    let s' = leaves id (read_at processor now s) in
+    let at = time_at processor now s in
+    record (read_told processor now s) { stop = stop_at Blocked processor at run s'; start = start_at Blocked processor at run s' }
 
 -- a task may have been pulled, and this one runs
 abbrev pub pulled : ℕ → ℕ → Decision → Option ℕ → Option ℕ → Figures → Figures
-pulled cpu now d task run s =
-    let at = time_at cpu now s in
-    switched Preempted cpu at run (taken cpu at task (asked cpu d (read_at cpu now s)))
+pulled processor now d task run s =
+    let at = time_at processor now s in
+    switched Preempted processor at run (taken processor at task (asked processor d (read_at processor now s)))
 
 abbrev pub pulled_told : ℕ → ℕ → ℕ → Decision → Option ℕ → Option ℕ → Figures → Change
-pulled_told cpu from now d task run s =
-    let at = time_at cpu now s in
-    let s1 = asked cpu d (read_at cpu now s) in
-    let s2 = taken cpu at task s1 in
-    record (read_told cpu now s) {
+pulled_told processor from now d task run s =
+    let at = time_at processor now s in
+    let s1 = asked processor d (read_at processor now s) in
+    let s2 = taken processor at task s1 in
+    record (read_told processor now s) {
       decision = Some d;
-      pull = moves_as from cpu at task s1;
-      stop = stop_at Preempted cpu at run s2;
-      start = start_at Preempted cpu at run s2;
+      pull = moves_as from processor at task s1;
+      stop = stop_at Preempted processor at run s2;
+      start = start_at Preempted processor at run s2;
     }
 
 -- What an answer changes in the figures. One that is not of its event's kind changes nothing
 abbrev pub performed : Figures → Event → Reply → Figures
 performed s (Admit id nice mask slice) Admitted = admitted id nice (leaves id s)
-performed s (EndWake cpu now) (Placed task to by steps) = placed cpu now (record { hook = Place; by = by; steps = steps }) task to s
-performed s (Drain cpu now) (Drained count run by steps) = emptied cpu (decided cpu now (record { hook = Preempt; by = by; steps = steps }) run s)
-performed s (Tick cpu now) (Ticked run by steps) = decided cpu now (record { hook = Preempt; by = by; steps = steps }) run s
-performed s (Block cpu now) (Went task run) = blocked cpu now task run s
-performed s (Pull cpu from now) (Pulled task run by steps) = pulled cpu now (record { hook = OnPull; by = by; steps = steps }) task run s
+performed s (EndWake processor now) (Placed task to by steps) = placed processor now (record { hook = Place; by = by; steps = steps }) task to s
+performed s (Drain processor now) (Drained count run by steps) = emptied processor (decided processor now (record { hook = Preempt; by = by; steps = steps }) run s)
+performed s (Tick processor now) (Ticked run by steps) = decided processor now (record { hook = Preempt; by = by; steps = steps }) run s
+performed s (Block processor now) (Went task run) = blocked processor now task run s
+performed s (Pull processor from now) (Pulled task run by steps) = pulled processor now (record { hook = OnPull; by = by; steps = steps }) task run s
 performed s e r = s
 
 -- and what is told of it
 abbrev pub performed_told : Figures → Event → Reply → Change
-performed_told s (EndWake cpu now) (Placed task to by steps) = placed_told cpu now (record { hook = Place; by = by; steps = steps }) task to s
-performed_told s (Drain cpu now) (Drained count run by steps) = decided_told cpu now (record { hook = Preempt; by = by; steps = steps }) run s
-performed_told s (Tick cpu now) (Ticked run by steps) = decided_told cpu now (record { hook = Preempt; by = by; steps = steps }) run s
-performed_told s (Block cpu now) (Went task run) = blocked_told cpu now task run s
-performed_told s (Pull cpu from now) (Pulled task run by steps) = pulled_told cpu from now (record { hook = OnPull; by = by; steps = steps }) task run s
+performed_told s (EndWake processor now) (Placed task to by steps) = placed_told processor now (record { hook = Place; by = by; steps = steps }) task to s
+performed_told s (Drain processor now) (Drained count run by steps) = decided_told processor now (record { hook = Preempt; by = by; steps = steps }) run s
+performed_told s (Tick processor now) (Ticked run by steps) = decided_told processor now (record { hook = Preempt; by = by; steps = steps }) run s
+performed_told s (Block processor now) (Went task run) = blocked_told processor now task run s
+performed_told s (Pull processor from now) (Pulled task run by steps) = pulled_told processor from now (record { hook = OnPull; by = by; steps = steps }) task run s
 performed_told s e r = nothing
 
 -- the processor whose clock the event reads is there, if it reads one
 abbrev pub is_there : Figures → Event → Bool
-is_there s (EndWake cpu now) = nat_lt cpu (length s.processors)
-is_there s (Drain cpu now) = nat_lt cpu (length s.processors)
-is_there s (Tick cpu now) = nat_lt cpu (length s.processors)
-is_there s (Block cpu now) = nat_lt cpu (length s.processors)
-is_there s (Pull cpu from now) = nat_lt cpu (length s.processors)
+is_there s (EndWake processor now) = nat_lt processor (length s.processors)
+is_there s (Drain processor now) = nat_lt processor (length s.processors)
+is_there s (Tick processor now) = nat_lt processor (length s.processors)
+is_there s (Block processor now) = nat_lt processor (length s.processors)
+is_there s (Pull processor from now) = nat_lt processor (length s.processors)
 is_there s e = true
 
 -- the figures after an event and its answer. A refused event is counted, and changes nothing else

@@ -12,15 +12,15 @@ use Rattle.bq_schedule.specs.Steps.{change, figures}
 
 -- a task begins to run at a processor with a moment: it runs there from then on, and did not before
 abbrev pub BeginsAt : ℕ → ℕ → Moment → History → Type 0
-BeginsAt cpu task m past = (runner cpu (m ∷ past) ≡ Some task) × (runner cpu past ≢ Some task)
+BeginsAt processor task m past = (runner processor (m ∷ past) ≡ Some task) × (runner processor past ≢ Some task)
 
 -- it ceases to run there: it did before, and does not from then on
 abbrev pub CeasesAt : ℕ → ℕ → Moment → History → Type 0
-CeasesAt cpu task m past = (runner cpu past ≡ Some task) × (runner cpu (m ∷ past) ≢ Some task)
+CeasesAt processor task m past = (runner processor past ≡ Some task) × (runner processor (m ∷ past) ≢ Some task)
 
 -- why a task ceases to run: it goes to sleep where the event is a block; with any other, another runs in its place
 abbrev pub why_left : Event → Left
-why_left (Block cpu now) = Blocked
+why_left (Block processor now) = Blocked
 why_left e = Preempted
 
 -- the starts that were told of all processors, and the stops, in their order
@@ -34,13 +34,13 @@ told_stops count (m ∷ past) = told_stops count past ++ option_to_list (change 
 
 -- those of one processor
 abbrev pub is_start_at : ℕ → Start → Bool
-is_start_at cpu s = s.processor == cpu
+is_start_at processor s = s.processor == processor
 
 abbrev pub starts_told_at : ℕ → ℕ → History → List Start
-starts_told_at count cpu past = filter (is_start_at cpu) (told_starts count past)
+starts_told_at count processor past = filter (is_start_at processor) (told_starts count past)
 
 abbrev pub is_stop_at : ℕ → Stop → Bool
-is_stop_at cpu s = is_start_at cpu s.start
+is_stop_at processor s = is_start_at processor s.start
 
 abbrev pub stops_told_at : ℕ → ℕ → History → List Stop
-stops_told_at count cpu past = filter (is_stop_at cpu) (told_stops count past)
+stops_told_at count processor past = filter (is_stop_at processor) (told_stops count past)

@@ -10,13 +10,12 @@ use Rattle.bq_schedule.specs.declared.change.Change.{Change}
 use Rattle.bq_schedule.specs.declared.change.Start.{Start}
 use Rattle.bq_schedule.specs.declared.change.Moved.{Moved}
 use Rattle.bq_schedule.specs.Moments.{History}
-use Rattle.bq_schedule.specs.Slices.{clock, runner}
-use Rattle.bq_schedule.specs.Wakes.{is_run}
+use Rattle.bq_schedule.specs.Slices.{clock, runner, is_this}
 use Rattle.bq_schedule.specs.Steps.{change, figures}
 
 -- the task gives way: it ran, and from now on does not
 abbrev pub gives_way : ℕ → Option ℕ → Option ℕ → Bool
-gives_way id who run = is_run id who && not (is_run id run)
+gives_way id who run = is_this id who && not (is_this id run)
 
 -- then, where that is so
 abbrev pub then_if : Bool → ℕ → Option ℕ
@@ -24,10 +23,10 @@ then_if b at = if b then Some at else None
 
 -- when a moment has the task wait, by the clock of the event's processor: it is placed, pulled or preempted
 abbrev pub wait_begins : ℕ → History → Event → Result Reply Refusal → Option ℕ
-wait_begins id past (EndWake cpu now) (Ok (Placed task to by steps)) = then_if (task == id) (reading (clock cpu past) now)
-wait_begins id past (Drain cpu now) (Ok (Drained count run by steps)) = then_if (gives_way id (runner cpu past) run) (reading (clock cpu past) now)
-wait_begins id past (Tick cpu now) (Ok (Ticked run by steps)) = then_if (gives_way id (runner cpu past) run) (reading (clock cpu past) now)
-wait_begins id past (Pull cpu from now) (Ok (Pulled task run by steps)) = then_if (is_run id task || gives_way id (runner cpu past) run) (reading (clock cpu past) now)
+wait_begins id past (EndWake processor now) (Ok (Placed task to by steps)) = then_if (task == id) (reading (clock processor past) now)
+wait_begins id past (Drain processor now) (Ok (Drained count run by steps)) = then_if (gives_way id (runner processor past) run) (reading (clock processor past) now)
+wait_begins id past (Tick processor now) (Ok (Ticked run by steps)) = then_if (gives_way id (runner processor past) run) (reading (clock processor past) now)
+wait_begins id past (Pull processor from now) (Ok (Pulled task run by steps)) = then_if (is_this id task || gives_way id (runner processor past) run) (reading (clock processor past) now)
 wait_begins id past e a = None
 
 -- since when the task waits, or has waited before it ran: 0 where it never has

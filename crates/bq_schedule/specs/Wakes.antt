@@ -7,25 +7,20 @@ use Rattle.bq_parts.specs.declared.reply.Reply.{Reply}
 use Rattle.bq_parts.specs.declared.reply.Reply.TheVariants.{Placed}
 use Rattle.bq_parts.specs.declared.refusal.Refusal.{Refusal}
 use Rattle.bq_schedule.specs.Moments.{History}
-use Rattle.bq_schedule.specs.Slices.{Sight, sight_of, clock, runner}
-
--- that task runs
-abbrev pub is_run : ℕ → Option ℕ → Bool
-is_run id None = false
-is_run id (Some k) = k == id
+use Rattle.bq_schedule.specs.Slices.{is_this, Sight, sight_of, clock, runner}
 
 -- the task begins to run: from now on it does, and it did not
 abbrev pub begins_as : ℕ → Option ℕ → Option (Option ℕ) → Bool
 begins_as id who None = false
-begins_as id who (Some run) = is_run id run && not (is_run id who)
+begins_as id who (Some run) = is_this id run && not (is_this id who)
 
 abbrev pub begins : ℕ → History → Option Sight → Bool
 begins id past None = false
-begins id past (Some s) = begins_as id (runner s.cpu past) s.run
+begins id past (Some s) = begins_as id (runner s.processor past) s.run
 
 -- when a wake of the task ends, by the clock of the processor that wakes it
 abbrev pub wake_end : ℕ → History → Event → Result Reply Refusal → Option ℕ
-wake_end id past (EndWake cpu now) (Ok (Placed task to by steps)) = if task == id then Some (reading (clock cpu past) now) else None
+wake_end id past (EndWake processor now) (Ok (Placed task to by steps)) = if task == id then Some (reading (clock processor past) now) else None
 wake_end id past e a = None
 
 -- a wake ends; or the task begins to run, and waits for no wake's run any more; or all stays
