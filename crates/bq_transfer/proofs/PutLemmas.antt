@@ -1,6 +1,7 @@
 -- Instructions that give a register a value.
+use Rattle.bq_ranges.specs.Within.{Within}
 use Rattle.bq_ranges.specs.declared.range.Range.{Range}
-use Rattle.bq_states.specs.declared.abstract_state.Kind.TheVariants.{Map}
+use Rattle.bq_states.specs.declared.abstract_state.Kind.TheVariants.{Map, Number}
 use Rattle.std.proofs.Common.{zero-le, ◌≡◌, ◌≢◌, ℕ, ◌+◌, ◌<◌, Bool, true, false, List, Option, Some, None, length, get_or, set, refl, arith, get_or-set_same, get_or-set_other, ◌⊎◌, inl, inr, cond}
 use Rattle.std.specs.Prelude.{slice_set}
 use Rattle.std.proofs.lemmas.Bool.Decides.{eqb_tells}
@@ -13,10 +14,11 @@ use Rattle.bq_bpf.specs.Memory.{Setting, State, reference}
 use Rattle.bq_bpf.specs.Steps.{Does, put, IsLeft}
 use Rattle.bq_states.specs.declared.abstract_state.AbstractValue.{AbstractValue}
 use Rattle.bq_states.specs.declared.abstract_state.AbstractState.{AbstractState}
+use Rattle.bq_states.proofs.WordLemmas.{describes_number}
 use Rattle.bq_states.proofs.CopyLemmas.{copies_put, copies_same, loaded_copy, put_here, put_same}
 use Rattle.bq_states.specs.Copies.{AreCopies, HasWord}
 use Rattle.bq_states.specs.AbstractStates.{Describes, Holds, Contains, Suits, knowing}
-use Rattle.bq_transfer.specs.Transfers.{Transfers}
+use Rattle.bq_transfer.specs.Transfers.{HoldsNumber, Transfers}
 
 -- a register that is set is a first operand of any operation
 pub left_from_set : (o : Operation) (v : Option ℕ) (a : ℕ) → v ≡ Some a → IsLeft o v a
@@ -55,7 +57,16 @@ carries_put shapes context_length insn v dst k lt gives f s suits covers =
     let given = gives f s suits covers in
     (put s (slots_of insn) dst given.0, given.1, covers_put f v s (slots_of insn) dst given.0 k lt covers given.2, refl)
 
--- the same, where the register is a copy of a slot then
+-- and so does one that calculates it from the number in a register
+pub carries_number : (shapes : List MapShape) (context_length : ℕ) (insn : Insn) (old new : AbstractState) (dst src : ℕ) (from to : Range) (calculated : ℕ → ℕ) → dst < 10 → length old.registers ≡ 11 → new ≡ knowing old dst (record { kind = Number; offset = to })
+    → HoldsNumber old src from → ((n : ℕ) → Within from n → Within to (calculated n)) → ((f : Setting) (s : State) (n : ℕ) → s.register src ≡ Some n → Does f insn s (put s (slots_of insn) dst (calculated n))) → Transfers shapes context_length insn old new
+carries_number shapes context_length insn old new dst src from to calculated below long is holds within does =
+    let there : dst < length old.registers = omega arith in
+    rw is
+    (carries_put shapes context_length insn old dst (record { kind = Number; offset = to }) there
+    (λ f s suits covers. let word = holds f s covers in (calculated word.0, does f s word.0 word.1, describes_number f.shapes to (calculated word.0) (within word.0 word.2))))
+
+-- the same as the first, where the register is a copy of a slot then
 pub carries_linked : (shapes : List MapShape) (context_length : ℕ) (insn : Insn) (v : AbstractState) (dst slot : ℕ) (k : AbstractValue) (classes : List ℕ) → dst < length v.registers → dst < 11 → ((f : Setting) (s : State) → Suits shapes context_length f → Contains f v s → (n : ℕ) × Does f insn s (put s (slots_of insn) dst n) × Describes f.shapes k n × HasWord s (11 + slot) n) → ((t : State) (n : ℕ) → AreCopies (slice_set v.classes dst 0) t → HasWord t (11 + slot) n → ((m : ℕ) → HasWord t (11 + slot) m → HasWord t dst m) → AreCopies classes t) → Transfers shapes context_length insn v (record (knowing v dst k) { classes = classes })
 carries_linked shapes context_length insn v dst slot k classes lt low gives linked f s suits covers =
     let given = gives f s suits covers in
