@@ -13,4 +13,5 @@ pub mod TotalLemmas
 pub mod RunLemmas
 pub mod PercentileLemmas
 pub mod SwitchLemmas
+pub mod PairLemmas
 pub mod WaitLemmas

@@ -1,10 +1,9 @@
 -- The starts and stops that are told are those of the tasks that begin to run, and cease.
-use Rattle.std.proofs.Common.{◌≡◌, ◌≢◌, ℕ, ◌<◌, Bool, true, false, List, [], ◌∷◌, ◌++◌, length, get_or, Option, Some, None, Result, Ok, Err, refl, sym, ap, ◌∙◌, ◌⊎◌, inl, inr, eqb, cond, subst, append-nil, append_assoc, get_or-set_same, arith}
-use Rattle.std.specs.Prelude.{IfSome, IsSomeAnd, unwrap_or, option_to_list, filter, map, slice_set}
+use Rattle.std.proofs.Common.{◌≡◌, ◌≢◌, ℕ, ◌<◌, Bool, true, false, [], ◌∷◌, length, get_or, Option, Some, None, Result, Ok, Err, refl, sym, ap, ◌∙◌, ◌⊎◌, inl, inr, eqb, cond, subst, get_or-set_same, arith}
+use Rattle.std.specs.Prelude.{IfSome, IsSomeAnd, unwrap_or, slice_set}
 use Rattle.std.specs.Option.{option_map}
 use Rattle.std.proofs.lemmas.Bool.Decides.{eqb_tells, nat_tests}
-use Rattle.std.proofs.lemmas.List.{get_or-replicate, map-append}
-use Rattle.std.proofs.lemmas.List.Elements.{filter-append}
+use Rattle.std.proofs.lemmas.List.{get_or-replicate}
 use Rattle.bq_disc.specs.OneProcessor.{reading}
 use Rattle.bq_parts.specs.declared.event.Event.{Event}
 use Rattle.bq_parts.specs.declared.event.Event.TheVariants.{Admit, EndWake, Drain, Tick, Block, Pull}
@@ -25,8 +24,8 @@ use Rattle.bq_schedule.specs.Runnable.{leaves}
 use Rattle.bq_schedule.specs.Running.{stopped, started, starts_as, start_of, stop_of, processor_runs, switched, is_run_by, stop_at, start_at}
 use Rattle.bq_schedule.specs.Slices.{Sight, sight, sight_of, clock, clock_after, runner, runner_after}
 use Rattle.bq_schedule.specs.Steps.{nothing, asked, taken, emptied, decided, blocked, pulled, performed, performed_told, time_at, is_there, after, change, figures}
-use Rattle.bq_schedule.specs.Switches.{why_left, is_start_at, is_stop_at, told_starts, told_stops, starts_told_at, stops_told_at}
-use Rattle.bq_schedule.specs.Laws.{IsWithin, IsOf, TellsStarts, TellsStops, EndsStarts}
+use Rattle.bq_schedule.specs.Switches.{why_left}
+use Rattle.bq_schedule.specs.Laws.{IsWithin, IsOf, TellsStarts, TellsStops}
 use Rattle.bq_schedule.proofs.FrameLemmas.{KeepsRunning, works-asked, works-leaves, works-taken, works-stopped, processors-begun_if, running-then, running-id, running-with_processor, running-asked, running-leaves, running-taken, running-read_at, runs-switched, who_is, count-read_at}
 use Rattle.bq_schedule.proofs.SliceTimeLemmas.{outside}
 use Rattle.bq_schedule.proofs.ClockLemmas.{inside_of, figures-clocks, shows-performed, within-figures}
@@ -162,7 +161,8 @@ pub record IsStart (running : Option Start) (processor at : ℕ) (run : Option �
   pub time : start.at ≡ at
   pub new : option_map (λ (x : Start). x.task) running ≢ run
 
-start_if : (b : Bool) (running : Option Start) (processor at : ℕ) (run : Option ℕ) (u : Figures) (start : Start) → is_run_by running run ≡ b → cond b None (starts_as processor at run u) ≡ Some start → IsStart running processor at run start
+-- what is told to start, where another runs than did, is such a start
+pub start_if : (b : Bool) (running : Option Start) (processor at : ℕ) (run : Option ℕ) (u : Figures) (start : Start) → is_run_by running run ≡ b → cond b None (starts_as processor at run u) ≡ Some start → IsStart running processor at run start
 start_if true running processor at run u start is e = cc
 start_if false running processor at None u start is e = cc
 start_if false running processor at (Some id) u start is e =
@@ -177,7 +177,8 @@ pub record IsStop (running : Option Start) (left : Left) (at : ℕ) (run : Optio
   pub why : stop.left ≡ left
   pub new : option_map (λ (x : Start). x.task) running ≢ run
 
-stop_if : (b : Bool) (running : Option Start) (left : Left) (at : ℕ) (run : Option ℕ) (stop : Stop) → is_run_by running run ≡ b → cond b None (stop_of left at running) ≡ Some stop → IsStop running left at run stop
+-- what is told to stop, where another runs than did, is such a stop
+pub stop_if : (b : Bool) (running : Option Start) (left : Left) (at : ℕ) (run : Option ℕ) (stop : Stop) → is_run_by running run ≡ b → cond b None (stop_of left at running) ≡ Some stop → IsStop running left at run stop
 stop_if true running left at run stop is e = cc
 stop_if false None left at run stop is e = cc
 stop_if false (Some old) left at run stop is e =
@@ -197,7 +198,8 @@ and_some (Some b) P a e p =
     let same : a ≡ b = cc in
     subst P same p
 
-eqb-refl : (a : ℕ) → eqb a a ≡ true
+-- a number is itself
+pub eqb-refl : (a : ℕ) → eqb a a ≡ true
 eqb-refl a = grind (arith, nat_tests)
 
 -- what a sight of a processor makes of the clock, and of who runs there
@@ -277,10 +279,10 @@ begun-shown : (count : ℕ) (past : History) (o : Option Sight) (s' : Figures) (
 begun-shown count past None s' e stop start j task h w t begins = absurd (begins.1 begins.0)
 begun-shown count past (Some x) s' e stop start j task h w t begins = begun-run count past x.processor x.now j task x.run s' (why_left e) stop start h w t begins
 
--- what the moment tells
-told : (count : ℕ) (past : History) (m : Moment) → IsOf count (m ∷ past) →
+-- what a moment tells is of the switch that it shows
+pub moment_tells : (count : ℕ) (past : History) (m : Moment) → IsOf count (m ∷ past) →
     TellsSwitch (figures count past) (figures count (m ∷ past)) m.event (sight_of m.event m.answer) (change (figures count past) m.event m.answer).stop (change (figures count past) m.event m.answer).start
-told count past m h = tells (figures count past) m.event m.answer (within-figures count past m h)
+moment_tells count past m h = tells (figures count past) m.event m.answer (within-figures count past m h)
 
 -- a start is told just where a task begins to run
 pub tells_starts : TellsStarts
@@ -288,15 +290,16 @@ tells_starts count past m h =
     let o = sight_of m.event m.answer in
     let s' = figures count (m ∷ past) in
     let c = change (figures count past) m.event m.answer in (
-      λ processor task inside begins. begun-shown count past o s' m.event c.stop c.start processor task h.1 h.0 (told count past m h) begins,
-      of_some c.start _ (λ st is. start-shown count past o s' m.event c.stop c.start st h.1 h.0 (told count past m h) is),
+      λ processor task inside begins. begun-shown count past o s' m.event c.stop c.start processor task h.1 h.0 (moment_tells count past m h) begins,
+      of_some c.start _ (λ st is. start-shown count past o s' m.event c.stop c.start st h.1 h.0 (moment_tells count past m h) is),
     )
 
 -- what runs at a processor has begun there
 abbrev pub RunsHere : ℕ → History → Type 0
 RunsHere count past = (j : ℕ) (st : Start) → j < count → (processor_of (figures count past) j).running ≡ Some st → st.processor ≡ j
 
-begun-here : (b : Bool) (processor at : ℕ) (run : Option ℕ) (u : Figures) (running : Option Start) (st : Start) → cond b running (starts_as processor at run u) ≡ Some st → (running ≡ Some st → st.processor ≡ processor) → st.processor ≡ processor
+-- who runs at a processor after a switch has begun there, if who ran before has
+pub begun-here : (b : Bool) (processor at : ℕ) (run : Option ℕ) (u : Figures) (running : Option Start) (st : Start) → cond b running (starts_as processor at run u) ≡ Some st → (running ≡ Some st → st.processor ≡ processor) → st.processor ≡ processor
 begun-here true processor at run u running st e before = before e
 begun-here false processor at None u running st e before = cc
 begun-here false processor at (Some id) u running st e before =
@@ -321,13 +324,14 @@ here-shown : (s s' : Figures) (e : Event) (o : Option Sight) (stop : Option Stop
 here-shown s s' e None stop start j st t before is = before (sym (t.2.at j) ∙ is)
 here-shown s s' e (Some x) stop start j st t before is = here-run s s' (why_left e) x.processor (time_at x.processor x.now s) x.run stop start j st t before is
 
-runs_here : (count : ℕ) (past : History) → IsOf count past → RunsHere count past
+-- in each history what runs at a processor has begun there
+pub runs_here : (count : ℕ) (past : History) → IsOf count past → RunsHere count past
 runs_here count [] h j st inside e =
     let none : (processor_of (figures count []) j).running ≡ None = ap (λ (p : ProcessorFigures). p.running) (get_or-replicate count j unread unread inside) in
     cc
 runs_here count (m ∷ past) h j st inside e =
     let c = change (figures count past) m.event m.answer in
-    here-shown (figures count past) (figures count (m ∷ past)) m.event (sight_of m.event m.answer) c.stop c.start j st (told count past m h) (runs_here count past h.1 j st inside) e
+    here-shown (figures count past) (figures count (m ∷ past)) m.event (sight_of m.event m.answer) c.stop c.start j st (moment_tells count past m h) (runs_here count past h.1 j st inside) e
 
 -- a stop that is told is of a task that ceases to run
 abbrev pub IsStopOf : ℕ → History → Event → Option Sight → Stop → Type 0
@@ -404,105 +408,6 @@ tells_stops count past m h =
     let o = sight_of m.event m.answer in
     let s' = figures count (m ∷ past) in
     let c = change (figures count past) m.event m.answer in (
-      λ processor task inside ceases. ceased-shown count past o s' m.event c.stop c.start processor task h.1 h.0 (told count past m h) ceases,
-      of_some c.stop _ (λ sp is. stop-shown count past o s' m.event c.stop c.start sp h.1 h.0 (told count past m h) is),
+      λ processor task inside ceases. ceased-shown count past o s' m.event c.stop c.start processor task h.1 h.0 (moment_tells count past m h) ceases,
+      of_some c.stop _ (λ sp is. stop-shown count past o s' m.event c.stop c.start sp h.1 h.0 (moment_tells count past m h) is),
     )
-
--- starts and stops of one processor, of at most one
-filter-starts : (j : ℕ) (o : Option Start) → ((st : Start) → o ≡ Some st → st.processor ≡ j) → filter (is_start_at j) (option_to_list o) ≡ option_to_list o
-filter-starts j None h = refl
-filter-starts j (Some st) h = rw (h st refl) (rw (eqb-refl j) refl)
-
-differs : (a b : ℕ) → a ≢ b → eqb a b ≡ false
-differs a b ne = grind (arith, nat_tests)
-
-filter-no_starts : (j : ℕ) (o : Option Start) → ((st : Start) → o ≡ Some st → st.processor ≢ j) → filter (is_start_at j) (option_to_list o) ≡ []
-filter-no_starts j None h = refl
-filter-no_starts j (Some st) h = rw (differs st.processor j (h st refl)) refl
-
-filter-no_stops : (j : ℕ) (o : Option Stop) → ((sp : Stop) → o ≡ Some sp → sp.start.processor ≢ j) → filter (is_stop_at j) (option_to_list o) ≡ []
-filter-no_stops j None h = refl
-filter-no_stops j (Some sp) h = rw (differs sp.start.processor j (h sp refl)) refl
-
--- what ran before and what begins is what ceases and what runs afterwards
-abbrev pub Pairs : ℕ → Option Start → Option Start → Option Stop → Option Start → Type 0
-Pairs j running running' stop start =
-    option_to_list running ++ filter (is_start_at j) (option_to_list start) ≡ map (λ (sp : Stop). sp.start) (filter (is_stop_at j) (option_to_list stop)) ++ option_to_list running'
-
-pairs-none : (j : ℕ) (running running' : Option Start) (stop : Option Stop) (start : Option Start) → filter (is_stop_at j) (option_to_list stop) ≡ [] → filter (is_start_at j) (option_to_list start) ≡ [] → running' ≡ running →
-    Pairs j running running' stop start
-pairs-none j running running' stop start stops starts same =
-    ap (λ l. option_to_list running ++ l) starts ∙ append-nil (option_to_list running) ∙ ap (λ o. option_to_list o) (sym same)
-    ∙ ap (λ l. map (λ (sp : Stop). sp.start) l ++ option_to_list running') (sym stops)
-
-pairs-new : (j at : ℕ) (left : Left) (running start : Option Start) → ((st : Start) → running ≡ Some st → st.processor ≡ j) → ((st : Start) → start ≡ Some st → st.processor ≡ j) →
-    Pairs j running start (stop_of left at running) start
-pairs-new j at left None start ran begun = filter-starts j start begun
-pairs-new j at left (Some old) start ran begun =
-    let stops : filter (is_stop_at j) (option_to_list (stop_of left at (Some old))) ≡ option_to_list (stop_of left at (Some old)) =
-    rw (ran old refl) (rw (eqb-refl j) refl) in
-    ap (λ l. old ∷ l) (filter-starts j start begun) ∙ ap (λ l. map (λ (sp : Stop). sp.start) l ++ option_to_list start) (sym stops)
-
-pairs-if : (b : Bool) (j processor at : ℕ) (left : Left) (run : Option ℕ) (u : Figures) (running running' : Option Start) (stop : Option Stop) (start : Option Start) → processor ≡ j →
-    ((st : Start) → running ≡ Some st → st.processor ≡ j) → stop ≡ cond b None (stop_of left at running) → start ≡ cond b None (starts_as processor at run u) → running' ≡ cond b running (starts_as processor at run u) →
-    Pairs j running running' stop start
-pairs-if true j processor at left run u running running' stop start same ran stops starts runs =
-    pairs-none j running running' stop start (ap (λ o. filter (is_stop_at j) (option_to_list o)) stops) (ap (λ o. filter (is_start_at j) (option_to_list o)) starts) runs
-pairs-if false j processor at left run u running running' stop start same ran stops starts runs =
-    let begun : (st : Start) → starts_as processor at run u ≡ Some st → st.processor ≡ j = λ st e. begun-here false processor at run u None st e (λ none. cc) ∙ same in
-    let P : Option Stop → Option Start → Option Start → Type 0 = λ sp st r. Pairs j running r sp st in
-    let p1 : P (stop_of left at running) (starts_as processor at run u) (starts_as processor at run u) = pairs-new j at left running (starts_as processor at run u) ran begun in
-    rw (stops, starts, runs) p1
-
-pairs-there : (s s' : Figures) (left : Left) (processor at : ℕ) (run : Option ℕ) (stop : Option Stop) (start : Option Start) (j : ℕ) (b : Bool) → Switches s s' left processor at run stop start →
-    ((b ≡ true) × (processor ≡ j)) ⊎ ((b ≡ false) × (processor ≢ j)) → ((i : ℕ) (st : Start) → ((i ≡ j) ⊎ (i ≡ processor)) → (processor_of s i).running ≡ Some st → st.processor ≡ i) →
-    Pairs j (processor_of s j).running (processor_of s' j).running stop start
-pairs-there s s' left processor at run stop start j b t (inl same) here =
-    let running = (processor_of s processor).running in
-    let p : Pairs j running (processor_of s' processor).running stop start = pairs-if (is_run_by running run) j processor at left run t.before running (processor_of s' processor).running stop start same.1
-    (λ st e. here processor st (inr refl) e ∙ same.1) t.stops t.starts t.runs in
-    let P : ℕ → Type 0 = λ k. Pairs j (processor_of s k).running (processor_of s' k).running stop start in
-    subst P same.1 p
-pairs-there s s' left processor at run stop start j b t (inr other) here =
-    let running = (processor_of s processor).running in
-    pairs-none j (processor_of s j).running (processor_of s' j).running stop start
-    (filter-no_stops j stop (λ sp e is. other.1 (sym (here processor sp.start (inr refl) (stop_if (is_run_by running run) running left at run sp refl (sym t.stops ∙ e)).start) ∙ is)))
-    (filter-no_starts j start (λ st e is. other.1 (sym (start_if (is_run_by running run) running processor at run t.before st refl (sym t.starts ∙ e)).here ∙ is)))
-    (t.others j (λ is. other.1 (sym is)))
-
-pairs-run : (s s' : Figures) (left : Left) (processor at : ℕ) (o : Option (Option ℕ)) (stop : Option Stop) (start : Option Start) (j : ℕ) → TellsRun s s' left processor at o stop start →
-    ((i : ℕ) (st : Start) → ((i ≡ j) ⊎ (i ≡ processor)) → (processor_of s i).running ≡ Some st → st.processor ≡ i) → Pairs j (processor_of s j).running (processor_of s' j).running stop start
-pairs-run s s' left processor at None stop start j t here =
-    pairs-none j (processor_of s j).running (processor_of s' j).running stop start (ap (λ o. filter (is_stop_at j) (option_to_list o)) t.0) (ap (λ o. filter (is_start_at j) (option_to_list o)) t.1) (t.2.at j)
-pairs-run s s' left processor at (Some run) stop start j t here = pairs-there s s' left processor at run stop start j (eqb processor j) t (eqb_tells processor j) here
-
-is_inside : (count i j processor : ℕ) → (i ≡ j) ⊎ (i ≡ processor) → j < count → processor < count → i < count
-is_inside count i j processor (inl e) a b = omega arith
-is_inside count i j processor (inr e) a b = omega arith
-
-pairs-shown : (count : ℕ) (past : History) (s' : Figures) (e : Event) (o : Option Sight) (stop : Option Stop) (start : Option Start) (j : ℕ) → IsOf count past → IsWithin count o → j < count →
-    TellsSwitch (figures count past) s' e o stop start → Pairs j (processor_of (figures count past) j).running (processor_of s' j).running stop start
-pairs-shown count past s' e None stop start j h w inside t =
-    pairs-none j (processor_of (figures count past) j).running (processor_of s' j).running stop start (ap (λ o. filter (is_stop_at j) (option_to_list o)) t.0) (ap (λ o. filter (is_start_at j) (option_to_list o)) t.1) (t.2.at j)
-pairs-shown count past s' e (Some x) stop start j h w inside t =
-    pairs-run (figures count past) s' (why_left e) x.processor (time_at x.processor x.now (figures count past)) x.run stop start j t (λ i st which is. runs_here count past h i st (is_inside count i j x.processor which inside w) is)
-
-grown-pairs : (a r f r' : List Start) (b g : List Stop) → a ≡ map (λ (sp : Stop). sp.start) b ++ r → r ++ f ≡ map (λ (sp : Stop). sp.start) g ++ r' → a ++ f ≡ map (λ (sp : Stop). sp.start) (b ++ g) ++ r'
-grown-pairs a r f r' b g before now =
-    ap (λ l. l ++ f) before ∙ append_assoc (map (λ (sp : Stop). sp.start) b) r f ∙ ap (λ l. map (λ (sp : Stop). sp.start) b ++ l) now
-    ∙ sym (append_assoc (map (λ (sp : Stop). sp.start) b) (map (λ (sp : Stop). sp.start) g) r')
-    ∙ ap (λ l. l ++ r') (sym (map-append (λ (sp : Stop). sp.start) b g))
-
--- each start ends with one stop, but for that of the task which runs
-pub ends_starts : EndsStarts
-ends_starts count [] processor h inside = sym (ap (λ (p : ProcessorFigures). option_to_list p.running) (get_or-replicate count processor unread unread inside))
-ends_starts count (m ∷ past) processor h inside =
-    let c = change (figures count past) m.event m.answer in
-    let starts : starts_told_at count processor (m ∷ past) ≡ starts_told_at count processor past ++ filter (is_start_at processor) (option_to_list c.start) = filter-append (is_start_at processor) (told_starts count past) (option_to_list c.start) in
-    let stops : stops_told_at count processor (m ∷ past) ≡ stops_told_at count processor past ++ filter (is_stop_at processor) (option_to_list c.stop) = filter-append (is_stop_at processor) (told_stops count past) (option_to_list c.stop) in
-    starts
-    ∙ grown-pairs (starts_told_at count processor past) (option_to_list (processor_of (figures count past) processor).running) (filter (is_start_at processor) (option_to_list c.start))
-    (option_to_list (processor_of (figures count (m ∷ past)) processor).running) (stops_told_at count processor past) (filter (is_stop_at processor) (option_to_list c.stop))
-    (ends_starts count past processor h.1 inside)
-    (pairs-shown count past (figures count (m ∷ past)) m.event (sight_of m.event m.answer) c.stop c.start processor h.1 h.0 inside (told count past m h))
-    ∙ ap (λ l. map (λ (sp : Stop). sp.start) l ++ option_to_list (processor_of (figures count (m ∷ past)) processor).running) (sym stops)

@@ -1,5 +1,5 @@
-use Rattle.bq_schedule.proofs.SwitchLemmas as Switches
+use Rattle.bq_schedule.proofs.PairLemmas as Pairs
 use Rattle.bq_schedule.proofs.laws.ends_starts.Goals as goal
 
 pub returns : goal.returns
-returns c = Switches.ends_starts
+returns c = Pairs.ends_starts
