@@ -1,18 +1,16 @@
 //! The choices of a processor: its policies' where they are permitted, and else the discipline's own.
-ghost use Rattle.std.specs.Prelude.{◌≡◌, ◌≤◌, ◌<◌, ◌^◌, [], true, length, Some, IfSome, is_some};
+ghost use Rattle.std.specs.Prelude.{◌≡◌, ◌≤◌, ◌<◌, ◌^◌, ℕ, [], length, Some, IfSome};
 ghost use Rattle.std.specs.Option.{option_map};
 ghost use Rattle.bq_bpf.specs.Counters.{Through};
 ghost use Rattle.bq_bpf.specs.Memory.{HaveShapes};
 ghost use Rattle.bq_policies.specs.Answers.{Answers, IsWithin};
-ghost use Rattle.bq_hooks.specs.Contexts.{as_number, or_nobody, pull_bytes};
+ghost use Rattle.bq_hooks.specs.Contexts.{as_number};
 ghost use Rattle.bq_hooks.specs.OwnPlace.{HasPlace};
-ghost use Rattle.bq_hooks.specs.Permitted.{may_pull, task_numbered};
-ghost use Rattle.bq_hooks.specs.Settled.{settled};
-ghost use Rattle.bq_disc.specs.Movable.{movable_to};
+ghost use Rattle.bq_hooks.specs.Permitted.{task_numbered};
 ghost use Rattle.bq_disc.specs.Queues.{HasDistinctIds};
 ghost use Rattle.bq_disc.specs.OneProcessor.{present_at};
 ghost use Rattle.bq_parts.specs.Processors.{HasEachOnce, HasLobbyIds, size_of};
-ghost use Rattle.bq_parts.specs.Choices.{policies, place_bytes, SettlesPlace, SettlesPreempt, decided_by};
+ghost use Rattle.bq_parts.specs.Choices.{policies, place_bytes, SettlesPlace, SettlesPreempt, SettlesPull, decided_by};
 
 use crate::{By, Carried, Cpu, Decision, Hook, Scratch};
 use bq_bpf::Board;
@@ -154,10 +152,7 @@ impl<Q: RunQueue> Cpu<Q> {
         };
         let mut context = [0; PREEMPT_LENGTH];
         preempt_ctx(&facts, &mut context);
-        let env = Env {
-            now: self.last,
-            processor: u32::from(processor),
-        };
+        let env = self.env(processor);
         let done = self.hooks.ask(Hook::Preempt, &context, env, scratch, board);
         Decision::after(settle_preempt(Some(done.r0), own), done.steps)
     }
@@ -185,64 +180,42 @@ impl<Q: RunQueue> Cpu<Q> {
         preempted
     }
 
-    /// Whether a policy chooses the task to pull.
-    pub fn asks_pull(&self) -> bool
-        ensures { result ≡ is_some self.now.hooks.pull.policy }
-    {
-        self.hooks.version(Hook::Pull).is_some()
-    }
-
-    /// Fills the context of another processor's pull policy, where a task may be pulled from here.
-    pub fn pull_context(
-        &self,
-        puller: u8,
-        source: u8,
-        puller_size: u32,
-        own: Option<u16>,
-        context: &mut [u8; PULL_LENGTH],
-    )
-        requires inside { puller < 64 }
-        requires few { size_of self.now < 2 ^ 32 }
-        requires distinct { HasDistinctIds self.now.running.queue }
-        ensures { context.new ≡ pull_bytes (record { puller = puller; source = source; puller_size = puller_size; source_size = size_of self.now; movable = movable_to puller self.now.running.queue; own = own }) }
-    {
-        let facts = Pull {
-            puller,
-            source,
-            puller_size,
-            source_size: self.size() as u32,
-            queue: &self.queue,
-            own,
-        };
-        pull_ctx(&facts, context);
-    }
-
-    /// What the pull policy answers on a context.
-    pub fn ask_pull<B: Board>(
+    /// The task that is pulled from another processor, if any. A policy is shown the sizes as they are now.
+    pub(crate) fn choose_pull<B: Board>(
         &mut self,
         processor: u8,
-        context: &[u8; PULL_LENGTH],
+        from: u8,
+        source: &Cpu<Q>,
         scratch: &mut Scratch,
         board: &mut B,
-    ) -> Done
-        requires there { is_some self.old.hooks.pull.policy ≡ true }
-        ensures answers { IfSome self.old.hooks.pull.policy (λ p. Answers p context.now self.old.hooks.pull.maps self.old.running.last processor result.r0 self.new.hooks.pull.maps result.steps scratch.new) }
-        ensures within { IfSome self.old.hooks.pull.policy (λ p. IsWithin p result.steps scratch.new) }
-        ensures shapes { IfSome self.old.hooks.pull.policy (λ p. HaveShapes p.shapes self.new.hooks.pull.maps) }
-        ensures rest { self.new ≡ record self.old { hooks = record self.old.hooks { pull = record self.old.hooks.pull { maps = self.new.hooks.pull.maps } } } }
+    ) -> Decision<Option<u16>>
+        requires inside { processor < 64 }
+        requires few { size_of self.old ≤ 1024 }
+        requires few_from { size_of source.now ≤ 1024 }
+        requires distinct { HasDistinctIds source.now.running.queue }
+        requires unasked { scratch.old ≡ [] }
+        ensures settled { (choice : ℕ) × SettlesPull (policies Q.R.discipline) processor from self.old source.now (record { choice = choice; by = result.by; steps = result.steps; calls = scratch.new; attached = self.new.hooks.pull }) × (result.choice ≡ task_numbered choice) }
+        ensures rest { self.new ≡ record self.old { hooks = record self.old.hooks { pull = self.new.hooks.pull } } }
         ensures board { Through B.leads board.old scratch.new board.new }
     {
+        let size = self.size();
+        let own = source.own_pull(processor, size);
+        let Some(_) = self.hooks.version(Hook::Pull) else {
+            return Decision::after(settle_pull(None, &source.queue, processor, own), 0);
+        };
+        let facts = Pull {
+            puller: processor,
+            source: from,
+            puller_size: size as u32,
+            source_size: source.size() as u32,
+            queue: &source.queue,
+            own,
+        };
+        let mut context = [0; PULL_LENGTH];
+        pull_ctx(&facts, &mut context);
         let env = self.env(processor);
-        self.hooks.ask(Hook::Pull, context, env, scratch, board)
-    }
-
-    /// The task that goes from here to the puller, if any, by its policy's answer where that is permitted, and else by the
-    /// discipline's own choice.
-    pub fn settle_pull(&self, r0: Option<u64>, puller: u8, own: Option<u16>) -> Choice<Option<u16>>
-        requires { puller < 64 }
-        ensures value { result.value ≡ task_numbered (settled (may_pull puller self.now.running.queue) r0 (or_nobody own)).choice }
-        ensures by { result.by ≡ (settled (may_pull puller self.now.running.queue) r0 (or_nobody own)).by }
-    {
-        settle_pull(r0, &self.queue, puller, own)
+        let done = self.hooks.ask(Hook::Pull, &context, env, scratch, board);
+        let chosen = settle_pull(Some(done.r0), &source.queue, processor, own);
+        Decision::after(chosen, done.steps)
     }
 }

@@ -1,19 +1,16 @@
 //! What a Pull does to the two processors: a task of one queue enters the other.
-ghost use Rattle.std.specs.Prelude.{◌≡◌, ◌≤◌, ◌<◌, ◌++◌, ℕ, [], None, IfSome};
-ghost use Rattle.bq_disc.specs.Queues.{HasDistinctIds};
+ghost use Rattle.std.specs.Prelude.{◌≡◌, ◌<◌, ◌++◌, [], None, IfSome};
 ghost use Rattle.bq_disc.specs.Tasks.{id_of, with_id};
 ghost use Rattle.bq_disc.specs.OneProcessor.{present_at};
 ghost use Rattle.bq_bpf.specs.Counters.{Through};
-ghost use Rattle.bq_hooks.specs.Permitted.{task_numbered};
-ghost use Rattle.bq_parts.specs.Processors.{HasEachOnce, HasLobbyIds, size_of};
-ghost use Rattle.bq_parts.specs.Choices.{policies, SettlesPull};
+ghost use Rattle.bq_parts.specs.Processors.{HasEachOnce, HasLobbyIds};
+ghost use Rattle.bq_parts.specs.Choices.{policies};
 ghost use Rattle.bq_parts.specs.Moves.{taken_from, without_task, with_pulled, started_if_idle};
 ghost use Rattle.bq_parts.specs.Shares.{Pulls};
 
-use crate::{Cpu, Decision, Reply, Scratch};
+use crate::{Cpu, Reply, Scratch};
 use bq_bpf::Board;
 use bq_disc::RunQueue;
-use bq_hooks::PULL_LENGTH;
 
 impl<Q: RunQueue> Cpu<Q> {
     /// The processor takes a task from the queue of another: the one that its policy names, where that is permitted, and else
@@ -36,7 +33,7 @@ impl<Q: RunQueue> Cpu<Q> {
     {
         self.charge(now);
         source.remark();
-        let pulled = self.choose_pull(source, processor, from, scratch, board);
+        let pulled = self.choose_pull(processor, from, source, scratch, board);
         let run = self.take_task(source, pulled.choice);
         Reply::Pulled {
             task: pulled.choice,
@@ -44,36 +41,6 @@ impl<Q: RunQueue> Cpu<Q> {
             by: pulled.by,
             steps: pulled.steps,
         }
-    }
-
-    /// The task that is pulled, if any. A policy is shown the sizes as they are now.
-    fn choose_pull<B: Board>(
-        &mut self,
-        source: &Cpu<Q>,
-        processor: u8,
-        from: u8,
-        scratch: &mut Scratch,
-        board: &mut B,
-    ) -> Decision<Option<u16>>
-        requires inside { processor < 64 }
-        requires few { size_of self.old ≤ 1024 }
-        requires few_from { size_of source.now ≤ 1024 }
-        requires distinct { HasDistinctIds source.now.running.queue }
-        requires unasked { scratch.old ≡ [] }
-        ensures settled { (choice : ℕ) × SettlesPull (policies Q.R.discipline) processor from self.old source.now (record { choice = choice; by = result.by; steps = result.steps; calls = scratch.new; attached = self.new.hooks.pull }) × (result.choice ≡ task_numbered choice) }
-        ensures rest { self.new ≡ record self.old { hooks = record self.old.hooks { pull = self.new.hooks.pull } } }
-        ensures board { Through B.leads board.old scratch.new board.new }
-    {
-        let size = self.size();
-        let own = source.own_pull(processor, size);
-        if !self.asks_pull() {
-            return Decision::after(source.settle_pull(None, processor, own), 0);
-        }
-        let mut context = [0; PULL_LENGTH];
-        source.pull_context(processor, from, size as u32, own, &mut context);
-        let done = self.ask_pull(processor, &context, scratch, board);
-        let chosen = source.settle_pull(Some(done.r0), processor, own);
-        Decision::after(chosen, done.steps)
     }
 
     /// A task of the other's queue, if any, comes here; where nothing runs here, the choice does. Answers who runs here.
