@@ -24,7 +24,7 @@ pub enum AttachFault {
     #[error("{0}")]
     File(String),
     /// Its program is not accepted.
-    #[error("{0}; check --explain says more")]
+    #[error("refused {0}")]
     Program(LoadFault),
     #[error("the policy is for another hook")]
     Hook,

@@ -40,10 +40,7 @@ static REFUSED: [(&str, &str); 6] = [
     ),
     ("4g", "the file begins as hex does, and is none"),
     // r9 was never set
-    (
-        "mov64 r0, r9\nexit\n",
-        "slot 0: Unset; check --explain says more",
-    ),
+    ("mov64 r0, r9\nexit\n", "refused L8 V4 0"),
 ];
 
 /// Whether that one policy stands at its hook, and none at another.
