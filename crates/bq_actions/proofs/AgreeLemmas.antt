@@ -59,16 +59,16 @@ changed_at-read {A} {B} f v same xs n k = elim (cases_eq k n) [
 ]
 
 -- what comes when it came, and whose place is as it was
-pub kept : (end : ℕ) (a b : Accounts) (x y : List ℕ) (due : Due) → comes_at end b due ≡ comes_at end a due → (IsDue due → at_place y (place_of due) ≡ at_place x (place_of due)) → AgreesAt end a x due → AgreesAt end b y due
-kept end a b x y due same place h = record { at = λ there. place there ∙ h.at there ∙ ap (number_of (place_of due)) (sym same); there = λ time is. h.there time (sym same ∙ is) }
+pub agrees_if_kept : (end : ℕ) (a b : Accounts) (x y : List ℕ) (due : Due) → comes_at end b due ≡ comes_at end a due → (IsDue due → at_place y (place_of due) ≡ at_place x (place_of due)) → AgreesAt end a x due → AgreesAt end b y due
+agrees_if_kept end a b x y due same place h = record { at = λ there. place there ∙ h.at there ∙ ap (number_of (place_of due)) (sym same); there = λ time is. h.there time (sym same ∙ is) }
 
 -- what is put down for when it comes
-pub planned : (end time : ℕ) (b : Accounts) (x y : List ℕ) (due : Due) → IsPlanned end due time x y → comes_at end b due ≡ until end time → AgreesAt end b y due
-planned end time b x y due p is = record { at = λ there. p.at ∙ ap (number_of (place_of due)) (sym is); there = λ t some. p.there }
+pub agrees_if_planned : (end time : ℕ) (b : Accounts) (x y : List ℕ) (due : Due) → IsPlanned end due time x y → comes_at end b due ≡ until end time → AgreesAt end b y due
+agrees_if_planned end time b x y due p is = record { at = λ there. p.at ∙ ap (number_of (place_of due)) (sym is); there = λ t some. p.there }
 
 -- what does not come
-pub dropped : (end : ℕ) (b : Accounts) (x y : List ℕ) (due : Due) → IsDropped due x y → comes_at end b due ≡ None → AgreesAt end b y due
-dropped end b x y due d is = record { at = λ there. d.at ∙ ap (number_of (place_of due)) (sym is); there = λ t some. d.there }
+pub agrees_if_dropped : (end : ℕ) (b : Accounts) (x y : List ℕ) (due : Due) → IsDropped due x y → comes_at end b due ≡ None → AgreesAt end b y due
+agrees_if_dropped end b x y due d is = record { at = λ there. d.at ∙ ap (number_of (place_of due)) (sym is); there = λ t some. d.there }
 
 -- a phase of a task that has not changed ends when it did
 ends-same : (end : ℕ) (cs ds : List Course) (lane : Lane) → ((task : ℕ) → lane.run ≡ Some task → slice_get ds task ≡ slice_get cs task) → ends_at end ds lane ≡ ends_at end cs lane
@@ -89,7 +89,7 @@ kept-end end q a b x y lanes courses place h =
       | inl none ↦ ap (at b.courses) none ∙ sym (ap (at a.courses) none)
       | inr (lane, is) ↦ ap (at b.courses) is ∙ ends-same end a.courses b.courses lane (λ task runs. courses task lane is runs) ∙ sym (ap (at a.courses) is)
     ] in
-    kept end a b x y (End q) (ap (at b.courses) lanes ∙ same) place h
+    agrees_if_kept end a b x y (End q) (ap (at b.courses) lanes ∙ same) place h
 
 -- a task that has not changed has the home that it had
 pub kept-home : (a b : Accounts) (task q : ℕ) → slice_get b.courses task ≡ slice_get a.courses task → HasHome a task q → HasHome b task q
@@ -100,8 +100,8 @@ pub one-home : (a : Accounts) (task p q : ℕ) → HasHome a task p → HasHome 
 one-home a task p q g h = sym g.home ∙ ap (λ (c : Course). c.home) (same_Some g.course h.course (sym g.there ∙ h.there)) ∙ h.home
 
 -- a task that does not run where it ran last runs nowhere
-pub nowhere : (a : Accounts) (task : ℕ) → HaveHomes a → Rests a task → (q : ℕ) (lane : Lane) → slice_get a.lanes q ≡ Some lane → lane.run ≡ Some task → ⊥
-nowhere a task homes rests q lane at runs =
+pub resting_runs_nowhere : (a : Accounts) (task : ℕ) → HaveHomes a → Rests a task → (q : ℕ) (lane : Lane) → slice_get a.lanes q ≡ Some lane → lane.run ≡ Some task → ⊥
+resting_runs_nowhere a task homes rests q lane at runs =
     let h : HasHome a task q = homes q task lane at runs in
     let home : rests.course.home ≡ q = ap (λ (c : Course). c.home) (same_Some rests.course h.course (sym rests.there ∙ h.there)) ∙ h.home in
     let test : Option Lane → Bool = λ o. option_map_or (λ (l : Lane). is_same l.run (Some task)) o false in

@@ -18,8 +18,8 @@ use Rattle.bq_actions.specs.Dues.{AreLooks, IsDropped, IsDue, IsPlanned, due_at,
 use Rattle.bq_actions.specs.Minima.{AreNever, IsFirst, at_place, never, number_of}
 use Rattle.bq_actions.specs.Next.{Agrees, AgreesAt, HasHome, HaveHomes, IsAgreed, IsBefore, IsNext, NothingComes, Rests, StaysAgreed, comes_at, ends_at, rings_at}
 use Rattle.bq_actions.specs.Plans.{PlansCourse, PlansTimer}
-use Rattle.bq_actions.proofs.AgreeLemmas.{changed_at-here, changed_at-others, changed_at-read, dropped, kept, kept-end, kept-home, nowhere, one-home, planned, slice_get-set_here, slice_get-set_other, some_or_none}
-use Rattle.bq_actions.proofs.AgreedLemmas.{AgreesBut, after-change, both, but, charged-agrees, charged-is, counted, counted-here, end-of, homes-read, later, resized, look_at, look-of, since_now, tick_at, tick-of, with_end}
+use Rattle.bq_actions.proofs.AgreeLemmas.{changed_at-here, changed_at-others, changed_at-read, agrees_if_dropped, agrees_if_kept, kept-end, kept-home, resting_runs_nowhere, one-home, agrees_if_planned, slice_get-set_here, slice_get-set_other, some_or_none}
+use Rattle.bq_actions.proofs.AgreedLemmas.{AgreesBut, after-change, both, agrees_but_one_end, charged-agrees, charged-is, counted, counted-here, end-of, homes-read, agrees_if_same_there, agrees_if_times_same, look_at, look-of, since_now, tick_at, tick-of, with_end}
 
 -- a phase that has just ended ends when it was to
 ends-now : (since now : ℕ) (c : Course) → since ≤ now → now < 2 ^ 64 → c.got + (now - since) ≡ c.due → end_of now (run_for (now - since) c) ≡ end_of since c
@@ -42,7 +42,7 @@ done-agrees end p now task lane c a b x y at early late is agenda done h =
     let e : comes_at end d (End p) ≡ comes_at end a (End p) =
     end-of end p task d (since_now now lane) (run_for (now - lane.since) home.course) new runs there ∙ ap (until end) (ends-now lane.since now home.course soon late exact) ∙ sym (end-of end p task a lane home.course at runs home.there) in
     let others : AgreesBut end p d x = subst (λ (z : Accounts). AgreesBut end p z x) (charged-is p now lane a at) (charged-agrees end p now lane a x at h) in
-    let whole : Agrees end d x = record { all = with_end end p d x others (kept end a d x x (End p) e (λ low. refl) (h.all (End p))); homes = others.homes } in
+    let whole : Agrees end d x = record { all = with_end end p d x others (agrees_if_kept end a d x x (End p) e (λ low. refl) (h.all (End p))); homes = others.homes } in
     subst (λ (z : Accounts). Agrees end z y) (sym same) (subst (λ (l : List ℕ). Agrees end d l) (sym agenda) whole)
 
 -- a processor ticks next then
@@ -53,15 +53,15 @@ beaten-agrees end p now between a b x y lane at is plan h =
     let low : p < 64 = plan.there in
     let new : slice_get d.lanes p ≡ Some (f lane) = changed_at-here f a.lanes p lane at in
     let homes : HaveHomes d = homes-read f (λ l. refl) p a d refl (λ k. refl) h.homes in
-    let whole : Agrees end d y = after-change end p a d x y (but end p a x h) (record {
+    let whole : Agrees end d y = after-change end p a d x y (agrees_but_one_end end p a x h) (record {
       low = low;
       lanes = λ q other. changed_at-others f a.lanes p q other;
       courses = λ q task l other here mine. refl;
       rings = λ k. refl;
       places = λ k few i j l. plan.others k few j;
-      ends = kept end a d x y (End p) (changed_at-read f (ends_at end a.courses) (λ l. refl) a.lanes p p) (λ few. plan.others p (omega arith) (omega arith)) (h.all (End p));
-      ticks = planned end (next_multiple between now) d x y (Tick p) plan (tick-of end p d (f lane) new);
-      looks = kept end a d x y (Pull p) (changed_at-read f (look_at end) (λ l. refl) a.lanes p p) (λ few. plan.others (1152 + p) (omega arith) (omega arith)) (h.all (Pull p));
+      ends = agrees_if_kept end a d x y (End p) (changed_at-read f (ends_at end a.courses) (λ l. refl) a.lanes p p) (λ few. plan.others p (omega arith) (omega arith)) (h.all (End p));
+      ticks = agrees_if_planned end (next_multiple between now) d x y (Tick p) plan (tick-of end p d (f lane) new);
+      looks = agrees_if_kept end a d x y (Pull p) (changed_at-read f (look_at end) (λ l. refl) a.lanes p p) (λ few. plan.others (1152 + p) (omega arith) (omega arith)) (h.all (Pull p));
       home = λ task l here mine. homes p task l here mine;
     }) in
     subst (λ (z : Accounts). Agrees end z y) (sym is) whole
@@ -74,15 +74,15 @@ looked-agrees end p now between a b x y lane at is plan h =
     let low : p < 64 = plan.there in
     let new : slice_get d.lanes p ≡ Some (f lane) = changed_at-here f a.lanes p lane at in
     let homes : HaveHomes d = homes-read f (λ l. refl) p a d refl (λ k. refl) h.homes in
-    let whole : Agrees end d y = after-change end p a d x y (but end p a x h) (record {
+    let whole : Agrees end d y = after-change end p a d x y (agrees_but_one_end end p a x h) (record {
       low = low;
       lanes = λ q other. changed_at-others f a.lanes p q other;
       courses = λ q task l other here mine. refl;
       rings = λ k. refl;
       places = λ k few i j l. plan.others k few l;
-      ends = kept end a d x y (End p) (changed_at-read f (ends_at end a.courses) (λ l. refl) a.lanes p p) (λ few. plan.others p (omega arith) (omega arith)) (h.all (End p));
-      ticks = kept end a d x y (Tick p) (changed_at-read f (tick_at end) (λ l. refl) a.lanes p p) (λ few. plan.others (1088 + p) (omega arith) (omega arith)) (h.all (Tick p));
-      looks = planned end (next_multiple between now) d x y (Pull p) plan (look-of end p d (f lane) new);
+      ends = agrees_if_kept end a d x y (End p) (changed_at-read f (ends_at end a.courses) (λ l. refl) a.lanes p p) (λ few. plan.others p (omega arith) (omega arith)) (h.all (End p));
+      ticks = agrees_if_kept end a d x y (Tick p) (changed_at-read f (tick_at end) (λ l. refl) a.lanes p p) (λ few. plan.others (1088 + p) (omega arith) (omega arith)) (h.all (Tick p));
+      looks = agrees_if_planned end (next_multiple between now) d x y (Pull p) plan (look-of end p d (f lane) new);
       home = λ task l here mine. homes p task l here mine;
     }) in
     subst (λ (z : Accounts). Agrees end z y) (sym is) whole
@@ -93,10 +93,10 @@ ring-of end task a c there = ap (λ (o : Option Course). option_and_then (λ d. 
 
 -- a timer that is put down, or none
 timer-planned : (end task timer : ℕ) (stance : Stance) (b : Accounts) (x y : List ℕ) → comes_at end b (Wake task) ≡ rings_at end stance timer → PlansTimer end task stance timer x y → AgreesAt end b y (Wake task)
-timer-planned end task timer Asleep b x y is plan = planned end timer b x y (Wake task) plan is
-timer-planned end task timer Waiting b x y is plan = dropped end b x y (Wake task) plan is
-timer-planned end task timer Runnable b x y is plan = dropped end b x y (Wake task) plan is
-timer-planned end task timer Over b x y is plan = dropped end b x y (Wake task) plan is
+timer-planned end task timer Asleep b x y is plan = agrees_if_planned end timer b x y (Wake task) plan is
+timer-planned end task timer Waiting b x y is plan = agrees_if_dropped end b x y (Wake task) plan is
+timer-planned end task timer Runnable b x y is plan = agrees_if_dropped end b x y (Wake task) plan is
+timer-planned end task timer Over b x y is plan = agrees_if_dropped end b x y (Wake task) plan is
 
 timer-others : (end task timer : ℕ) (stance : Stance) (x y : List ℕ) → PlansTimer end task stance timer x y → (k : ℕ) → k < 2048 → k ≢ 64 + task → at_place y k ≡ at_place x k
 timer-others end task timer Asleep x y plan k few other = plan.others k few other
@@ -124,8 +124,8 @@ taken_up-agrees end p task lane c a b x y at courses lanes plan h =
     let one = plan.ends.others in
     let two = timer-others end task c.timer c.stance x plan.mid plan.timer in
     let wakes : (k : ℕ) → AgreesAt end d y (Wake k) = λ k. elim (cases_eq k task) [
-      | inl same ↦ subst (λ (n : ℕ). AgreesAt end d y (Wake n)) (sym same) (later end d plan.mid y (Wake task) (λ small. one (64 + task) (omega arith) (omega arith)) (timer-planned end task c.timer c.stance d x plan.mid (ring-of end task d c there) plan.timer))
-      | inr other ↦ kept end a d x y (Wake k) (ap (λ (o : Option Course). option_and_then (λ e. rings_at end e.stance e.timer) o) (others k other)) (λ small. one (64 + k) (omega arith) (omega arith) ∙ two (64 + k) (omega arith) (omega arith)) (h.all (Wake k))
+      | inl same ↦ subst (λ (n : ℕ). AgreesAt end d y (Wake n)) (sym same) (agrees_if_same_there end d plan.mid y (Wake task) (λ small. one (64 + task) (omega arith) (omega arith)) (timer-planned end task c.timer c.stance d x plan.mid (ring-of end task d c there) plan.timer))
+      | inr other ↦ agrees_if_kept end a d x y (Wake k) (ap (λ (o : Option Course). option_and_then (λ e. rings_at end e.stance e.timer) o) (others k other)) (λ small. one (64 + k) (omega arith) (omega arith) ∙ two (64 + k) (omega arith) (omega arith)) (h.all (Wake k))
     ] in
     let homes : HaveHomes d = λ q k l here runs. elim (cases_eq k task) [
       | inl same ↦ subst (λ (n : ℕ). HasHome d n q) (sym same) (subst (λ (n : ℕ). HasHome d task n) (one-home a task p q home (subst (λ (n : ℕ). HasHome a n q) same (h.homes q k l here runs))) mine)
@@ -135,11 +135,11 @@ taken_up-agrees end p task lane c a b x y at courses lanes plan h =
     let rest : AgreesBut end p d y = record {
       ends = λ q other. kept-end end q a d x y refl (λ k l here runs. others k (alone q k l other here runs)) (λ small. one q (omega arith) other ∙ two q (omega arith) (omega arith)) (h.all (End q));
       wakes = wakes;
-      ticks = λ q. kept end a d x y (Tick q) refl (λ small. one (1088 + q) (omega arith) (omega arith) ∙ two (1088 + q) (omega arith) (omega arith)) (h.all (Tick q));
-      looks = λ q. kept end a d x y (Pull q) refl (λ small. one (1152 + q) (omega arith) (omega arith) ∙ two (1152 + q) (omega arith) (omega arith)) (h.all (Pull q));
+      ticks = λ q. agrees_if_kept end a d x y (Tick q) refl (λ small. one (1088 + q) (omega arith) (omega arith) ∙ two (1088 + q) (omega arith) (omega arith)) (h.all (Tick q));
+      looks = λ q. agrees_if_kept end a d x y (Pull q) refl (λ small. one (1152 + q) (omega arith) (omega arith) ∙ two (1152 + q) (omega arith) (omega arith)) (h.all (Pull q));
       homes = homes;
     } in
-    let ends = planned end (end_of lane.since c) d plan.mid y (End p) plan.ends (end-of end p task d lane c at plan.runs there) in
+    let ends = agrees_if_planned end (end_of lane.since c) d plan.mid y (End p) plan.ends (end-of end p task d lane c at plan.runs there) in
     let whole : Agrees end d y = record { all = with_end end p d y rest ends; homes = homes } in
     subst (λ (z : Accounts). Agrees end z y) (sym is) whole
 
@@ -150,17 +150,17 @@ woken-agrees end task a b x y rests is plan h =
     let there : slice_get d.courses task ≡ Some (woken rests.course) = changed_at-here woken a.courses task rests.course rests.there in
     let others : (k : ℕ) → k ≢ task → slice_get d.courses k ≡ slice_get a.courses k = λ k other. changed_at-others woken a.courses task k other in
     let few : task < 1024 = plan.there in
-    let alone : (q k : ℕ) (l : Lane) → slice_get a.lanes q ≡ Some l → l.run ≡ Some k → k ≢ task = λ q k l here runs same. nowhere a task h.homes rests q l here (runs ∙ ap (λ (n : ℕ). Some n) same) in
+    let alone : (q k : ℕ) (l : Lane) → slice_get a.lanes q ≡ Some l → l.run ≡ Some k → k ≢ task = λ q k l here runs same. resting_runs_nowhere a task h.homes rests q l here (runs ∙ ap (λ (n : ℕ). Some n) same) in
     let homes : HaveHomes d = λ q k l here runs. kept-home a d k q (others k (alone q k l here runs)) (h.homes q k l here runs) in
     let ends : (q : ℕ) → AgreesAt end d y (End q) = λ q. kept-end end q a d x y refl (λ k l here runs. others k (alone q k l here runs)) (λ small. plan.others q (omega arith) (omega arith)) (h.all (End q)) in
     let rest : AgreesBut end 64 d y = record {
       ends = λ q other. ends q;
       wakes = λ k. elim (cases_eq k task) [
-        | inl same ↦ subst (λ (n : ℕ). AgreesAt end d y (Wake n)) (sym same) (dropped end d x y (Wake task) plan (ring-of end task d (woken rests.course) there))
-        | inr other ↦ kept end a d x y (Wake k) (ap (λ (o : Option Course). option_and_then (λ e. rings_at end e.stance e.timer) o) (others k other)) (λ small. plan.others (64 + k) (omega arith) (omega arith)) (h.all (Wake k))
+        | inl same ↦ subst (λ (n : ℕ). AgreesAt end d y (Wake n)) (sym same) (agrees_if_dropped end d x y (Wake task) plan (ring-of end task d (woken rests.course) there))
+        | inr other ↦ agrees_if_kept end a d x y (Wake k) (ap (λ (o : Option Course). option_and_then (λ e. rings_at end e.stance e.timer) o) (others k other)) (λ small. plan.others (64 + k) (omega arith) (omega arith)) (h.all (Wake k))
       ];
-      ticks = λ q. kept end a d x y (Tick q) refl (λ small. plan.others (1088 + q) (omega arith) (omega arith)) (h.all (Tick q));
-      looks = λ q. kept end a d x y (Pull q) refl (λ small. plan.others (1152 + q) (omega arith) (omega arith)) (h.all (Pull q));
+      ticks = λ q. agrees_if_kept end a d x y (Tick q) refl (λ small. plan.others (1088 + q) (omega arith) (omega arith)) (h.all (Tick q));
+      looks = λ q. agrees_if_kept end a d x y (Pull q) refl (λ small. plan.others (1152 + q) (omega arith) (omega arith)) (h.all (Pull q));
       homes = homes;
     } in
     let whole : Agrees end d y = record { all = with_end end 64 d y rest (ends 64); homes = homes } in
@@ -200,11 +200,11 @@ added-agrees end task c a b x y number asleep courses lanes plan h =
     let rest : AgreesBut end 64 d y = record {
       ends = λ q other. ends q;
       wakes = λ k. elim (cases_eq k task) [
-        | inl same ↦ subst (λ (n : ℕ). AgreesAt end d y (Wake n)) (sym same) (planned end c.timer d x y (Wake task) plan (ring-of end task d c there ∙ ap (λ (s : Stance). rings_at end s c.timer) asleep))
-        | inr other ↦ kept end a d x y (Wake k) (ap (λ (o : Option Course). option_and_then (λ e. rings_at end e.stance e.timer) o) (others k other)) (λ small. plan.others (64 + k) (omega arith) (omega arith)) (h.all (Wake k))
+        | inl same ↦ subst (λ (n : ℕ). AgreesAt end d y (Wake n)) (sym same) (agrees_if_planned end c.timer d x y (Wake task) plan (ring-of end task d c there ∙ ap (λ (s : Stance). rings_at end s c.timer) asleep))
+        | inr other ↦ agrees_if_kept end a d x y (Wake k) (ap (λ (o : Option Course). option_and_then (λ e. rings_at end e.stance e.timer) o) (others k other)) (λ small. plan.others (64 + k) (omega arith) (omega arith)) (h.all (Wake k))
       ];
-      ticks = λ q. kept end a d x y (Tick q) refl (λ small. plan.others (1088 + q) (omega arith) (omega arith)) (h.all (Tick q));
-      looks = λ q. kept end a d x y (Pull q) refl (λ small. plan.others (1152 + q) (omega arith) (omega arith)) (h.all (Pull q));
+      ticks = λ q. agrees_if_kept end a d x y (Tick q) refl (λ small. plan.others (1088 + q) (omega arith) (omega arith)) (h.all (Tick q));
+      looks = λ q. agrees_if_kept end a d x y (Pull q) refl (λ small. plan.others (1152 + q) (omega arith) (omega arith)) (h.all (Pull q));
       homes = homes;
     } in
     let whole : Agrees end d y = record { all = with_end end 64 d y rest (ends 64); homes = homes } in
@@ -227,7 +227,7 @@ both-ok P Q (Err e) p q = p
 pub resized-agreed : (p : ℕ) (f : Lane → Lane) (r s : Roster) → ((l : Lane) → (f l).run ≡ l.run) → ((cs : List Course) (l : Lane) → ends_at r.pace.end cs (f l) ≡ ends_at r.pace.end cs l) → ((l : Lane) → (f l).tick ≡ l.tick) → ((l : Lane) → (f l).look ≡ l.look)
     → accounts_of s ≡ of_processor f p (accounts_of r) → s.agenda ≡ r.agenda → s.pace ≡ r.pace → StaysAgreed r s
 resized-agreed p f r s run ends tick look is agenda pace h =
-    subst (λ (k : Pace). Agrees k.end (accounts_of s) s.agenda) (sym pace) (resized r.pace.end p f (accounts_of r) (accounts_of s) r.agenda s.agenda run ends tick look is agenda h)
+    subst (λ (k : Pace). Agrees k.end (accounts_of s) s.agenda) (sym pace) (agrees_if_times_same r.pace.end p f (accounts_of r) (accounts_of s) r.agenda s.agenda run ends tick look is agenda h)
 
 -- one task less at a processor
 pub shrunk-agreed : (p : ℕ) (r s : Roster) → accounts_of s ≡ shrunk p (accounts_of r) → s.agenda ≡ r.agenda → s.pace ≡ r.pace → StaysAgreed r s

@@ -80,10 +80,10 @@ never-more (suc n) m h =
     rw (powers-split n m 0, square-power n m) (le_trans (mul-le-mul_right _ rest) (rw parts at whole))
 
 -- a number and one more, to a power, are not much apart
-pub almost : (size k j : ℕ) → k + j ≡ size → (size + 1) ^ k * j ≤ size ^ k * size
-almost size zero j h = rw (pow-zero (size + 1), pow-zero size) (omega (arith, h))
-almost size (suc k) j h =
-    let before : (size + 1) ^ k * (j + 1) ≤ size ^ k * size = almost size k (j + 1) (omega (arith, h)) in
+pub next_power_is_near : (size k j : ℕ) → k + j ≡ size → (size + 1) ^ k * j ≤ size ^ k * size
+next_power_is_near size zero j h = rw (pow-zero (size + 1), pow-zero size) (omega (arith, h))
+next_power_is_near size (suc k) j h =
+    let before : (size + 1) ^ k * (j + 1) ≤ size ^ k * size = next_power_is_near size k (j + 1) (omega (arith, h)) in
     let less : (size + 1) * j ≤ (j + 1) * size = omega (arith, h) in
     let grown : (size + 1) ^ k * ((size + 1) * j) ≤ (size + 1) ^ k * ((j + 1) * size) = mul-le-mul_left _ less in
     let whole : (size + 1) ^ k * (j + 1) * size ≤ size ^ k * size * size = mul-le-mul_right size before in
@@ -94,7 +94,7 @@ pub cut-off : (n : ℕ) → n ≤ 62 → (2 ^ 63 + 1) ^ (2 ^ n) ≤ 2 * (2 ^ 63)
 cut-off n h =
     let few : 2 ^ n ≤ 2 ^ 62 = pow-le-pow_right (omega arith) h in
     let rest : 2 ^ n + (2 ^ 63 - 2 ^ n) ≡ 2 ^ 63 = omega (arith, few) in
-    let near : (2 ^ 63 + 1) ^ (2 ^ n) * (2 ^ 63 - 2 ^ n) ≤ (2 ^ 63) ^ (2 ^ n) * 2 ^ 63 = almost (2 ^ 63) (2 ^ n) (2 ^ 63 - 2 ^ n) rest in
+    let near : (2 ^ 63 + 1) ^ (2 ^ n) * (2 ^ 63 - 2 ^ n) ≤ (2 ^ 63) ^ (2 ^ n) * 2 ^ 63 = next_power_is_near (2 ^ 63) (2 ^ n) (2 ^ 63 - 2 ^ n) rest in
     let half : (2 ^ 63 + 1) ^ (2 ^ n) * 2 ^ 62 ≤ (2 ^ 63 + 1) ^ (2 ^ n) * (2 ^ 63 - 2 ^ n) = mul-le-mul_left _ (omega (arith, few)) in
     omega (arith, near, half)
 

@@ -12,7 +12,7 @@ use Rattle.bq_asm.specs.Operands.{instruction_of}
 use Rattle.bq_asm.specs.Assembly.{places_from}
 use Rattle.bq_asm.specs.Faults.{slots_in, labels_in, cause_of_insn, cause_at, fault_at, missing_at, IsFirst, IsClean}
 use Rattle.bq_asm.specs.Jumps.{Awaited, drafts_of, jumps_from, with_jumps}
-use Rattle.bq_asm.proofs.PassLemmas.{IsReadable, IsFirstMissing, Passes, passes}
+use Rattle.bq_asm.proofs.PassLemmas.{IsReadable, IsFirstMissing, Passes, readable_lines_pass}
 
 read_from_cause : (slots : ℕ) (read : Result Insn Cause) → cause_of_insn slots read ≡ None → (i : Insn) × (read ≡ Ok i)
 read_from_cause slots (Err c) h = absurd (let no : Some c ≡ None = h in cc)
@@ -49,5 +49,5 @@ first_from_missing lines line m =
 pub passes_all : (lines : List Line) (places : List (List ℕ × ℕ)) (jumps : List Awaited) (insns : List Insn) (r : Result (List Insn) ℕ)
     → IsClean lines → places ≡ places_from 0 lines → jumps ≡ jumps_from 0 0 1 lines → insns ≡ drafts_of lines → with_jumps places jumps insns ≡ r → Passes (places_from 0 lines) 0 1 [] lines r
 passes_all lines places jumps insns r clean a b c e =
-    let all = passes (places_from 0 lines) 0 0 1 [] lines refl (readable_from_clean lines clean) in
+    let all = readable_lines_pass (places_from 0 lines) 0 0 1 [] lines refl (readable_from_clean lines clean) in
     subst (Passes (places_from 0 lines) 0 1 [] lines) ((λ i. with_jumps (sym a i) (sym b i) (sym c i)) ∙ e) all

@@ -14,5 +14,5 @@ pub mod LineByLineLemmas
 pub mod LawLemmas
 pub mod DigitLemmas
 pub mod OperandLemmas
-pub mod AgainLemmas
+pub mod ListedWordsLemmas
 pub mod ListingLemmas

@@ -40,7 +40,7 @@ use Rattle.bq_asm.specs.Lines.{Line, Instruction, is_comment, is_blank, words, l
 use Rattle.bq_asm.specs.Assembly.{slots_of_line, places_from, distance_to, Says, AreNewLabels}
 use Rattle.bq_asm.specs.Laws.{ListingAssembles}
 use Rattle.bq_asm.proofs.DigitLemmas.{is_digit, list_all-append, list_all-weaker, decimal_digits}
-use Rattle.bq_asm.proofs.AgainLemmas.{operands_good, listed_again}
+use Rattle.bq_asm.proofs.ListedWordsLemmas.{operands_good, listed_again}
 use Rattle.bq_asm.proofs.WellFormedLemmas.{IsInRange}
 
 -- a byte that ends no line and begins no comment

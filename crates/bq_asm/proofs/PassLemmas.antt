@@ -16,7 +16,7 @@ use Rattle.bq_asm.specs.Operands.{instruction_of}
 use Rattle.bq_asm.specs.Assembly.{slots_read, distance_to, Says}
 use Rattle.bq_asm.specs.Faults.{awaits_label, cause_of_jump}
 use Rattle.bq_asm.specs.Jumps.{Awaited, aimed, awaited_at, insn_read, drafts_of, jump_read, jumps_from, with_jump, with_jumps}
-use Rattle.bq_asm.proofs.ReadingLemmas.{IsPlain, IsAwaiting, targets, jump_slots, aimed_slots}
+use Rattle.bq_asm.proofs.ReadingLemmas.{IsPlain, IsAwaiting, plain_or_awaiting, jump_slots, aimed_slots}
 
 -- the line says no instruction, or one that is read
 abbrev pub IsReadable : Line → Type 0
@@ -126,7 +126,7 @@ module _ (places : List (List ℕ × ℕ)) (index slot number : ℕ) (done : Lis
       (λ p. subst (λ t. goal (with_jumps places (awaited_at index (slot + slots_of i) number t ++ later) (done ++ i ∷ drafts_of lines))) (sym p.target) (plain p))
       (λ a. subst (λ t. goal (with_jumps places (awaited_at index (slot + slots_of i) number t ++ later) (done ++ i ∷ drafts_of lines))) (sym a.target)
       (jump a (lookup (bytes_eq (last_word operands)) places) refl))
-      (targets first operands i read))
+      (plain_or_awaiting first operands i read))
 
 -- a line that says no instruction keeps the numbers of the lines after it
 module _ (places : List (List ℕ × ℕ)) (index slot number : ℕ) (done : List Insn) (lines : List Line)
@@ -139,17 +139,17 @@ module _ (places : List (List ℕ × ℕ)) (index slot number : ℕ) (done : Lis
       (subst (λ n. Passes places slot (number + 1) done lines (with_jumps places (jumps_from index n (number + 1) lines) (done ++ drafts_of lines))) here more)
 
 -- the jumps of lines, set after those before, give what the lines say or the first label that is missing
-pub passes : (places : List (List ℕ × ℕ)) (index slot number : ℕ) (done : List Insn) (lines : List Line) → length done ≡ index → AllByRecursion IsReadable lines
+pub readable_lines_pass : (places : List (List ℕ × ℕ)) (index slot number : ℕ) (done : List Insn) (lines : List Line) → length done ≡ index → AllByRecursion IsReadable lines
     → Passes places slot number done lines (with_jumps places (jumps_from index slot number lines) (done ++ drafts_of lines))
-passes places index slot number done [] count readable = ([], refl, tt)
-passes places index slot number done (Blank ∷ lines) count readable =
+readable_lines_pass places index slot number done [] count readable = ([], refl, tt)
+readable_lines_pass places index slot number done (Blank ∷ lines) count readable =
     passes_over places slot number done Blank lines (with_jumps places (jumps_from (index + 0) (slot + 0) (number + 1) lines) (done ++ drafts_of lines)) refl (λ rest h. h)
-    (kept places index slot number done lines (passes places index slot (number + 1) done lines count readable.1))
-passes places index slot number done (Label name ∷ lines) count readable =
+    (kept places index slot number done lines (readable_lines_pass places index slot (number + 1) done lines count readable.1))
+readable_lines_pass places index slot number done (Label name ∷ lines) count readable =
     passes_over places slot number done (Label name) lines (with_jumps places (jumps_from (index + 0) (slot + 0) (number + 1) lines) (done ++ drafts_of lines)) refl (λ rest h. h)
-    (kept places index slot number done lines (passes places index slot (number + 1) done lines count readable.1))
-passes places index slot number done (Instruction first operands ∷ lines) count readable =
+    (kept places index slot number done lines (readable_lines_pass places index slot (number + 1) done lines count readable.1))
+readable_lines_pass places index slot number done (Instruction first operands ∷ lines) count readable =
     let i = readable.0.0 in
     passes_step places index slot number done first operands i lines count
-    (λ v. passes places (index + 1) (slot + slots_of i) (number + 1) (done ++ v ∷ []) lines (length-append done (v ∷ []) ∙ ap (λ n. n + 1) count) readable.1)
+    (λ v. readable_lines_pass places (index + 1) (slot + slots_of i) (number + 1) (done ++ v ∷ []) lines (length-append done (v ∷ []) ∙ ap (λ n. n + 1) count) readable.1)
     readable.0.1

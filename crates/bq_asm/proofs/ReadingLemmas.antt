@@ -263,8 +263,8 @@ pub record IsAwaiting (first : List ℕ) (operands : List (List ℕ)) (i : Insn)
   pub set : (z : ℤ) → instruction_of first operands (Some z) ≡ Ok (aimed i z)
 
 -- an instruction that is read is one or the other
-pub targets : (first : List ℕ) (operands : List (List ℕ)) (i : Insn) → instruction_of first operands (Some (pos 0)) ≡ Ok i → IsPlain first operands i ⊎ IsAwaiting first operands i
-targets first operands i h = by (named first) refl h
+pub plain_or_awaiting : (first : List ℕ) (operands : List (List ℕ)) (i : Insn) → instruction_of first operands (Some (pos 0)) ≡ Ok i → IsPlain first operands i ⊎ IsAwaiting first operands i
+plain_or_awaiting first operands i h = by (named first) refl h
   where
     by : (m : Option Mnemonic) → named first ≡ m → instruction_from m operands (Some (pos 0)) ≡ Ok i → IsPlain first operands i ⊎ IsAwaiting first operands i
     by None n k = absurd (let bad : Err cause.Word ≡ Ok i = k in cc)

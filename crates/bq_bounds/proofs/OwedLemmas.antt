@@ -24,7 +24,7 @@ use Rattle.bq_fair.proofs.PlaceLemmas.{current_present}
 use Rattle.bq_fair.proofs.DecideLemmas.{keeps_present}
 use Rattle.bq_fair.proofs.StepLemmas.{well_formed_stepped}
 use Rattle.bq_fair.proofs.EligibleLemmas.{IsEarliestOf, runs_earliest, earliest_is_eligible}
-use Rattle.bq_fair.proofs.BalanceLemmas.{sound, moment_up}
+use Rattle.bq_fair.proofs.BalanceLemmas.{well_formed_is_sound, moment_up}
 use Rattle.bq_fair.proofs.OwedLemmas.{none_is_owed_long}
 use Rattle.bq_bounds.specs.Lags.{mean_at, furthest, owed, allowed}
 use Rattle.bq_bounds.specs.Owing.{KeepsAll, EevdfOwesWithin}
@@ -221,7 +221,7 @@ eevdf_owes_within r p ss j b s k d f =
     let end = left E r 0 p ss w k (begins r p w) d in
     let e = end.formed in
     let flat : Running = record q { current = None; queue = present_at q } in
-    let sound_flat = sound flat (record { distinct = e.distinct; weights = e.weights; ends = e.ends }) in
+    let sound_flat = well_formed_is_sound flat (record { distinct = e.distinct; weights = e.weights; ends = e.ends }) in
     let ahead : Task → Type 0 = λ t. weight_at q * t.v ≤ moment_at q + most_ahead E r (weight_at q) t.weight in
     let bal : IsBalanced E r flat = record { current = tt; each = All-from_ids ahead (present_at q) e.distinct end.each } in
     let long = none_is_owed_long E r flat j b sound_flat bal f in

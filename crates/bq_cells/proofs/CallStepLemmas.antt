@@ -25,7 +25,7 @@ use Rattle.bq_parts.specs.Steps.{WorldStep}
 use Rattle.bq_parts.specs.Shares.{after_time, Admits, Retires, Ticks, Drains, Blocks, Begins, Places, Installs}
 use Rattle.bq_parts.proofs.OnceLemmas.{few_at}
 use Rattle.bq_parts.proofs.TallyLemmas.{tally, tally-decided, tally-charge, tally-enter_all}
-use Rattle.bq_core.proofs.StepLemmas.{within}
+use Rattle.bq_core.proofs.StepLemmas.{in_range_not_refused}
 use Rattle.bq_core.proofs.MoveLemmas.{tally-after_leaving}
 use Rattle.bq_core.proofs.ShareStepLemmas.{admits_step, retires_step, ticks_step, drains_step, blocks_step, begins_step, places_step, installs_step}
 use Rattle.bq_cells.specs.declared.law.Kept.{Kept}
@@ -100,7 +100,7 @@ module _ (d : Discipline) (n : ℕ) where
   tick_moves c now p q calls k r t =
       let size : size_of q ≡ size_of p = ap size_of t.1.1 ∙ decided_size (policies d) (after_time d now p) t.0 ∙ time_size d now p in
       moves_cpu d n c p q k k (record { event = Tick c now; reply = Ok r; calls = calls })
-      (λ w s kw l at. ((ticks_step d w c now calls r q l (rw at t), rw (within w c l) refl, tt), kept_same w c p q k kw at size))
+      (λ w s kw l at. ((ticks_step d w c now calls r q l (rw at t), rw (in_range_not_refused w c l) refl, tt), kept_same w c p q k kw at size))
 
   drain_load : (c now : ℕ) (p q : Processor) (xs : List Task) (calls : List Asked) (r : Reply) → Drains (policies d) c now p xs calls r q → load_of q [] ≡ load_of p xs
   drain_load c now p q xs calls r t =
@@ -114,7 +114,7 @@ module _ (d : Discipline) (n : ℕ) where
   drain_moves c now p q xs calls k r t =
       moves_cpu_inbox d n c c p q xs [] k k (record { event = Drain c now; reply = Ok r; calls = calls })
       (λ w s kw l at m box. (
-        (drains_step d w c now calls r q l (rw (at, box) t), rw (within w c l) refl, tt),
+        (drains_step d w c now calls r q l (rw (at, box) t), rw (in_range_not_refused w c l) refl, tt),
         ap (λ (ls : List ℕ). record { drawn = w.drawn; loads = ls })
             (loads_moved w.processors w.inboxes c q [] l (s.boxes ∙ sym s.many) (drain_load c now p q xs calls r t ∙ sym (ap (λ (x : Processor). load_of x xs) at) ∙ sym (ap (λ (x : List Task). load_of (processor_at w c) x) box))) ∙ kw,
       ))
@@ -133,14 +133,14 @@ module _ (d : Discipline) (n : ℕ) where
       MovesHere d n k (cpu_part c p ∷ lobby_part l ∷ []) (record { event = Block c now; reply = r; calls = [] }) (kept_by_block c r k) (cpu_part c q ∷ lobby_part m ∷ [])
   block_moves c now p q l m k r b =
       moves_cpu_lobby d n c p q l m k (kept_by_block c r k) (record { event = Block c now; reply = r; calls = [] })
-      (λ w s kw there at is. ((blocks_step d w c now r q m there (rw (at, is) b), rw (within w c there) refl, blocks_named d c now p l r q m b), block_kept w c now p q l m k r s kw there at b))
+      (λ w s kw there at is. ((blocks_step d w c now r q m there (rw (at, is) b), rw (in_range_not_refused w c there) refl, blocks_named d c now p l r q m b), block_kept w c now p q l m k r s kw there at b))
 
   pub begin_moves : (c id : ℕ) (p q : Processor) (l m : List LobbyEntry) (k : Kept) (r : Result Reply Refusal) → id < 1024 → Begins id k.loads p l r q m →
       MovesHere d n k (cpu_part c p ∷ lobby_part l ∷ []) (record { event = BeginWake c id; reply = r; calls = [] }) k (cpu_part c q ∷ lobby_part m ∷ [])
   begin_moves c id p q l m k r bound b =
       moves_cpu_lobby d n c p q l m k k (record { event = BeginWake c id; reply = r; calls = [] })
       (λ w s kw there at is. (
-        (begins_step d w c id r q m there bound (rw (at, is, ap (λ (x : Kept). x.loads) kw) b), rw (within w c there, has_entry id bound) refl, begins_named id k.loads p l r q m b),
+        (begins_step d w c id r q m there bound (rw (at, is, ap (λ (x : Kept). x.loads) kw) b), rw (in_range_not_refused w c there, has_entry id bound) refl, begins_named id k.loads p l r q m b),
         kept_same w c p q k kw at (begin_size id k.loads p l r q m b),
       ))
 
@@ -154,7 +154,7 @@ module _ (d : Discipline) (n : ℕ) where
       (λ w s kw l at m box.
       let step : WorldStep (policies d) w (EndWake c now) calls (Ok (Placed task x.to x.by x.steps)) (with_inbox (with_processor w c q) x.to (xs ++ x.task ∷ [])) =
       rw (own, ← box) (places_step d w c now calls x q l (rw (s.many, at) b)) in
-      ((step, rw (within w c l) refl, tt), place_kept w c now p q xs calls k x s kw at m box b))
+      ((step, rw (in_range_not_refused w c l) refl, tt), place_kept w c now p q xs calls k x s kw at m box b))
     where
       place_kept : (w : World) (c now : ℕ) (p q : Processor) (xs : List Task) (calls : List Asked) (k : Kept) (x : Placement) → IsSound n w → kept_of w ≡ k → processor_at w c ≡ p → x.to < length w.inboxes → inbox w x.to ≡ xs →
           Places (policies d) n c now p calls (Some x) q → kept_of (with_inbox (with_processor w c q) x.to (xs ++ x.task ∷ [])) ≡ one_more x.to k

@@ -25,7 +25,7 @@ use Rattle.bq_parts.proofs.CountLemmas.{each_once_queue}
 use Rattle.bq_parts.proofs.OnceLemmas.{each_once_running, few_at}
 use Rattle.bq_parts.proofs.PermittedLemmas.{settled_permitted, own_pull_permitted, may_pull_names}
 use Rattle.std.proofs.lemmas.Bool.Decides.{nat_tests}
-use Rattle.bq_core.proofs.StepLemmas.{within}
+use Rattle.bq_core.proofs.StepLemmas.{in_range_not_refused}
 use Rattle.bq_core.proofs.MoveLemmas.{tally-pulled, tally-without_task}
 use Rattle.bq_core.proofs.ShareStepLemmas.{pulls_step}
 use Rattle.bq_cells.specs.declared.law.Kept.{Kept}
@@ -133,4 +133,4 @@ module _ (d : Discipline) (n : ℕ) where
       MovesHere d n k (cpu_part c p ∷ cpu_part b o ∷ []) (record { event = Pull c b now; reply = Ok x; calls = calls }) (kept_by_pull c b x k) (cpu_part c q ∷ cpu_part b r ∷ [])
   pull_moves c b now p q o r calls k x apart u =
       moves_two_cpus d n c b p q o r k (kept_by_pull c b x k) (record { event = Pull c b now; reply = Ok x; calls = calls }) apart
-      (λ w s kw here at there at'. ((pulls_step d w c b now calls x q r here there apart (rw (at, at') u), rw (within w c here, within w b there, differ c b apart) refl, tt), pull_kept w c b now p q o r calls k x s kw here at there at' apart u))
+      (λ w s kw here at there at'. ((pulls_step d w c b now calls x q r here there apart (rw (at, at') u), rw (in_range_not_refused w c here, in_range_not_refused w b there, differ c b apart) refl, tt), pull_kept w c b now p q o r calls k x s kw here at there at' apart u))

@@ -24,12 +24,12 @@ apart : (d c : ℕ) → cond {A = ℕ} (eqb d c) 1 0 ≡ 0 → d ≢ c
 apart d c none e = let one : cond {A = ℕ} (eqb d c) 1 0 ≡ 1 = ap (λ (b : Bool). cond {A = ℕ} b 1 0) (eq-eqb d c e) in omega arith
 
 -- a processor that was written is there, and is what was written
-pub written : (w : World) (c : ℕ) (q : Processor) → c < count_in w → (c < count_in (with_processor w c q)) × (processor_at (with_processor w c q) c ≡ q)
-written w c q l = (rw length-set l, get_or-set_same w.processors c q opening l)
+pub written_is_there : (w : World) (c : ℕ) (q : Processor) → c < count_in w → (c < count_in (with_processor w c q)) × (processor_at (with_processor w c q) c ≡ q)
+written_is_there w c q l = (rw length-set l, get_or-set_same w.processors c q opening l)
 
 -- where another processor was written, a processor is there as before
-pub unwritten : (w : World) (c d : ℕ) (q r : Processor) → d ≢ c → (d < count_in w) × (processor_at w d ≡ r) → (d < count_in (with_processor w c q)) × (processor_at (with_processor w c q) d ≡ r)
-unwritten w c d q r n f = (rw length-set f.0, get_or-set_other w.processors c d q opening n ∙ f.1)
+pub others_are_as_before : (w : World) (c d : ℕ) (q r : Processor) → d ≢ c → (d < count_in w) × (processor_at w d ≡ r) → (d < count_in (with_processor w c q)) × (processor_at (with_processor w c q) d ≡ r)
+others_are_as_before w c d q r n f = (rw length-set f.0, get_or-set_other w.processors c d q opening n ∙ f.1)
 
 module _ (d : Discipline) (n : ℕ) where
   -- what a commit asks
@@ -68,7 +68,7 @@ module _ (d : Discipline) (n : ℕ) where
     counts,
     λ w reached kw h.
         let s = steps w (reached_sound d n w reached) kw h.0.0 h.0.1 in
-        (with_processor w c q, s.0, s.1, (written w c q h.0.0, tt), others w),
+        (with_processor w c q, s.0, s.1, (written_is_there w c q h.0.0, tt), others w),
   )
     where
       counts : (x : Part) → count (same_part x) (cpu_part c q ∷ []) ≡ count (same_part x) (cpu_part c p ∷ [])
@@ -77,7 +77,7 @@ module _ (d : Discipline) (n : ℕ) where
       counts (part.Lobby o) = refl
 
       others : (w : World) (x : Part) → count (same_part x) (cpu_part c p ∷ []) ≡ 0 → HasPart w x → HasPart (with_processor w c q) x
-      others w (part.Cpu b r) none f = unwritten w c b q r (apart b c (omega arith)) f
+      others w (part.Cpu b r) none f = others_are_as_before w c b q r (apart b c (omega arith)) f
       others w (part.Inbox b j) none f = f
       others w (part.Lobby o) none f = f
 
@@ -90,7 +90,7 @@ module _ (d : Discipline) (n : ℕ) where
     counts,
     λ w reached kw h.
         let s = steps w (reached_sound d n w reached) kw h.0.0 h.0.1 h.1.0 in
-        (record (with_processor w c q) { lobby = o }, s.0, s.1, (written w c q h.0.0, (refl, tt)), others w),
+        (record (with_processor w c q) { lobby = o }, s.0, s.1, (written_is_there w c q h.0.0, (refl, tt)), others w),
   )
     where
       counts : (x : Part) → count (same_part x) (cpu_part c q ∷ lobby_part o ∷ []) ≡ count (same_part x) (cpu_part c p ∷ lobby_part l ∷ [])
@@ -99,7 +99,7 @@ module _ (d : Discipline) (n : ℕ) where
       counts (part.Lobby z) = refl
 
       others : (w : World) (x : Part) → count (same_part x) (cpu_part c p ∷ lobby_part l ∷ []) ≡ 0 → HasPart w x → HasPart (record (with_processor w c q) { lobby = o }) x
-      others w (part.Cpu b r) none f = unwritten w c b q r (apart b c (omega arith)) f
+      others w (part.Cpu b r) none f = others_are_as_before w c b q r (apart b c (omega arith)) f
       others w (part.Inbox b j) none f = f
       others w (part.Lobby z) none f = absurd (omega arith)
 
@@ -113,7 +113,7 @@ module _ (d : Discipline) (n : ℕ) where
     counts,
     λ w reached kw h.
         let s = steps w (reached_sound d n w reached) kw h.0.0 h.0.1 h.1.0.0 h.1.0.1 in
-        (with_inbox (with_processor w c q) b ys, s.0, s.1, (written w c q h.0.0, ((rw length-set h.1.0.0, get_or-set_same w.inboxes b ys [] h.1.0.0), tt)), others w),
+        (with_inbox (with_processor w c q) b ys, s.0, s.1, (written_is_there w c q h.0.0, ((rw length-set h.1.0.0, get_or-set_same w.inboxes b ys [] h.1.0.0), tt)), others w),
   )
     where
       counts : (x : Part) → count (same_part x) (cpu_part c q ∷ inbox_part b ys ∷ []) ≡ count (same_part x) (cpu_part c p ∷ inbox_part b xs ∷ [])
@@ -122,7 +122,7 @@ module _ (d : Discipline) (n : ℕ) where
       counts (part.Lobby z) = refl
 
       others : (w : World) (x : Part) → count (same_part x) (cpu_part c p ∷ inbox_part b xs ∷ []) ≡ 0 → HasPart w x → HasPart (with_inbox (with_processor w c q) b ys) x
-      others w (part.Cpu a r) none f = unwritten w c a q r (apart a c (omega arith)) f
+      others w (part.Cpu a r) none f = others_are_as_before w c a q r (apart a c (omega arith)) f
       others w (part.Inbox a j) none f = (rw length-set f.0, get_or-set_other w.inboxes b a ys [] (apart a b (omega arith)) ∙ f.1)
       others w (part.Lobby z) none f = f
 
@@ -138,7 +138,7 @@ module _ (d : Discipline) (n : ℕ) where
         let s = steps w (reached_sound d n w reached) kw h.0.0 h.0.1 h.1.0.0 h.1.0.1 in
         let u = with_processor w c q in
         let there : b < count_in u = rw length-set h.1.0.0 in
-        (with_processor u b r, s.0, s.1, (unwritten u b c r q two (written w c q h.0.0), (written u b r there, tt)), others w),
+        (with_processor u b r, s.0, s.1, (others_are_as_before u b c r q two (written_is_there w c q h.0.0), (written_is_there u b r there, tt)), others w),
   )
     where
       counts : (x : Part) → count (same_part x) (cpu_part c q ∷ cpu_part b r ∷ []) ≡ count (same_part x) (cpu_part c p ∷ cpu_part b o ∷ [])
@@ -147,6 +147,6 @@ module _ (d : Discipline) (n : ℕ) where
       counts (part.Lobby z) = refl
 
       others : (w : World) (x : Part) → count (same_part x) (cpu_part c p ∷ cpu_part b o ∷ []) ≡ 0 → HasPart w x → HasPart (with_processor (with_processor w c q) b r) x
-      others w (part.Cpu a z) none f = unwritten (with_processor w c q) b a r z (apart a b (omega arith)) (unwritten w c a q z (apart a c (omega arith)) f)
+      others w (part.Cpu a z) none f = others_are_as_before (with_processor w c q) b a r z (apart a b (omega arith)) (others_are_as_before w c a q z (apart a c (omega arith)) f)
       others w (part.Inbox a j) none f = f
       others w (part.Lobby z) none f = f

@@ -11,9 +11,9 @@ use Rattle.bq_cfs.specs.Cfs.{least}
 use Rattle.bq_cfs.specs.Spread.{bound}
 
 -- what holds of each of some tasks, in other words
-pub weaker : (P Q : Task → Type 0) → ((t : Task) → P t → Q t) → (xs : List Task) → AllByRecursion P xs → AllByRecursion Q xs
-weaker P Q f [] h = tt
-weaker P Q f (x ∷ xs) h = (f x h.0, weaker P Q f xs h.1)
+pub weaker_of_each : (P Q : Task → Type 0) → ((t : Task) → P t → Q t) → (xs : List Task) → AllByRecursion P xs → AllByRecursion Q xs
+weaker_of_each P Q f [] h = tt
+weaker_of_each P Q f (x ∷ xs) h = (f x h.0, weaker_of_each P Q f xs h.1)
 
 -- The least v
 
@@ -21,7 +21,7 @@ least_of_two : (x m : Task) (xs : List Task) (b : Bool) → runs_before m x ≡ 
 least_of_two x m xs true e h = (grind (arith, nat_tests), h)
 least_of_two x m xs false e h =
     let le : x.v ≤ m.v = grind (arith, nat_tests) in
-    (omega arith, weaker (λ (t : Task). m.v ≤ t.v) (λ (t : Task). x.v ≤ t.v) (λ t k. omega arith) xs h)
+    (omega arith, weaker_of_each (λ (t : Task). m.v ≤ t.v) (λ (t : Task). x.v ≤ t.v) (λ t k. omega arith) xs h)
 
 -- no v is below that of the least task
 pub none_below_least : (x : Task) (xs : List Task) → NoneBelow (former runs_before x (least xs)).v (x ∷ xs)
@@ -44,7 +44,7 @@ pub bound-near : (V : ℕ) (xs : List Task) → AllByRecursion (IsNear V (bound 
 bound-near V [] = tt
 bound-near V (x ∷ xs) =
     let m = former runs_before x (least xs) in
-    weaker (λ (t : Task). m.v ≤ t.v) (IsNear V (bound V (x ∷ xs))) (λ t k. omega arith) (x ∷ xs) (none_below_least x xs)
+    weaker_of_each (λ (t : Task). m.v ≤ t.v) (IsNear V (bound V (x ∷ xs))) (λ t k. omega arith) (x ∷ xs) (none_below_least x xs)
 
 -- what is near each of some tasks is at most their bound
 pub at_most_bound : (V n : ℕ) (x : Task) (xs : List Task) → All (IsNear V n) (x ∷ xs) → n ≤ bound V (x ∷ xs)

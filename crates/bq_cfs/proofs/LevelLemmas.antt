@@ -42,8 +42,8 @@ level_of V d n (x ∷ xs) near reach weight ends = (
 )
 
 -- the tasks of a processor that is within its bound
-pub level : (V d : ℕ) (p : Running) → IsSound p → IsWithin V d p → AllByRecursion (IsLevel V d (bound V (present_at p))) (present_at p)
-level V d p s w =
+pub within_bound_is_level : (V d : ℕ) (p : Running) → IsSound p → IsWithin V d p → AllByRecursion (IsLevel V d (bound V (present_at p))) (present_at p)
+within_bound_is_level V d p s w =
     let xs = present_at p in
     let n = bound V xs in
     level_of V d n xs (bound-near V xs)

@@ -15,9 +15,9 @@ use Rattle.bq_disc.specs.OneProcessor.{Running, present_at, charge, start, run_i
 use Rattle.bq_disc.proofs.SetLemmas.{with_id-Contains}
 use Rattle.bq_cfs.specs.Cfs.{cfs, least}
 use Rattle.bq_cfs.specs.Spread.{bound, IsSound, IsWithin, Event, Tick, Block, read_at, passed, StaysWithin, HistoryStaysWithin}
-use Rattle.bq_cfs.proofs.BoundLemmas.{weaker, IsNear, at_most_bound, none_below_least}
+use Rattle.bq_cfs.proofs.BoundLemmas.{weaker_of_each, IsNear, at_most_bound, none_below_least}
 use Rattle.bq_cfs.proofs.MoveLemmas.{each-without, each-place, each-with_id, distinct-started, distinct-exchanged}
-use Rattle.bq_cfs.proofs.LevelLemmas.{IsLevel, IsLevel-charged, level}
+use Rattle.bq_cfs.proofs.LevelLemmas.{IsLevel, IsLevel-charged, within_bound_is_level}
 
 -- What an event leaves
 
@@ -29,16 +29,16 @@ RunsNear o q = IfSome o (λ m. AllByRecursion (λ t. m.v ≤ t.v + 1000000) (pre
 current_within : (V : ℕ) (o : Option Task) (q : List Task) → RunsNear o q → IfSome o (λ t. t.v ≤ bound V (present o q))
 current_within V None q h = tt
 current_within V (Some m) q h =
-    at_most_bound V m.v m q (All-from_recursion (IsNear V m.v) (m ∷ q) (weaker (λ (t : Task). m.v ≤ t.v + 1000000) (IsNear V m.v) (λ t k. omega arith) (m ∷ q) h))
+    at_most_bound V m.v m q (All-from_recursion (IsNear V m.v) (m ∷ q) (weaker_of_each (λ (t : Task). m.v ≤ t.v + 1000000) (IsNear V m.v) (λ t k. omega arith) (m ∷ q) h))
 
 -- and each task is within it and the time that d takes
 each_within : (V d n : ℕ) (xs : List Task) → AllByRecursion (IsLevel V d n) xs → All (λ t. t.v ≤ bound V xs + vdelta_of d 15) xs
 each_within V d n [] h = All-from_recursion (λ (t : Task). t.v ≤ bound V [] + vdelta_of d 15) [] tt
 each_within V d n (x ∷ xs) h =
-    let near = All-from_recursion (IsNear V n) (x ∷ xs) (weaker (IsLevel V d n) (IsNear V n) (λ t l. l.near) (x ∷ xs) h) in
+    let near = All-from_recursion (IsNear V n) (x ∷ xs) (weaker_of_each (IsLevel V d n) (IsNear V n) (λ t l. l.near) (x ∷ xs) h) in
     let le = at_most_bound V n x xs near in
     let reaches : Task → Type 0 = λ t. t.v ≤ bound V (x ∷ xs) + vdelta_of d 15 in
-    All-from_recursion reaches (x ∷ xs) (weaker (IsLevel V d n) reaches (λ t l. let reach = l.reach in omega arith) (x ∷ xs) h)
+    All-from_recursion reaches (x ∷ xs) (weaker_of_each (IsLevel V d n) reaches (λ t l. let reach = l.reach in omega arith) (x ∷ xs) h)
 
 -- the processor keeps what the law promises
 abbrev Stays : ℕ → ℕ → Running → Type 0
@@ -50,8 +50,8 @@ stays V d n p distinct h runs =
     let xs = present_at p in (
       record {
         distinct = distinct;
-        weights = All-from_recursion (λ (t : Task). IsWeight t.weight) xs (weaker (IsLevel V d n) (λ (t : Task). IsWeight t.weight) (λ t l. l.weight) xs h);
-        ends = All-from_recursion (λ (t : Task). t.v ≤ 2 ^ 62) xs (weaker (IsLevel V d n) (λ (t : Task). t.v ≤ 2 ^ 62) (λ t l. l.ends) xs h);
+        weights = All-from_recursion (λ (t : Task). IsWeight t.weight) xs (weaker_of_each (IsLevel V d n) (λ (t : Task). IsWeight t.weight) (λ t l. l.weight) xs h);
+        ends = All-from_recursion (λ (t : Task). t.v ≤ 2 ^ 62) xs (weaker_of_each (IsLevel V d n) (λ (t : Task). t.v ≤ 2 ^ 62) (λ t l. l.ends) xs h);
       },
       record { current = current_within V p.current p.queue runs; each = each_within V d n xs h },
     )
@@ -73,7 +73,7 @@ started_stays : (V d n kept last : ℕ) (q : List Task) (m : Task) → with_id m
 started_stays V d n kept last q m found distinct h none =
     rw found (stays V d n (record { queue = without m.id q; kept = kept; current = Some m; last = last }) (distinct-started m q distinct)
     (rw found at (each-with_id (IsLevel V d n) m.id q h), each-without (IsLevel V d n) m.id q h)
-    (omega arith, each-without (λ (t : Task). m.v ≤ t.v + 1000000) m.id q (weaker (λ (t : Task). m.v ≤ t.v) (λ (t : Task). m.v ≤ t.v + 1000000) (λ t k. omega arith) q none)))
+    (omega arith, each-without (λ (t : Task). m.v ≤ t.v + 1000000) m.id q (weaker_of_each (λ (t : Task). m.v ≤ t.v) (λ (t : Task). m.v ≤ t.v + 1000000) (λ t k. omega arith) q none)))
 
 start_stays : (V d n kept last : ℕ) (q : List Task) → HasDistinctIds q → AllByRecursion (IsLevel V d n) q → Stays V d (start cfs (idle q kept last))
 start_stays V d n kept last [] distinct h = stays V d n (idle [] kept last) tt tt tt
@@ -92,7 +92,7 @@ near_each n [] e = tt
 near_each n (x ∷ xs) e =
     let m = former runs_before x (least xs) in
     let le : n ≤ m.v + 1000000 = grind (arith, nat_tests) in
-    weaker (λ (t : Task). m.v ≤ t.v) (λ (t : Task). n ≤ t.v + 1000000) (λ t k. omega arith) (x ∷ xs) (none_below_least x xs)
+    weaker_of_each (λ (t : Task). m.v ≤ t.v) (λ (t : Task). n ≤ t.v + 1000000) (λ t k. omega arith) (x ∷ xs) (none_below_least x xs)
 
 kept_stays : (V d n kept last : ℕ) (q : List Task) (u : Task) → HasDistinctIds (u ∷ q) → AllByRecursion (IsLevel V d n) (u ∷ q) → own_preempt cfs q (Some u) ≡ false → Stays V d (busy q kept u last)
 kept_stays V d n kept last q u distinct h e = stays V d n (busy q kept u last) distinct h (omega arith, near_each u.v q e)
@@ -114,7 +114,7 @@ exchanged_stays V d n kept last next q u m chosen found distinct h none le =
     let near : Task → Type 0 = λ t. m.v ≤ t.v + 1000000 in
     rw (chosen, found) (stays V d n (exchanged (busy q kept u last) u (Some m)) (distinct-exchanged u m q found distinct)
     (rw found at (each-with_id (IsLevel V d n) m.id q h.1), each-place (IsLevel V d n) u (without m.id q) h.0 (each-without (IsLevel V d n) m.id q h.1))
-    (omega arith, each-place near u (without m.id q) (omega arith) (each-without near m.id q (weaker (λ (t : Task). m.v ≤ t.v) near (λ t k. omega arith) q none))))
+    (omega arith, each-place near u (without m.id q) (omega arith) (each-without near m.id q (weaker_of_each (λ (t : Task). m.v ≤ t.v) near (λ t k. omega arith) q none))))
 
 switched_stays : (V d n kept last : ℕ) (q : List Task) (u : Task) → HasDistinctIds (u ∷ q) → AllByRecursion (IsLevel V d n) (u ∷ q) → own_preempt cfs q (Some u) ≡ true → Stays V d (switched cfs (busy q kept u last) (Some u))
 switched_stays V d n kept last [] u distinct h e = cc
@@ -135,20 +135,20 @@ event_stays : (V d : ℕ) (q : List Task) (kept : ℕ) (o : Option Task) (last :
 event_stays V d q kept None last (Tick now) s w le =
     let p = idle q kept last in
     let c = charge cfs p now in
-    start_stays V d (bound V q) c.kept c.last q s.distinct (level V d p s w)
+    start_stays V d (bound V q) c.kept c.last q s.distinct (within_bound_is_level V d p s w)
 event_stays V d q kept None last (Block now) s w le = (s, w)
 event_stays V d q kept (Some t) last (Tick now) s w le =
     let p = busy q kept t last in
     let c = charge cfs p now in
     let n = bound V (t ∷ q) in
-    let h = level V d p s w in
+    let h = within_bound_is_level V d p s w in
     let u = charged cfs t (c.last - last) in
     let charged_level = IsLevel-charged V d n (c.last - last) t h.0 w.current le in
     decided_stays V d n c.kept c.last q u (own_preempt cfs q (Some u)) refl s.distinct (charged_level, h.1)
 event_stays V d q kept (Some t) last (Block now) s w le =
     let p = busy q kept t last in
     let c = charge cfs p now in
-    start_stays V d (bound V (t ∷ q)) c.kept c.last q s.distinct.1 (level V d p s w).1
+    start_stays V d (bound V (t ∷ q)) c.kept c.last q s.distinct.1 (within_bound_is_level V d p s w).1
 
 -- an event keeps a processor within its bound
 pub stays_within : StaysWithin

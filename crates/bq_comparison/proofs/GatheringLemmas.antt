@@ -26,9 +26,9 @@ delays-after old new ((n, x) ∷ more) h =
     ∙ append_assoc old.delays.items (delays_with old.schedule x) (delays_after (watched old.schedule x) more)
 
 -- the schedule and the delays of a whole simulation
-pub gathered : (old new : Gatherer) (policies : List Accepted) (w : Workload) → old.schedule ≡ None → old.delays.items ≡ [] → Gets Takes old new (IsSimulation policies w)
+pub gathers_simulation : (old new : Gatherer) (policies : List Accepted) (w : Workload) → old.schedule ≡ None → old.delays.items ≡ [] → Gets Takes old new (IsSimulation policies w)
     → IsGathered policies w new.schedule new.delays.items
-gathered old new policies w none empty g = record {
+gathers_simulation old new policies w none empty g = record {
   told = g.told;
   simulation = g.holds;
   schedule_is = schedule-after old new g.told g.taken ∙ ap (λ s. schedule_after s g.told) none;

@@ -53,12 +53,12 @@ AreRuns-come policies w figures seed next before after results at h k (more, ok,
     subst P (sym is) (AreRuns-append policies w figures seed before more h (subst R ok (subst Q at k)))
 
 -- the fault of a run, in the words of a summary, says as much
-pub refused : (w : Workload) (why : SimulateFault) → flaw_told why ≡ first_flaw w → IsNoRun w (fault_of_run why)
-refused w run_fault.OutOfMemory h = tt
-refused w (run_fault.Unsound flaw) h = h
-refused w (run_fault.Drive fault) h = h
-refused w run_fault.Astray h = h
-refused w run_fault.Endless h = h
+pub refused_is_no_run : (w : Workload) (why : SimulateFault) → flaw_told why ≡ first_flaw w → IsNoRun w (fault_of_run why)
+refused_is_no_run w run_fault.OutOfMemory h = tt
+refused_is_no_run w (run_fault.Unsound flaw) h = h
+refused_is_no_run w (run_fault.Drive fault) h = h
+refused_is_no_run w run_fault.Astray h = h
+refused_is_no_run w run_fault.Endless h = h
 
 -- where a run is refused, so are all
 refused_all : (w : Workload) (count : ℕ) (why : SeedsFault) → IsNoRun w why → IsNoSummary w count why

@@ -50,8 +50,8 @@ pub second_part_reads : {X : Type 0} (xs ys : List X) (j m : ℕ) (e d : X) → 
 second_part_reads xs ys j m e d f g n = rw (f, g) (read_high xs j e ∙ any_default xs j e d n)
 
 -- the parts, once a place of the first and then the beginning of the second are written, make the list written at both
-pub joined : {X : Type 0} (xs ys zs : List X) (i j k m : ℕ) (a b : X) → ys ≡ take m xs → zs ≡ drop m xs → m ≡ j → k ≡ i → i < j → set ys k a ++ set zs 0 b ≡ set (set xs i a) j b
-joined xs ys zs i j k m a b e f g h l = rw (e, f, g, h) (set_two xs i j a b l)
+pub written_parts_joined : {X : Type 0} (xs ys zs : List X) (i j k m : ℕ) (a b : X) → ys ≡ take m xs → zs ≡ drop m xs → m ≡ j → k ≡ i → i < j → set ys k a ++ set zs 0 b ≡ set (set xs i a) j b
+written_parts_joined xs ys zs i j k m a b e f g h l = rw (e, f, g, h) (set_two xs i j a b l)
 
 -- so they do where the list is written first at the cut and then at the place below it
 pub joined_reversed : {X : Type 0} (xs ys zs : List X) (i j k m : ℕ) (a b : X) → ys ≡ take m xs → zs ≡ drop m xs → m ≡ i → k ≡ j → j < i → set ys k b ++ set zs 0 a ≡ set (set xs i a) j b

@@ -8,7 +8,7 @@ use Rattle.bq_verify.specs.Accepted.{Accepted}
 use Rattle.bq_policies.specs.Attachments.{IsFor}
 use Rattle.bq_parts.specs.declared.refusal.Refusal.TheVariants as no
 use Rattle.bq_parts.specs.Refusals.{argument_refusal, same_hook, is_for}
-use Rattle.bq_core.proofs.OrderLemmas.{there, passed, not_false}
+use Rattle.bq_core.proofs.OrderLemmas.{not_refused_is_there, first_refusal_passed, not_false}
 
 -- equal hooks are one
 one_hook : (a b : Hook) → same_hook a b ≡ true → b ≡ a
@@ -28,8 +28,8 @@ for_by_case h (Some p) e = one_hook h p.hook e
 
 -- where no argument is refused the processor is there
 pub install_there : (count processor g : ℕ) (h : Hook) (o : Option Accepted) → argument_refusal count (Install processor h g o) ≡ None → processor < count
-install_there count processor g h o e = (there count processor _ e).0
+install_there count processor g h o e = (not_refused_is_there count processor _ e).0
 
 -- and the policy was verified for the hook
 pub install_suits : (count processor g : ℕ) (h : Hook) (o : Option Accepted) → argument_refusal count (Install processor h g o) ≡ None → IsFor h o
-install_suits count processor g h o e = for_by_case h o (not_false (is_for h o) (passed (not (is_for h o)) no.WrongHook None (there count processor _ e).1).0)
+install_suits count processor g h o e = for_by_case h o (not_false (is_for h o) (first_refusal_passed (not (is_for h o)) no.WrongHook None (not_refused_is_there count processor _ e).1).0)

@@ -50,9 +50,9 @@ accepted : (w : World) (e : Event) → refusal w e ≡ None → (argument_refusa
 accepted w e h = neither (argument_refusal (count_in w) e) (state_refusal w e) h
 
 -- the first of some refusals doesn't hold, and none of the others does
-pub passed : (b : Bool) (r : Refusal) (rest : Option Refusal) → cond b (Some r) rest ≡ None → (b ≡ false) × (rest ≡ None)
-passed true r rest h = cc
-passed false r rest h = (refl, h)
+pub first_refusal_passed : (b : Bool) (r : Refusal) (rest : Option Refusal) → cond b (Some r) rest ≡ None → (b ≡ false) × (rest ≡ None)
+first_refusal_passed true r rest h = cc
+first_refusal_passed false r rest h = (refl, h)
 
 -- a test whose contrary fails holds
 pub not_false : (b : Bool) → not b ≡ false → b ≡ true
@@ -60,13 +60,13 @@ not_false true h = refl
 not_false false h = cc
 
 -- a processor that is not refused is there
-pub there : (count processor : ℕ) (rest : Option Refusal) → cond (nat_le count processor) (Some no.NoProcessor) rest ≡ None → (processor < count) × (rest ≡ None)
-there count processor rest h = let f = passed (nat_le count processor) no.NoProcessor rest h in (below_from_not_at_most processor count f.0, f.1)
+pub not_refused_is_there : (count processor : ℕ) (rest : Option Refusal) → cond (nat_le count processor) (Some no.NoProcessor) rest ≡ None → (processor < count) × (rest ≡ None)
+not_refused_is_there count processor rest h = let f = first_refusal_passed (nat_le count processor) no.NoProcessor rest h in (below_from_not_at_most processor count f.0, f.1)
 
 -- the mask of a task that is admitted has a processor of the machine
 admitted_has_place : (count id : ℕ) (nice : ℤ) (mask slice : ℕ) → argument_refusal count (Admit id nice mask slice) ≡ None → HasPlace count (admitted count id nice mask slice)
 admitted_has_place count id nice mask slice h =
-    let some = (passed (mask % 2 ^ count == 0) no.EmptyMask _ (passed (nat_le 1024 id) no.NoTask _ h).1).0 in
+    let some = (first_refusal_passed (mask % 2 ^ count == 0) no.EmptyMask _ (first_refusal_passed (nat_le 1024 id) no.NoTask _ h).1).0 in
     (mod_below mask (2 ^ count) (pow_pos count), differ_from_test (mask % 2 ^ count) 0 some)
 
 -- the world after an event is tidy, with as many processors
@@ -82,28 +82,28 @@ admit_keeps s w id nice mask slice calls r w' y h k =
 
 retire_keeps : (s : Regime) (w : World) (id : ℕ) (calls : List Asked) (r : Reply) (w' : World) → IsTidy (count_in w) [] w → Performs s w (Retire id) calls r w' → Keeps w w'
 retire_keeps s w id calls r w' y k =
-    let later = (passed (is_absent (entry w id)) no.NoTask _ k.1.0).1 in
-    rw (k.3, k.1.2) (EventLemmas.retire_tidy (count_in w) w id y (passed (is_away (entry w id)) no.NotBlocked None later).0)
+    let later = (first_refusal_passed (is_absent (entry w id)) no.NoTask _ k.1.0).1 in
+    rw (k.3, k.1.2) (EventLemmas.retire_tidy (count_in w) w id y (first_refusal_passed (is_away (entry w id)) no.NotBlocked None later).0)
 
 install_keeps : (s : Regime) (w : World) (processor : ℕ) (hook : Hook) (g : ℕ) (policy : Option Accepted) (calls : List Asked) (r : Reply) (w' : World) → IsTidy (count_in w) [] w → refusal w (Install processor hook g policy) ≡ None →
     Performs s w (Install processor hook g policy) calls r w' → Keeps w w'
 install_keeps s w processor hook g policy calls r w' y h k =
     let new : Attached = record { policy = policy; generation = g; maps = fresh_maps policy } in
-    let l = (there (count_in w) processor _ (accepted w (Install processor hook g policy) h).0).0 in
+    let l = (not_refused_is_there (count_in w) processor _ (accepted w (Install processor hook g policy) h).0).0 in
     rw (k.3, k.1.2) (EventLemmas.install_tidy (count_in w) w processor (with_attached hook (processor_at w processor).hooks new) y l)
 
 begin_wake_keeps : (s : Regime) (w : World) (processor id : ℕ) (calls : List Asked) (r : Reply) (w' : World) → IsTidy (count_in w) [] w → refusal w (BeginWake processor id) ≡ None →
     Performs s w (BeginWake processor id) calls r w' → Keeps w w'
 begin_wake_keeps s w processor id calls r w' y h k =
     let b = k.2 in
-    let l = (there (count_in w) processor _ (accepted w (BeginWake processor id) h).0).0 in
-    let later = (passed (is_away (entry w id)) no.NotBlocked _ (passed (is_absent (entry w id)) no.NoTask _ b.1).1).1 in
-    rw (k.4, b.4, b.5) (EventLemmas.begin_wake_tidy (count_in w) w processor id b.0 (loads_of w.processors w.inboxes) y l b.2 (passed (is_some (processor_at w processor).hand) no.InHand None later).0)
+    let l = (not_refused_is_there (count_in w) processor _ (accepted w (BeginWake processor id) h).0).0 in
+    let later = (first_refusal_passed (is_away (entry w id)) no.NotBlocked _ (first_refusal_passed (is_absent (entry w id)) no.NoTask _ b.1).1).1 in
+    rw (k.4, b.4, b.5) (EventLemmas.begin_wake_tidy (count_in w) w processor id b.0 (loads_of w.processors w.inboxes) y l b.2 (first_refusal_passed (is_some (processor_at w processor).hand) no.InHand None later).0)
 
 end_wake_keeps : (s : Regime) (w : World) (processor now : ℕ) (calls : List Asked) (r : Reply) (w' : World) → IsTidy (count_in w) [] w → refusal w (EndWake processor now) ≡ None →
     Performs s w (EndWake processor now) calls r w' → Keeps w w'
 end_wake_keeps s w processor now calls r w' y h k =
-    let l = (there (count_in w) processor None (accepted w (EndWake processor now) h).0).0 in
+    let l = (not_refused_is_there (count_in w) processor None (accepted w (EndWake processor now) h).0).0 in
     let p : Processor = after_time s.discipline now (processor_at w processor) in
     let b = k.2 in
     let to = k.0.to in
@@ -117,26 +117,26 @@ end_wake_keeps s w processor now calls r w' y h k =
 
 drain_keeps : (s : Regime) (w : World) (processor now : ℕ) (calls : List Asked) (r : Reply) (w' : World) → IsTidy (count_in w) [] w → refusal w (Drain processor now) ≡ None → Performs s w (Drain processor now) calls r w' → Keeps w w'
 drain_keeps s w processor now calls r w' y h k =
-    let l = (there (count_in w) processor None (accepted w (Drain processor now) h).0).0 in
+    let l = (not_refused_is_there (count_in w) processor None (accepted w (Drain processor now) h).0).0 in
     rw (k.2, k.1.1.1) (EventLemmas.drain_tidy s (count_in w) w processor now k.1.0 y l)
 
 tick_keeps : (s : Regime) (w : World) (processor now : ℕ) (calls : List Asked) (r : Reply) (w' : World) → IsTidy (count_in w) [] w → refusal w (Tick processor now) ≡ None → Performs s w (Tick processor now) calls r w' → Keeps w w'
 tick_keeps s w processor now calls r w' y h k =
-    let l = (there (count_in w) processor None (accepted w (Tick processor now) h).0).0 in
+    let l = (not_refused_is_there (count_in w) processor None (accepted w (Tick processor now) h).0).0 in
     rw (k.2, k.1.1.1) (EventLemmas.tick_tidy s (count_in w) w processor now k.1.0 y l)
 
 block_keeps : (s : Regime) (w : World) (processor now : ℕ) (calls : List Asked) (r : Reply) (w' : World) → IsTidy (count_in w) [] w → refusal w (Block processor now) ≡ None → Performs s w (Block processor now) calls r w' → Keeps w w'
 block_keeps s w processor now calls r w' y h k =
-    let l = (there (count_in w) processor None (accepted w (Block processor now) h).0).0 in
+    let l = (not_refused_is_there (count_in w) processor None (accepted w (Block processor now) h).0).0 in
     let b = k.2 in
     rw (k.4, b.1.1, b.1.3) (EventLemmas.block_tidy s.discipline (count_in w) w processor now b.0 y l b.1.0)
 
 pull_keeps : (s : Regime) (w : World) (processor from now : ℕ) (calls : List Asked) (r : Reply) (w' : World) → IsOrderly w → IsTidy (count_in w) [] w →
     refusal w (Pull processor from now) ≡ None → Performs s w (Pull processor from now) calls r w' → Keeps w w'
 pull_keeps s w processor from now calls r w' o y h k =
-    let f = there (count_in w) processor _ (accepted w (Pull processor from now) h).0 in
-    let g = there (count_in w) from _ f.1 in
-    let apart = differ_from_test processor from (passed (processor == from) no.SameProcessor None g.1).0 in
+    let f = not_refused_is_there (count_in w) processor _ (accepted w (Pull processor from now) h).0 in
+    let g = not_refused_is_there (count_in w) from _ f.1 in
+    let apart = differ_from_test processor from (first_refusal_passed (processor == from) no.SameProcessor None g.1).0 in
     let p : Processor = after_time s.discipline now (processor_at w processor) in
     let source : Processor = remarked s.discipline (processor_at w from) in
     let x = k.2 in

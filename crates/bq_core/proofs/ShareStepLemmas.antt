@@ -24,7 +24,7 @@ use Rattle.bq_parts.specs.Shares.{Admits, Retires, Ticks, Drains, Blocks, Begins
 use Rattle.bq_bpf.specs.declared.hook.Hook.{Hook}
 use Rattle.bq_verify.specs.Accepted.{Accepted}
 use Rattle.bq_policies.specs.Answers.{fresh_maps}
-use Rattle.bq_core.proofs.StepLemmas.{within, still_runs, block_idle}
+use Rattle.bq_core.proofs.StepLemmas.{in_range_not_refused, still_runs, block_idle}
 
 -- the number of an entry is not refused
 has_entry : (id : ℕ) → id < 1024 → nat_le 1024 id ≡ false
@@ -44,12 +44,12 @@ retires_step d w id (Err e) lobby l b = (refl, ap (with_lobby w) b.1, inl (rw (h
 -- a processor's share of a tick is the world's step, where the world has that processor
 pub ticks_step : (d : Discipline) (w : World) (processor now : ℕ) (calls : List Asked) (r : Reply) (q : Processor) → processor < count_in w → Ticks (policies d) processor now (processor_at w processor) calls r q →
     WorldStep (policies d) w (Tick processor now) calls (Ok r) (with_processor w processor q)
-ticks_step d w processor now calls r q h t = (rw (within w processor h) refl, (q, t, refl))
+ticks_step d w processor now calls r q h t = (rw (in_range_not_refused w processor h) refl, (q, t, refl))
 
 -- a processor's share of a drain is the world's step, which also empties its inbox
 pub drains_step : (d : Discipline) (w : World) (processor now : ℕ) (calls : List Asked) (r : Reply) (q : Processor) → processor < count_in w → Drains (policies d) processor now (processor_at w processor) (inbox w processor) calls r q →
     WorldStep (policies d) w (Drain processor now) calls (Ok r) (with_inbox (with_processor w processor q) processor [])
-drains_step d w processor now calls r q h t = (rw (within w processor h) refl, (q, t, refl))
+drains_step d w processor now calls r q h t = (rw (in_range_not_refused w processor h) refl, (q, t, refl))
 
 -- a processor that is as it was
 same_processor : (w : World) (processor : ℕ) (q : Processor) → q ≡ processor_at w processor → with_processor w processor q ≡ w
@@ -62,19 +62,19 @@ same_lobby_too w processor q lobby e f = ap (with_lobby (with_processor w proces
 -- what a block makes of a processor and the lobby, done or refused, is the world's step
 pub blocks_step : (d : Discipline) (w : World) (processor now : ℕ) (r : Result Reply Refusal) (q : Processor) (lobby : List LobbyEntry) → processor < count_in w → Blocks d processor now (processor_at w processor) w.lobby r q lobby →
     WorldStep (policies d) w (Block processor now) [] r (with_lobby (with_processor w processor q) lobby)
-blocks_step d w processor now (Ok r) q lobby h b = (rw (within w processor h, still_runs d w processor now b.0 (sym b.1.0)) refl, (q, lobby, b, refl, refl))
+blocks_step d w processor now (Ok r) q lobby h b = (rw (in_range_not_refused w processor h, still_runs d w processor now b.0 (sym b.1.0)) refl, (q, lobby, b, refl, refl))
 blocks_step d w processor now (Err e) q lobby h b = (refl, same_lobby_too w processor q lobby b.2 b.3, rw b.1 (block_idle d w processor now h b.0).2)
 
 -- what a wake's beginning makes of the hand and the lobby is the world's step, done or refused, for an id of an entry
 pub begins_step : (d : Discipline) (w : World) (processor id : ℕ) (r : Result Reply Refusal) (q : Processor) (lobby : List LobbyEntry) → processor < count_in w → id < 1024 → Begins id (loads_of w.processors w.inboxes) (processor_at w processor) w.lobby r q lobby →
     WorldStep (policies d) w (BeginWake processor id) [] r (with_lobby (with_processor w processor q) lobby)
-begins_step d w processor id (Ok r) q lobby h l b = (rw (within w processor h, has_entry id l, b.1) refl, (q, lobby, b, refl, refl))
-begins_step d w processor id (Err e) q lobby h l b = (refl, same_lobby_too w processor q lobby b.1 b.2, inl (rw (within w processor h, has_entry id l, b.0) refl))
+begins_step d w processor id (Ok r) q lobby h l b = (rw (in_range_not_refused w processor h, has_entry id l, b.1) refl, (q, lobby, b, refl, refl))
+begins_step d w processor id (Err e) q lobby h l b = (refl, same_lobby_too w processor q lobby b.1 b.2, inl (rw (in_range_not_refused w processor h, has_entry id l, b.0) refl))
 
 -- a processor's share of a wake's end is the world's step, which puts the task at the end of the chosen inbox
 pub places_step : (d : Discipline) (w : World) (processor now : ℕ) (calls : List Asked) (x : Placement) (q : Processor) → processor < count_in w → Places (policies d) (count_in w) processor now (processor_at w processor) calls (Some x) q →
     WorldStep (policies d) w (EndWake processor now) calls (Ok (Placed x.task.id x.to x.by x.steps)) (with_inbox (with_processor w processor q) x.to (inbox w x.to ++ x.task ∷ []))
-places_step d w processor now calls x q h k = (rw (within w processor h, k.2) refl, (x, q, k, refl, refl))
+places_step d w processor now calls x q h k = (rw (in_range_not_refused w processor h, k.2) refl, (x, q, k, refl, refl))
 
 -- the same of a drain, where the parts are known by equations
 pub drains_at : (d : Discipline) (w w' : World) (processor now : ℕ) (calls : List Asked) (r : Reply) (q p : Processor) (xs : List Task) → processor < count_in w → p ≡ processor_at w processor → xs ≡ inbox w processor →
@@ -99,7 +99,7 @@ apart processor from h = grind (arith, nat_tests)
 pub pulls_step : (d : Discipline) (w : World) (processor from now : ℕ) (calls : List Asked) (r : Reply) (q other : Processor) → processor < count_in w → from < count_in w → processor ≢ from →
     Pulls (policies d) processor from now (processor_at w processor) (processor_at w from) calls r q other →
     WorldStep (policies d) w (Pull processor from now) calls (Ok r) (with_processor (with_processor w processor q) from other)
-pulls_step d w processor from now calls r q other h k n p = (rw (within w processor h, within w from k, apart processor from n) refl, (q, other, p, refl))
+pulls_step d w processor from now calls r q other h k n p = (rw (in_range_not_refused w processor h, in_range_not_refused w from k, apart processor from n) refl, (q, other, p, refl))
 
 -- the same of a wake's end, where the parts are known by equations
 pub places_at : (d : Discipline) (w w' : World) (processor now count task : ℕ) (calls : List Asked) (x : Placement) (q p : Processor) (xs : List Task) → processor < count_in w → p ≡ processor_at w processor → count ≡ count_in w →
@@ -116,7 +116,7 @@ if_carried (Some c) P h = h c refl
 pub places_none : (d : Discipline) (w : World) (processor now : ℕ) (calls : List Asked) (q : Processor) → processor < count_in w → Places (policies d) (count_in w) processor now (processor_at w processor) calls None q →
     WorldStep (policies d) w (EndWake processor now) calls (Err no.NothingInHand) (with_processor w processor q)
 places_none d w processor now calls q h k =
-    (k.0, same_processor w processor q k.2, inl (rw (within w processor h, k.1) refl))
+    (k.0, same_processor w processor q k.2, inl (rw (in_range_not_refused w processor h, k.1) refl))
 
 -- the same, where the parts are known by equations
 pub places_none_at : (d : Discipline) (w w' : World) (processor now count : ℕ) (calls : List Asked) (q p : Processor) → processor < count_in w → p ≡ processor_at w processor →

@@ -48,8 +48,8 @@ module _ {v w : World} (view : v ≡ w) where
   lobby_whole h = ap (λ (u : World). length u.lobby) (sym view) ∙ h
 
 -- a processor's number that is in range is not refused
-pub within : (w : World) (processor : ℕ) → processor < count_in w → nat_le (count_in w) processor ≡ false
-within w processor h = grind (arith, nat_tests)
+pub in_range_not_refused : (w : World) (processor : ℕ) → processor < count_in w → nat_le (count_in w) processor ≡ false
+in_range_not_refused w processor h = grind (arith, nat_tests)
 
 -- a processor that was written back
 pub write_back_processor : (v w : World) (i processor : ℕ) (q : Processor) → v ≡ w → i ≡ processor → with_processor v i q ≡ with_processor w processor q
@@ -88,4 +88,4 @@ still_runs d w processor now t h =
 -- a block where nothing runs is refused, and the world stays as it was
 pub block_idle : (d : Discipline) (w : World) (processor now : ℕ) → processor < count_in w → (processor_at w processor).running.current ≡ None →
     WorldStep (policies d) w (Block processor now) [] (Err no.Idle) w
-block_idle d w processor now h e = (refl, refl, inl (rw (within w processor h, e) refl))
+block_idle d w processor now h e = (refl, refl, inl (rw (in_range_not_refused w processor h, e) refl))

@@ -11,9 +11,9 @@ use Rattle.bq_explain.specs.Beginnings.{BeginsWith}
 use Rattle.bq_explain.specs.Verdicts.{IsRefusedPolicy, verdict_line}
 
 -- two facts of what is there give a third
-pub both : {X : Type 0} (o : Option X) {P Q R : X → Type 0} → IfSome o P → IfSome o Q → ((x : X) → P x → Q x → R x) → IfSome o R
-both None p q f = _
-both (Some x) p q f = f x p q
+pub both_give_third : {X : Type 0} (o : Option X) {P Q R : X → Type 0} → IfSome o P → IfSome o Q → ((x : X) → P x → Q x → R x) → IfSome o R
+both_give_third None p q f = _
+both_give_third (Some x) p q f = f x p q
 
 -- the verdict is the refusal, and the lines on the state are those of its slot
 pub explains_refusal : {E : Type 0} (p : PolicySource) (l : Limits) (slot : ℕ) (cause : Cause) (r : Result Explained E) → IsRefusedPolicy p slot cause → IfOk r (λ e. e.accepted ≡ false) → IfOk r (λ e. BeginsWith (string_bytes e.text) (verdict_line p.hook (Refused slot cause))) → IfOk r (HasKnown p slot) → IfOk r (HasNeed p slot cause) → IfOk r (Explains p l)
@@ -23,5 +23,5 @@ explains_refusal p l slot cause (Ok e) refused accepted begins known need = reco
   is_verdict = refused;
   accepted = accepted;
   begins = begins;
-  known_of = both e.known known need (λ told known_is need_is. record { slot = slot; cause = cause; refused = refl; known_is = known_is; need_is = need_is });
+  known_of = both_give_third e.known known need (λ told known_is need_is. record { slot = slot; cause = cause; refused = refl; known_is = known_is; need_is = need_is });
 }

@@ -9,14 +9,14 @@ pub none_yet : (set : List Bool) (text : List ℕ) → text ≡ [] → AreRuns s
 none_yet set text is = subst (λ (t : List ℕ). AreRuns set 0 t) (sym is) (no_byte set)
 
 -- the byte is of the run that was told last
-pub inside : (set : List Bool) (byte past : ℕ) (text : List ℕ) → byte < past → AreRuns set (max byte past) text → AreRuns set (max (byte + 1) past) text
-inside set byte past text within are =
+pub byte_in_last_run : (set : List Bool) (byte past : ℕ) (text : List ℕ) → byte < past → AreRuns set (max byte past) text → AreRuns set (max (byte + 1) past) text
+byte_in_last_run set byte past text within are =
     let same : max byte past ≡ max (byte + 1) past = omega arith in
     subst (λ (n : ℕ). AreRuns set n text) same are
 
 -- the byte is not set
-pub without : (set : List Bool) (byte past : ℕ) (text : List ℕ) → past ≤ byte → slice_index_or set byte false ≡ false → AreRuns set (max byte past) text → AreRuns set (max (byte + 1) past) text
-without set byte past text behind unset are =
+pub byte_not_set : (set : List Bool) (byte past : ℕ) (text : List ℕ) → past ≤ byte → slice_index_or set byte false ≡ false → AreRuns set (max byte past) text → AreRuns set (max (byte + 1) past) text
+byte_not_set set byte past text behind unset are =
     let here : max byte past ≡ byte = omega arith in
     let next : byte + 1 ≡ max (byte + 1) past = omega arith in
     subst (λ (n : ℕ). AreRuns set n text) next (unset_byte set text byte (subst (λ (n : ℕ). AreRuns set n text) here are) unset)

@@ -117,7 +117,7 @@ fn stack_line(alloc: Global, view: &AbstractState) -> Result<String, AllocError>
 }
 
 /// Each run of bytes that are set, by their distance from the stack's end.
-#[tactic(auto, using(crate::proofs::RunLemmas::none_yet, crate::proofs::RunLemmas::all_told, crate::proofs::RunLemmas::inside, crate::proofs::RunLemmas::without, crate::proofs::RunLemmas::with_run))]
+#[tactic(auto, using(crate::proofs::RunLemmas::none_yet, crate::proofs::RunLemmas::all_told, crate::proofs::RunLemmas::byte_in_last_run, crate::proofs::RunLemmas::byte_not_set, crate::proofs::RunLemmas::with_run))]
 fn runs_text(alloc: Global, view: &AbstractState) -> Result<String, AllocError>
     ensures { IfOk result (λ text. AreRuns view.now.set 512 (string_bytes text)) }
 {

@@ -13,16 +13,16 @@ use Rattle.bq_eevdf.specs.Eevdf.{eevdf}
 use Rattle.bq_fair.specs.Histories.{task_at}
 use Rattle.bq_fair.specs.Work.{weight_at, moment_at}
 use Rattle.bq_fair.specs.EevdfFairness.{most_ahead, IsBalanced, BeginsBalanced, StaysBalanced, HistoryStaysBalanced}
-use Rattle.bq_fair.proofs.TickLemmas.{Change, Stays, Runs, came}
-use Rattle.bq_fair.proofs.SoundLemmas.{of_each, vdelta_of-le, IsWellFormed, well_formed, rises, well_formed_ticked}
+use Rattle.bq_fair.proofs.TickLemmas.{Change, Stays, Runs, tick_came}
+use Rattle.bq_fair.proofs.SoundLemmas.{of_each, vdelta_of-le, IsWellFormed, well_formed, change_rises, well_formed_ticked}
 use Rattle.bq_fair.proofs.SumLemmas.{total_weight-ticked, weighted_sum-busy, weighted_sum-idle}
 use Rattle.bq_fair.proofs.ListLemmas.{All-from_ids, of_some, IfSome-from, weights_split}
 use Rattle.bq_fair.proofs.PlaceLemmas.{current_present}
 use Rattle.bq_fair.proofs.EevdfFairLemmas.{tick_runs_eligible}
 
 -- ids, weights and ends in the words of the law
-pub sound : (p : Running) → IsWellFormed p → IsSound p
-sound p w = record {
+pub well_formed_is_sound : (p : Running) → IsWellFormed p → IsSound p
+well_formed_is_sound p w = record {
   distinct = w.distinct;
   weights = All-from_ids (λ t. IsWeight t.weight) (present_at p) w.distinct w.weights;
   ends = All-from_ids (λ t. t.v ≤ 2 ^ 62) (present_at p) w.distinct w.ends;
@@ -79,7 +79,7 @@ ahead_by E r p now i t u w l le f (Stays e z) =
     rw v (omega arith)
 ahead_by E r p now i t u w l le f (Runs c e z) =
     let ch : Change eevdf p now i t u = Runs c e z in
-    let rs = rises eevdf p now i t u (w.ends i t f) ch in
+    let rs = change_rises eevdf p now i t u (w.ends i t f) ch in
     let ends = w.ends i t f in
     let v = rs.v in
     let most = rs.most in
@@ -104,9 +104,9 @@ level_ticked E r p now s w l le =
     record {
       runs = λ t e. eligible_ahead (weight_at q) (moment_at q) E t (of_some _ q.current t (tick_runs_eligible p now s) e);
       each = λ i u f.
-          let b = came eevdf p now i u w.distinct f in
+          let b = tick_came eevdf p now i u w.distinct f in
           let t = b.0 in
-          let rs = rises eevdf p now i t u (w.ends i t b.1) b.2 in
+          let rs = change_rises eevdf p now i t u (w.ends i t b.1) b.2 in
           let h = ahead_by E r p now i t u w l le b.1 b.2 in
           rw (total_weight-ticked eevdf p now, rs.weight) h;
     }
@@ -123,7 +123,7 @@ pub stays_balanced : StaysBalanced
 stays_balanced E r p now s b le =
     let w = well_formed p s in
     let next = well_formed_ticked eevdf p now w in
-    (sound (ticked eevdf p now) next, IsBalanced-from_level E r (ticked eevdf p now) next (level_ticked E r p now s w (IsLevel-from_balanced E r p b) le))
+    (well_formed_is_sound (ticked eevdf p now) next, IsBalanced-from_level E r (ticked eevdf p now) next (level_ticked E r p now s w (IsLevel-from_balanced E r p b) le))
 
 -- any number of Ticks at which the clock rises by at most r keep a processor sound and balanced
 pub history_stays_balanced : HistoryStaysBalanced

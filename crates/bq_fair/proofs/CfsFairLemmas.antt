@@ -9,13 +9,13 @@ use Rattle.bq_disc.specs.Queues.{HasDistinctIds}
 use Rattle.bq_disc.specs.Discipline.{next_of}
 use Rattle.bq_disc.specs.OneProcessor.{Running, present_at, charge, decided, own_preempt, exchanged, ticked, rise}
 use Rattle.bq_cfs.specs.Cfs.{cfs, least}
-use Rattle.bq_cfs.proofs.BoundLemmas.{weaker, none_below_least}
+use Rattle.bq_cfs.proofs.BoundLemmas.{weaker_of_each, none_below_least}
 use Rattle.bq_cfs.proofs.MoveLemmas.{each-with_id}
 use Rattle.bq_cfs.proofs.SpreadStayLemmas.{least_is_found, near_each, next_is_least}
 use Rattle.bq_fair.specs.Histories.{history, RisesByAtMost, task_at}
 use Rattle.bq_fair.proofs.PlaceLemmas.{idle, busy, current_present}
-use Rattle.bq_fair.proofs.TickLemmas.{Change, Stays, Runs, came, tick_keeps, charged_distinct}
-use Rattle.bq_fair.proofs.SoundLemmas.{of_each, vdelta_of-le, IsWellFormed, rises, well_formed_ticked}
+use Rattle.bq_fair.proofs.TickLemmas.{Change, Stays, Runs, tick_came, tick_keeps, charged_distinct}
+use Rattle.bq_fair.proofs.SoundLemmas.{of_each, vdelta_of-le, IsWellFormed, change_rises, well_formed_ticked}
 
 -- Who runs after a decision
 
@@ -27,7 +27,7 @@ started_near : (q : List Task) (kept last : ℕ) → HasDistinctIds q → IfSome
 started_near [] kept last d = tt
 started_near (x ∷ xs) kept last d =
     let m = former runs_before x (least xs) in
-    rw (least_is_found x xs d) (weaker (λ (t : Task). m.v ≤ t.v) (λ (t : Task). m.v ≤ t.v + 1000000) (λ t k. omega arith) (x ∷ xs) (none_below_least x xs))
+    rw (least_is_found x xs d) (weaker_of_each (λ (t : Task). m.v ≤ t.v) (λ (t : Task). m.v ≤ t.v + 1000000) (λ t k. omega arith) (x ∷ xs) (none_below_least x xs))
 
 exchanged_near : (q : List Task) (kept last next : ℕ) (u m : Task) → next ≡ m.id → with_id m.id q ≡ Some m → IsNearEach (u ∷ q) m → IfSome (exchanged (busy q kept u last) u (with_id next q)).current (IsNearEach (u ∷ q))
 exchanged_near q kept last next u m e f h = rw (e, f) h
@@ -37,7 +37,7 @@ switched_near [] kept last u d e = cc
 switched_near (x ∷ xs) kept last u d e =
     let m = former runs_before x (least xs) in
     let lt : m.v + 1000000 < u.v = grind (arith, nat_tests) in
-    let near = weaker (λ (t : Task). m.v ≤ t.v) (λ (t : Task). m.v ≤ t.v + 1000000) (λ t k. omega arith) (x ∷ xs) (none_below_least x xs) in
+    let near = weaker_of_each (λ (t : Task). m.v ≤ t.v) (λ (t : Task). m.v ≤ t.v + 1000000) (λ t k. omega arith) (x ∷ xs) (none_below_least x xs) in
     exchanged_near (x ∷ xs) kept last (next_of cfs u (x ∷ xs)) u m (next_is_least u x xs (omega arith)) (least_is_found x xs d.1) (omega arith, near)
 
 decided_near : (q : List Task) (kept last : ℕ) (u : Task) (b : Bool) → HasDistinctIds (u ∷ q) → own_preempt cfs q (Some u) ≡ b → IfSome (decided cfs (busy q kept u last) (Some u) b).current (IsNearEach (u ∷ q))
@@ -73,7 +73,7 @@ one_beyond_by : (V r : ℕ) (p : Running) (now i j : ℕ) (t u b : Task) → IsW
 one_beyond_by V r p now i j t u b w fair le f g (Stays e z) = rw e (fair.each i j t b f g)
 one_beyond_by V r p now i j t u b w fair le f g (Runs c e z) =
     let ch : Change cfs p now i t u = Runs c e z in
-    let rs = rises cfs p now i t u (w.ends i t f) ch in
+    let rs = change_rises cfs p now i t u (w.ends i t f) ch in
     let v = rs.v in
     let most = rs.most in
     let mono = vdelta_of-le (rise p now) r t.weight (w.weights i t f).0 le in
@@ -85,10 +85,10 @@ fair_ticked : (V r : ℕ) (p : Running) (now : ℕ) → IsWellFormed p → IsFai
 fair_ticked V r p now w fair le = record {
   runs = λ j m t e f. let near = runs_near p now j m t w.distinct e f in omega arith;
   each = λ i j u t f g.
-      let a = came cfs p now i u w.distinct f in
-      let b = came cfs p now j t w.distinct g in
+      let a = tick_came cfs p now i u w.distinct f in
+      let b = tick_came cfs p now j t w.distinct g in
       let one = one_beyond_by V r p now i j a.0 u b.0 w fair le a.1 b.1 a.2 in
-      let rs = rises cfs p now j b.0 t (w.ends j b.0 b.1) b.2 in
+      let rs = change_rises cfs p now j b.0 t (w.ends j b.0 b.1) b.2 in
       let v = rs.v in
       let ends = w.ends j b.0 b.1 in
       omega arith;

@@ -18,11 +18,11 @@ use Rattle.bq_fair.proofs.CfsFairLemmas.{fair_history, fair_at_start}
 use Rattle.bq_fair.proofs.WorkLemmas.{moves_the_sum, books_the_time}
 
 -- where none of some tasks is beyond N by more than one rise at its own weight
-pub shares : (N r : ℕ) (xs : List Task) → AllByRecursion (λ t. t.v ≤ N + vdelta_of r t.weight) xs → weighted_sum xs ≤ total_weight xs * N + 1024 * r * length xs
-shares N r [] h = omega arith
-shares N r (x ∷ xs) h =
+pub weighted_sum_within : (N r : ℕ) (xs : List Task) → AllByRecursion (λ t. t.v ≤ N + vdelta_of r t.weight) xs → weighted_sum xs ≤ total_weight xs * N + 1024 * r * length xs
+weighted_sum_within N r [] h = omega arith
+weighted_sum_within N r (x ∷ xs) h =
     let here = mul-le-mul_left x.weight h.0 in
-    let rest = shares N r xs h.1 in
+    let rest = weighted_sum_within N r xs h.1 in
     let most = vdelta_of-weighted r x.weight in
     let n : length (x ∷ xs) ≡ length xs + 1 = omega arith in
     let product = ap (λ k. 1024 * r * k) n in
@@ -42,7 +42,7 @@ cfs_serves_its_share V r p nows j b s room h le f =
     let N = max V (u.0.v + 1000000) in
     let reach : Task → Type 0 = λ t. t.v ≤ N + vdelta_of r t.weight in
     let all = All-from_ids reach (present_at q) (well_formed_history cfs p nows w).distinct (λ i t e. fair.each i j t u.0 e u.1) in
-    let sum = shares N r (present_at q) (recursion_from_All reach (present_at q) all) in
+    let sum = weighted_sum_within N r (present_at q) (recursion_from_All reach (present_at q) all) in
     let moved = moves_the_sum cfs p nows s room in
     let m = rw (moved.0, moved.1, length-history cfs p nows) at sum in
     let v = u.2 in

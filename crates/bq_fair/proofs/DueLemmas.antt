@@ -15,8 +15,8 @@ use Rattle.bq_eevdf.specs.Eevdf.{eevdf, is_eligible, earliest}
 use Rattle.bq_fair.specs.Histories.{history, RisesByAtMost, task_at}
 use Rattle.bq_fair.specs.EevdfDeadlines.{HasDeadlines, NoneIsBeyondADeadline}
 use Rattle.bq_fair.proofs.PlaceLemmas.{current_present}
-use Rattle.bq_fair.proofs.TickLemmas.{Change, Stays, Runs, came, tick_keeps, charged_distinct}
-use Rattle.bq_fair.proofs.SoundLemmas.{of_each, vdelta_of-le, IsWellFormed, well_formed, rises, well_formed_ticked, well_formed_history}
+use Rattle.bq_fair.proofs.TickLemmas.{Change, Stays, Runs, tick_came, tick_keeps, charged_distinct}
+use Rattle.bq_fair.proofs.SoundLemmas.{of_each, vdelta_of-le, IsWellFormed, well_formed, change_rises, well_formed_ticked, well_formed_history}
 use Rattle.bq_fair.proofs.ListLemmas.{All-from_ids, of_some}
 use Rattle.bq_fair.proofs.EligibleLemmas.{runs_earliest, earliest_is_eligible, none_is_due_before}
 
@@ -118,7 +118,7 @@ one_beyond_by : (V r : ℕ) (p : Running) (now i j : ℕ) (t u b : Task) → IsW
 one_beyond_by V r p now i j t u b w timely le f g (Stays e z) = rw e (timely.each i j t b f g)
 one_beyond_by V r p now i j t u b w timely le f g (Runs c e z) =
     let ch : Change eevdf p now i t u = Runs c e z in
-    let rs = rises eevdf p now i t u (w.ends i t f) ch in
+    let rs = change_rises eevdf p now i t u (w.ends i t f) ch in
     let v = rs.v in
     let most = rs.most in
     let mono = vdelta_of-le (rise p now) r t.weight (w.weights i t f).0 le in
@@ -128,7 +128,7 @@ one_beyond_by V r p now i j t u b w timely le f g (Runs c e z) =
 
 due_ticked : (p : Running) (now : ℕ) → IsWellFormed p → EachIsDue p → EachIsDue (ticked eevdf p now)
 due_ticked p now w due i u f =
-    let b = came eevdf p now i u w.distinct f in
+    let b = tick_came eevdf p now i u w.distinct f in
     (dues p now i b.0 u (w.ends i b.0 b.1) (due i b.0 b.1) b.2).due
 
 timely_ticked : (V r : ℕ) (p : Running) (now : ℕ) → IsWellFormed p → IsTimely V r p → rise p now ≤ r → IsTimely V r (ticked eevdf p now)
@@ -138,8 +138,8 @@ timely_ticked V r p now w timely le =
       due = due;
       runs = λ j m t e f. let before = runs_before_due p now j m t w.distinct due e f in omega arith;
       each = λ i j u t f g.
-          let a = came eevdf p now i u w.distinct f in
-          let b = came eevdf p now j t w.distinct g in
+          let a = tick_came eevdf p now i u w.distinct f in
+          let b = tick_came eevdf p now j t w.distinct g in
           let one = one_beyond_by V r p now i j a.0 u b.0 w timely le a.1 b.1 a.2 in
           let up = (dues p now j b.0 t (w.ends j b.0 b.1) (timely.due j b.0 b.1) b.2).up in
           omega arith;

@@ -12,7 +12,7 @@ use Rattle.bq_fair.specs.EevdfDeadlines.{EevdfOwedBySlices, EevdfSharesBySlices,
 use Rattle.bq_fair.proofs.SoundLemmas.{of_each, each_has_room, well_formed, well_formed_history, got_to}
 use Rattle.bq_fair.proofs.SumLemmas.{length-history}
 use Rattle.bq_fair.proofs.ListLemmas.{All-from_ids}
-use Rattle.bq_fair.proofs.CfsShareLemmas.{shares, share_by, least_under, waiting_by}
+use Rattle.bq_fair.proofs.CfsShareLemmas.{weighted_sum_within, share_by, least_under, waiting_by}
 use Rattle.bq_fair.proofs.WorkLemmas.{moves_the_sum, books_the_time}
 use Rattle.bq_fair.proofs.DueLemmas.{timely_history, timely_at_start}
 
@@ -28,7 +28,7 @@ owed_by_slices V r p nows j b s due h le f =
     let N = max V b.deadline in
     let reach : Task → Type 0 = λ t. t.v ≤ N + vdelta_of r t.weight in
     let all = All-from_ids reach (present_at q) (well_formed_history eevdf p nows w).distinct (λ i t e. timely.each i j t b e f) in
-    let sum = shares N r (present_at q) (recursion_from_All reach (present_at q) all) in
+    let sum = weighted_sum_within N r (present_at q) (recursion_from_All reach (present_at q) all) in
     let high = (timely.due j b f).high in
     owed_by (moment_at q) (weight_at q) N (max V (b.v + vdelta_of b.slice b.weight)) r (length (present_at q)) sum (omega arith)
 
@@ -42,7 +42,7 @@ shares_by_slices V r p nows j b s room due h le f =
     let N = max V u.0.deadline in
     let reach : Task → Type 0 = λ t. t.v ≤ N + vdelta_of r t.weight in
     let all = All-from_ids reach (present_at q) (well_formed_history eevdf p nows w).distinct (λ i t e. timely.each i j t u.0 e u.1) in
-    let sum = shares N r (present_at q) (recursion_from_All reach (present_at q) all) in
+    let sum = weighted_sum_within N r (present_at q) (recursion_from_All reach (present_at q) all) in
     let moved = moves_the_sum eevdf p nows s room in
     let m = rw (moved.0, moved.1, length-history eevdf p nows) at sum in
     let v = u.2 in

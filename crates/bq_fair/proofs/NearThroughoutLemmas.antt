@@ -13,7 +13,7 @@ use Rattle.bq_fair.specs.Steps.{Step, Pass, Decide, Enter, Leave, Mark, stepped,
 use Rattle.bq_fair.proofs.PlaceLemmas.{current_present}
 use Rattle.bq_fair.proofs.TickLemmas.{Change, Stays, Runs, charge_changed}
 use Rattle.bq_fair.proofs.DecideLemmas.{keeps_present}
-use Rattle.bq_fair.proofs.SoundLemmas.{vdelta_of-le, IsWellFormed, rises, HasRoomAt, roomy}
+use Rattle.bq_fair.proofs.SoundLemmas.{vdelta_of-le, IsWellFormed, change_rises, HasRoomAt, tick_leaves_room}
 use Rattle.bq_fair.proofs.StepLemmas.{Came, Was, Charged, Entered, step_came, ChangesBy, step_goes, well_formed_stepped}
 
 -- a premise on each that is present
@@ -85,7 +85,7 @@ passes d V r n reach p now i j u t a b w c le up (Stays e z) =
     rw e (omega arith, λ m f g. let h = c.runs m f g in omega arith)
 passes d V r n reach p now i j u t a b w c le up (Runs f e z) =
     let ch : Change d p now i u a = Runs f e z in
-    let rs = rises d p now i u a (w.ends i u c.one) ch in
+    let rs = change_rises d p now i u a (w.ends i u c.one) ch in
     let v = rs.v in
     let most = rs.most in
     let low = (w.weights i u c.one).0 in
@@ -211,8 +211,8 @@ stands d p s i t u e z last room =
 
 moves : (d : Discipline) (p : Running) (s : Step) (i : ℕ) (t u : Task) → IsWellFormed p → task_at i p ≡ Some t → HasRoomAt p.last t → ChangesBy d p s i t u → Moves d p s i t u
 moves d p (Pass now) i t u w f room g =
-    let r = rises d p now i t u (w.ends i t f) g in
-    let next = roomy p.last now t.v t.weight (charge_of i p now) (w.weights i t f).0 r.most room in
+    let r = change_rises d p now i t u (w.ends i t f) g in
+    let next = tick_leaves_room p.last now t.v t.weight (charge_of i p now) (w.weights i t f).0 r.most room in
     let v : u.v ≡ t.v + charge_of i p now = let e = r.v in omega (arith, next.0) in
     record { v = v; weight = r.weight; slice = r.slice; room = rw v next.1 }
 moves d p Decide i t u w f room g = stands d p Decide i t u g refl (keeps_present d p (own_preempt d p.queue p.current) w.distinct).last room

@@ -12,7 +12,7 @@ use Rattle.bq_disc.specs.OneProcessor.{Running, present_at, reading, ticked, ris
 use Rattle.bq_disc.proofs.SetLemmas.{Contains-with_id}
 use Rattle.bq_cfs.specs.Spread.{IsSound}
 use Rattle.bq_fair.specs.Histories.{HasRoom, history, task_at, charge_of, served}
-use Rattle.bq_fair.proofs.TickLemmas.{Change, Stays, Runs, changes, came, tick_keeps}
+use Rattle.bq_fair.proofs.TickLemmas.{Change, Stays, Runs, tick_changed, tick_came, tick_keeps}
 
 -- what holds of all that are present holds of the one of an id
 pub of_each : (P : Task → Type 0) (p : Running) (i : ℕ) (t : Task) → All P (present_at p) → task_at i p ≡ Some t → P t
@@ -52,11 +52,11 @@ pub record Rises (d : Discipline) (p : Running) (now i : ℕ) (t u : Task) : Typ
   pub most : charge_of i p now ≤ vdelta_of (rise p now) t.weight
 
 -- as time passes a task's v rises by its charge, which is no more than the rise takes, and its weight and slice stay
-pub rises : (d : Discipline) (p : Running) (now i : ℕ) (t u : Task) → t.v ≤ 2 ^ 62 → Change d p now i t u → Rises d p now i t u
-rises d p now i t u h (Stays e z) =
+pub change_rises : (d : Discipline) (p : Running) (now i : ℕ) (t u : Task) → t.v ≤ 2 ^ 62 → Change d p now i t u → Rises d p now i t u
+change_rises d p now i t u h (Stays e z) =
     let v : u.v ≡ t.v = ap (λ (x : Task). x.v) e in
     record { v = omega arith; weight = ap (λ (x : Task). x.weight) e; slice = ap (λ (x : Task). x.slice) e; most = omega arith }
-rises d p now i t u h (Runs c e z) = record {
+change_rises d p now i t u h (Runs c e z) = record {
   v = ap (λ (x : Task). x.v) e ∙ ap (λ n. min (t.v + n) (2 ^ 62)) (sym z);
   weight = ap (λ (x : Task). x.weight) e;
   slice = ap (λ (x : Task). x.slice) e;
@@ -68,14 +68,14 @@ pub well_formed_ticked : (d : Discipline) (p : Running) (now : ℕ) → IsWellFo
 well_formed_ticked d p now w = record {
   distinct = (tick_keeps d p now w.distinct).distinct;
   weights = λ i u f.
-      let b = came d p now i u w.distinct f in
-      let r = rises d p now i b.0 u (w.ends i b.0 b.1) b.2 in
+      let b = tick_came d p now i u w.distinct f in
+      let r = change_rises d p now i b.0 u (w.ends i b.0 b.1) b.2 in
       let h = w.weights i b.0 b.1 in
       let e = r.weight in
       (omega arith, omega arith);
   ends = λ i u f.
-      let b = came d p now i u w.distinct f in
-      let r = rises d p now i b.0 u (w.ends i b.0 b.1) b.2 in
+      let b = tick_came d p now i u w.distinct f in
+      let r = change_rises d p now i b.0 u (w.ends i b.0 b.1) b.2 in
       let v = r.v in
       omega arith;
 }
@@ -95,8 +95,8 @@ pub each_has_room : (p : Running) → HasRoom p → EachHasRoom p
 each_has_room p h = λ i t f. of_each (HasRoomAt p.last) p i t h f
 
 -- so a Tick does not come to the end
-pub roomy : (last now v w c : ℕ) → 15 ≤ w → c ≤ vdelta_of (reading last now - last) w → 15 * v + 1024 * (2 ^ 48 - 1 - last) ≤ 15 * 2 ^ 62 → (v + c ≤ 2 ^ 62) × (15 * (v + c) + 1024 * (2 ^ 48 - 1 - reading last now) ≤ 15 * 2 ^ 62)
-roomy last now v w c low le room =
+pub tick_leaves_room : (last now v w c : ℕ) → 15 ≤ w → c ≤ vdelta_of (reading last now - last) w → 15 * v + 1024 * (2 ^ 48 - 1 - last) ≤ 15 * 2 ^ 62 → (v + c ≤ 2 ^ 62) × (15 * (v + c) + 1024 * (2 ^ 48 - 1 - reading last now) ≤ 15 * 2 ^ 62)
+tick_leaves_room last now v w c low le room =
     let x = max last (min now (2 ^ 48 - 1)) - last in
     let most : 15 * c ≤ x * 1024 = omega (arith, vdelta_of-least x w low) in
     (omega arith, omega arith)
@@ -104,10 +104,10 @@ roomy last now v w c low le room =
 -- a Tick leaves room for each task that had it
 pub room_ticked : (d : Discipline) (p : Running) (now : ℕ) → IsWellFormed p → EachHasRoom p → EachHasRoom (ticked d p now)
 room_ticked d p now w room i u f =
-    let b = came d p now i u w.distinct f in
+    let b = tick_came d p now i u w.distinct f in
     let t = b.0 in
-    let r = rises d p now i t u (w.ends i t b.1) b.2 in
-    let after = roomy p.last now t.v t.weight (charge_of i p now) (w.weights i t b.1).0 r.most (room i t b.1) in
+    let r = change_rises d p now i t u (w.ends i t b.1) b.2 in
+    let after = tick_leaves_room p.last now t.v t.weight (charge_of i p now) (w.weights i t b.1).0 r.most (room i t b.1) in
     let last : (ticked d p now).last ≡ reading p.last now = (tick_keeps d p now w.distinct).last in
     let v : u.v ≡ t.v + charge_of i p now = let e = r.v in omega (arith, after.0) in
     rw (last, v) after.1
@@ -122,10 +122,10 @@ GotTo d p nows i t = (u : Task) × (task_at i (history d p nows) ≡ Some u) × 
 pub got_to : (d : Discipline) (p : Running) (nows : List ℕ) (i : ℕ) (t : Task) → IsWellFormed p → EachHasRoom p → task_at i p ≡ Some t → GotTo d p nows i t
 got_to d p [] i t w room f = (t, f, omega arith, refl, refl)
 got_to d p (now ∷ nows) i t w room f =
-    let c = changes d p now i t w.distinct f in
+    let c = tick_changed d p now i t w.distinct f in
     let u = c.0 in
-    let r = rises d p now i t u (w.ends i t f) c.2 in
-    let after = roomy p.last now t.v t.weight (charge_of i p now) (w.weights i t f).0 r.most (room i t f) in
+    let r = change_rises d p now i t u (w.ends i t f) c.2 in
+    let after = tick_leaves_room p.last now t.v t.weight (charge_of i p now) (w.weights i t f).0 r.most (room i t f) in
     let v : u.v ≡ t.v + charge_of i p now = let e = r.v in omega (arith, after.0) in
     let g = got_to d (ticked d p now) nows i u (well_formed_ticked d p now w) (room_ticked d p now w room) c.1 in
     let rest = g.2 in

@@ -13,7 +13,7 @@ use Rattle.bq_fair.specs.Steps.{Step, Pass, Decide, Enter, Leave, Mark, stepped,
 use Rattle.bq_fair.proofs.PlaceLemmas.{with_id-place, with_id-without_other}
 use Rattle.bq_fair.proofs.DecideLemmas.{keeps_present}
 use Rattle.bq_fair.proofs.TickLemmas.{Change, charge_changed, charge_came, charged_distinct}
-use Rattle.bq_fair.proofs.SoundLemmas.{IsWellFormed, rises}
+use Rattle.bq_fair.proofs.SoundLemmas.{IsWellFormed, change_rises}
 
 turned : (a b : ℕ) → eqb a b ≡ false → eqb b a ≡ false
 turned a b h = grind (arith, nat_tests)
@@ -134,7 +134,7 @@ step_goes d p Mark i t h n l f = (t, f, refl)
 step_ends : (d : Discipline) (p : Running) (s : Step) (i : ℕ) (u : Task) → IsWellFormed p → EntersNew p s → Came d p s i u → IsWeight u.weight × (u.v ≤ 2 ^ 62)
 step_ends d p s i u w n (Was f) = (w.weights i u f, w.ends i u f)
 step_ends d p s i u w n (Charged now t e f c) =
-    let r = rises d p now i t u (w.ends i t f) c in
+    let r = change_rises d p now i t u (w.ends i t f) c in
     let v = r.v in
     (rw r.weight (w.weights i t f), omega arith)
 step_ends d p s i u w n (Entered e) = let m = subst (EntersNew p) e n in (m.weight, m.ends)

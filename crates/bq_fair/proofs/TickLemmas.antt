@@ -47,8 +47,8 @@ tick_keeps d p now h =
     keeps_present d c (own_preempt d c.queue c.current) (charged_distinct d p now h)
 
 -- a task that is present stays present, and changes so
-pub changes : (d : Discipline) (p : Running) (now i : ℕ) (t : Task) → HasDistinctIds (present_at p) → task_at i p ≡ Some t → Changed d p now i t (task_at i (ticked d p now))
-changes d p now i t h f =
+pub tick_changed : (d : Discipline) (p : Running) (now i : ℕ) (t : Task) → HasDistinctIds (present_at p) → task_at i p ≡ Some t → Changed d p now i t (task_at i (ticked d p now))
+tick_changed d p now i t h f =
     let c = charge_changes d p.queue p.kept p.current p.last now i t f in
     let k = tick_keeps d p now h in
     (c.0, k.same i ∙ c.1, c.2)
@@ -73,5 +73,5 @@ pub charge_came : (d : Discipline) (p : Running) (now i : ℕ) (u : Task) → ta
 charge_came d p now i u f = came_by d p now i u (task_at i p) refl f
 
 -- the same of a Tick
-pub came : (d : Discipline) (p : Running) (now i : ℕ) (u : Task) → HasDistinctIds (present_at p) → task_at i (ticked d p now) ≡ Some u → (t : Task) × (task_at i p ≡ Some t) × Change d p now i t u
-came d p now i u h f = charge_came d p now i u (sym ((tick_keeps d p now h).same i) ∙ f)
+pub tick_came : (d : Discipline) (p : Running) (now i : ℕ) (u : Task) → HasDistinctIds (present_at p) → task_at i (ticked d p now) ≡ Some u → (t : Task) × (task_at i p ≡ Some t) × Change d p now i t u
+tick_came d p now i u h f = charge_came d p now i u (sym ((tick_keeps d p now h).same i) ∙ f)

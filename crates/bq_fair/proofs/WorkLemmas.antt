@@ -10,7 +10,7 @@ use Rattle.bq_fair.specs.Histories.{history}
 use Rattle.bq_fair.specs.Work.{weight_at, moment_at, booked_at, booked, elapsed, BooksTheTime, MovesTheSum}
 use Rattle.bq_fair.proofs.PlaceLemmas.{busy, current_present}
 use Rattle.bq_fair.proofs.TickLemmas.{tick_keeps}
-use Rattle.bq_fair.proofs.SoundLemmas.{IsWellFormed, well_formed, well_formed_ticked, EachHasRoom, each_has_room, room_ticked, roomy, vdelta_of-weighted}
+use Rattle.bq_fair.proofs.SoundLemmas.{IsWellFormed, well_formed, well_formed_ticked, EachHasRoom, each_has_room, room_ticked, tick_leaves_room, vdelta_of-weighted}
 use Rattle.bq_fair.proofs.SumLemmas.{total_weight-ticked, weighted_sum-busy, weighted_sum-idle}
 
 -- Where a task runs, one does after each Tick
@@ -86,7 +86,7 @@ moves_by d p now None e w room =
 moves_by d p now (Some t) e w room =
     let f = current_present p.queue p.kept p.current p.last t e in
     let x = rise p now in
-    let after = roomy p.last now t.v t.weight (vdelta_of x t.weight) (w.weights t.id t f).0 (omega arith) (room t.id t f) in
+    let after = tick_leaves_room p.last now t.v t.weight (vdelta_of x t.weight) (w.weights t.id t f).0 (omega arith) (room t.id t f) in
     let here : booked_at p now ≡ t.weight * vdelta_of x t.weight = ap (λ o. option_map_or (λ (t : Task). t.weight * vdelta_of (rise p now) t.weight) o 0) e in
     let v : min (t.v + vdelta_of x t.weight) (2 ^ 62) ≡ t.v + vdelta_of x t.weight = omega (arith, after.0) in
     let product = ap (λ n. t.weight * n) v in

@@ -3,7 +3,7 @@ use Rattle.std.proofs.Common.{◌≡◌, ℕ, List, [], ◌++◌, length, take, 
 use Rattle.std.specs.Prelude.{Option}
 use Rattle.bq_disc.specs.Tasks.{Task}
 use Rattle.bq_hooks.specs.Contexts.{PreemptFacts, preempt_bytes, u32_bytes, u64_bytes, task_bytes, nobody, as_number}
-use Rattle.bq_hooks.proofs.FillingLemmas.{more, filled_whole}
+use Rattle.bq_hooks.proofs.FillingLemmas.{more_filled, filled_whole}
 
 -- once all fields are written one behind another, the 56 bytes are the preempt context of what they show
 pub preempt_filled : (f : PreemptFacts) (c0 c1 c2 c3 c4 c5 c6 c7 c8 c9 : List ℕ) (processor waiting id weight v deadline own : ℕ) (choice : Option Task) →
@@ -18,12 +18,12 @@ pub preempt_filled : (f : PreemptFacts) (c0 c1 c2 c3 c4 c5 c6 c7 c8 c9 : List �
     take 56 c9 ≡ take 52 c8 ++ u32_bytes 0 → length c9 ≡ 56 → c9 ≡ preempt_bytes f
 unfolding preempt_bytes
 preempt_filled f c0 c1 c2 c3 c4 c5 c6 c7 c8 c9 processor waiting id weight v deadline own choice e1 h1 e2 h2 e3 h3 e4 h4 e5 h5 e6 h6 e7 h7 e8 h8 h9 l =
-    let s1 = more 0 4 c0 c1 [] _ _ h1 (ap u32_bytes e1) refl in
-    let s2 = more 4 8 c1 c2 _ _ _ h2 (ap u32_bytes e2) s1 in
-    let s3 = more 8 12 c2 c3 _ _ _ h3 (ap u32_bytes e3) s2 in
-    let s4 = more 12 16 c3 c4 _ _ _ h4 (ap u32_bytes e4) s3 in
-    let s5 = more 16 24 c4 c5 _ _ _ h5 (ap u64_bytes e5) s4 in
-    let s6 = more 24 32 c5 c6 _ _ _ h6 (ap u64_bytes e6) s5 in
-    let s7 = more 32 48 c6 c7 _ _ _ h7 (ap (task_bytes nobody) e7) s6 in
-    let s8 = more 48 52 c7 c8 _ _ _ h8 (ap u32_bytes e8) s7 in
-    filled_whole 56 c9 _ (more 52 56 c8 c9 _ _ _ h9 refl s8) l
+    let s1 = more_filled 0 4 c0 c1 [] _ _ h1 (ap u32_bytes e1) refl in
+    let s2 = more_filled 4 8 c1 c2 _ _ _ h2 (ap u32_bytes e2) s1 in
+    let s3 = more_filled 8 12 c2 c3 _ _ _ h3 (ap u32_bytes e3) s2 in
+    let s4 = more_filled 12 16 c3 c4 _ _ _ h4 (ap u32_bytes e4) s3 in
+    let s5 = more_filled 16 24 c4 c5 _ _ _ h5 (ap u64_bytes e5) s4 in
+    let s6 = more_filled 24 32 c5 c6 _ _ _ h6 (ap u64_bytes e6) s5 in
+    let s7 = more_filled 32 48 c6 c7 _ _ _ h7 (ap (task_bytes nobody) e7) s6 in
+    let s8 = more_filled 48 52 c7 c8 _ _ _ h8 (ap u32_bytes e8) s7 in
+    filled_whole 56 c9 _ (more_filled 52 56 c8 c9 _ _ _ h9 refl s8) l

@@ -4,7 +4,7 @@ use Rattle.std.specs.Prelude.{slice_get}
 use Rattle.std.specs.List.{flat_map, range_with_len}
 use Rattle.bq_disc.specs.Tasks.{Task}
 use Rattle.bq_hooks.specs.Contexts.{PullFacts, pull_header, pull_bytes, task_bytes, u32_bytes, or_nobody}
-use Rattle.bq_hooks.proofs.FillingLemmas.{more, piece_filled, pieces_filled}
+use Rattle.bq_hooks.proofs.FillingLemmas.{more_filled, piece_filled, pieces_filled}
 
 -- once seven fields and a zero are written one behind another, the first 32 bytes are the header of a pull context
 pub pull_header_filled : (f : PullFacts) (c0 c1 c2 c3 c4 c5 c6 c7 c8 : List ℕ) (puller source puller_size source_size count shown own : ℕ) →
@@ -18,14 +18,14 @@ pub pull_header_filled : (f : PullFacts) (c0 c1 c2 c3 c4 c5 c6 c7 c8 : List ℕ)
     take 32 c8 ≡ take 28 c7 ++ u32_bytes 0 → take 32 c8 ≡ pull_header f
 unfolding pull_header
 pull_header_filled f c0 c1 c2 c3 c4 c5 c6 c7 c8 puller source puller_size source_size count shown own e1 h1 e2 h2 e3 h3 e4 h4 e5 h5 e6 h6 e7 h7 h8 =
-    let s1 = more 0 4 c0 c1 [] _ _ h1 (ap u32_bytes e1) refl in
-    let s2 = more 4 8 c1 c2 _ _ _ h2 (ap u32_bytes e2) s1 in
-    let s3 = more 8 12 c2 c3 _ _ _ h3 (ap u32_bytes e3) s2 in
-    let s4 = more 12 16 c3 c4 _ _ _ h4 (ap u32_bytes e4) s3 in
-    let s5 = more 16 20 c4 c5 _ _ _ h5 (ap u32_bytes e5) s4 in
-    let s6 = more 20 24 c5 c6 _ _ _ h6 (ap u32_bytes e6) s5 in
-    let s7 = more 24 28 c6 c7 _ _ _ h7 (ap u32_bytes e7) s6 in
-    more 28 32 c7 c8 _ _ _ h8 refl s7
+    let s1 = more_filled 0 4 c0 c1 [] _ _ h1 (ap u32_bytes e1) refl in
+    let s2 = more_filled 4 8 c1 c2 _ _ _ h2 (ap u32_bytes e2) s1 in
+    let s3 = more_filled 8 12 c2 c3 _ _ _ h3 (ap u32_bytes e3) s2 in
+    let s4 = more_filled 12 16 c3 c4 _ _ _ h4 (ap u32_bytes e4) s3 in
+    let s5 = more_filled 16 20 c4 c5 _ _ _ h5 (ap u32_bytes e5) s4 in
+    let s6 = more_filled 20 24 c5 c6 _ _ _ h6 (ap u32_bytes e6) s5 in
+    let s7 = more_filled 24 28 c6 c7 _ _ _ h7 (ap u32_bytes e7) s6 in
+    more_filled 28 32 c7 c8 _ _ _ h8 refl s7
 
 -- one more task
 pub task_filled : (f : PullFacts) (k : ℕ) (o : Option Task) (c c' : List ℕ) →

@@ -18,7 +18,7 @@ use Rattle.bq_graph.proofs.SoundLemmas.{slots_positive}
 use Rattle.bq_graph.proofs.SpreadLemmas.{one_or_two}
 use Rattle.bq_import.specs.Copies.{is_reference, wide_copy, copied, Stands}
 use Rattle.bq_import.specs.Backward.{AreGood, JumpsBack, GoesBack, IsPlaced, insns_of, IsBuilt, Keeps, IsLengthened, MayStand}
-use Rattle.bq_import.proofs.CopyLemmas.{refers}
+use Rattle.bq_import.proofs.CopyLemmas.{reference_refers}
 use Rattle.bq_import.proofs.PathLemmas.{copy_has_shape}
 
 append_right : {A : Type 0} (xs ys : List A) (n : ℕ) (d : A) → length xs ≤ n → get_or (xs ++ ys) n d ≡ get_or ys (n - length xs) d
@@ -38,7 +38,7 @@ jump_is_short insn far e = refl
 -- a copy has numbers in range, as the original has
 wide_good : (maps : ℕ) (few : maps ≤ 8) (b : Bool) (dst value : ℕ) → is_reference maps value ≡ b → is_register dst ≡ true → Fits (Imm64 dst value) → (is_insn (wide_copy b dst value) ≡ true) × Fits (wide_copy b dst value)
 wide_good maps few false dst value e r fits = (r, fits)
-wide_good maps few true dst value e r fits = let there = (refers maps value e).there in (r, omega (arith, ints, there, few))
+wide_good maps few true dst value e r fits = let there = (reference_refers maps value e).there in (r, omega (arith, ints, there, few))
 
 -- the copy of an instruction in range, whose jump fits 16 bits, is in range
 pub copied_good : (maps : ℕ) → maps ≤ 8 → (insn : Insn) (z : ℤ) → FitsSigned w16 z → is_insn insn ≡ true → Fits insn → (is_insn (copied maps insn z) ≡ true) × Fits (copied maps insn z)

@@ -32,8 +32,8 @@ pub record Refers (maps value : ℕ) : Type 0 where
   pub is : reference (value - reference 0) ≡ value
 
 -- a number that tests as a reference is that of a map which is there
-pub refers : (maps value : ℕ) → is_reference maps value ≡ true → Refers maps value
-refers maps value e =
+pub reference_refers : (maps value : ℕ) → is_reference maps value ≡ true → Refers maps value
+reference_refers maps value e =
     let both = true_and _ _ e in
     let low = le_of (reference 0) value both.0 in
     let high = lt_of value (reference maps) both.1 in
@@ -118,7 +118,7 @@ module _ (maps : ℕ) (old new : List (Option Insn)) (origin : List ℕ) (f : Se
     wide_ahead false dst value t is on target e =
         record { slot = k + 2; takes = (target, ap (λ (v : State). moved v (k + 2)) e); stands = subst (λ (n : ℕ). Stands new origin (k + 2) n) (sym (ap (λ (v : State). v.slot) e)) on }
     wide_ahead true dst value t is on target e =
-        let r = refers maps value is in
+        let r = reference_refers maps value is in
         record {
           slot = k + 2;
           takes = (
@@ -138,7 +138,7 @@ module _ (maps : ℕ) (old new : List (Option Insn)) (origin : List ℕ) (f : Se
     wide_behind false dst value c t' is on p = straight_behind (Imm64 dst value) c t' refl on p
     wide_behind true dst value (Some c) t' is on (asks, fits, e) = absurd asks
     wide_behind true dst value None t' is on (m, number, there, target, e) =
-        let r = refers maps value is in
+        let r = reference_refers maps value is in
         let same : reference m ≡ value = ap reference (sym (no_pos _ m number)) ∙ r.is in
         record {
           state = put s 2 dst value;

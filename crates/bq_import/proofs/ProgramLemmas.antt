@@ -49,8 +49,8 @@ well_formed insns all some few =
     and_true false b e f = e
 
 -- what was written from its end is a program
-pub formed : (maps : ℕ) (old back : List (Option Insn)) (origins : List ℕ) → IsBuilt maps old back origins → IsFront back origins 0 → is_well_formed (insns_of back) ≡ true
-formed maps old back origins built front =
+pub written_is_well_formed : (maps : ℕ) (old back : List (Option Insn)) (origins : List ℕ) → IsBuilt maps old back origins → IsFront back origins 0 → is_well_formed (insns_of back) ≡ true
+written_is_well_formed maps old back origins built front =
     let short = built.short in
     let some = front.place_is in
     let long : length (spread (insns_of back)) ≡ length back = ap length built.spread_is ∙ length-reverse back in

@@ -98,9 +98,9 @@ pub jumps_to : (back : List (Option Insn)) (origins : List ℕ) (places : List (
 jumps_to back origins places to place distance start is stands = record { landing = place; apart = length back - place - 1; distance_is = is; long = omega (arith, start); stands = stands }
 
 -- a jump that leads to no instruction
-pub nowhere : (slots : List (Option Insn)) (slot : ℕ) (insn : Insn) (distance : ℤ) → instruction_at slots slot ≡ Some insn → Some distance ≡ distance_of insn → (v : Option ℕ) → is_some v ≡ false → IfNone v ((to : ℕ) → LeadsTo slot distance to → IsStart slots to → ⊥) → LeadsNowhere slots slot
-nowhere slots slot insn distance here is None none never = record { insn = insn; here = here; distance = distance; jumps = sym is; nowhere = never }
-nowhere slots slot insn distance here is (Some to) none never = absurd (let false : ⊥ = cc in false)
+pub leads_nowhere : (slots : List (Option Insn)) (slot : ℕ) (insn : Insn) (distance : ℤ) → instruction_at slots slot ≡ Some insn → Some distance ≡ distance_of insn → (v : Option ℕ) → is_some v ≡ false → IfNone v ((to : ℕ) → LeadsTo slot distance to → IsStart slots to → ⊥) → LeadsNowhere slots slot
+leads_nowhere slots slot insn distance here is None none never = record { insn = insn; here = here; distance = distance; jumps = sym is; nowhere = never }
+leads_nowhere slots slot insn distance here is (Some to) none never = absurd (let false : ⊥ = cc in false)
 
 -- from an instruction that lies before the end, where control goes on from it, it does not go on past the end
 pub stays_inside : (slots : List (Option Insn)) (slot : ℕ) (insn : Insn) → instruction_at slots slot ≡ Some insn → (goes_on insn ≡ true → slot + slots_of insn < length slots) → RunsOut slots slot → ⊥

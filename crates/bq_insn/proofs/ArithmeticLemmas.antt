@@ -18,7 +18,7 @@ use Rattle.bq_insn.specs.Spelling.{is_insn, is_register, variant_of, bits_number
 use Rattle.bq_insn.specs.Reading.{variant, bits_of, move_of, alu_of}
 use Rattle.bq_insn.specs.Faults.{IsSlot, is_variant}
 use Rattle.bq_insn.proofs.FaultLemmas.{IsClean, kept}
-use Rattle.bq_insn.proofs.ReadsLemmas.{Reads, and_true, back32, reads_by, one_slot, two_registers, one_register}
+use Rattle.bq_insn.proofs.ReadsLemmas.{Reads, and_true, word32_of_signed32, reads_by, one_slot, two_registers, one_register}
 use Rattle.bq_insn.proofs.FormLemmas.{not_false}
 
 -- a variant has the code of its operation
@@ -55,7 +55,7 @@ reads_alu_imm w o s next fits plain opcode clean =
     let same : opcode_of (form.Alu w (variant o s.offset) false) ≡ opcode_of (form.Alu w o false) = ap (λ (c : ℕ). alu_class w + 0 + 16 * c) (code_of-variant o s.offset) in
     reads_by (form.Alu w o false) s next (alu_of w o false s) opcode clean
     (and_true (is_register s.dst) true (one_register s.dst clean.registers) refl)
-    (one_slot _ _ _ _ _ _ _ _ _ _ same refl refl (offset_imm w o s.offset plain clean.variant) (back32 s.imm fits.imm))
+    (one_slot _ _ _ _ _ _ _ _ _ _ same refl refl (offset_imm w o s.offset plain clean.variant) (word32_of_signed32 s.imm fits.imm))
 
 -- what a move that extends the sign names
 record Extends (w : Width) (n : ℕ) : Type 0 where

@@ -15,9 +15,9 @@ use Rattle.bq_insn.specs.Spelling.{slot, is_register}
 use Rattle.bq_insn.specs.Faults.{is_stray, has_bad_register, has_stray_field, has_stray_second, has_no_variant, has_no_width, is_cut, cause_at, cause_of_form, Faulty, IsFault, is_length}
 
 -- where one or the other is false, both are
-pub neither : (a b : Bool) → (a || b) ≡ false → (a ≡ false) × (b ≡ false)
-neither true b h = absurd (let e : true ≡ false = h in cc)
-neither false b h = (refl, h)
+pub neither_is_true : (a b : Bool) → (a || b) ≡ false → (a ≡ false) × (b ≡ false)
+neither_is_true true b h = absurd (let e : true ≡ false = h in cc)
+neither_is_true false b h = (refl, h)
 
 -- none of the tests finds a fault
 pub record IsClean (f : Form) (s : Slot) (next : Option Slot) : Type 0 where
@@ -47,7 +47,7 @@ pub is_clean : (f : Form) (s : Slot) (next : Option Slot) → cause_at f s next 
 unfolding chain
 is_clean f s next h =
     let all = chain_none (has_bad_register (uses_of f) s) (has_stray_field (uses_of f) s || has_stray_second f s next) (has_no_variant f s) (has_no_width f s) (is_cut f next) h in
-    let fields = neither (has_stray_field (uses_of f) s) (has_stray_second f s next) all.1 in
+    let fields = neither_is_true (has_stray_field (uses_of f) s) (has_stray_second f s next) all.1 in
     record { registers = all.0; fields = fields.0; second = fields.1; variant = all.2; width = all.3; whole = all.4 }
 
 -- what a field without a fault holds
@@ -69,13 +69,13 @@ same_slot s o d r f i a b c e g =
     ∙ ap (λ (x : ℕ). slot s.opcode s.dst s.src x i) e ∙ ap (λ (x : ℕ). slot s.opcode s.dst s.src s.offset x) g
 
 -- a slot without stray fields is what its form keeps of it
-pub cleaned : (f : Form) (s : Slot) (o : ℕ) → o ≡ s.opcode → has_stray_field (uses_of f) s ≡ false
+pub no_strays_is_kept : (f : Form) (s : Slot) (o : ℕ) → o ≡ s.opcode → has_stray_field (uses_of f) s ≡ false
     → slot o (kept (uses_of f).dst s.dst) (kept (uses_of f).src s.src) (kept (uses_of f).offset s.offset) (kept (uses_of f).imm s.imm) ≡ s
-cleaned f s o h clean =
+no_strays_is_kept f s o h clean =
     let u = uses_of f in
-    let a = neither (is_stray u.dst s.dst) (is_stray u.src s.src || (is_stray u.offset s.offset || is_stray u.imm s.imm)) clean in
-    let b = neither (is_stray u.src s.src) (is_stray u.offset s.offset || is_stray u.imm s.imm) a.1 in
-    let c = neither (is_stray u.offset s.offset) (is_stray u.imm s.imm) b.1 in
+    let a = neither_is_true (is_stray u.dst s.dst) (is_stray u.src s.src || (is_stray u.offset s.offset || is_stray u.imm s.imm)) clean in
+    let b = neither_is_true (is_stray u.src s.src) (is_stray u.offset s.offset || is_stray u.imm s.imm) a.1 in
+    let c = neither_is_true (is_stray u.offset s.offset) (is_stray u.imm s.imm) b.1 in
     same_slot s o _ _ _ _ h (kept_same u.dst s.dst a.0) (kept_same u.src s.src b.0) (kept_same u.offset s.offset c.0) (kept_same u.imm s.imm c.1)
 
 -- a field that is not over 10 is a register

@@ -21,9 +21,9 @@ below zero p = true
 below (suc n) p = p n && below n p
 
 -- where one and the other is true, both are
-pub both : (a b : Bool) → (a && b) ≡ true → (a ≡ true) × (b ≡ true)
-both true b h = (refl, h)
-both false b h = absurd (let e : false ≡ true = h in cc)
+pub both_are_true : (a b : Bool) → (a && b) ≡ true → (a ≡ true) × (b ≡ true)
+both_are_true true b h = (refl, h)
+both_are_true false b h = absurd (let e : false ≡ true = h in cc)
 
 -- a number below the next is that one, or below it
 place : (k n : ℕ) → k < suc n → (k ≡ n) ⊎ (k < n)
@@ -39,7 +39,7 @@ below-at : (n : ℕ) (p : ℕ → Bool) → below n p ≡ true → (k : ℕ) →
 unfolding below
 below-at zero p h k lt = absurd (omega arith)
 below-at (suc n) p h k lt =
-    let parts = both (p n) (below n p) h in
+    let parts = both_are_true (p n) (below n p) h in
     by_place p k n (place k n lt) parts.0 (below-at n p parts.1 k)
 
 -- a form that stands under an opcode is one of the table, and has that opcode
@@ -56,7 +56,7 @@ all_agree = refl
 pub in_table : (n : ℕ) (f : Form) → n < 2 ^ 8 → form_of n ≡ Some f → (n ≡ opcode_of f) × (is_form f ≡ true)
 unfolding agrees_with
 in_table n f lt h =
-    let parts = both (opcode_of f == n) (is_form f) (sym (ap (agrees_with n) h) ∙ below-at 256 (λ k. agrees_with k (form_of k)) all_agree n lt) in
+    let parts = both_are_true (opcode_of f == n) (is_form f) (sym (ap (agrees_with n) h) ∙ below-at 256 (λ k. agrees_with k (form_of k)) all_agree n lt) in
     let test : (opcode_of f == n) ≡ true = parts.0 in
     (grind (arith, nat_tests), parts.1)
 
@@ -91,36 +91,36 @@ is_plain w op.Srem r h = not_false h
 is_plain w o r h = refl
 
 -- a form of the table stands under its opcode
-pub known : (f : Form) → is_form f ≡ true → form_of (opcode_of f) ≡ Some f
-known (form.Alu w o r) h = known_alu w o r ∙ ap (λ (x : Operation). Some (form.Alu w x r)) (is_plain w o r h)
-known (form.Neg W32) h = refl
-known (form.Neg W64) h = refl
-known (form.End Little) h = refl
-known (form.End Big) h = refl
-known (form.End Swapped) h = refl
-known (form.Load Double true) h = not_false h
-known (form.Load Byte true) h = refl
-known (form.Load Half true) h = refl
-known (form.Load Word true) h = refl
-known (form.Load Byte false) h = refl
-known (form.Load Half false) h = refl
-known (form.Load Word false) h = refl
-known (form.Load Double false) h = refl
-known (form.StoreImm Byte) h = refl
-known (form.StoreImm Half) h = refl
-known (form.StoreImm Word) h = refl
-known (form.StoreImm Double) h = refl
-known (form.StoreReg Byte) h = refl
-known (form.StoreReg Half) h = refl
-known (form.StoreReg Word) h = refl
-known (form.StoreReg Double) h = refl
-known form.Wide h = refl
-known form.Goto h = refl
-known form.Goto32 h = refl
-known (form.Branch w c r) h = known_branch w c r
-known form.Call h = refl
-known form.Exit h = refl
+pub form_is_known : (f : Form) → is_form f ≡ true → form_of (opcode_of f) ≡ Some f
+form_is_known (form.Alu w o r) h = known_alu w o r ∙ ap (λ (x : Operation). Some (form.Alu w x r)) (is_plain w o r h)
+form_is_known (form.Neg W32) h = refl
+form_is_known (form.Neg W64) h = refl
+form_is_known (form.End Little) h = refl
+form_is_known (form.End Big) h = refl
+form_is_known (form.End Swapped) h = refl
+form_is_known (form.Load Double true) h = not_false h
+form_is_known (form.Load Byte true) h = refl
+form_is_known (form.Load Half true) h = refl
+form_is_known (form.Load Word true) h = refl
+form_is_known (form.Load Byte false) h = refl
+form_is_known (form.Load Half false) h = refl
+form_is_known (form.Load Word false) h = refl
+form_is_known (form.Load Double false) h = refl
+form_is_known (form.StoreImm Byte) h = refl
+form_is_known (form.StoreImm Half) h = refl
+form_is_known (form.StoreImm Word) h = refl
+form_is_known (form.StoreImm Double) h = refl
+form_is_known (form.StoreReg Byte) h = refl
+form_is_known (form.StoreReg Half) h = refl
+form_is_known (form.StoreReg Word) h = refl
+form_is_known (form.StoreReg Double) h = refl
+form_is_known form.Wide h = refl
+form_is_known form.Goto h = refl
+form_is_known form.Goto32 h = refl
+form_is_known (form.Branch w c r) h = known_branch w c r
+form_is_known form.Call h = refl
+form_is_known form.Exit h = refl
 
 -- the two readings are one table
 pub one_table : OneTable
-one_table n f lt = (in_table n f lt, λ h. ap form_of h.0 ∙ known f h.1)
+one_table n f lt = (in_table n f lt, λ h. ap form_of h.0 ∙ form_is_known f h.1)

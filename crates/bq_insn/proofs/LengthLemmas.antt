@@ -8,7 +8,7 @@ use Rattle.bq_insn.specs.declared.Insn.{Insn}
 use Rattle.bq_insn.specs.declared.slot.Slot.{Slot}
 use Rattle.bq_insn.specs.Spelling.{slot_bytes, spelled, is_insn, insn_bytes, spelling, slot_count, is_well_formed}
 use Rattle.bq_insn.specs.Faults.{is_length, NoProgramIsRefused}
-use Rattle.bq_insn.proofs.FormLemmas.{both}
+use Rattle.bq_insn.proofs.FormLemmas.{both_are_true}
 use Rattle.bq_insn.proofs.ApartLemmas.{no_program_is_faulty}
 
 -- slots have eight bytes each
@@ -32,8 +32,8 @@ length-spelling (i ∷ insns) =
 -- the length of a program is that of a program: it takes 1 to 4096 whole slots
 pub program_length : (insns : List Insn) → is_well_formed insns ≡ true → is_length (spelling insns) ≡ true
 program_length insns h =
-    let parts = both (list_all is_insn insns) (nat_le 1 (slot_count insns) && nat_le (slot_count insns) 4096) h in
-    let bounds = both (nat_le 1 (slot_count insns)) (nat_le (slot_count insns) 4096) parts.1 in
+    let parts = both_are_true (list_all is_insn insns) (nat_le 1 (slot_count insns) && nat_le (slot_count insns) 4096) h in
+    let bounds = both_are_true (nat_le 1 (slot_count insns)) (nat_le (slot_count insns) 4096) parts.1 in
     let low : 1 ≤ slot_count insns = let t = bounds.0 in grind (arith, nat_tests) in
     let high : slot_count insns ≤ 4096 = let t = bounds.1 in grind (arith, nat_tests) in
     let bytes = length-spelling insns in
@@ -43,5 +43,5 @@ program_length insns h =
 pub no_program_is_refused : NoProgramIsRefused
 no_program_is_refused insns s c h f g = elim (fault_parts (spelling insns) s c g) as (λ _. ⊥) [
   | inl p ↦ not_both (is_length (spelling insns)) (program_length insns h) p.2
-  | inr p ↦ no_program_is_faulty insns s c (both (list_all is_insn insns) (nat_le 1 (slot_count insns) && nat_le (slot_count insns) 4096) h).0 f p.1
+  | inr p ↦ no_program_is_faulty insns s c (both_are_true (list_all is_insn insns) (nat_le 1 (slot_count insns) && nat_le (slot_count insns) 4096) h).0 f p.1
 ]

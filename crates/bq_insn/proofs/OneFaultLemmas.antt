@@ -8,9 +8,9 @@ use Rattle.bq_insn.specs.declared.fault.Cause.{Cause}
 use Rattle.bq_insn.specs.Spelling.{slot_bytes, spelled, is_insn, insn_bytes, spelling, slot_count}
 use Rattle.bq_insn.specs.Laws.{Fits, AllFit}
 use Rattle.bq_insn.specs.Faults.{IsSlot, BeginsWith, FrontHasCause, cause_of, is_length, OneFault}
-use Rattle.bq_insn.proofs.FormLemmas.{both}
-use Rattle.bq_insn.proofs.CleanLemmas.{clean}
-use Rattle.bq_insn.proofs.UniqueLemmas.{is_read, same_front, cancelled, one_spelling}
+use Rattle.bq_insn.proofs.FormLemmas.{both_are_true}
+use Rattle.bq_insn.proofs.CleanLemmas.{spelled_is_clean}
+use Rattle.bq_insn.proofs.UniqueLemmas.{is_read, same_front, front_cancelled, one_spelling}
 use Rattle.bq_insn.proofs.FaultLemmas.{fault_parts, not_both}
 use Rattle.bq_insn.proofs.ApartLemmas.{front_clean}
 
@@ -45,24 +45,24 @@ one_cause x c d p q =
 -- an instruction in range stands in front of no fault
 no_fault_in_front : (i : Insn) (x : List ℕ) (c : Cause) → is_insn i ≡ true → Fits i → FrontHasCause (insn_bytes i ++ x) c → ⊥
 no_fault_in_front i x c h f front =
-    front_clean (spelled i) i x front.slot front.next c (is_read i h f) (clean i h) front.is_slot front.begins front.cause_is
+    front_clean (spelled i) i x front.slot front.next c (is_read i h f) (spelled_is_clean i h) front.is_slot front.begins front.cause_is
 
 -- two ways to a fault in the same bytes are one
 one_way : (xs ys : List Insn) (x y : List ℕ) (c d : Cause) → list_all is_insn xs ≡ true → AllFit xs → list_all is_insn ys ≡ true → AllFit ys
     → spelling xs ++ x ≡ spelling ys ++ y → FrontHasCause x c → FrontHasCause y d → (xs ≡ ys) × (c ≡ d)
 one_way [] [] x y c d ha fa hb fb e p q = (refl, one_cause y c d (subst (λ (l : List ℕ). FrontHasCause l c) e p) q)
 one_way [] (b ∷ ys) x y c d ha fa hb fb e p q =
-    let k = both (is_insn b) (list_all is_insn ys) hb in
+    let k = both_are_true (is_insn b) (list_all is_insn ys) hb in
     absurd (no_fault_in_front b (spelling ys ++ y) c k.0 fb.0 (subst (λ (l : List ℕ). FrontHasCause l c) (e ∙ append_assoc (insn_bytes b) (spelling ys) y) p))
 one_way (a ∷ xs) [] x y c d ha fa hb fb e p q =
-    let k = both (is_insn a) (list_all is_insn xs) ha in
+    let k = both_are_true (is_insn a) (list_all is_insn xs) ha in
     absurd (no_fault_in_front a (spelling xs ++ x) d k.0 fa.0 (subst (λ (l : List ℕ). FrontHasCause l d) (sym e ∙ append_assoc (insn_bytes a) (spelling xs) x) q))
 one_way (a ∷ xs) (b ∷ ys) x y c d ha fa hb fb e p q =
-    let k = both (is_insn a) (list_all is_insn xs) ha in
-    let l = both (is_insn b) (list_all is_insn ys) hb in
+    let k = both_are_true (is_insn a) (list_all is_insn xs) ha in
+    let l = both_are_true (is_insn b) (list_all is_insn ys) hb in
     let e2 = sym (append_assoc (insn_bytes a) (spelling xs) x) ∙ e ∙ append_assoc (insn_bytes b) (spelling ys) y in
     let same = one_spelling a b (spelling xs ++ x) (spelling ys ++ y) k.0 l.0 fa.0 fb.0 e2 in
-    let left = cancelled (insn_bytes b) (spelling xs ++ x) (spelling ys ++ y) (ap (λ (i : Insn). insn_bytes i ++ (spelling xs ++ x)) (sym same) ∙ e2) in
+    let left = front_cancelled (insn_bytes b) (spelling xs ++ x) (spelling ys ++ y) (ap (λ (i : Insn). insn_bytes i ++ (spelling xs ++ x)) (sym same) ∙ e2) in
     let rest = one_way xs ys x y c d k.1 fa.1 l.1 fb.1 left p q in
     (ap (λ (i : Insn). i ∷ xs) same ∙ ap (λ (is : List Insn). b ∷ is) rest.0, rest.1)
 

@@ -16,8 +16,8 @@ use Rattle.bq_insn.specs.Table.{opcode_of, form_of, is_form}
 use Rattle.bq_insn.specs.Spelling.{slot, is_insn, is_register, word32, bits_number}
 use Rattle.bq_insn.specs.Reading.{signed16, signed32, bits_of, insn_of}
 use Rattle.bq_insn.specs.Faults.{IsSlot, cause_at}
-use Rattle.bq_insn.proofs.FaultLemmas.{IsClean, is_clean, cleaned, same_slot, neither}
-use Rattle.bq_insn.proofs.ReadsLemmas.{Reads, and_true, back16, back32, reads_by, one_slot, two_registers, one_register}
+use Rattle.bq_insn.proofs.FaultLemmas.{IsClean, is_clean, no_strays_is_kept, same_slot, neither_is_true}
+use Rattle.bq_insn.proofs.ReadsLemmas.{Reads, and_true, word16_of_signed16, word32_of_signed32, reads_by, one_slot, two_registers, one_register}
 use Rattle.bq_insn.proofs.FormLemmas.{not_false, in_table}
 use Rattle.bq_insn.proofs.ArithmeticLemmas.{is_zero, plain_of, reads_alu_imm, reads_alu_reg}
 
@@ -81,22 +81,22 @@ reads_wide s None fits opcode clean = absurd (let e : true ≡ false = clean.who
 reads_wide s (Some t) fits opcode clean = by_test (s.src == 5) refl second.4
   where
     a : (nat_lt 0 t.opcode ≡ false) × ((nat_lt 0 t.dst || (nat_lt 0 t.src || (nat_lt 0 t.offset || ((s.src == 5) && nat_lt 0 t.imm)))) ≡ false)
-    a = neither (nat_lt 0 t.opcode) _ clean.second
+    a = neither_is_true (nat_lt 0 t.opcode) _ clean.second
 
     b : (nat_lt 0 t.dst ≡ false) × ((nat_lt 0 t.src || (nat_lt 0 t.offset || ((s.src == 5) && nat_lt 0 t.imm))) ≡ false)
-    b = neither (nat_lt 0 t.dst) _ a.1
+    b = neither_is_true (nat_lt 0 t.dst) _ a.1
 
     d : (nat_lt 0 t.src ≡ false) × ((nat_lt 0 t.offset || ((s.src == 5) && nat_lt 0 t.imm)) ≡ false)
-    d = neither (nat_lt 0 t.src) _ b.1
+    d = neither_is_true (nat_lt 0 t.src) _ b.1
 
     e : (nat_lt 0 t.offset ≡ false) × (((s.src == 5) && nat_lt 0 t.imm) ≡ false)
-    e = neither (nat_lt 0 t.offset) _ d.1
+    e = neither_is_true (nat_lt 0 t.offset) _ d.1
 
     second : (0 ≡ t.opcode) × (0 ≡ t.dst) × (0 ≡ t.src) × (0 ≡ t.offset) × (((s.src == 5) && nat_lt 0 t.imm) ≡ false)
     second = (zero_of t.opcode a.0, zero_of t.dst b.0, zero_of t.src d.0, zero_of t.offset e.0, e.1)
 
     first : slot (opcode_of form.Wide) s.dst s.src 0 s.imm ≡ s
-    first = cleaned form.Wide s (opcode_of form.Wide) (sym opcode) clean.fields
+    first = no_strays_is_kept form.Wide s (opcode_of form.Wide) (sym opcode) clean.fields
 
     ranged : is_register s.dst ≡ true
     ranged = one_register s.dst clean.registers
@@ -106,7 +106,7 @@ reads_wide s (Some t) fits opcode clean = by_test (s.src == 5) refl second.4
     by_test true five stray = (
       ranged,
       inr (two_slots _ _ s t
-          (ap (λ (x : ℕ). slot (opcode_of form.Wide) s.dst x 0 (word32 (signed32 s.imm))) (is_five s.src five) ∙ ap (λ (x : ℕ). slot (opcode_of form.Wide) s.dst s.src 0 x) (back32 s.imm fits.imm) ∙ first)
+          (ap (λ (x : ℕ). slot (opcode_of form.Wide) s.dst x 0 (word32 (signed32 s.imm))) (is_five s.src five) ∙ ap (λ (x : ℕ). slot (opcode_of form.Wide) s.dst s.src 0 x) (word32_of_signed32 s.imm fits.imm) ∙ first)
           (same_slot t 0 0 0 0 0 second.0 second.1 second.2 second.3 (zero_of t.imm stray))),
     )
     by_test false other stray = (
@@ -131,31 +131,31 @@ reads_form (form.End order) s next fits known opcode clean =
 reads_form (form.Load size signed) s next fits known opcode clean =
     reads_by (form.Load size signed) s next (insn.Load size signed s.dst s.src (signed16 s.offset)) opcode clean
     (load_ranged size signed s.dst s.src (signed16 s.offset) known ∙ two_registers s.dst s.src clean.registers)
-    (one_slot _ _ _ _ _ _ _ _ _ _ refl refl refl (back16 s.offset fits.offset) refl)
+    (one_slot _ _ _ _ _ _ _ _ _ _ refl refl refl (word16_of_signed16 s.offset fits.offset) refl)
 reads_form (form.StoreImm size) s next fits known opcode clean =
     reads_by (form.StoreImm size) s next (insn.StoreImm size s.dst (signed16 s.offset) (signed32 s.imm)) opcode clean
-    (one_register s.dst clean.registers) (one_slot _ _ _ _ _ _ _ _ _ _ refl refl refl (back16 s.offset fits.offset) (back32 s.imm fits.imm))
+    (one_register s.dst clean.registers) (one_slot _ _ _ _ _ _ _ _ _ _ refl refl refl (word16_of_signed16 s.offset fits.offset) (word32_of_signed32 s.imm fits.imm))
 reads_form (form.StoreReg size) s next fits known opcode clean =
     reads_by (form.StoreReg size) s next (insn.StoreReg size s.dst (signed16 s.offset) s.src) opcode clean
-    (two_registers s.dst s.src clean.registers) (one_slot _ _ _ _ _ _ _ _ _ _ refl refl refl (back16 s.offset fits.offset) refl)
+    (two_registers s.dst s.src clean.registers) (one_slot _ _ _ _ _ _ _ _ _ _ refl refl refl (word16_of_signed16 s.offset fits.offset) refl)
 reads_form form.Wide s next fits known opcode clean = reads_wide s next fits opcode clean
 reads_form form.Goto s next fits known opcode clean =
-    reads_by form.Goto s next (insn.Goto (signed16 s.offset)) opcode clean refl (one_slot _ _ _ _ _ _ _ _ _ _ refl refl refl (back16 s.offset fits.offset) refl)
+    reads_by form.Goto s next (insn.Goto (signed16 s.offset)) opcode clean refl (one_slot _ _ _ _ _ _ _ _ _ _ refl refl refl (word16_of_signed16 s.offset fits.offset) refl)
 reads_form form.Goto32 s next fits known opcode clean =
-    reads_by form.Goto32 s next (insn.Goto32 (signed32 s.imm)) opcode clean refl (one_slot _ _ _ _ _ _ _ _ _ _ refl refl refl refl (back32 s.imm fits.imm))
+    reads_by form.Goto32 s next (insn.Goto32 (signed32 s.imm)) opcode clean refl (one_slot _ _ _ _ _ _ _ _ _ _ refl refl refl refl (word32_of_signed32 s.imm fits.imm))
 reads_form (form.Branch w c false) s next fits known opcode clean =
     reads_by (form.Branch w c false) s next (insn.Branch w c s.dst (Imm (signed32 s.imm)) (signed16 s.offset)) opcode clean
-    (and_true (is_register s.dst) true (one_register s.dst clean.registers) refl) (one_slot _ _ _ _ _ _ _ _ _ _ refl refl refl (back16 s.offset fits.offset) (back32 s.imm fits.imm))
+    (and_true (is_register s.dst) true (one_register s.dst clean.registers) refl) (one_slot _ _ _ _ _ _ _ _ _ _ refl refl refl (word16_of_signed16 s.offset fits.offset) (word32_of_signed32 s.imm fits.imm))
 reads_form (form.Branch w c true) s next fits known opcode clean =
     reads_by (form.Branch w c true) s next (insn.Branch w c s.dst (Reg s.src) (signed16 s.offset)) opcode clean
-    (two_registers s.dst s.src clean.registers) (one_slot _ _ _ _ _ _ _ _ _ _ refl refl refl (back16 s.offset fits.offset) refl)
+    (two_registers s.dst s.src clean.registers) (one_slot _ _ _ _ _ _ _ _ _ _ refl refl refl (word16_of_signed16 s.offset fits.offset) refl)
 reads_form form.Call s next fits known opcode clean =
-    reads_by form.Call s next (insn.Call (signed32 s.imm)) opcode clean refl (one_slot _ _ _ _ _ _ _ _ _ _ refl refl (sym (is_zero s.src clean.variant)) refl (back32 s.imm fits.imm))
+    reads_by form.Call s next (insn.Call (signed32 s.imm)) opcode clean refl (one_slot _ _ _ _ _ _ _ _ _ _ refl refl (sym (is_zero s.src clean.variant)) refl (word32_of_signed32 s.imm fits.imm))
 reads_form form.Exit s next fits known opcode clean =
     reads_by form.Exit s next insn.Exit opcode clean refl refl
 
 -- slots without a fault spell the instruction that is read
-pub reads : (f : Form) (s : Slot) (next : Option Slot) → IsSlot s → form_of s.opcode ≡ Some f → cause_at f s next ≡ None → Reads s next (insn_of f s next)
-reads f s next fits known none =
+pub faultless_slots_read : (f : Form) (s : Slot) (next : Option Slot) → IsSlot s → form_of s.opcode ≡ Some f → cause_at f s next ≡ None → Reads s next (insn_of f s next)
+faultless_slots_read f s next fits known none =
     let table = in_table s.opcode f fits.opcode known in
     reads_form f s next fits table.1 table.0 (is_clean f s next none)

@@ -10,7 +10,7 @@ use Rattle.bq_insn.specs.Table.{opcode_of}
 use Rattle.bq_insn.specs.Uses.{uses_of}
 use Rattle.bq_insn.specs.Spelling.{slot, spelled, is_insn, is_register, word16, word32}
 use Rattle.bq_insn.specs.Reading.{signed16, signed32}
-use Rattle.bq_insn.proofs.FaultLemmas.{IsClean, kept, cleaned, same_slot, neither, register_of}
+use Rattle.bq_insn.proofs.FaultLemmas.{IsClean, kept, no_strays_is_kept, same_slot, neither_is_true, register_of}
 
 -- the slots at hand spell the instruction: the first, or both
 abbrev pub IsSpelledBy : Slot → Option Slot → Insn → Type 0
@@ -31,12 +31,12 @@ pub and_true : (a b : Bool) → a ≡ true → b ≡ true → (a && b) ≡ true
 and_true a b h k = ap (λ (x : Bool). x && b) h ∙ k
 
 -- the bits of a field come back from the signed number
-pub back16 : (n : ℕ) → n < 2 ^ 16 → word16 (signed16 n) ≡ n
-back16 n h = of_z-to_z w16 n h
+pub word16_of_signed16 : (n : ℕ) → n < 2 ^ 16 → word16 (signed16 n) ≡ n
+word16_of_signed16 n h = of_z-to_z w16 n h
 
 -- the bits of a field come back from the signed number
-pub back32 : (n : ℕ) → n < 2 ^ 32 → word32 (signed32 n) ≡ n
-back32 n h = of_z-to_z w32 n h
+pub word32_of_signed32 : (n : ℕ) → n < 2 ^ 32 → word32 (signed32 n) ≡ n
+word32_of_signed32 n h = of_z-to_z w32 n h
 
 -- the fields that a form uses, and zeros
 abbrev pub cleaned_slot : Form → Slot → Slot
@@ -45,7 +45,7 @@ cleaned_slot f s = slot (opcode_of f) (kept (uses_of f).dst s.dst) (kept (uses_o
 -- an instruction of one slot is read where it is in range and spelled by what its form keeps
 pub reads_by : (f : Form) (s : Slot) (next : Option Slot) (i : Insn) → s.opcode ≡ opcode_of f → IsClean f s next → is_insn i ≡ true → spelled i ≡ cleaned_slot f s ∷ [] → Reads s next i
 reads_by f s next i opcode clean ranged e =
-    (ranged, by_one s next i (e ∙ ap (λ (x : Slot). x ∷ []) (cleaned f s (opcode_of f) (sym opcode) clean.fields)))
+    (ranged, by_one s next i (e ∙ ap (λ (x : Slot). x ∷ []) (no_strays_is_kept f s (opcode_of f) (sym opcode) clean.fields)))
 
 -- slots are equal field by field
 pub one_slot : (o d r f i o' d' r' f' i' : ℕ) → o ≡ o' → d ≡ d' → r ≡ r' → f ≡ f' → i ≡ i' → slot o d r f i ∷ [] ≡ slot o' d' r' f' i' ∷ []
@@ -54,9 +54,9 @@ one_slot o d r f i o' d' r' f' i' a b c e g = ap (λ (x : Slot). x ∷ []) (same
 -- two fields that name registers
 pub two_registers : (d r : ℕ) → (nat_lt 10 d || nat_lt 10 r) ≡ false → (is_register d && is_register r) ≡ true
 two_registers d r h =
-    let parts = neither (nat_lt 10 d) (nat_lt 10 r) h in
+    let parts = neither_is_true (nat_lt 10 d) (nat_lt 10 r) h in
     and_true (is_register d) (is_register r) (register_of d parts.0) (register_of r parts.1)
 
 -- one field that names a register
 pub one_register : (d : ℕ) → (nat_lt 10 d || false) ≡ false → is_register d ≡ true
-one_register d h = register_of d (neither (nat_lt 10 d) false h).0
+one_register d h = register_of d (neither_is_true (nat_lt 10 d) false h).0

@@ -23,7 +23,7 @@ use Rattle.bq_load.specs.Faults.{HasBadField, HasFaultyProgram, IsFault}
 use Rattle.bq_load.specs.Reading.{◌>>=◌, magic_at, version_at, hook_at, number_at, count_at, is_shape, shape_at, shapes_at, Spelled, header_at, ended, frame_at}
 use Rattle.bq_load.proofs.FieldLemmas.{AreBytes, AreBytes-front, AreBytes-after, half_ok, is_shape-limits, shape_of, shape_of-bytes}
 use Rattle.bq_load.proofs.HeaderLemmas.{after_shapes, after_count, after_hook, after_version, after_magic}
-use Rattle.bq_load.proofs.AgainLemmas.{spelled, number_again, half_again, shape_again, shapes_again, read_marked, read_versioned, read_hooked, read_counted, header_again}
+use Rattle.bq_load.proofs.SpelledHeaderLemmas.{spelled, number_again, half_again, shape_again, shapes_again, read_marked, read_versioned, read_hooked, read_counted, header_again}
 
 -- ---- a bad or cut field gives its fault
 

@@ -73,9 +73,9 @@ met_err true d f x e = absurd cc
 met_err false d f x e = (refl, cc)
 
 -- a choice, by its test
-pub chosen : {A : Type 0} (b : Bool) (x y z : A) → cond b x y ≡ z → ((b ≡ true) × (x ≡ z)) ⊎ ((b ≡ false) × (y ≡ z))
-chosen true x y z e = inl (refl, e)
-chosen false x y z e = inr (refl, e)
+pub chosen_by_test : {A : Type 0} (b : Bool) (x y z : A) → cond b x y ≡ z → ((b ≡ true) × (x ≡ z)) ⊎ ((b ≡ false) × (y ≡ z))
+chosen_by_test true x y z e = inl (refl, e)
+chosen_by_test false x y z e = inr (refl, e)
 
 -- ---- the letters
 
@@ -83,7 +83,7 @@ chosen false x y z e = inr (refl, e)
 pub magic_ok : (bytes rest : List ℕ) → magic_at bytes ≡ Ok rest → bytes ≡ magic ++ rest
 unfolding magic_at
 magic_ok bytes rest e =
-    elim (chosen (ltb (length bytes) 4) (Err fault.Cut) (cond (bytes_eq (take 4 bytes) magic) (Ok (drop 4 bytes)) (Err fault.Magic)) (Ok rest) e) [
+    elim (chosen_by_test (ltb (length bytes) 4) (Err fault.Cut) (cond (bytes_eq (take 4 bytes) magic) (Ok (drop 4 bytes)) (Err fault.Magic)) (Ok rest) e) [
       | inl p ↦ absurd (let q = p.1 in cc)
       | inr p ↦
           let g = met_ok (bytes_eq (take 4 bytes) magic) fault.Magic (drop 4 bytes) rest p.1 in
@@ -95,7 +95,7 @@ magic_ok bytes rest e =
 pub magic_err : (bytes : List ℕ) (f : LoadFault) → magic_at bytes ≡ Err f → IsRefusedField Nothing bytes f
 unfolding magic_at
 magic_err bytes f e =
-    elim (chosen (ltb (length bytes) 4) (Err fault.Cut) (cond (bytes_eq (take 4 bytes) magic) (Ok (drop 4 bytes)) (Err fault.Magic)) (Err f) e) [
+    elim (chosen_by_test (ltb (length bytes) 4) (Err fault.Cut) (cond (bytes_eq (take 4 bytes) magic) (Ok (drop 4 bytes)) (Err fault.Magic)) (Err f) e) [
       | inl p ↦ inl (sym (err_is {A = List ℕ} fault.Cut f p.1), ltb-true _ _ p.0)
       | inr p ↦
           let g = met_err (bytes_eq (take 4 bytes) magic) fault.Magic f (drop 4 bytes) p.1 in
@@ -111,7 +111,7 @@ pub version_ok : (bytes : List ℕ) (v : Version) (rest : List ℕ) → version_
 unfolding version_at
 version_ok [] v rest e = absurd cc
 version_ok (b ∷ bs) v rest e =
-    elim (chosen (b == 1) (Ok (First, bs)) (cond (b == 2) (Ok (Second, bs)) (Err fault.Version)) (Ok (v, rest)) e) [
+    elim (chosen_by_test (b == 1) (Ok (First, bs)) (cond (b == 2) (Ok (Second, bs)) (Err fault.Version)) (Ok (v, rest)) e) [
       | inl p ↦
           let is : b ≡ 1 = eqb-true _ _ p.0 in
           subst (λ (x : Version × List ℕ). b ∷ bs ≡ version_number x.0 ∷ x.1) (ok_is (First, bs) (v, rest) p.1) (ap (λ (x : ℕ). x ∷ bs) is)
@@ -130,7 +130,7 @@ pub version_err : (bytes : List ℕ) (f : LoadFault) → version_at bytes ≡ Er
 unfolding version_at
 version_err [] f e = inl (sym (err_is {A = Version × List ℕ} fault.Cut f e), omega arith)
 version_err (b ∷ bs) f e =
-    elim (chosen (b == 1) (Ok (First, bs)) (cond (b == 2) (Ok (Second, bs)) (Err fault.Version)) (Err f) e) [
+    elim (chosen_by_test (b == 1) (Ok (First, bs)) (cond (b == 2) (Ok (Second, bs)) (Err fault.Version)) (Err f) e) [
       | inl p ↦ absurd (let q = p.1 in cc)
       | inr p ↦
           let g = met_err (b == 2) fault.Version f (Second, bs) p.1 in
@@ -144,11 +144,11 @@ pub hook_ok : (bytes : List ℕ) (h : Hook) (rest : List ℕ) → hook_at bytes 
 unfolding hook_at
 hook_ok [] h rest e = absurd cc
 hook_ok (b ∷ bs) h rest e =
-    elim (chosen (b == 0) (Ok (Place, bs)) (cond (b == 1) (Ok (Preempt, bs)) (cond (b == 2) (Ok (Pull, bs)) (Err fault.Hook))) (Ok (h, rest)) e) [
+    elim (chosen_by_test (b == 0) (Ok (Place, bs)) (cond (b == 1) (Ok (Preempt, bs)) (cond (b == 2) (Ok (Pull, bs)) (Err fault.Hook))) (Ok (h, rest)) e) [
       | inl p ↦
           let is : b ≡ 0 = eqb-true _ _ p.0 in
           subst (λ (x : Hook × List ℕ). b ∷ bs ≡ hook_byte x.0 ∷ x.1) (ok_is (Place, bs) (h, rest) p.1) (ap (λ (x : ℕ). x ∷ bs) is)
-      | inr p ↦ elim (chosen (b == 1) (Ok (Preempt, bs)) (cond (b == 2) (Ok (Pull, bs)) (Err fault.Hook)) (Ok (h, rest)) p.1) [
+      | inr p ↦ elim (chosen_by_test (b == 1) (Ok (Preempt, bs)) (cond (b == 2) (Ok (Pull, bs)) (Err fault.Hook)) (Ok (h, rest)) p.1) [
         | inl q ↦
             let is : b ≡ 1 = eqb-true _ _ q.0 in
             subst (λ (x : Hook × List ℕ). b ∷ bs ≡ hook_byte x.0 ∷ x.1) (ok_is (Preempt, bs) (h, rest) q.1) (ap (λ (x : ℕ). x ∷ bs) is)
@@ -169,9 +169,9 @@ pub hook_err : (v : Version) (bytes : List ℕ) (f : LoadFault) → hook_at byte
 unfolding hook_at
 hook_err v [] f e = inl (sym (err_is {A = Hook × List ℕ} fault.Cut f e), omega arith)
 hook_err v (b ∷ bs) f e =
-    elim (chosen (b == 0) (Ok (Place, bs)) (cond (b == 1) (Ok (Preempt, bs)) (cond (b == 2) (Ok (Pull, bs)) (Err fault.Hook))) (Err f) e) [
+    elim (chosen_by_test (b == 0) (Ok (Place, bs)) (cond (b == 1) (Ok (Preempt, bs)) (cond (b == 2) (Ok (Pull, bs)) (Err fault.Hook))) (Err f) e) [
       | inl p ↦ absurd (let q = p.1 in cc)
-      | inr p ↦ elim (chosen (b == 1) (Ok (Preempt, bs)) (cond (b == 2) (Ok (Pull, bs)) (Err fault.Hook)) (Err f) p.1) [
+      | inr p ↦ elim (chosen_by_test (b == 1) (Ok (Preempt, bs)) (cond (b == 2) (Ok (Pull, bs)) (Err fault.Hook)) (Err f) p.1) [
         | inl q ↦ absurd (let r = q.1 in cc)
         | inr q ↦
             let g = met_err (b == 2) fault.Hook f (Pull, bs) q.1 in

@@ -15,15 +15,15 @@ use Rattle.bq_load.specs.Headers.{with_shapes, HasHeader, Frames, HasParts}
 use Rattle.bq_load.specs.Answers.{HasImage, IsUnread}
 use Rattle.bq_load.specs.Reading.{Spelled, header_at, ended, frame_at}
 use Rattle.bq_load.proofs.ReadingLemmas.{bind_ok, ok_is}
-use Rattle.bq_load.proofs.FieldLemmas.{AreBytes, bind_err, err_is, chosen}
+use Rattle.bq_load.proofs.FieldLemmas.{AreBytes, bind_err, err_is, chosen_by_test}
 use Rattle.bq_load.proofs.HeaderLemmas.{length-shapes_bytes, header_ok, header_err, refused_is}
 
 -- where the program ends
 ended_ok : (x y : Spelled × List ℕ) → ended x ≡ Ok y → (x ≡ y) × (length x.1 ≡ 8 * x.0.slots)
 ended_ok x y e =
-    elim (chosen (ltb (length x.1) (8 * x.0.slots)) (Err fault.Cut) (cond (ltb (8 * x.0.slots) (length x.1)) (Err fault.Rest) (Ok x)) (Ok y) e) [
+    elim (chosen_by_test (ltb (length x.1) (8 * x.0.slots)) (Err fault.Cut) (cond (ltb (8 * x.0.slots) (length x.1)) (Err fault.Rest) (Ok x)) (Ok y) e) [
       | inl p ↦ absurd (let q = p.1 in cc)
-      | inr p ↦ elim (chosen (ltb (8 * x.0.slots) (length x.1)) (Err fault.Rest) (Ok x) (Ok y) p.1) [
+      | inr p ↦ elim (chosen_by_test (ltb (8 * x.0.slots) (length x.1)) (Err fault.Rest) (Ok x) (Ok y) p.1) [
         | inl q ↦ absurd (let r = q.1 in cc)
         | inr q ↦
             let low : 8 * x.0.slots ≤ length x.1 = ltb-false _ _ p.0 in
@@ -50,11 +50,11 @@ frame_ok bytes x fits e =
 ended_err : (bytes : List ℕ) (x : Spelled × List ℕ) (f : LoadFault) → HasHeader bytes x.0 x.1 → ended x ≡ Err f → IsFault bytes f
 ended_err bytes x f there e =
     let h = with_shapes x.0 there.shapes in
-    elim (chosen (ltb (length x.1) (8 * x.0.slots)) (Err fault.Cut) (cond (ltb (8 * x.0.slots) (length x.1)) (Err fault.Rest) (Ok x)) (Err f) e) [
+    elim (chosen_by_test (ltb (length x.1) (8 * x.0.slots)) (Err fault.Cut) (cond (ltb (8 * x.0.slots) (length x.1)) (Err fault.Rest) (Ok x)) (Err f) e) [
       | inl p ↦
           subst (IsFault bytes) (err_is {A = Spelled × List ℕ} fault.Cut f p.1)
           (record { front = Headed h; part = x.1; good = there.good; bytes_are = there.bytes_are; short = ltb-true _ _ p.0 })
-      | inr p ↦ elim (chosen (ltb (8 * x.0.slots) (length x.1)) (Err fault.Rest) (Ok x) (Err f) p.1) [
+      | inr p ↦ elim (chosen_by_test (ltb (8 * x.0.slots) (length x.1)) (Err fault.Rest) (Ok x) (Err f) p.1) [
         | inl q ↦
             subst (IsFault bytes) (err_is {A = Spelled × List ℕ} fault.Rest f q.1)
             (record { header = h; rest = x.1; good = there.good; bytes_are = there.bytes_are; more = ltb-true _ _ q.0 })

@@ -16,7 +16,7 @@ use Rattle.bq_load.specs.Reading.{Spelled, header_at, frame_at}
 use Rattle.bq_load.proofs.ReadingLemmas.{ok_is}
 use Rattle.bq_load.proofs.FieldLemmas.{AreBytes-front}
 use Rattle.bq_load.proofs.HeaderLemmas.{length-shapes_bytes, IsRefused, header_ok, header_err, refused_is, bad_field, no_cut, no_decode}
-use Rattle.bq_load.proofs.AgainLemmas.{spelled, header_again}
+use Rattle.bq_load.proofs.SpelledHeaderLemmas.{spelled, header_again}
 use Rattle.bq_load.proofs.FaultLemmas.{IsFound, fault_again, frame_short}
 use Rattle.bq_load.proofs.LawLemmas.{one_fault}
 use Rattle.bq_load.proofs.UniqueLemmas.{one_spelled, frame_again}

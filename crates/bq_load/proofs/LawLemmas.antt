@@ -10,7 +10,7 @@ use Rattle.bq_load.specs.Layout.{Header, IsFramed}
 use Rattle.bq_load.specs.Faults.{HasFaultyProgram}
 use Rattle.bq_load.specs.Laws.{OneImage, NoImageIsFaulty, OneFault}
 use Rattle.bq_load.specs.Reading.{Spelled, frame_at}
-use Rattle.bq_load.proofs.AgainLemmas.{spelled}
+use Rattle.bq_load.proofs.SpelledHeaderLemmas.{spelled}
 use Rattle.bq_load.proofs.FaultLemmas.{IsFound, fault_again}
 use Rattle.bq_load.proofs.UniqueLemmas.{frame_again, one_frame}
 

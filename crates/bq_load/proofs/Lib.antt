@@ -1,7 +1,7 @@
 pub mod ReadingLemmas
 pub mod FieldLemmas
 pub mod HeaderLemmas
-pub mod AgainLemmas
+pub mod SpelledHeaderLemmas
 pub mod ShapesLemmas
 pub mod FramingLemmas
 pub mod UniqueLemmas

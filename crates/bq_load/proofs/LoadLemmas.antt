@@ -9,7 +9,7 @@ use Rattle.bq_insn.specs.Spelling.{spelling, is_well_formed, slot_count, is_insn
 use Rattle.bq_insn.specs.Slots.{spread}
 use Rattle.bq_insn.specs.Laws.{AllFit}
 use Rattle.bq_insn.specs.Faults.{IsFault as IsProgramFault}
-use Rattle.bq_insn.proofs.FormLemmas.{both}
+use Rattle.bq_insn.proofs.FormLemmas.{both_are_true}
 use Rattle.bq_insn.proofs.UniqueLemmas as insn
 use Rattle.bq_insn.proofs.LengthLemmas as lengths
 use Rattle.bq_bpf.specs.declared.shape.MapShape.{MapShape}
@@ -51,22 +51,22 @@ no_refusal slot cause (Mapped v k n s) field h = h
 no_refusal slot cause (Headed k) field h = h
 
 -- a fault of the bytes is answered
-pub unloaded : (bytes : List ℕ) (f : LoadFault) → IsFault bytes f → IsUnloaded bytes f
-unloaded bytes fault.Magic b = b
-unloaded bytes fault.Version b = b
-unloaded bytes fault.Hook b = b
-unloaded bytes fault.Shape b = b
-unloaded bytes fault.Cut b = b
-unloaded bytes fault.Rest b = b
-unloaded bytes fault.OutOfMemory b = absurd (no_memory b.front b.field b.bad)
-unloaded bytes (fault.Refused slot cause) b = absurd (no_refusal slot cause b.front b.field b.bad)
-unloaded bytes (fault.Decode slot Length) b = b
-unloaded bytes (fault.Decode slot Opcode) b = absurd (no_decode slot Opcode b.front b.field b.bad)
-unloaded bytes (fault.Decode slot Register) b = absurd (no_decode slot Register b.front b.field b.bad)
-unloaded bytes (fault.Decode slot Field) b = absurd (no_decode slot Field b.front b.field b.bad)
-unloaded bytes (fault.Decode slot Offset) b = absurd (no_decode slot Offset b.front b.field b.bad)
-unloaded bytes (fault.Decode slot Imm) b = absurd (no_decode slot Imm b.front b.field b.bad)
-unloaded bytes (fault.Decode slot WideCut) b = absurd (no_decode slot WideCut b.front b.field b.bad)
+pub fault_is_unloaded : (bytes : List ℕ) (f : LoadFault) → IsFault bytes f → IsUnloaded bytes f
+fault_is_unloaded bytes fault.Magic b = b
+fault_is_unloaded bytes fault.Version b = b
+fault_is_unloaded bytes fault.Hook b = b
+fault_is_unloaded bytes fault.Shape b = b
+fault_is_unloaded bytes fault.Cut b = b
+fault_is_unloaded bytes fault.Rest b = b
+fault_is_unloaded bytes fault.OutOfMemory b = absurd (no_memory b.front b.field b.bad)
+fault_is_unloaded bytes (fault.Refused slot cause) b = absurd (no_refusal slot cause b.front b.field b.bad)
+fault_is_unloaded bytes (fault.Decode slot Length) b = b
+fault_is_unloaded bytes (fault.Decode slot Opcode) b = absurd (no_decode slot Opcode b.front b.field b.bad)
+fault_is_unloaded bytes (fault.Decode slot Register) b = absurd (no_decode slot Register b.front b.field b.bad)
+fault_is_unloaded bytes (fault.Decode slot Field) b = absurd (no_decode slot Field b.front b.field b.bad)
+fault_is_unloaded bytes (fault.Decode slot Offset) b = absurd (no_decode slot Offset b.front b.field b.bad)
+fault_is_unloaded bytes (fault.Decode slot Imm) b = absurd (no_decode slot Imm b.front b.field b.bad)
+fault_is_unloaded bytes (fault.Decode slot WideCut) b = absurd (no_decode slot WideCut b.front b.field b.bad)
 
 -- so is one of the program
 pub unloaded_program : (bytes : List ℕ) (s : Spelled) (code : List ℕ) (f : DecodeFault) → HasParts bytes s code → IsProgramFault code f → IsUnloaded bytes (of_program f)
@@ -98,10 +98,10 @@ unloaded_refusal bytes s code insns refused.OutOfMemory parts p b memory = has_i
 unloaded_refusal bytes s code insns (refused.At slot cause) parts p b memory = (record { insns = insns; program = p; refused = b }, λ straight. not_memory slot cause (memory straight))
 
 -- what was accepted is loaded
-pub loaded : (bytes : List ℕ) (s : Spelled) (code : List ℕ) (insns : List Insn) (shapes : List MapShape) (v : Accepted) → HasParts bytes s code → code ≡ spelling insns → is_well_formed insns ≡ true → AllFit insns
+pub accepted_is_loaded : (bytes : List ℕ) (s : Spelled) (code : List ℕ) (insns : List Insn) (shapes : List MapShape) (v : Accepted) → HasParts bytes s code → code ≡ spelling insns → is_well_formed insns ≡ true → AllFit insns
     → s.shapes ≡ shapes_bytes shapes → v.slots ≡ spread insns → v.shapes ≡ shapes → v.hook ≡ s.hook → v.version ≡ s.version
     → length shapes ≤ 8 → IsFaultless v.slots → Safe v.slots v.shapes (context_length_of v.hook v.version) v.budget → IsGreatest (PathOut v.slots 0) v.budget → Loads bytes v
-loaded bytes s code insns shapes v parts is well_formed numbers shapes-are slots same_shapes same_hook same_version few faultless safe longest = record {
+accepted_is_loaded bytes s code insns shapes v parts is well_formed numbers shapes-are slots same_shapes same_hook same_version few faultless safe longest = record {
   insns = insns;
   image = rw (same_shapes, same_hook, same_version) (subst (λ (p : List ℕ). IsImage bytes s.version s.hook shapes p) is (is_image bytes s code shapes parts shapes-are));
   well_formed = well_formed;
@@ -148,7 +148,7 @@ straight_code bytes s code (program.At slot cause) parts st b =
     absurd (lengths.no_program_is_refused st.insns slot cause st.well_formed st.numbers (subst (λ (x : List ℕ). IsProgramFault x (program.At slot cause)) of.code_is b))
 
 all_insns : (insns : List Insn) → is_well_formed insns ≡ true → list_all is_insn insns ≡ true
-all_insns insns h = (both (list_all is_insn insns) (nat_le 1 (slot_count insns) && nat_le (slot_count insns) 4096) h).0
+all_insns insns h = (both_are_true (list_all is_insn insns) (nat_le 1 (slot_count insns) && nat_le (slot_count insns) 4096) h).0
 
 -- instructions and shapes that were read of a straight image are a straight program for its hook and version
 pub straight_program : (bytes : List ℕ) (s : Spelled) (code : List ℕ) (insns : List Insn) (shapes : List MapShape) → HasParts bytes s code → HasStraightProgram bytes

@@ -8,7 +8,7 @@ use Rattle.bq_insn.specs.declared.Insn.{Insn}
 use Rattle.bq_insn.specs.Faults.{IsFault as IsProgramFault}
 use Rattle.bq_insn.specs.Slots.{spread}
 use Rattle.bq_insn.specs.Spelling.{is_insn, is_well_formed, slot_count, spelling}
-use Rattle.bq_insn.proofs.FormLemmas.{both}
+use Rattle.bq_insn.proofs.FormLemmas.{both_are_true}
 use Rattle.bq_insn.proofs.LengthLemmas as lengths
 use Rattle.bq_insn.proofs.OneFaultLemmas as insn
 use Rattle.bq_insn.proofs.UniqueLemmas.{one_program}
@@ -72,7 +72,7 @@ same_stop : (bytes : List ℕ) (f g : LoadFault) → frame_at bytes ≡ Err f �
 same_stop bytes f g e d = cc
 
 registers : (insns : List Insn) → is_well_formed insns ≡ true → list_all is_insn insns ≡ true
-registers insns h = (both (list_all is_insn insns) (nat_le 1 (slot_count insns) && nat_le (slot_count insns) 4096) h).0
+registers insns h = (both_are_true (list_all is_insn insns) (nat_le 1 (slot_count insns) && nat_le (slot_count insns) 4096) h).0
 
 -- the answer is that fault, or want of memory
 abbrev IsOnly : LoadFault → Result Accepted LoadFault → Type 0

@@ -11,7 +11,7 @@ use Rattle.bq_load.specs.Headers.{with_shapes}
 use Rattle.bq_load.specs.Laws.{AreBytes}
 use Rattle.bq_load.specs.Reading.{Spelled, header_at}
 use Rattle.bq_load.proofs.HeaderLemmas.{header_ok}
-use Rattle.bq_load.proofs.AgainLemmas.{header_again}
+use Rattle.bq_load.proofs.SpelledHeaderLemmas.{header_again}
 use Rattle.bq_load.proofs.LawLemmas.{one_fault}
 use Rattle.bq_load.proofs.FramingLemmas.{bad_length_of}
 use Rattle.bq_load.proofs.JudgingLemmas.{bad_stays, one_header}

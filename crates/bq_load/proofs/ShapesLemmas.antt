@@ -9,7 +9,7 @@ use Rattle.bq_load.specs.Layout.{shape_bytes, shapes_bytes}
 use Rattle.bq_load.specs.Headers.{AreShapes}
 use Rattle.bq_load.specs.Reading.{shape_at}
 use Rattle.bq_load.proofs.ReadingLemmas.{ok_is}
-use Rattle.bq_load.proofs.AgainLemmas.{shape_again}
+use Rattle.bq_load.proofs.SpelledHeaderLemmas.{shape_again}
 
 -- the first of them stands there
 shape_there : (shapes : List MapShape) (rest : List ℕ) → 0 < length rest → rest ≡ shapes_bytes shapes → (s : MapShape) × (t : List MapShape) × (rest ≡ shape_bytes s ++ shapes_bytes t)

@@ -14,7 +14,7 @@ use Rattle.bq_load.specs.Reading.{◌>>=◌, Spelled, header_at, ended, frame_at
 use Rattle.bq_load.proofs.ReadingLemmas.{ok_is}
 use Rattle.bq_load.proofs.FieldLemmas.{shape_of, shape_facts, one_half}
 use Rattle.bq_load.proofs.HeaderLemmas.{length-shapes_bytes}
-use Rattle.bq_load.proofs.AgainLemmas.{spelled, header_again}
+use Rattle.bq_load.proofs.SpelledHeaderLemmas.{spelled, header_again}
 
 -- that numbers are within limits has one proof
 one_proof : (size entries : ℕ) (g h : IsShape size entries) → g ≡ h

@@ -30,8 +30,8 @@ reaches_last off offsets fits wraps =
     (2 ^ 64 - 1 - word_of off, (last.0, last.1), last.2)
 
 -- where the ends of a range are turned round, no range is so far on from it
-pub wraps : (off : ℤ) (offsets : Range) → address_of offsets.hi off < address_of offsets.lo off → Wraps off offsets
-wraps off offsets turned new moved =
+pub turned_range_wraps : (off : ℤ) (offsets : Range) → address_of offsets.hi off < address_of offsets.lo off → Wraps off offsets
+turned_range_wraps off offsets turned new moved =
     let lo : new.lo ≡ address_of offsets.lo off = moved.lo in
     let hi : new.hi ≡ address_of offsets.hi off = moved.hi in
     let ordered = new.ordered in

@@ -14,8 +14,8 @@ use Rattle.bq_needs.specs.Saying.{Says, any_number, number, context, stack_begin
 use Rattle.bq_needs.specs.Texts.{between, range_text, number_text, offset_text, stack_text, kind_text, known_text}
 
 -- with what made the sum wrap taken away, the address is the place itself
-pub away : (place o n : ℕ) → o + n ≡ 2 ^ 64 → ((place + o) % 2 ^ 64 + n) % 2 ^ 64 ≡ place % 2 ^ 64
-away place o n whole =
+pub wrap_taken_away : (place o n : ℕ) → o + n ≡ 2 ^ 64 → ((place + o) % 2 ^ 64 + n) % 2 ^ 64 ≡ place % 2 ^ 64
+wrap_taken_away place o n whole =
     let joined : (place + o) + n ≡ place + 2 ^ 64 = omega (arith, whole) in
     mod-add-mod (place + o) (2 ^ 64) n ∙ ap (λ (m : ℕ). m % 2 ^ 64) joined ∙ add-mod_right place (2 ^ 64)
 
@@ -37,7 +37,7 @@ tells_offset r o place word within is =
                 let least : 2 ^ 64 - r.hi ≤ 2 ^ 64 - o = omega (arith, within) in
                 let most : 2 ^ 64 - o ≤ 2 ^ 64 - r.lo = omega (arith, within) in
                 under (2 ^ 64 - r.lo) (2 ^ 64 - r.hi) (2 ^ 64 - o) place word least most
-                (ap (λ (w : ℕ). (w + (2 ^ 64 - o)) % 2 ^ 64) is ∙ away place o (2 ^ 64 - o) whole)
+                (ap (λ (w : ℕ). (w + (2 ^ 64 - o)) % 2 ^ 64) is ∙ wrap_taken_away place o (2 ^ 64 - o) whole)
           ] refl
     ] refl
 

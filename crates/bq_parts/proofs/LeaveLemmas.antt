@@ -14,9 +14,9 @@ use Rattle.bq_parts.proofs.CountLemmas.{one, one_self, keeps_charge}
 use Rattle.bq_parts.proofs.PermittedLemmas.{settled_permitted, own_place_permitted, may_place_fits}
 
 -- the task that leaves is the one that ran, as it leaves
-pub leaves : (f : Task → Task) (o : Option Task) (s : Task) → Some s ≡ option_map f o → (t : Task) × (Some t ≡ o) × (s ≡ f t)
-leaves f None s h = absurd (let no : ⊥ = cc in no)
-leaves f (Some t) s h = (t, refl, (cc))
+pub leaving_task_ran : (f : Task → Task) (o : Option Task) (s : Task) → Some s ≡ option_map f o → (t : Task) × (Some t ≡ o) × (s ≡ f t)
+leaving_task_ran f None s h = absurd (let no : ⊥ = cc in no)
+leaving_task_ran f (Some t) s h = (t, refl, (cc))
 
 below_by_case : (t : Task) (m n : ℕ) → (1024 ≤ t.id → m ≡ 0) → m ≡ one t.id t + n → t.id < 1024
 below_by_case t m n h e = elim (cases_lt t.id 1024) [ inl l ↦ l | inr g ↦ absurd (omega (arith, one_self t, h g, e)) ]

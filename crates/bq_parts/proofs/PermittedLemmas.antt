@@ -27,13 +27,13 @@ by_test true permitted r0 own e o = e
 by_test false permitted r0 own e o = o
 
 -- an answer is the choice where it is permitted, and else the own choice is
-pub answered : (permitted : ℕ → Bool) (r0 own : ℕ) → permitted own ≡ true → permitted (chosen permitted (Some r0) own).choice ≡ true
-answered permitted r0 own o = by_test (permitted r0) permitted r0 own refl o
+pub answer_is_permitted : (permitted : ℕ → Bool) (r0 own : ℕ) → permitted own ≡ true → permitted (chosen permitted (Some r0) own).choice ≡ true
+answer_is_permitted permitted r0 own o = by_test (permitted r0) permitted r0 own refl o
 
 settles_by : (s : Regime) (policy : Option Accepted) (context : Version → List ℕ) (attached : Attached) (now processor : ℕ) (permitted : ℕ → Bool) (own : ℕ) (settled : Decision) →
     permitted own ≡ true → SettlesBy s policy context attached now processor permitted own settled → permitted settled.choice ≡ true
 settles_by s None context attached now processor permitted own settled o h = ap (λ (x : Decision). permitted x.choice) h ∙ o
-settles_by s (Some policy) context attached now processor permitted own settled o h = ap permitted h.4 ∙ answered permitted h.0 own o
+settles_by s (Some policy) context attached now processor permitted own settled o h = ap permitted h.4 ∙ answer_is_permitted permitted h.0 own o
 
 -- where the own choice is permitted, what is settled is
 pub settled_permitted : (s : Regime) (context : Version → List ℕ) (attached : Attached) (now processor : ℕ) (permitted : ℕ → Bool) (own : ℕ) (settled : Decision) →

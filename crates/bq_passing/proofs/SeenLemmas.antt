@@ -31,7 +31,7 @@ use Rattle.bq_parts.proofs.CountLemmas.{each_once_queue, HasDistinctIds-from_cou
 use Rattle.bq_parts.proofs.NumberTestLemmas.{differ_from_test}
 use Rattle.bq_parts.proofs.OnceLemmas.{each_once_running}
 use Rattle.bq_parts.proofs.PermittedLemmas.{settled_permitted, own_pull_permitted, may_pull_names}
-use Rattle.bq_core.proofs.OrderLemmas.{step_tidy, step_keeps, passed, there}
+use Rattle.bq_core.proofs.OrderLemmas.{step_tidy, step_keeps, first_refusal_passed, not_refused_is_there}
 use Rattle.bq_passing.specs.Seen.{running_at, entry, begins, own_steps, leaving, steps_at, DecidesAlone, EventIsSteps, HistoryIsSteps}
 use Rattle.bq_passing.proofs.PassingLemmas.{own_decision}
 
@@ -156,9 +156,9 @@ pull_seen d at w processor from now q other calls r o l apart h =
 -- the two processors of a pull that is not refused differ
 pub pulls_apart : (w : World) (processor from now : ℕ) → refusal w (Pull processor from now) ≡ None → processor ≢ from
 pulls_apart w processor from now h =
-    let f = there (count_in w) processor _ (by_arguments (argument_refusal (count_in w) (Pull processor from now)) _ h) in
-    let g = there (count_in w) from _ f.1 in
-    differ_from_test processor from (passed (processor == from) no.SameProcessor None g.1).0
+    let f = not_refused_is_there (count_in w) processor _ (by_arguments (argument_refusal (count_in w) (Pull processor from now)) _ h) in
+    let g = not_refused_is_there (count_in w) from _ f.1 in
+    differ_from_test processor from (first_refusal_passed (processor == from) no.SameProcessor None g.1).0
 
 -- Each event
 

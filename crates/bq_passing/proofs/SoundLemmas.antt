@@ -24,7 +24,7 @@ use Rattle.bq_parts.specs.Choices.{Regime, Decision}
 use Rattle.bq_parts.specs.Moves.{taken_from, without_task, with_pulled, started_if_idle, admitted}
 use Rattle.bq_parts.specs.Shares.{Decides, after_time, remarked}
 use Rattle.bq_parts.specs.Steps.{Performs}
-use Rattle.bq_core.proofs.OrderLemmas.{passed}
+use Rattle.bq_core.proofs.OrderLemmas.{first_refusal_passed}
 use Rattle.bq_core.proofs.EachProcessorLemmas.{at_set}
 use Rattle.bq_core.proofs.OnTheWayLemmas.{same_everywhere}
 use Rattle.bq_passing.proofs.SeenLemmas.{by_arguments}
@@ -209,7 +209,7 @@ held_task x c e = let same : x ≡ c = cc in ap (λ (y : Carried). y.task) same
 pub performs_sound : (s : Regime) (P : Task → Type 0) → IsKept s.discipline P → (w : World) (e : Event) (calls : List Asked) (r : Reply) (w' : World) → IsSoundWorld P w → refusal w e ≡ None → Performs s w e calls r w' → IsSoundWorld P w'
 performs_sound s P k w (event.Admit id nice mask slice) calls r w' y free h =
     let arguments = by_arguments (argument_refusal (count_in w) (event.Admit id nice mask slice)) _ free in
-    let f = passed (not (is_nice nice)) no.Nice _ (passed (mask % 2 ^ count_in w == 0) no.EmptyMask _ (passed (nat_le 1024 id) no.NoTask _ arguments).1).1 in
+    let f = first_refusal_passed (not (is_nice nice)) no.Nice _ (first_refusal_passed (mask % 2 ^ count_in w == 0) no.EmptyMask _ (first_refusal_passed (nat_le 1024 id) no.NoTask _ arguments).1).1 in
     rw (h.3, h.1.2) (sound_entry P w id (Blocked (admitted (count_in w) id nice mask slice)) y (blocked_is _ (nice_weight nice f.0)))
 performs_sound s P k w (event.Retire id) calls r w' y free h = rw (h.3, h.1.2) (sound_entry P w id Absent y (λ t e. cc))
 performs_sound s P k w event.Draw calls r w' y free h = rw h.2 (sound_drawn P w _ y)

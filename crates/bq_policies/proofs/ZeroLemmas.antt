@@ -15,13 +15,13 @@ all_zero (x ∷ xs) (suc n) e h =
     cc
 
 -- maps of these shapes of which each byte is 0
-pub zeros : (shapes : List MapShape) (maps : List (List ℕ)) → length maps ≡ length shapes →
+pub zero_bytes_are_zero_maps : (shapes : List MapShape) (maps : List (List ℕ)) → length maps ≡ length shapes →
     ((m : ℕ) (shape : MapShape) → slice_get shapes m ≡ Some shape → length (get_or maps m []) ≡ shape.value_size * shape.entries) →
     ((m i : ℕ) → get_or (get_or maps m []) i 0 ≡ 0) → maps ≡ map zeros_of shapes
-zeros [] [] e sizes h = refl
-zeros [] (m ∷ ms) e sizes h = cc
-zeros (s ∷ ss) [] e sizes h = cc
-zeros (s ∷ ss) (m ∷ ms) e sizes h =
+zero_bytes_are_zero_maps [] [] e sizes h = refl
+zero_bytes_are_zero_maps [] (m ∷ ms) e sizes h = cc
+zero_bytes_are_zero_maps (s ∷ ss) [] e sizes h = cc
+zero_bytes_are_zero_maps (s ∷ ss) (m ∷ ms) e sizes h =
     let first : m ≡ zeros_of s = all_zero m (s.value_size * s.entries) (sizes 0 s refl) (h 0) in
-    let rest : ms ≡ map zeros_of ss = zeros ss ms (omega arith) (λ n shape f. sizes (suc n) shape f) (λ n i. h (suc n) i) in
+    let rest : ms ≡ map zeros_of ss = zero_bytes_are_zero_maps ss ms (omega arith) (λ n shape f. sizes (suc n) shape f) (λ n i. h (suc n) i) in
     cc

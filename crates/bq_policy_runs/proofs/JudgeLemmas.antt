@@ -12,13 +12,13 @@ use Rattle.bq_one_run.specs.Permitting.{place_permits, word_of}
 use Rattle.bq_policy_runs.specs.Judging.{TellsWord, word_begins}
 
 -- a text that begins with the word
-pub tells : (word w : Word) (why : List ℕ) → word ≡ w → TellsWord word (word_begins w ++ why)
-tells word w why e = (why, ap (λ (x : Word). word_begins x ++ why) (sym e))
+pub text_tells_word : (word w : Word) (why : List ℕ) → word ≡ w → TellsWord word (word_begins w ++ why)
+text_tells_word word w why e = (why, ap (λ (x : Word). word_begins x ++ why) (sym e))
 
 -- of two words it is the one that it may be
-pub refused : (word : Word) → (word ≡ NotPermitted) ⊎ (word ≡ NotShown) → word ≢ NotShown → word ≡ NotPermitted
-refused word (inl e) other = e
-refused word (inr e) other = absurd (other e)
+pub not_permitted_is_left : (word : Word) → (word ≡ NotPermitted) ⊎ (word ≡ NotShown) → word ≢ NotShown → word ≡ NotPermitted
+not_permitted_is_left word (inl e) other = e
+not_permitted_is_left word (inr e) other = absurd (other e)
 
 -- a place context is long enough for its fields
 place_long : (v : Version) (n : ℕ) → n ≡ context_length_of Place v → 36 ≤ n

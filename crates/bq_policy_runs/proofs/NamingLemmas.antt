@@ -26,9 +26,9 @@ no_processor (Some word) n is past k other =
     omega (arith, same, below, past)
 
 -- a number of 32 bits is one of 64
-pub wider : (word : Option (List ℕ)) (k : ℕ) → IsNumberOrZero (2 ^ 32) word k → IsNumberOrZero (2 ^ 64) word k
-wider None k zero = zero
-wider (Some word) k is = let below = is.1 in (is.0, omega (arith, below))
+pub number_of_more_bits : (word : Option (List ℕ)) (k : ℕ) → IsNumberOrZero (2 ^ 32) word k → IsNumberOrZero (2 ^ 64) word k
+number_of_more_bits None k zero = zero
+number_of_more_bits (Some word) k is = let below = is.1 in (is.0, omega (arith, below))
 
 -- what is no number of 64 bits, and no number with a unit, writes no time
 pub no_time : (word : List ℕ) → duration_of word ≡ None → number_of 10 word ≡ None → (time : ℕ) → ¬ WritesTime word time

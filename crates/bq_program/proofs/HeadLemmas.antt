@@ -110,9 +110,9 @@ says_nothing h a b c = record {
 }
 
 -- a list, its beginning, the element after that, and the rest
-pub parted : (all before : List (List ℕ)) (line : List ℕ) → before ≡ take (length before) all → length before < length all
+pub parted_at_line : (all before : List (List ℕ)) (line : List ℕ) → before ≡ take (length before) all → length before < length all
     → line ≡ get_or all (length before) line → all ≡ before ++ line ∷ drop (suc (length before)) all
-parted all before line so_far more here =
+parted_at_line all before line so_far more here =
     let n = length before in
     sym (take-append-drop n all) ∙ (λ i. sym so_far i ++ (drop-cons all n line more ∙ ap (λ l. l ∷ drop (suc n) all) (sym here)) i)
 
@@ -131,7 +131,7 @@ refused_at text head yielded n line (At k c) so_far more here count said h =
       before = before;
       line = line;
       rest = drop (suc (length before)) (lines text);
-      lines_are = parted (lines text) before line so_far' more' here';
+      lines_are = parted_at_line (lines text) before line so_far' more' here';
       number_is = h.0 ∙ ap (λ m. m + 1) (count ∙ sym same);
       head = head;
       said = said;
@@ -173,11 +173,11 @@ bad_program text given said (assembly.At line cause) head bad = (said, head, bad
 bad_program text given said assembly.OutOfMemory head bad = tt
 
 -- what is wrong with a text whose parts are right
-pub uncombinable : (text : List ℕ) (given said : Head) (named : PolicyFault) → IsWhole text said → IsUncombinable given said named → IsTextFault text given named
-uncombinable text given said (fault.Disagrees key) whole h = (said, whole, h)
-uncombinable text given said fault.NoHook whole h = (said, whole, h)
-uncombinable text given said fault.OutOfMemory whole h = tt
-uncombinable text given said named whole h = absurd h
+pub uncombinable_is_fault : (text : List ℕ) (given said : Head) (named : PolicyFault) → IsWhole text said → IsUncombinable given said named → IsTextFault text given named
+uncombinable_is_fault text given said (fault.Disagrees key) whole h = (said, whole, h)
+uncombinable_is_fault text given said fault.NoHook whole h = (said, whole, h)
+uncombinable_is_fault text given said fault.OutOfMemory whole h = tt
+uncombinable_is_fault text given said named whole h = absurd h
 
 -- what is wrong with the image that hex spells is wrong with the hex
 of_hex : (bytes image : List ℕ) (given : Head) (named : PolicyFault) → SpellsBytes bytes image → IsImageFault image given named → IsHexFault bytes given named

@@ -7,7 +7,7 @@ use Rattle.bq_insn.specs.declared.Insn.{Insn}
 use Rattle.bq_insn.specs.Spelling.{spelling, slot_count, is_insn, is_well_formed}
 use Rattle.bq_insn.specs.declared.fault.DecodeFault.TheVariants.{At}
 use Rattle.bq_insn.specs.Faults.{IsFault}
-use Rattle.bq_insn.proofs.FormLemmas.{both}
+use Rattle.bq_insn.proofs.FormLemmas.{both_are_true}
 use Rattle.bq_insn.proofs.UniqueLemmas as insn
 use Rattle.bq_insn.proofs.OneFaultLemmas as fault
 use Rattle.bq_insn.proofs.LengthLemmas as lengths
@@ -68,7 +68,7 @@ one_assembly form text false true x y p q = absurd (assembled_or_refused form te
 one_assembly form text false false x y p q = (refl, one_text_refusal text x y p q)
 
 all_insns : (insns : List Insn) → is_well_formed insns ≡ true → list_all is_insn insns ≡ true
-all_insns insns h = (both (list_all is_insn insns) (nat_le 1 (slot_count insns) && nat_le (slot_count insns) 4096) h).0
+all_insns insns h = (both_are_true (list_all is_insn insns) (nat_le 1 (slot_count insns) && nat_le (slot_count insns) 4096) h).0
 
 listed_or_refused : (text x y : List ℕ) → IsListed text x → (IsNoHex text × (y ≡ refusal (codes "hex"))) ⊎ IsFaultyProgram text y → ⊥
 listed_or_refused text x y p (inl q) = cc (p.1, q.0.1)

@@ -62,9 +62,9 @@ number_padded n =
     ∙ ap (λ (t : List ℕ). t ++ digits) (fill_is 3 4 (4 - length digits))
 
 -- a line with its comment, as it is laid out
-pub joined : (said spelled shown number : List ℕ) (slot : ℕ) → shown ≡ said ++ blanks_to 32 said → number ≡ blanks_to 4 (decimal slot) ++ decimal slot →
+pub line_with_comment : (said spelled shown number : List ℕ) (slot : ℕ) → shown ≡ said ++ blanks_to 32 said → number ≡ blanks_to 4 (decimal slot) ++ decimal slot →
     shown ++ (codes "; " ++ (number ++ (codes "  " ++ (spelled ++ codes "\n")))) ≡ noted said slot spelled
-joined said spelled shown number slot first second =
+line_with_comment said spelled shown number slot first second =
     let rest = codes "  " ++ (spelled ++ codes "\n") in
     (λ i. first i ++ (codes "; " ++ (second i ++ rest)))
     ∙ append_assoc said (blanks_to 32 said) (codes "; " ++ ((blanks_to 4 (decimal slot) ++ decimal slot) ++ rest))

@@ -12,7 +12,7 @@ use Rattle.bq_insn.specs.declared.Width.{Width}
 use Rattle.bq_insn.specs.declared.Width.TheVariants.{W32, W64}
 use Rattle.bq_ranges.specs.Within.{Within}
 use Rattle.bq_ranges.specs.declared.range.Range.{Range}
-use Rattle.bq_ranges.proofs.OutcomeLemmas.{kept, quotients_between}
+use Rattle.bq_ranges.proofs.OutcomeLemmas.{word_is_its_remainder, quotients_between}
 
 -- a number that goes into n is no more than what goes into n below most
 multiple_below : (z most n : ℕ) → 0 < n → z % n ≡ 0 → z ≤ most → z ≤ most - most % n
@@ -62,4 +62,4 @@ pub sign_shifts : (w : Width) (half most : ℕ) (a : Range) (amount x y : ℕ) �
 sign_shifts w half most a amount x y s t low high same p =
     let n : ℕ = 2 ^ (amount % bit_count w) in
     let order = quotients_between (most - a.hi) (most - x) (most - a.lo) n (pow_pos (amount % bit_count w)) (omega arith) (omega arith) in
-    rw (sign_shift w half most x y s t (omega arith) (omega arith), same, kept w (most - (most - x) / 2 ^ (amount % bit_count w)) (omega arith)) (omega (arith, order), omega (arith, order))
+    rw (sign_shift w half most x y s t (omega arith) (omega arith), same, word_is_its_remainder w (most - (most - x) / 2 ^ (amount % bit_count w)) (omega arith)) (omega (arith, order), omega (arith, order))

@@ -13,26 +13,26 @@ use Rattle.bq_ranges.specs.declared.range.Range.{Range}
 use Rattle.bq_ranges.specs.Within.{Within}
 
 -- a word of the width is its own remainder
-pub kept : (w : Width) (z : ℕ) → z < modulus w → z % modulus w ≡ z
-kept W32 z h = omega arith
-kept W64 z h = omega arith
+pub word_is_its_remainder : (w : Width) (z : ℕ) → z < modulus w → z % modulus w ≡ z
+word_is_its_remainder W32 z h = omega arith
+word_is_its_remainder W64 z h = omega arith
 
 -- a remainder is a word of the width
-pub remains : (w : Width) (z : ℕ) → z % modulus w < modulus w
-remains W32 z = omega arith
-remains W64 z = omega arith
+pub remainder_is_word : (w : Width) (z : ℕ) → z % modulus w < modulus w
+remainder_is_word W32 z = omega arith
+remainder_is_word W64 z = omega arith
 
 -- a range that holds a word of the width holds its remainder
-pub held : (w : Width) (r : Range) (z : ℕ) → r.hi < modulus w → Within r z → Within r (z % modulus w)
-held w r z fits h = rw (kept w z (omega arith)) h
+pub holds_low_word : (w : Width) (r : Range) (z : ℕ) → r.hi < modulus w → Within r z → Within r (z % modulus w)
+holds_low_word w r z fits h = rw (word_is_its_remainder w z (omega arith)) h
 
 -- a range that holds a word of the width holds its remainder
 pub held_bits : (w : Width) (r : Range) (z : ℕ) → z < modulus w → Within r z → Within r (z % modulus w)
-held_bits w r z fits h = rw (kept w z fits) h
+held_bits w r z fits h = rw (word_is_its_remainder w z fits) h
 
 -- all words of the width hold every remainder
 pub held_by_all : (w : Width) (r : Range) (z : ℕ) → r.lo ≡ 0 → r.hi + 1 ≡ modulus w → Within r (z % modulus w)
-held_by_all w r z least most = let below = remains w z in (omega arith, omega arith)
+held_by_all w r z least most = let below = remainder_is_word w z in (omega arith, omega arith)
 
 -- the case of a divisor that is not 0
 if_some : (k t e : ℕ) → (if suc k == 0 then t else e) ≡ e
@@ -40,19 +40,19 @@ if_some k t e = grind (arith, nat_tests)
 
 -- an equal word of the width is the remainder
 pub as_word : (w : Width) (r z : ℕ) → r ≡ z → r < modulus w → r ≡ z % modulus w
-as_word w r z same fits = same ∙ sym (kept w z (omega arith))
+as_word w r z same fits = same ∙ sym (word_is_its_remainder w z (omega arith))
 
 -- a quotient by zero is 0
 pub quotient_held : (w : Width) (a b r : Range) → r.hi < modulus w → ((x : ℕ) → Within a x → Within b 0 → Within r 0) → ((x y : ℕ) → Within a x → Within b y → 0 < y → Within r (x / y)) → (x y : ℕ) → Within a x → Within b y → Within r (operate w op.Div x y % modulus w)
 unfolding operate
-quotient_held w a b r fits none some x zero p q = held w r 0 fits (none x p q)
-quotient_held w a b r fits none some x (suc k) p q = rw (if_some k 0 (x / suc k)) (held w r (x / suc k) fits (some x (suc k) p q (omega arith)))
+quotient_held w a b r fits none some x zero p q = holds_low_word w r 0 fits (none x p q)
+quotient_held w a b r fits none some x (suc k) p q = rw (if_some k 0 (x / suc k)) (holds_low_word w r (x / suc k) fits (some x (suc k) p q (omega arith)))
 
 -- a remainder by zero is the dividend
 pub remainder_held : (w : Width) (a b r : Range) → r.hi < modulus w → ((x : ℕ) → Within a x → Within b 0 → Within r x) → ((x y : ℕ) → Within a x → Within b y → 0 < y → Within r (x % y)) → (x y : ℕ) → Within a x → Within b y → Within r (operate w op.Rem x y % modulus w)
 unfolding operate
-remainder_held w a b r fits none some x zero p q = held w r x fits (none x p q)
-remainder_held w a b r fits none some x (suc k) p q = rw (if_some k x (x % suc k)) (held w r (x % suc k) fits (some x (suc k) p q (omega arith)))
+remainder_held w a b r fits none some x zero p q = holds_low_word w r x fits (none x p q)
+remainder_held w a b r fits none some x (suc k) p q = rw (if_some k x (x % suc k)) (holds_low_word w r (x % suc k) fits (some x (suc k) p q (omega arith)))
 
 -- the union of bits is no less than each, no more than the sum, and a word of the width
 pub union_between : (w : Width) (x y : ℕ) → x < modulus w → y < modulus w → (x ≤ bit_or x y) × (y ≤ bit_or x y) × (bit_or x y ≤ x + y) × (bit_or x y < modulus w)
@@ -99,10 +99,10 @@ pub shifts_up : (w : Width) (a : Range) (most n x : ℕ) → most + 1 ≡ modulu
 shifts_up w a most n x greatest h p =
     let top : a.hi * n ≤ most = fits_times most a.hi n h in
     let order = products_between a.lo x a.hi n p.0 p.1 in
-    let small : x * n % modulus w ≡ x * n = kept w (x * n) (omega arith) in
+    let small : x * n % modulus w ≡ x * n = word_is_its_remainder w (x * n) (omega arith) in
     let word : modulus w ≤ 2 ^ 64 = least_word w in
-    let low : a.lo * n % 2 ^ 64 ≡ a.lo * n = kept W64 (a.lo * n) (omega arith) in
-    let high : a.hi * n % 2 ^ 64 ≡ a.hi * n = kept W64 (a.hi * n) (omega arith) in
+    let low : a.lo * n % 2 ^ 64 ≡ a.lo * n = word_is_its_remainder W64 (a.lo * n) (omega arith) in
+    let high : a.hi * n % 2 ^ 64 ≡ a.hi * n = word_is_its_remainder W64 (a.hi * n) (omega arith) in
     rw (small, low, high) (order.0, order.1)
   where
     least_word : (w : Width) → modulus w ≤ 2 ^ 64
@@ -114,7 +114,7 @@ pub products_held : (w : Width) (a b : Range) (x y : ℕ) → a.hi * b.hi < modu
 products_held w a b x y fits p q =
     let least : a.lo * b.lo ≤ x * y = mul-le a.lo b.lo x y p.0 q.0 in
     let most : x * y ≤ a.hi * b.hi = mul-le x y a.hi b.hi p.1 q.1 in
-    rw (kept w (x * y) (omega arith)) (least, most)
+    rw (word_is_its_remainder w (x * y) (omega arith)) (least, most)
 
 -- a quotient of members lies between the least by the greatest and the greatest by the least
 pub ratios_between : (a b : Range) (x y : ℕ) → 0 < b.lo → Within a x → Within b y → (a.lo / b.hi ≤ x / y) × (x / y ≤ a.hi / b.lo)

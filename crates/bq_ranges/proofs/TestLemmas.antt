@@ -29,21 +29,21 @@ Meets cond.LessEqual false a b = b < a
 Meets _ goes a b = Unit {0}
 
 -- a test that goes that way says so
-pub meets : (c : Condition) (goes : Bool) (a b : ℕ) → a < 2 ^ 64 → b < 2 ^ 64 → taken W64 c a b ≡ goes → Meets c goes a b
+pub test_meets_side : (c : Condition) (goes : Bool) (a b : ℕ) → a < 2 ^ 64 → b < 2 ^ 64 → taken W64 c a b ≡ goes → Meets c goes a b
 unfolding compares
-meets cond.Equal true a b p q h = grind (arith, nat_tests)
-meets cond.Equal false a b p q h = grind (arith, nat_tests)
-meets cond.NotEqual true a b p q h = grind (arith, nat_tests)
-meets cond.NotEqual false a b p q h = grind (arith, nat_tests)
-meets cond.Greater true a b p q h = grind (arith, nat_tests)
-meets cond.Greater false a b p q h = grind (arith, nat_tests)
-meets cond.GreaterEqual true a b p q h = grind (arith, nat_tests)
-meets cond.GreaterEqual false a b p q h = grind (arith, nat_tests)
-meets cond.Less true a b p q h = grind (arith, nat_tests)
-meets cond.Less false a b p q h = grind (arith, nat_tests)
-meets cond.LessEqual true a b p q h = grind (arith, nat_tests)
-meets cond.LessEqual false a b p q h = grind (arith, nat_tests)
-meets _ goes a b p q h = tt
+test_meets_side cond.Equal true a b p q h = grind (arith, nat_tests)
+test_meets_side cond.Equal false a b p q h = grind (arith, nat_tests)
+test_meets_side cond.NotEqual true a b p q h = grind (arith, nat_tests)
+test_meets_side cond.NotEqual false a b p q h = grind (arith, nat_tests)
+test_meets_side cond.Greater true a b p q h = grind (arith, nat_tests)
+test_meets_side cond.Greater false a b p q h = grind (arith, nat_tests)
+test_meets_side cond.GreaterEqual true a b p q h = grind (arith, nat_tests)
+test_meets_side cond.GreaterEqual false a b p q h = grind (arith, nat_tests)
+test_meets_side cond.Less true a b p q h = grind (arith, nat_tests)
+test_meets_side cond.Less false a b p q h = grind (arith, nat_tests)
+test_meets_side cond.LessEqual true a b p q h = grind (arith, nat_tests)
+test_meets_side cond.LessEqual false a b p q h = grind (arith, nat_tests)
+test_meets_side _ goes a b p q h = tt
 
 -- and what it says makes it go that way
 pub goes_where : (c : Condition) (goes : Bool) (a b : ℕ) → IsByOrder c → a < 2 ^ 64 → b < 2 ^ 64 → Meets c goes a b → taken W64 c a b ≡ goes
@@ -71,13 +71,13 @@ ends_go c goes a b P (Some r) u q says ends = (at r.lo (omega arith) ends.0, at 
     at x p h = let here = says x h in (here.0, goes_where c goes x b u p q here.1)
 
 -- a test by no sign is the same on low halves and on whole words where the words have no upper half
-pub halves : (c : Condition) (a b : ℕ) → (IsSigned c → ⊥) → a < 2 ^ 32 → b < 2 ^ 32 → taken W32 c a b ≡ taken W64 c a b
+pub same_on_low_halves : (c : Condition) (a b : ℕ) → (IsSigned c → ⊥) → a < 2 ^ 32 → b < 2 ^ 32 → taken W32 c a b ≡ taken W64 c a b
 unfolding compares
-halves cond.SignedGreater a b unsigned p q = absurd (unsigned tt)
-halves cond.SignedGreaterEqual a b unsigned p q = absurd (unsigned tt)
-halves cond.SignedLess a b unsigned p q = absurd (unsigned tt)
-halves cond.SignedLessEqual a b unsigned p q = absurd (unsigned tt)
-halves _ a b unsigned p q =
+same_on_low_halves cond.SignedGreater a b unsigned p q = absurd (unsigned tt)
+same_on_low_halves cond.SignedGreaterEqual a b unsigned p q = absurd (unsigned tt)
+same_on_low_halves cond.SignedLess a b unsigned p q = absurd (unsigned tt)
+same_on_low_halves cond.SignedLessEqual a b unsigned p q = absurd (unsigned tt)
+same_on_low_halves _ a b unsigned p q =
     let left : a % 2 ^ 32 ≡ a = omega arith in
     let right : b % 2 ^ 32 ≡ b = omega arith in
     let left_word : a % 2 ^ 64 ≡ a = omega arith in
@@ -91,7 +91,7 @@ as_words W64 c a b unsigned p =
     rw same refl
 as_words W32 c a b unsigned p =
     let same : b % 2 ^ 32 % 2 ^ 32 ≡ b % 2 ^ 32 = omega arith in
-    let low : taken W32 c a (b % 2 ^ 32) ≡ taken W64 c a (b % 2 ^ 32) = halves c a (b % 2 ^ 32) unsigned p (omega arith) in
+    let low : taken W32 c a (b % 2 ^ 32) ≡ taken W64 c a (b % 2 ^ 32) = same_on_low_halves c a (b % 2 ^ 32) unsigned p (omega arith) in
     rw same at low
 
 -- equal words are equal either way

@@ -22,8 +22,8 @@ tight_within w op.Mov a b low_a low_b least (x, p, e) (z, s, g) (y, q, f) promis
 tight_within w _ a b low_a low_b least (x, p, e) (z, s, g) (y, q, f) promised = promised
 
 -- an outcome of low bits is an outcome of the words that have them
-pub reaches : (w : Width) (o : Operation) (a b : Range) (low_x low_y z : ℕ) → ((x : ℕ) × Within a x × (x % modulus w ≡ low_x)) → ((y : ℕ) × Within b y × (y % modulus w ≡ low_y)) → z ≡ operate w o low_x low_y % modulus w → Reaches w o a b z
-reaches w o a b low_x low_y z (x, p, e) (y, q, f) is = (x, y, p, q, rw (e, f) (sym is))
+pub low_bits_reach : (w : Width) (o : Operation) (a b : Range) (low_x low_y z : ℕ) → ((x : ℕ) × Within a x × (x % modulus w ≡ low_x)) → ((y : ℕ) × Within b y × (y % modulus w ≡ low_y)) → z ≡ operate w o low_x low_y % modulus w → Reaches w o a b z
+low_bits_reach w o a b low_x low_y z (x, p, e) (y, q, f) is = (x, y, p, q, rw (e, f) (sym is))
 
 -- both ends of the low bits are reached, so also the one that gives the least outcome
 pub least_reached : (w : Width) (o : Operation) (b low_b : Range) → ((y : ℕ) × Within b y × (y % modulus w ≡ low_b.lo)) → ((y : ℕ) × Within b y × (y % modulus w ≡ low_b.hi)) → (y : ℕ) × Within b y × (y % modulus w ≡ least_by o low_b)

@@ -112,10 +112,10 @@ pub once_known : (v : List ItemOf) (ps : List Part) → v ≡ map part_item ps �
 once_known v ps is once p = subst (λ (l : List Part). count (same_part p) l ≤ 1) (parts_are v ps is) (once p)
 
 -- the world that a history leaves is in order, and has the parts
-pub known : (d : Discipline) (n about : ℕ) (log : List Record) (v : List ItemOf) (ps : List Part) (kept : Kept) → about ≡ n → v ≡ map part_item ps
+pub world_has_parts : (d : Discipline) (n about : ℕ) (log : List Record) (v : List ItemOf) (ps : List Part) (kept : Kept) → about ≡ n → v ≡ map part_item ps
     → ((w : World) × Leaves (RecordStep d) (opening_world about) log w × (kept_of w ≡ kept) × Each (HasPart w) (parts_of v))
     → (w : World) × Leaves (RecordStep d) (opening_world n) log w × IsSound n w × (w.drawn ≡ kept.drawn) × Each (HasPart w) ps
-known d n about log v ps kept same is k =
+world_has_parts d n about log v ps kept same is k =
     let leads : Leaves (RecordStep d) (opening_world n) log k.0 = subst (λ (m : ℕ). Leaves (RecordStep d) (opening_world m) log k.0) same k.1 in (
       k.0,
       leads,

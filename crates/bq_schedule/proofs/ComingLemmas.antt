@@ -106,8 +106,8 @@ joined-if s id processor now b h at (inl past) = joined-outside s id processor (
 joined-if s id processor now b h at (inr inside) = joined-inside s id processor (processor_joined (processor_of s processor) (task_of s id).weight) _ h inside.1 at refl refl refl refl refl refl
 
 -- where a task that is nowhere joins a processor, all stays sound, and each task has what it had
-pub joined : (s : Figures) (id processor now : ℕ) → PurseLemmas.IsSound s → (task_of s id).place ≡ None → Stays s (joins id processor now s)
-joined s id processor now h at = joined-if s id processor now (leb (length s.tasks) id) h at (leb_tells (length s.tasks) id)
+pub joined-stays : (s : Figures) (id processor now : ℕ) → PurseLemmas.IsSound s → (task_of s id).place ≡ None → Stays s (joins id processor now s)
+joined-stays s id processor now h at = joined-if s id processor now (leb (length s.tasks) id) h at (leb_tells (length s.tasks) id)
 
 table-cond : (b : Bool) (u v : PurseLemmas.Purse) → u.weight ≤ 88761 → v.weight ≤ 88761 → (cond b u v).weight ≤ 88761
 table-cond true u v h l = h

@@ -19,7 +19,7 @@ use Rattle.bq_schedule.specs.Steps.{performed_told, change, nothing, is_there, a
 use Rattle.bq_schedule.specs.Laws.{IsWithin, IsOf, told_if, told_runs, TellsRuns}
 use Rattle.bq_schedule.proofs.FrameLemmas.{Works}
 use Rattle.bq_schedule.proofs.ClockLemmas.{Shows, shows-after, count-figures, within-figures, processor-read_at}
-use Rattle.bq_schedule.proofs.SliceTimeLemmas.{outside, slice_seen, shown-seen}
+use Rattle.bq_schedule.proofs.SliceTimeLemmas.{not_below, slice_seen, shown-seen}
 use Rattle.bq_schedule.proofs.ApartLemmas.{at_only, filter-one}
 
 -- the last of some runs is joined to another slice
@@ -109,11 +109,11 @@ seen-performed s (Pull processor from now) (Pulled task run by steps) = refl
 seen-performed s e r = refl
 
 seen-nothing : (s : Figures) (e : Event) (r : Reply) → is_there s e ≡ false → IsWithin (length s.processors) (sight e r) → None ≡ run_seen s (sight e r)
-seen-nothing s (EndWake processor now) (Placed task to by steps) none h = absurd (outside processor (length s.processors) none h)
-seen-nothing s (Drain processor now) (Drained count run by steps) none h = absurd (outside processor (length s.processors) none h)
-seen-nothing s (Tick processor now) (Ticked run by steps) none h = absurd (outside processor (length s.processors) none h)
-seen-nothing s (Block processor now) (Went task run) none h = absurd (outside processor (length s.processors) none h)
-seen-nothing s (Pull processor from now) (Pulled task run by steps) none h = absurd (outside processor (length s.processors) none h)
+seen-nothing s (EndWake processor now) (Placed task to by steps) none h = absurd (not_below processor (length s.processors) none h)
+seen-nothing s (Drain processor now) (Drained count run by steps) none h = absurd (not_below processor (length s.processors) none h)
+seen-nothing s (Tick processor now) (Ticked run by steps) none h = absurd (not_below processor (length s.processors) none h)
+seen-nothing s (Block processor now) (Went task run) none h = absurd (not_below processor (length s.processors) none h)
+seen-nothing s (Pull processor from now) (Pulled task run by steps) none h = absurd (not_below processor (length s.processors) none h)
 seen-nothing s e r none h = refl
 
 seen-if : (b : Bool) (s : Figures) (e : Event) (r : Reply) → is_there s e ≡ b → IsWithin (length s.processors) (sight e r) → (cond b (performed_told s e r) nothing).run ≡ run_seen s (sight e r)

@@ -34,15 +34,15 @@ seen-performed s (Pull processor from now) (Pulled task run by steps) = refl
 seen-performed s e r = refl
 
 -- what is not below a number is not below it
-pub outside : (a b : ℕ) → ltb a b ≡ false → a < b → ⊥
-outside a b e h = grind (arith, nat_tests)
+pub not_below : (a b : ℕ) → ltb a b ≡ false → a < b → ⊥
+not_below a b e h = grind (arith, nat_tests)
 
 seen-nothing : (s : Figures) (e : Event) (r : Reply) → is_there s e ≡ false → IsWithin (length s.processors) (sight e r) → None ≡ slice_seen s (sight e r)
-seen-nothing s (EndWake processor now) (Placed task to by steps) none h = absurd (outside processor (length s.processors) none h)
-seen-nothing s (Drain processor now) (Drained count run by steps) none h = absurd (outside processor (length s.processors) none h)
-seen-nothing s (Tick processor now) (Ticked run by steps) none h = absurd (outside processor (length s.processors) none h)
-seen-nothing s (Block processor now) (Went task run) none h = absurd (outside processor (length s.processors) none h)
-seen-nothing s (Pull processor from now) (Pulled task run by steps) none h = absurd (outside processor (length s.processors) none h)
+seen-nothing s (EndWake processor now) (Placed task to by steps) none h = absurd (not_below processor (length s.processors) none h)
+seen-nothing s (Drain processor now) (Drained count run by steps) none h = absurd (not_below processor (length s.processors) none h)
+seen-nothing s (Tick processor now) (Ticked run by steps) none h = absurd (not_below processor (length s.processors) none h)
+seen-nothing s (Block processor now) (Went task run) none h = absurd (not_below processor (length s.processors) none h)
+seen-nothing s (Pull processor from now) (Pulled task run by steps) none h = absurd (not_below processor (length s.processors) none h)
 seen-nothing s e r none h = refl
 
 seen-if : (b : Bool) (s : Figures) (e : Event) (r : Reply) → is_there s e ≡ b → IsWithin (length s.processors) (sight e r) → (cond b (performed_told s e r) nothing).slice ≡ slice_seen s (sight e r)

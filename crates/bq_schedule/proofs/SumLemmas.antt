@@ -176,12 +176,12 @@ fits-next chosen count past m few h =
     )
 
 -- the time of a task is the sum of its slices
-pub times : (count : ℕ) (past : History) → count ≤ 255 → IsOf count past → (id : ℕ) → id < 1024 → (task_of (figures count past) id).time ≡ time_in (is_of id) (slices past)
-times count [] few h id inside = ap (λ (t : TaskFigures). t.time) (get_or-replicate 1024 id unknown unknown inside)
-times count (m ∷ past) few h id inside =
+pub time_is_sum_of_slices : (count : ℕ) (past : History) → count ≤ 255 → IsOf count past → (id : ℕ) → id < 1024 → (task_of (figures count past) id).time ≡ time_in (is_of id) (slices past)
+time_is_sum_of_slices count [] few h id inside = ap (λ (t : TaskFigures). t.time) (get_or-replicate 1024 id unknown unknown inside)
+time_is_sum_of_slices count (m ∷ past) few h id inside =
     let s = figures count past in
     let o = sight_of m.event m.answer in
-    let before = times count past few h.1 id inside in
+    let before = time_is_sum_of_slices count past few h.1 id inside in
     let seen = ap (time_of (is_of id)) (shown-seen count past o h.1 h.0) in
     let inside' : id < length s.tasks = omega (arith, tasks-figures count past h.1) in
     let fits : (task_of s id).time + time_of (is_of id) (slice_seen s o) ≤ 18446744073709551615 = omega (arith, before, seen, fits-next (is_of id) count past m few h) in
@@ -230,12 +230,12 @@ busy-shown s s' (Some x) j inside fits h =
     ∙ omega (arith, at)
 
 -- the busy time of a processor is the sum of its slices
-pub busy : (count : ℕ) (past : History) → count ≤ 255 → IsOf count past → (processor : ℕ) → processor < count → (processor_of (figures count past) processor).busy ≡ time_in (is_at processor) (slices past)
-busy count [] few h processor inside = ap (λ (p : ProcessorFigures). p.busy) (get_or-replicate count processor unread unread inside)
-busy count (m ∷ past) few h processor inside =
+pub busy_is_sum_of_slices : (count : ℕ) (past : History) → count ≤ 255 → IsOf count past → (processor : ℕ) → processor < count → (processor_of (figures count past) processor).busy ≡ time_in (is_at processor) (slices past)
+busy_is_sum_of_slices count [] few h processor inside = ap (λ (p : ProcessorFigures). p.busy) (get_or-replicate count processor unread unread inside)
+busy_is_sum_of_slices count (m ∷ past) few h processor inside =
     let s = figures count past in
     let o = sight_of m.event m.answer in
-    let before = busy count past few h.1 processor inside in
+    let before = busy_is_sum_of_slices count past few h.1 processor inside in
     let seen = ap (time_of (is_at processor)) (shown-seen count past o h.1 h.0) in
     let inside' : processor < length s.processors = omega (arith, count-figures count past h.1) in
     let fits : (processor_of s processor).busy + time_of (is_at processor) (slice_seen s o) ≤ 18446744073709551615 = omega (arith, before, seen, fits-next (is_at processor) count past m few h) in
@@ -251,4 +251,4 @@ busy count (m ∷ past) few h processor inside =
 pub adds_up : (count : ℕ) (past : History) → count ≤ 255 → IsOf count past →
     ((id : ℕ) → id < 1024 → (task_of (figures count past) id).time ≡ time_in (is_of id) (slices past))
     × ((processor : ℕ) → processor < count → (processor_of (figures count past) processor).busy ≡ time_in (is_at processor) (slices past))
-adds_up count past few h = (times count past few h, busy count past few h)
+adds_up count past few h = (time_is_sum_of_slices count past few h, busy_is_sum_of_slices count past few h)

@@ -27,7 +27,7 @@ use Rattle.bq_schedule.specs.Steps.{nothing, asked, taken, emptied, decided, blo
 use Rattle.bq_schedule.specs.Switches.{why_left}
 use Rattle.bq_schedule.specs.Laws.{IsWithin, IsOf, TellsStarts, TellsStops}
 use Rattle.bq_schedule.proofs.FrameLemmas.{KeepsRunning, works-asked, works-leaves, works-taken, works-stopped, processors-begun_if, running-then, running-id, running-with_processor, running-asked, running-leaves, running-taken, running-read_at, runs-switched, who_is, count-read_at}
-use Rattle.bq_schedule.proofs.SliceTimeLemmas.{outside}
+use Rattle.bq_schedule.proofs.SliceTimeLemmas.{not_below}
 use Rattle.bq_schedule.proofs.ClockLemmas.{inside_of, figures-clocks, shows-performed, within-figures}
 
 -- a switch at a processor: what is told of it, and what runs afterwards
@@ -124,11 +124,11 @@ performed-tells s (Pull processor from now) (Pulled task run by steps) there = p
 performed-tells s e r there = (refl, refl, running-id s)
 
 nothing-tells : (s : Figures) (e : Event) (r : Reply) → is_there s e ≡ false → IsWithin (length s.processors) (sight e r) → TellsSwitch s s e (sight e r) None None
-nothing-tells s (EndWake processor now) (Placed task to by steps) none h = absurd (outside processor (length s.processors) none h)
-nothing-tells s (Drain processor now) (Drained count run by steps) none h = absurd (outside processor (length s.processors) none h)
-nothing-tells s (Tick processor now) (Ticked run by steps) none h = absurd (outside processor (length s.processors) none h)
-nothing-tells s (Block processor now) (Went task run) none h = absurd (outside processor (length s.processors) none h)
-nothing-tells s (Pull processor from now) (Pulled task run by steps) none h = absurd (outside processor (length s.processors) none h)
+nothing-tells s (EndWake processor now) (Placed task to by steps) none h = absurd (not_below processor (length s.processors) none h)
+nothing-tells s (Drain processor now) (Drained count run by steps) none h = absurd (not_below processor (length s.processors) none h)
+nothing-tells s (Tick processor now) (Ticked run by steps) none h = absurd (not_below processor (length s.processors) none h)
+nothing-tells s (Block processor now) (Went task run) none h = absurd (not_below processor (length s.processors) none h)
+nothing-tells s (Pull processor from now) (Pulled task run by steps) none h = absurd (not_below processor (length s.processors) none h)
 nothing-tells s e r none h = (refl, refl, running-id s)
 
 tells-if : (b : Bool) (s : Figures) (e : Event) (r : Reply) → is_there s e ≡ b → IsWithin (length s.processors) (sight e r) →

@@ -31,7 +31,7 @@ use Rattle.bq_schedule.specs.Laws.{IsWithin, IsOf, SharesOut, AddsUpFairTimes}
 use Rattle.bq_schedule.proofs.FrameLemmas.{Works, KeepsWorks, works-id, works-then, processor_kept, task_kept, works-with_processor, works-with_task, works-asked, works-leaves, works-comes, works-switched, processors-read_at, count-read_at, tasks-read_at}
 use Rattle.bq_schedule.proofs.ClockLemmas.{count-figures, within-figures}
 use Rattle.bq_schedule.proofs.SumLemmas.{clocks-are-short}
-use Rattle.bq_schedule.proofs.WindowLemmas.{filled, IsFilled}
+use Rattle.bq_schedule.proofs.WindowLemmas.{figures_are_filled, IsFilled}
 use Rattle.bq_schedule.proofs.PurseLemmas
 use Rattle.bq_schedule.proofs.LeavingLemmas as Leaving
 use Rattle.bq_schedule.proofs.ComingLemmas as Coming
@@ -128,7 +128,7 @@ goes-comes id processor now s = record {
   keeps = works-comes id processor now s;
   goes = λ f short.
       let l = Leaving.leaves-stays s id f.sound (small s id f short) in
-      let c = Coming.joined (leaves id s) id processor now l.sound l.nowhere in
+      let c = Coming.joined-stays (leaves id s) id processor now l.sound l.nowhere in
       record { sound = c.sound; raws = λ j. c.raws j ∙ l.raws j };
 }
 
@@ -364,7 +364,7 @@ is_short count past few h =
       arith,
       clocks-are-short count past few h,
       sums_le (λ (p : ProcessorFigures). p.busy) (λ (p : ProcessorFigures). p.last) s.processors (λ j inside.
-          busy-le (processor_of s j).first (processor_of s j) (filled count past j h (omega (arith, inside, count-figures count past h)))),
+          busy-le (processor_of s j).first (processor_of s j) (figures_are_filled count past j h (omega (arith, inside, count-figures count past h)))),
     )
 
 -- at the opening nothing is there
@@ -420,16 +420,16 @@ step count past m few h f =
     rises s (after s m.event m.answer) (sight_of m.event m.answer) f (is_short count past few h.1) (is_short count (m ∷ past) few h) w (goes-after s m.event m.answer w)
 
 -- in each history what tasks have, and what is left over, is what was run
-pub full : (count : ℕ) (past : History) → count ≤ 255 → IsOf count past → IsFull (figures count past)
-full count [] few h = opening-full count
-full count (m ∷ past) few h = (step count past m few h (full count past few h.1)).full
+pub figures_are_full : (count : ℕ) (past : History) → count ≤ 255 → IsOf count past → IsFull (figures count past)
+figures_are_full count [] few h = opening-full count
+figures_are_full count (m ∷ past) few h = (step count past m few h (figures_are_full count past few h.1)).full
 
 -- the fair time of a task rises at each reading by its share of the slice, and by nothing else
 pub shares_out : SharesOut
 shares_out count past m id few h =
     let s = figures count past in
     let s' = figures count (m ∷ past) in
-    let f = full count past few h.1 in
+    let f = figures_are_full count past few h.1 in
     let k = step count past m few h f in
     fair-raw s' id k.full (is_short count (m ∷ past) few h) ∙ k.raws id
     ∙ ap (λ n. n + share s (sight_of m.event m.answer) id) (sym (fair-raw s id f (is_short count past few h.1)))
@@ -438,7 +438,7 @@ shares_out count past m id few h =
 pub adds_up_fair_times : AddsUpFairTimes
 adds_up_fair_times count past few h =
     let s = figures count past in
-    let f = full count past few h in
+    let f = figures_are_full count past few h in
     let fair : all_fair s ≡ all_raw s =
     PurseLemmas.sums_like (λ (t : TaskFigures). fair_at s t t.place) (PurseLemmas.uncapped_of s) unknown s.tasks s.tasks refl (λ j. fair-raw s j f (is_short count past few h)) in
     omega (arith, fair, f.total)

@@ -31,7 +31,7 @@ use Rattle.bq_schedule.specs.Steps.{nothing, asked, waited_there, taken, move_of
 use Rattle.bq_schedule.specs.Waits.{gives_way, then_if, wait_begins, waits_since, wait_of_pull, wait_of_start, wait_told}
 use Rattle.bq_schedule.specs.Laws.{IsWithin, IsOf, TellsWaits, AddsUpWaits}
 use Rattle.bq_schedule.proofs.FrameLemmas.{who, task_kept, who_is}
-use Rattle.bq_schedule.proofs.SliceTimeLemmas.{outside}
+use Rattle.bq_schedule.proofs.SliceTimeLemmas.{not_below}
 use Rattle.bq_schedule.proofs.ClockLemmas.{figures-clocks, within-figures}
 use Rattle.bq_schedule.proofs.SumLemmas.{tasks-figures}
 use Rattle.bq_schedule.proofs.WakeLemmas.{runs-ask, runs-block, runs-pull}
@@ -365,11 +365,11 @@ performed-tells s (Pull processor from now) (Pulled task run by steps) j inside 
 performed-tells s e r j inside = nothing-tells s j nothing refl refl
 
 none-tells : (s : Figures) (e : Event) (r : Reply) (j : ℕ) → is_there s e ≡ false → IsWithin (length s.processors) (sight e r) → Tells s s j (wait_seen j s e (Ok r)) nothing
-none-tells s (EndWake processor now) (Placed task to by steps) j none h = absurd (outside processor (length s.processors) none h)
-none-tells s (Drain processor now) (Drained count run by steps) j none h = absurd (outside processor (length s.processors) none h)
-none-tells s (Tick processor now) (Ticked run by steps) j none h = absurd (outside processor (length s.processors) none h)
-none-tells s (Block processor now) (Went task run) j none h = absurd (outside processor (length s.processors) none h)
-none-tells s (Pull processor from now) (Pulled task run by steps) j none h = absurd (outside processor (length s.processors) none h)
+none-tells s (EndWake processor now) (Placed task to by steps) j none h = absurd (not_below processor (length s.processors) none h)
+none-tells s (Drain processor now) (Drained count run by steps) j none h = absurd (not_below processor (length s.processors) none h)
+none-tells s (Tick processor now) (Ticked run by steps) j none h = absurd (not_below processor (length s.processors) none h)
+none-tells s (Block processor now) (Went task run) j none h = absurd (not_below processor (length s.processors) none h)
+none-tells s (Pull processor from now) (Pulled task run by steps) j none h = absurd (not_below processor (length s.processors) none h)
 none-tells s e r j none h = nothing-tells s j nothing refl refl
 
 tells-if : (b : Bool) (s : Figures) (e : Event) (r : Reply) (j : ℕ) → is_there s e ≡ b → j < length s.tasks → IsWithin (length s.processors) (sight e r) →

@@ -14,7 +14,7 @@ use Rattle.bq_schedule.specs.Steps.{after, figures}
 use Rattle.bq_schedule.specs.Laws.{IsOf, window_since, FillsWindow}
 use Rattle.bq_schedule.proofs.FrameLemmas.{Works, works, RunsAs}
 use Rattle.bq_schedule.proofs.ClockLemmas.{Shows, shows-after, count-figures, within-figures, processor-read_at}
-use Rattle.bq_schedule.proofs.SumLemmas.{busy}
+use Rattle.bq_schedule.proofs.SumLemmas.{busy_is_sum_of_slices}
 
 -- nothing ran before the first reading, and since then no more than the clock rose
 abbrev pub IsFilled : Option ℕ → ℕ → ℕ → Option Start → Type 0
@@ -83,14 +83,14 @@ filled-shown s s' None j inside h f = same_works (processor_of s j) (processor_o
 filled-shown s s' (Some x) j inside h f = filled-there s s' x j (eqb x.processor j) refl inside h f (eqb_tells x.processor j)
 
 -- in each history no processor ran before its first reading, nor longer since then than its clock rose
-pub filled : (count : ℕ) (past : History) (processor : ℕ) → IsOf count past → processor < count → Filled (processor_of (figures count past) processor)
-filled count [] processor h inside =
+pub figures_are_filled : (count : ℕ) (past : History) (processor : ℕ) → IsOf count past → processor < count → Filled (processor_of (figures count past) processor)
+figures_are_filled count [] processor h inside =
     let P : ProcessorFigures → Type 0 = λ p. Filled p in
     subst P (sym (get_or-replicate count processor unread unread inside)) (refl, refl)
-filled count (m ∷ past) processor h inside =
+figures_are_filled count (m ∷ past) processor h inside =
     let s = figures count past in
     filled-shown s (after s m.event m.answer) (sight_of m.event m.answer) processor (omega (arith, count-figures count past h.1))
-    (shows-after s m.event m.answer (within-figures count past m h)) (filled count past processor h.1 inside)
+    (shows-after s m.event m.answer (within-figures count past m h)) (figures_are_filled count past processor h.1 inside)
 
 fills_if : (first : Option ℕ) (p : ProcessorFigures) → p.first ≡ first → IsFilled first p.last p.busy p.running → p.busy + idle_of p ≡ window_since p.first p.last
 fills_if None p e h = rw e (omega (arith, h.0))
@@ -100,4 +100,4 @@ fills_if (Some first) p e h = rw e (omega (arith, h))
 pub fills_window : FillsWindow
 fills_window count past processor few h inside =
     let p = processor_of (figures count past) processor in
-    ap (λ n. n + idle_of p) (sym (busy count past few h processor inside)) ∙ fills_if p.first p refl (filled count past processor h inside)
+    ap (λ n. n + idle_of p) (sym (busy_is_sum_of_slices count past few h processor inside)) ∙ fills_if p.first p refl (figures_are_filled count past processor h inside)

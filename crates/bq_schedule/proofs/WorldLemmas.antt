@@ -23,7 +23,7 @@ use Rattle.bq_hooks.specs.Permitted.{task_numbered}
 use Rattle.bq_parts.specs.Shares.{after_time, remarked}
 use Rattle.bq_parts.specs.Steps.{Performs, WorldStep, WorldRun}
 use Rattle.bq_core.specs.Laws.{under_any_answers}
-use Rattle.bq_core.proofs.OrderLemmas.{there, passed}
+use Rattle.bq_core.proofs.OrderLemmas.{not_refused_is_there, first_refusal_passed}
 use Rattle.bq_schedule.specs.Moments.{History}
 use Rattle.bq_schedule.specs.Slices.{Sight, sight, sight_of, clock_after, clock, runner_after, runner}
 use Rattle.bq_schedule.specs.Laws.{IsWithin, IsOf, grown, IsCharged}
@@ -191,9 +191,9 @@ shown-performs s w (Block processor now) calls r w' h k =
     (ap (λ (q : Processor). q.running.last) x.1.1 ∙ last-run_id rest (id_of (s.discipline.choice rest.queue))) refl))
 shown-performs s w (Pull processor from now) calls r w' h k =
     let d = s.discipline in
-    let f = there (count_in w) processor _ (accepted w (Pull processor from now) h) in
-    let g = there (count_in w) from _ f.1 in
-    let apart : processor ≢ from = differs processor from (passed (processor == from) no.SameProcessor None g.1).0 in
+    let f = not_refused_is_there (count_in w) processor _ (accepted w (Pull processor from now) h) in
+    let g = not_refused_is_there (count_in w) from _ f.1 in
+    let apart : processor ≢ from = differs processor from (first_refusal_passed (processor == from) no.SameProcessor None g.1).0 in
     let x = k.2 in
     let task = task_numbered x.0.choice in
     let c : Processor = after_time d now (processor_at w processor) in
@@ -216,15 +216,15 @@ within_as n e r x h k = rw h k
 -- an event that is not refused names a processor that is there
 within-performs : (s : Regime) (w : World) (e : Event) (calls : List Asked) (r : Reply) (w' : World) → refusal w e ≡ None → Performs s w e calls r w' → IsWithin (count_in w) (sight e r)
 within-performs s w (EndWake processor now) calls r w' h k =
-    within_as (count_in w) (EndWake processor now) r (Placed k.0.task.id k.0.to k.0.by k.0.steps) k.3 (there (count_in w) processor None (accepted w (EndWake processor now) h)).0
+    within_as (count_in w) (EndWake processor now) r (Placed k.0.task.id k.0.to k.0.by k.0.steps) k.3 (not_refused_is_there (count_in w) processor None (accepted w (EndWake processor now) h)).0
 within-performs s w (Drain processor now) calls r w' h k =
-    within_as (count_in w) (Drain processor now) r (Drained _ _ k.1.0.by k.1.0.steps) k.1.3 (there (count_in w) processor None (accepted w (Drain processor now) h)).0
+    within_as (count_in w) (Drain processor now) r (Drained _ _ k.1.0.by k.1.0.steps) k.1.3 (not_refused_is_there (count_in w) processor None (accepted w (Drain processor now) h)).0
 within-performs s w (Tick processor now) calls r w' h k =
-    within_as (count_in w) (Tick processor now) r (Ticked _ k.1.0.by k.1.0.steps) k.1.3 (there (count_in w) processor None (accepted w (Tick processor now) h)).0
+    within_as (count_in w) (Tick processor now) r (Ticked _ k.1.0.by k.1.0.steps) k.1.3 (not_refused_is_there (count_in w) processor None (accepted w (Tick processor now) h)).0
 within-performs s w (Block processor now) calls r w' h k =
-    within_as (count_in w) (Block processor now) r (Went k.2.0.id _) k.2.1.2 (there (count_in w) processor None (accepted w (Block processor now) h)).0
+    within_as (count_in w) (Block processor now) r (Went k.2.0.id _) k.2.1.2 (not_refused_is_there (count_in w) processor None (accepted w (Block processor now) h)).0
 within-performs s w (Pull processor from now) calls r w' h k =
-    within_as (count_in w) (Pull processor from now) r (Moved (task_numbered k.2.0.choice) _ k.2.0.by k.2.0.steps) k.2.1.2 (there (count_in w) processor _ (accepted w (Pull processor from now) h)).0
+    within_as (count_in w) (Pull processor from now) r (Moved (task_numbered k.2.0.choice) _ k.2.0.by k.2.0.steps) k.2.1.2 (not_refused_is_there (count_in w) processor _ (accepted w (Pull processor from now) h)).0
 within-performs s w (Admit id nice mask slice) calls r w' h k = within_as (count_in w) (Admit id nice mask slice) r Admitted k.1.1 tt
 within-performs s w (Retire id) calls r w' h k = within_as (count_in w) (Retire id) r Retired k.1.1 tt
 within-performs s w Draw calls r w' h k = within_as (count_in w) Draw r (Drawn _) k.0 tt

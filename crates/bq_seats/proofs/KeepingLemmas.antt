@@ -62,24 +62,24 @@ added_other i j k x b (inl (e, same)) is = absurd (is (sym same))
 added_other i j k x b (inr (e, other)) is = rw e refl
 
 -- an add
-pub adds : (seats : ℕ) (words : List ℕ) (accounts : List Account) (id i k : ℕ) (v : Account) → AreSums seats words accounts → get_elem? accounts id ≡ some v → i < 64 → 1 ≤ v.seats → AreSums seats (slice_set words i ((slice_index words i + k) % 2 ^ 64)) (slice_set accounts id (calling v (Add i k (slice_index words i))))
-adds seats words accounts id i k v rule at low some_seat =
+pub sums_after_add : (seats : ℕ) (words : List ℕ) (accounts : List Account) (id i k : ℕ) (v : Account) → AreSums seats words accounts → get_elem? accounts id ≡ some v → i < 64 → 1 ≤ v.seats → AreSums seats (slice_set words i ((slice_index words i + k) % 2 ^ 64)) (slice_set accounts id (calling v (Add i k (slice_index words i))))
+sums_after_add seats words accounts id i k v rule at low some_seat =
     steps seats words accounts id v (calling v (Add i k (slice_index words i))) i k ((slice_index words i + k) % 2 ^ 64) rule at low refl refl
     (λ none. absurd (omega arith))
     (λ j same. let h = sum-append j v.calls (Add i k (slice_index words i) ∷ []) in let one : added j (Add i k (slice_index words i)) ≡ k = added_same i j k 0 _ (eqb_tells i j) same in omega (arith, h, one))
     (λ j other. let h = sum-append j v.calls (Add i k (slice_index words i) ∷ []) in let none : added j (Add i k (slice_index words i)) ≡ 0 = added_other i j k 0 _ (eqb_tells i j) other in omega (arith, h, none))
 
 -- a read
-pub reads : (seats : ℕ) (words : List ℕ) (accounts : List Account) (id i : ℕ) (v : Account) → AreSums seats words accounts → get_elem? accounts id ≡ some v → i < 64 → 1 ≤ v.seats → slice_index words i < 2 ^ 64 → AreSums seats (slice_set words i (slice_index words i)) (slice_set accounts id (calling v (Read i (slice_index words i))))
-reads seats words accounts id i v rule at low some_seat fits =
+pub sums_after_read : (seats : ℕ) (words : List ℕ) (accounts : List Account) (id i : ℕ) (v : Account) → AreSums seats words accounts → get_elem? accounts id ≡ some v → i < 64 → 1 ≤ v.seats → slice_index words i < 2 ^ 64 → AreSums seats (slice_set words i (slice_index words i)) (slice_set accounts id (calling v (Read i (slice_index words i))))
+sums_after_read seats words accounts id i v rule at low some_seat fits =
     steps seats words accounts id v (calling v (Read i (slice_index words i))) i 0 (slice_index words i) rule at low (omega arith) refl
     (λ none. absurd (omega arith))
     (λ j same. let h = sum-append j v.calls (Read i (slice_index words i) ∷ []) in omega (arith, h))
     (λ j other. let h = sum-append j v.calls (Read i (slice_index words i) ∷ []) in omega (arith, h))
 
 -- a look
-pub looks : (seats : ℕ) (words : List ℕ) (accounts : List Account) (id i : ℕ) (v : Account) → AreSums seats words accounts → get_elem? accounts id ≡ some v → i < 64 → slice_index words i < 2 ^ 64 → AreSums seats (slice_set words i (slice_index words i)) (slice_set accounts id v)
-looks seats words accounts id i v rule at low fits =
+pub sums_after_look : (seats : ℕ) (words : List ℕ) (accounts : List Account) (id i : ℕ) (v : Account) → AreSums seats words accounts → get_elem? accounts id ≡ some v → i < 64 → slice_index words i < 2 ^ 64 → AreSums seats (slice_set words i (slice_index words i)) (slice_set accounts id v)
+sums_after_look seats words accounts id i v rule at low fits =
     steps seats words accounts id v v i 0 (slice_index words i) rule at low (omega arith) refl (rule.blank id v at) (λ j same. omega arith) (λ j other. refl)
 
 module _ (seats : ℕ) (words : List ℕ) (accounts : List Account) (id : ℕ) (v : Account) (rule : AreSums seats words accounts) (at : get_elem? accounts id ≡ some v) where
@@ -144,8 +144,8 @@ module _ (seats : ℕ) (words : List ℕ) (accounts : List Account) (id : ℕ) (
       }
 
 -- one more account, of no seat
-pub enters : (seats : ℕ) (words : List ℕ) (accounts : List Account) → AreSums seats words accounts → AreSums seats words (accounts ++ spent ∷ [])
-enters seats words accounts rule = record {
+pub sums_with_one_more : (seats : ℕ) (words : List ℕ) (accounts : List Account) → AreSums seats words accounts → AreSums seats words (accounts ++ spent ∷ [])
+sums_with_one_more seats words accounts rule = record {
   many = rule.many;
   whole = let a = total_snoc seats_of accounts spent in let e = rule.whole in omega (arith, a, e);
   blank = λ by a e zero_seats. ⊎_elim
@@ -190,8 +190,8 @@ zero_at (suc n) zero = refl
 zero_at (suc n) (suc i) = zero_at n i
 
 -- at the start
-pub begins : (seats : ℕ) → AreSums seats (zeros 64) (opened seats ∷ [])
-begins seats = record {
+pub sums_at_start : (seats : ℕ) → AreSums seats (zeros 64) (opened seats ∷ [])
+sums_at_start seats = record {
   many = refl;
   whole = omega arith;
   blank = one;
@@ -217,7 +217,7 @@ pub one_more : (words items : List ℕ) (i x : ℕ) → i < length words → ((k
 one_more words items i x there before at k lt = more_at words items i x k _ there before at lt (eqb_tells k i)
 
 -- the account of all seats has all that was added
-pub ends : (words : List ℕ) (accounts : List Account) (id : ℕ) (v : Account) (seats : ℕ) → AreSums seats words accounts → get_elem? accounts id ≡ some v → v.seats ≡ seats → AreSumsOf v.calls words
-ends words accounts id v seats rule at all i lt =
+pub sums_at_end : (words : List ℕ) (accounts : List Account) (id : ℕ) (v : Account) (seats : ℕ) → AreSums seats words accounts → get_elem? accounts id ≡ some v → v.seats ≡ seats → AreSumsOf v.calls words
+sums_at_end words accounts id v seats rule at all i lt =
     let same = total_alone i accounts id v rule.blank at (rule.whole ∙ sym all) in
     rw same at (rule.sums i lt)

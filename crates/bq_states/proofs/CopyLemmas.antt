@@ -33,8 +33,8 @@ parted_by xs d p b (inl (_, same)) some = absurd (some (subst (λ (k : ℕ). get
 parted_by xs d p b (inr (_, other)) some = (other, get_or-set_other xs d p 0 0 other)
 
 -- a place that is written is of no class
-pub parted : (xs : List ℕ) (d p : ℕ) → slice_index (slice_set xs d 0) p ≢ 0 → (p ≢ d) × (slice_index (slice_set xs d 0) p ≡ slice_index xs p)
-parted xs d p some = parted_by xs d p _ (eqb_tells p d) some
+pub written_has_no_class : (xs : List ℕ) (d p : ℕ) → slice_index (slice_set xs d 0) p ≢ 0 → (p ≢ d) × (slice_index (slice_set xs d 0) p ≡ slice_index xs p)
+written_has_no_class xs d p some = parted_by xs d p _ (eqb_tells p d) some
 
 -- another register
 pub register_put : (register : ℕ → Option ℕ) (p d v : ℕ) (b : Bool) → ((b ≡ true) × (p ≡ d)) ⊎ ((b ≡ false) × (p ≢ d)) → p ≢ d → cond b (Some v) (register p) ≡ register p
@@ -45,12 +45,12 @@ register_put register p d v b (inr (e, _)) other = rw e refl
 pub copies_put : (classes : List ℕ) (s : State) (slots d v : ℕ) → AreCopies classes s → AreCopies (slice_set classes d 0) (put s slots d v)
 copies_put classes s slots d v copies =
     copies_moved classes (slice_set classes d 0) s (put s slots d v)
-    (λ p some. let kept = parted classes d p some in (kept.1, λ n h. (λ lt. register_put s.register p d v _ (eqb_tells p d) kept.0 ∙ h.0 lt, h.1)))
+    (λ p some. let kept = written_has_no_class classes d p some in (kept.1, λ n h. (λ lt. register_put s.register p d v _ (eqb_tells p d) kept.0 ∙ h.0 lt, h.1)))
     copies
 
 -- a register of which more is known is counted as written
 pub copies_learnt : (classes : List ℕ) (s : State) (d : ℕ) → AreCopies classes s → AreCopies (slice_set classes d 0) s
-copies_learnt classes s d copies = copies_kept classes (slice_set classes d 0) s (λ p some. (parted classes d p some).1) copies
+copies_learnt classes s d copies = copies_kept classes (slice_set classes d 0) s (λ p some. (written_has_no_class classes d p some).1) copies
 
 register_called : (register : ℕ → Option ℕ) (p answer : ℕ) (b c : Bool) → ((b ≡ true) × (p ≡ 0)) ⊎ ((b ≡ false) × (p ≢ 0)) → ((c ≡ true) × (suc p ≤ 6)) ⊎ ((c ≡ false) × (6 < suc p)) → 6 ≤ p → cond b (Some answer) (cond c None (register p)) ≡ register p
 register_called register p answer b c (inl (_, same)) q above = absurd (omega arith)
@@ -62,7 +62,7 @@ pub copies_called : (old parts : List ℕ) (s : State) (answer : ℕ) → PartsF
 copies_called old parts s answer first copies =
     copies_moved old (slice_set parts 0 0) s (called s answer)
     (λ p some.
-    let kept = parted parts 0 p some in
+    let kept = written_has_no_class parts 0 p some in
     let before = first p (λ e. some (kept.1 ∙ e)) in
     (kept.1 ∙ before.1, λ n h. (λ lt. register_called s.register p answer _ _ (eqb_tells p 0) (leb_tells (suc p) 6) before.0 ∙ h.0 lt, h.1)))
     copies
@@ -118,8 +118,8 @@ class_given old retired place own n s there keeps gone copies has = (
         subst (λ (k : ℕ). HasWord s p k) word (subst (λ (k : ℕ). HasWord s p (copies.0 k)) (sym (is ∙ kept)) before)
 
 -- a place of the class of another, whose word it holds
-pub linked : (classes : List ℕ) (to from class : ℕ) (s : State) (word : ℕ → ℕ) → to < length classes → HasWord s from (word class) → ((p : ℕ) → slice_index classes p ≢ 0 → HasWord s p (word (slice_index classes p))) → ((m : ℕ) → HasWord s from m → HasWord s to m) → AreCopies (slice_set classes to class) s
-linked classes to from class s word there has all copy = (word, λ p some. at p _ (eqb_tells p to) some)
+pub copies_linked : (classes : List ℕ) (to from class : ℕ) (s : State) (word : ℕ → ℕ) → to < length classes → HasWord s from (word class) → ((p : ℕ) → slice_index classes p ≢ 0 → HasWord s p (word (slice_index classes p))) → ((m : ℕ) → HasWord s from m → HasWord s to m) → AreCopies (slice_set classes to class) s
+copies_linked classes to from class s word there has all copy = (word, λ p some. at p _ (eqb_tells p to) some)
   where
     at : (p : ℕ) (b : Bool) → ((b ≡ true) × (p ≡ to)) ⊎ ((b ≡ false) × (p ≢ to)) → get_or (set classes to class) p 0 ≢ 0 → HasWord s p (word (get_or (set classes to class) p 0))
     at p b (inl (_, same)) some =

@@ -15,12 +15,12 @@ use Rattle.bq_states.specs.declared.abstract_state.Part.{Part}
 use Rattle.bq_states.specs.declared.abstract_state.AbstractState.{AbstractState}
 use Rattle.bq_states.specs.Parts.{AllowsPart, HasBytes, HasPart, HaveParts, Outlives}
 use Rattle.bq_states.specs.AbstractStates.{Contains, IsOfKind}
-use Rattle.bq_states.proofs.StoreLemmas.{inside, stack_cases}
+use Rattle.bq_states.proofs.StoreLemmas.{byte_inside_write, stack_cases}
 use Rattle.bq_insn.proofs.OptionLemmas.{some_same}
 
 -- the bytes of a write are there
 pub has_written : (stack : ℕ → Option ℕ) (at count : ℕ) (bytes : List ℕ) → length bytes ≡ count → HasBytes (stack_with stack at bytes) at count bytes
-has_written stack at count bytes long = (long, λ i lt. inside stack at bytes i (omega (arith, long)) (stack_cases stack at bytes (at + i)))
+has_written stack at count bytes long = (long, λ i lt. byte_inside_write stack at bytes i (omega (arith, long)) (stack_cases stack at bytes (at + i)))
 
 -- a place has one list of so many bytes
 pub same_bytes : (stack : ℕ → Option ℕ) (first count : ℕ) (a b : List ℕ) → HasBytes stack first count a → HasBytes stack first count b → a ≡ b

@@ -28,21 +28,21 @@ set_after v s at i bytes stack small old (inl (le, lt)) (inr (inr past, e)) = ab
 set_after v s at i bytes stack small old (inr was) (inr (apart, e)) = let known = old was in (known.0, rw e known.1, known.2)
 
 -- a byte that the write does not touch
-pub outside : (stack : ℕ → Option ℕ) (at : ℕ) (bytes : List ℕ) (i : ℕ) → (i < at) ⊎ (at + length bytes ≤ i) → ((at ≤ i) × (i < at + length bytes) × (stack_with stack at bytes i ≡ Some (slice_index bytes (i - at)))) ⊎ (((i < at) ⊎ (at + length bytes ≤ i)) × (stack_with stack at bytes i ≡ stack i)) → stack_with stack at bytes i ≡ stack i
-outside stack at bytes i (inl below) (inl (le, lt, e)) = absurd (omega arith)
-outside stack at bytes i (inr past) (inl (le, lt, e)) = absurd (omega arith)
-outside stack at bytes i apart (inr (apart', e)) = e
+pub byte_outside_write : (stack : ℕ → Option ℕ) (at : ℕ) (bytes : List ℕ) (i : ℕ) → (i < at) ⊎ (at + length bytes ≤ i) → ((at ≤ i) × (i < at + length bytes) × (stack_with stack at bytes i ≡ Some (slice_index bytes (i - at)))) ⊎ (((i < at) ⊎ (at + length bytes ≤ i)) × (stack_with stack at bytes i ≡ stack i)) → stack_with stack at bytes i ≡ stack i
+byte_outside_write stack at bytes i (inl below) (inl (le, lt, e)) = absurd (omega arith)
+byte_outside_write stack at bytes i (inr past) (inl (le, lt, e)) = absurd (omega arith)
+byte_outside_write stack at bytes i apart (inr (apart', e)) = e
 
 -- a byte of a slot that the write does not touch
 pub apart_byte : (stack : ℕ → Option ℕ) (at : ℕ) (bytes : List ℕ) (j i : ℕ) → (8 * j + 8 ≤ at) ⊎ (at + length bytes ≤ 8 * j) → i < 8 → stack_with stack at bytes (8 * j + i) ≡ stack (8 * j + i)
-apart_byte stack at bytes j i (inl below) lt = outside stack at bytes (8 * j + i) (inl (omega arith)) (stack_cases stack at bytes (8 * j + i))
-apart_byte stack at bytes j i (inr past) lt = outside stack at bytes (8 * j + i) (inr (omega arith)) (stack_cases stack at bytes (8 * j + i))
+apart_byte stack at bytes j i (inl below) lt = byte_outside_write stack at bytes (8 * j + i) (inl (omega arith)) (stack_cases stack at bytes (8 * j + i))
+apart_byte stack at bytes j i (inr past) lt = byte_outside_write stack at bytes (8 * j + i) (inr (omega arith)) (stack_cases stack at bytes (8 * j + i))
 
 -- a slot that the write does not touch keeps its word
 pub Keeps-apart : (shapes : List MapShape) (k : Option AbstractValue) (stack : ℕ → Option ℕ) (at : ℕ) (bytes : List ℕ) (j : ℕ) → (8 * j + 8 ≤ at) ⊎ (at + length bytes ≤ 8 * j) → Keeps shapes k stack j → Keeps shapes k (stack_with stack at bytes) j
 Keeps-apart shapes None stack at bytes j apart h = tt
-Keeps-apart shapes (Some k) stack at bytes j (inl below) h = (h.0, h.1, λ i lt. outside stack at bytes (8 * j + i) (inl (omega arith)) (stack_cases stack at bytes (8 * j + i)) ∙ h.2 i lt)
-Keeps-apart shapes (Some k) stack at bytes j (inr past) h = (h.0, h.1, λ i lt. outside stack at bytes (8 * j + i) (inr (omega arith)) (stack_cases stack at bytes (8 * j + i)) ∙ h.2 i lt)
+Keeps-apart shapes (Some k) stack at bytes j (inl below) h = (h.0, h.1, λ i lt. byte_outside_write stack at bytes (8 * j + i) (inl (omega arith)) (stack_cases stack at bytes (8 * j + i)) ∙ h.2 i lt)
+Keeps-apart shapes (Some k) stack at bytes j (inr past) h = (h.0, h.1, λ i lt. byte_outside_write stack at bytes (8 * j + i) (inr (omega arith)) (stack_cases stack at bytes (8 * j + i)) ∙ h.2 i lt)
 
 kept_after : (shapes : List MapShape) (old new : Option AbstractValue) (stack : ℕ → Option ℕ) (at : ℕ) (bytes : List ℕ) (j : ℕ) → Keeps shapes old stack j → (new ≡ None) ⊎ ((new ≡ old) × ((8 * j + 8 ≤ at) ⊎ (at + length bytes ≤ 8 * j))) → Keeps shapes new (stack_with stack at bytes) j
 kept_after shapes old new stack at bytes j h (inl e) = rw e tt
@@ -66,15 +66,15 @@ low_first_byte a (suc n) v zero lt = ap (λ (x : ℕ). byte_of x v) (omega arith
 low_first_byte a (suc n) v (suc i) lt = low_first_byte (suc a) n v i (omega arith) ∙ ap (λ (x : ℕ). byte_of x v) (omega arith)
 
 -- a byte that is written
-pub inside : (stack : ℕ → Option ℕ) (at : ℕ) (bytes : List ℕ) (i : ℕ) → i < length bytes → ((at ≤ at + i) × (at + i < at + length bytes) × (stack_with stack at bytes (at + i) ≡ Some (slice_index bytes (at + i - at)))) ⊎ (((at + i < at) ⊎ (at + length bytes ≤ at + i)) × (stack_with stack at bytes (at + i) ≡ stack (at + i))) → stack_with stack at bytes (at + i) ≡ Some (slice_index bytes i)
-inside stack at bytes i lt (inl (le, lt', e)) = e ∙ ap (λ (x : ℕ). Some (slice_index bytes x)) (omega arith)
-inside stack at bytes i lt (inr (inl below, e)) = absurd (omega arith)
-inside stack at bytes i lt (inr (inr past, e)) = absurd (omega arith)
+pub byte_inside_write : (stack : ℕ → Option ℕ) (at : ℕ) (bytes : List ℕ) (i : ℕ) → i < length bytes → ((at ≤ at + i) × (at + i < at + length bytes) × (stack_with stack at bytes (at + i) ≡ Some (slice_index bytes (at + i - at)))) ⊎ (((at + i < at) ⊎ (at + length bytes ≤ at + i)) × (stack_with stack at bytes (at + i) ≡ stack (at + i))) → stack_with stack at bytes (at + i) ≡ Some (slice_index bytes i)
+byte_inside_write stack at bytes i lt (inl (le, lt', e)) = e ∙ ap (λ (x : ℕ). Some (slice_index bytes x)) (omega arith)
+byte_inside_write stack at bytes i lt (inr (inl below, e)) = absurd (omega arith)
+byte_inside_write stack at bytes i lt (inr (inr past, e)) = absurd (omega arith)
 
 -- the bytes of a word that is stored whole in a slot
 pub stored_bytes : (stack : ℕ → Option ℕ) (j v : ℕ) (bytes : List ℕ) → bytes ≡ bytes_low_first 0 8 v → length bytes ≡ 8 → (i : ℕ) → i < 8 → stack_with stack (8 * j) bytes (8 * j + i) ≡ Some (byte_of i v)
 stored_bytes stack j v bytes is long i lt =
-    inside stack (8 * j) bytes i (omega arith) (stack_cases stack (8 * j) bytes (8 * j + i))
+    byte_inside_write stack (8 * j) bytes i (omega arith) (stack_cases stack (8 * j) bytes (8 * j + i))
     ∙ ap Some (ap (λ (x : List ℕ). slice_index x i) is ∙ (low_first_byte 0 8 v i lt ∙ ap (λ (x : ℕ). byte_of x v) (omega arith)))
 
 -- such a word is kept there

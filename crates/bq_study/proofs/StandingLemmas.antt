@@ -59,17 +59,17 @@ AreOfTheirImages-adds hook image policy old new adds at free of h =
     subst (λ (l : List Accepted). AreOfImages (image_for new.images) l) (sym adds.loaded) (subst (λ (i : List (Hook × List ℕ)). AreOfImages (image_for i) (old.loaded ++ policy ∷ [])) (sym adds.images) all)
 
 -- what stood there before some more came
-pub front : {A : Type 0} (count : ℕ) (xs ys : List A) → count ≡ length xs → take count (xs ++ ys) ≡ xs
-front {A = A} count xs ys is = rw is (all xs)
+pub front_as_before : {A : Type 0} (count : ℕ) (xs ys : List A) → count ≡ length xs → take count (xs ++ ys) ≡ xs
+front_as_before {A = A} count xs ys is = rw is (all xs)
   where
     all : (l : List A) → take (length l) (l ++ ys) ≡ l
     all [] = refl
     all (x ∷ l) = ap (λ (rest : List A). x ∷ rest) (all l)
 
 -- what is found is there
-pub found : {A B : Type 0} (f : A → B) (o : Option A) (image : Option B) → option_map f o ≡ image → is_some o ≡ true → IsSome image
-found f None image is there = cc
-found f (Some x) image is there = subst IsSome is refl
+pub found_is_there : {A B : Type 0} (f : A → B) (o : Option A) (image : Option B) → option_map f o ≡ image → is_some o ≡ true → IsSome image
+found_is_there f None image is there = cc
+found_is_there f (Some x) image is there = subst IsSome is refl
 
 -- what is not found is not there
 pub not_found : {A B : Type 0} (f : A → B) (o : Option A) (image : Option B) → option_map f o ≡ image → is_some o ≡ false → image ≡ None

@@ -62,9 +62,9 @@ no_other w why is = of (flaw_told why) is
     of (Some flaw) h = sym h
 
 -- a viewer that took comments, and then a simulation further below, has viewed it
-pub viewed : (none : Viewer) (old new : Later) (lines : List (List ℕ)) (policies : List Accepted) (w : Workload) → none.schedule ≡ None → none.troubles ≡ 0 → first_flaw w ≡ None
+pub views_simulation : (none : Viewer) (old new : Later) (lines : List (List ℕ)) (policies : List Accepted) (w : Workload) → none.schedule ≡ None → none.troubles ≡ 0 → first_flaw w ≡ None
     → TakesAll Takes none (map skipped lines) old.viewer → Gets TakesLater old new (IsSimulation policies w) → IsViewed policies w new.viewer
-viewed none old new lines policies w empty zero sound named g =
+views_simulation none old new lines policies w empty zero sound named g =
     let first = takes_all none old.viewer (map skipped lines) named in
     let then = takes_all old.viewer new.viewer g.told (viewer_takes old new g.told g.taken) in
     record {

@@ -33,8 +33,8 @@ takes_all old new ((n, x) ∷ more) h =
     (rest.0 ∙ ap (λ s. schedule_after s more) h.1.0, rest.1 ∙ ap (λ k. troubles_after k more) h.1.1)
 
 -- what a sink gets, where the viewer is one; what is written and cleared besides changes nothing of it
-pub watches : (old new then : Viewer) (Holds : Told → Type 0) → Gets Takes old new Holds → then.schedule ≡ new.schedule → then.troubles ≡ new.troubles → Watches old then Holds
-watches old new then Holds g schedule troubles =
+pub watches_what_it_gets : (old new then : Viewer) (Holds : Told → Type 0) → Gets Takes old new Holds → then.schedule ≡ new.schedule → then.troubles ≡ new.troubles → Watches old then Holds
+watches_what_it_gets old new then Holds g schedule troubles =
     let kept = takes_all old new g.told g.taken in
     record { told = g.told; schedule = schedule ∙ kept.0; troubles = troubles ∙ kept.1; holds = g.holds }
 

@@ -21,8 +21,8 @@ pub set_apart : (xs : List ℕ) (i id k v : ℕ) → i ≡ id → eqb k id ≡ f
 set_apart xs i id k v same e = let ne = apart_by i id k same e in rw get_or-set_other refl
 
 -- with one more task there is room for it
-pub room : (t : Task) (xs : List Task) → HasDistinctIds xs → HasSmallIds xs → with_id t.id xs ≡ None → t.id < 2 ^ 16 → length xs < 2 ^ 16
-room t xs d s n l =
+pub room_for_one_more : (t : Task) (xs : List Task) → HasDistinctIds xs → HasSmallIds xs → with_id t.id xs ≡ None → t.id < 2 ^ 16 → length xs < 2 ^ 16
+room_for_one_more t xs d s n l =
     let few = length-few (place t xs) (HasDistinctIds-place t xs n d) (HasSmallIds-place t xs l s) in
     omega (arith, length-place t xs, few)
 

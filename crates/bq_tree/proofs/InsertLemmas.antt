@@ -14,8 +14,8 @@ use Rattle.bq_tree.proofs.TotalsLemmas.{first_due-place, sums_of-place}
 use Rattle.bq_tree.proofs.NodeLemmas.{on_left, on_right, root_of, in_order-made, left_height-made, right_height-made, height-made, height_of-field, IsFork-made, IsTree-fork, IsRootBehind}
 
 -- a root whose sums count one more task
-pub counted : (n k : Node) (t : Task) → IsTree knows_sums n → KeepsSides n k → (out-Node k).due ≡ earlier_of (due_of t) (out-Node n).due → (out-Node k).totals ≡ added (out-Node n).totals t → CountsIn knows_sums n k t
-counted n k t tree keeps due totals =
+pub counts_one_more : (n k : Node) (t : Task) → IsTree knows_sums n → KeepsSides n k → (out-Node k).due ≡ earlier_of (due_of t) (out-Node n).due → (out-Node k).totals ≡ added (out-Node n).totals t → CountsIn knows_sums n k t
+counts_one_more n k t tree keeps due totals =
     let r = root_of knows_sums n tree in
     let known = ap first_due r.order ∙ r.known.0 in
     let sums = r.known.1 ∙ ap sums_of (sym r.order) in

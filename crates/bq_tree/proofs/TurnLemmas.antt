@@ -57,8 +57,8 @@ pub higher_inner : (outer inner left right : ℕ) → left ≡ outer → right �
 higher_inner outer inner left right a b c d = omega arith
 
 -- a root is as high whichever of its sides is named first
-pub swapped : (a b : ℕ) → max a b + 1 ≡ max b a + 1
-swapped a b = omega arith
+pub same_height_swapped : (a b : ℕ) → max a b + 1 ≡ max b a + 1
+same_height_swapped a b = omega arith
 
 -- where the outer side of the top is as high as the inner one, all becomes as high as the higher side was, or one higher
 pub single_height : (high low top outer inner left right other below crown : ℕ) → high ≡ low + 2 → top ≡ high → other ≡ low → top ≡ max outer inner + 1 → left ≡ outer → right ≡ inner → right ≤ left → outer ≤ inner + 1 → below ≡ max inner other + 1 → crown ≡ max outer below + 1 → (high ≤ crown) × (crown ≤ high + 1)

@@ -31,10 +31,10 @@ other_needs shapes context view helper (inr e) (inr (inl n)) = let one = n.0 in 
 other_needs shapes context view helper (inr e) (inr (inr n)) = let two = n.0 in omega (arith, ints, e, two)
 
 -- a call of a counter that is ready has what a counter's call needs, and is no look-up
-pub asked : (shapes : List MapShape) (context : ℕ) (view : AbstractState) (insn : Insn) → IsCounterCall insn → IsReady shapes context view insn ⊎ IsReadyToAsk view insn → Asked view insn
-asked shapes context view (Call helper) call (inl ready) = absurd (other_needs shapes context view helper call ready)
-asked shapes context view (Call helper) call (inr ready) = record { helper = helper; is = refl; needs = ready.1; other = other_one helper call }
-asked shapes context view insn call ready = absurd call
+pub ready_is_asked : (shapes : List MapShape) (context : ℕ) (view : AbstractState) (insn : Insn) → IsCounterCall insn → IsReady shapes context view insn ⊎ IsReadyToAsk view insn → Asked view insn
+ready_is_asked shapes context view (Call helper) call (inl ready) = absurd (other_needs shapes context view helper call ready)
+ready_is_asked shapes context view (Call helper) call (inr ready) = record { helper = helper; is = refl; needs = ready.1; other = other_one helper call }
+ready_is_asked shapes context view insn call ready = absurd call
 
 -- an instruction that calls no counter and may go on is ready as all others are
 pub not_asked : (shapes : List MapShape) (context : ℕ) (view : AbstractState) (insn : Insn) → (IsCounterCall insn → ⊥) → IsReady shapes context view insn ⊎ IsReadyToAsk view insn → IsReady shapes context view insn

@@ -19,7 +19,7 @@ use Rattle.bq_graph.proofs.EdgeLemmas.{end_of-push, IsPath-push, exit_is_last}
 use Rattle.bq_states.specs.declared.abstract_state.Kind.TheVariants.{Map, Stack}
 use Rattle.bq_verify.specs.Straight.{leaves, loads, stores, untouched, writes, HasOneWay, IsByteStored, IsCounting, IsGiving, IsLoaded, IsMoveOnStack, IsNaming, IsPointerFrom, IsWritten, Needs, OnEachPath}
 use Rattle.bq_verify.specs.Worked.{calling, CallingIsStraight}
-use Rattle.bq_verify.proofs.WorkedLemmas.{AllAt, along, at_slot, made_before, made_first, no_distance, no_register, not_false, not_frame, or_true}
+use Rattle.bq_verify.proofs.WorkedLemmas.{AllAt, holds_along_path, at_slot, made_before, made_first, no_distance, no_register, not_false, not_frame, or_true}
 
 abbrev program : List (Option Insn)
 program = spread calling
@@ -251,7 +251,7 @@ giving shape small = record {
 -- what each instruction before a slot makes so, the one at that slot leaves so
 made_then_left : (slots : List (Option Insn)) (makes leaves : Option Insn → Bool) (first : Bool) (j k : ℕ) → 0 < j → 0 < k → ((from : ℕ) → IsEdge slots from j → makes (instruction_at slots from) ≡ true) → ((from : ℕ) → IsEdge slots from k → from ≡ j) → leaves (instruction_at slots j) ≡ true → OnEachPath slots makes leaves first k
 made_then_left slots makes leaves first j k later past made only left rest path ends =
-    (along slots makes leaves (λ n held. (n ≡ j → held ≡ true) × (n ≡ k → held ≡ true))
+    (holds_along_path slots makes leaves (λ n held. (n ≡ j → held ≡ true) × (n ≡ k → held ≡ true))
     (λ from to held edge p. (
       λ same. let m : makes (instruction_at slots from) ≡ true = made from (subst (λ (n : ℕ). IsEdge slots from n) same edge) in rw m refl,
       λ same.

@@ -37,8 +37,8 @@ pub Contains-at : (f : Setting) (v : AbstractState) (s : State) (slot : ℕ) →
 Contains-at f v s slot covers = record { registers = covers.registers; set = covers.set; kept = covers.kept; parts = covers.parts; maps = covers.maps; copies = covers.copies }
 
 -- a setting of the program is one that views with these maps and this length of context speak of
-pub suits : (slots : List (Option Insn)) (shapes : List MapShape) (context_length : ℕ) (f : Setting) → IsSetting slots shapes context_length f → Suits shapes context_length f
-suits slots shapes context_length f setting = record {
+pub setting_suits : (slots : List (Option Insn)) (shapes : List MapShape) (context_length : ℕ) (f : Setting) → IsSetting slots shapes context_length f → Suits shapes context_length f
+setting_suits slots shapes context_length f setting = record {
   shapes_are = setting.shapes_are;
   context_long = setting.context_long;
   context_bytes = setting.context_bytes;
@@ -52,9 +52,9 @@ after_call (Call helper) counter slot = inl (refl, refl)
 after_call _ counter slot = absurd counter
 
 -- the side that the test chooses
-pub chosen : (f : Setting) (view : AbstractState) (s : State) (slot dst a b : ℕ) (src : Source) (word : Option AbstractValue) (right : AbstractValue) → s.register dst ≡ Some a → IsOperand s src b → Contains f view s → Fits f.shapes word a → Describes f.shapes right b → IsOnSide f view dst src word right (record s { slot = slot })
-chosen f view s slot dst a b src None right is operand covers fits told = fits
-chosen f view s slot dst a b src (Some word) right is operand covers fits told = (
+pub test_chooses_side : (f : Setting) (view : AbstractState) (s : State) (slot dst a b : ℕ) (src : Source) (word : Option AbstractValue) (right : AbstractValue) → s.register dst ≡ Some a → IsOperand s src b → Contains f view s → Fits f.shapes word a → Describes f.shapes right b → IsOnSide f view dst src word right (record s { slot = slot })
+test_chooses_side f view s slot dst a b src None right is operand covers fits told = fits
+test_chooses_side f view s slot dst a b src (Some word) right is operand covers fits told = (
   Contains-at f view s slot covers,
   record {
     word = a;
@@ -71,7 +71,7 @@ module _ (slots : List (Option Insn)) (shapes : List MapShape) (context_length s
   -- the next instruction, at a view of which the state is known
   pub goes_on : (insn : Insn) (after : AbstractState) → instruction_at slots slot ≡ Some insn → IsStraight insn → Transfers shapes context_length insn view after → ((f : Setting) (s : State) → s.slot ≡ slot + slots_of insn → Contains f after s → K f s) → Goes slots shapes context_length slot view K
   goes_on insn after here straight transfers added f s setting same covers =
-      let on = transfers f s (suits slots shapes context_length f setting) covers in
+      let on = transfers f s (setting_suits slots shapes context_length f setting) covers in
       let at = here_at insn here f s setting same in
       inr (inl (
         on.0,
@@ -144,8 +144,8 @@ parts_of f s view w c dst src to next K left right yes_word no_word yes_right no
       right = b;
       left_is = found.1;
       right_is = operand;
-      yes = λ t e test. rw e (add_yes (record s { slot = to }) refl (chosen f view s to dst found.0 b src yes_word yes_right found.1 operand covers (yes_is f.shapes found.0 b found.2 word test) (yes_told f.shapes found.0 b found.2 word test)));
-      no = λ t e test. rw e (add_no (record s { slot = next }) refl (chosen f view s next dst found.0 b src no_word no_right found.1 operand covers (no_is f.shapes found.0 b found.2 word test) (no_told f.shapes found.0 b found.2 word test)));
+      yes = λ t e test. rw e (add_yes (record s { slot = to }) refl (test_chooses_side f view s to dst found.0 b src yes_word yes_right found.1 operand covers (yes_is f.shapes found.0 b found.2 word test) (yes_told f.shapes found.0 b found.2 word test)));
+      no = λ t e test. rw e (add_no (record s { slot = next }) refl (test_chooses_side f view s next dst found.0 b src no_word no_right found.1 operand covers (no_is f.shapes found.0 b found.2 word test) (no_told f.shapes found.0 b found.2 word test)));
     }
 
 -- more steps, and fewer calls before

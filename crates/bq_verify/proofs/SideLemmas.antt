@@ -83,15 +83,15 @@ has_on_side x view dst None there lasts lasting scalar number has = tt
 has_on_side x view dst (Some k) there lasts lasting scalar number has = (lasting, learnt_of x view dst k (given_has x view (knowing view dst k) dst lasts scalar (knowing_given view dst k there number) has))
 
 -- what is sure after a branch outlasts the test
-pub outlasts : (x : Fact) (slot k : ℕ) (w : Width) (c : Condition) (dst : ℕ) (src : Source) (off : ℤ) (view : AbstractState) → After x slot k (Branch w c dst src off) view → Outlasts x dst
-outlasts (AtRegister (Exact n) r) slot k w c dst src off view (inl gives) = absurd gives
-outlasts (AtRegister (Exact n) r) slot k w c dst src off view (inr (_, other, exact)) = other
-outlasts (AtRegister Scalar r) slot k w c dst src off view after = tt
-outlasts (AtRegister (Pointer kind o) r) slot k w c dst src off view after = tt
-outlasts (AtRegister NoPointer r) slot k w c dst src off view after = tt
-outlasts Never slot k w c dst src off view after = tt
-outlasts (IsSetAt i) slot k w c dst src off view after = tt
-outlasts (IsPlainAt j) slot k w c dst src off view after = tt
+pub sure_outlasts_test : (x : Fact) (slot k : ℕ) (w : Width) (c : Condition) (dst : ℕ) (src : Source) (off : ℤ) (view : AbstractState) → After x slot k (Branch w c dst src off) view → Outlasts x dst
+sure_outlasts_test (AtRegister (Exact n) r) slot k w c dst src off view (inl gives) = absurd gives
+sure_outlasts_test (AtRegister (Exact n) r) slot k w c dst src off view (inr (_, other, exact)) = other
+sure_outlasts_test (AtRegister Scalar r) slot k w c dst src off view after = tt
+sure_outlasts_test (AtRegister (Pointer kind o) r) slot k w c dst src off view after = tt
+sure_outlasts_test (AtRegister NoPointer r) slot k w c dst src off view after = tt
+sure_outlasts_test Never slot k w c dst src off view after = tt
+sure_outlasts_test (IsSetAt i) slot k w c dst src off view after = tt
+sure_outlasts_test (IsPlainAt j) slot k w c dst src off view after = tt
 
 -- and it lasts
 pub lasting_after : (x : Fact) (slot k : ℕ) (w : Width) (c : Condition) (dst : ℕ) (src : Source) (off : ℤ) (view : AbstractState) → After x slot k (Branch w c dst src off) view → IsLasting x

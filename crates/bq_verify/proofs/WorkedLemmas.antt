@@ -53,14 +53,14 @@ each_slot : (P : ℕ → Insn → Type 0) → AllAt P 0 program → (k : ℕ) (i
 each_slot P all k insn here = let e : 0 + k ≡ k = omega arith in subst (λ (m : ℕ). P m insn) e (at_slot P 0 program all k insn here)
 
 -- what holds at the start of a path, and over each edge, holds at its end
-pub along : (slots : List (Option Insn)) (makes leaves : Option Insn → Bool) (P : ℕ → Bool → Type 0) → ((from to : ℕ) (held : Bool) → IsEdge slots from to → P from held → P to (makes (instruction_at slots from) || (leaves (instruction_at slots from) && held))) → (rest : List ℕ) (from : ℕ) (held : Bool) → IsPath slots from rest → P from held → P (end_of from rest) (held_along slots makes leaves held from rest)
-along slots makes leaves P step [] from held path p = p
-along slots makes leaves P step (next ∷ rest) from held path p = along slots makes leaves P step rest next _ path.1 (step from next held path.0 p)
+pub holds_along_path : (slots : List (Option Insn)) (makes leaves : Option Insn → Bool) (P : ℕ → Bool → Type 0) → ((from to : ℕ) (held : Bool) → IsEdge slots from to → P from held → P to (makes (instruction_at slots from) || (leaves (instruction_at slots from) && held))) → (rest : List ℕ) (from : ℕ) (held : Bool) → IsPath slots from rest → P from held → P (end_of from rest) (held_along slots makes leaves held from rest)
+holds_along_path slots makes leaves P step [] from held path p = p
+holds_along_path slots makes leaves P step (next ∷ rest) from held path p = holds_along_path slots makes leaves P step rest next _ path.1 (step from next held path.0 p)
 
 -- what each instruction before a slot makes so is so there on each path
 pub made_before : (slots : List (Option Insn)) (makes leaves : Option Insn → Bool) (first : Bool) (slot : ℕ) → 0 < slot → ((from : ℕ) → IsEdge slots from slot → makes (instruction_at slots from) ≡ true) → OnEachPath slots makes leaves first slot
 made_before slots makes leaves first slot later made rest path ends =
-    along slots makes leaves (λ n held. n ≡ slot → held ≡ true)
+    holds_along_path slots makes leaves (λ n held. n ≡ slot → held ≡ true)
     (λ from to held edge p same. let m : makes (instruction_at slots from) ≡ true = made from (subst (λ (n : ℕ). IsEdge slots from n) same edge) in rw m refl)
     rest 0 first path (λ same. absurd (omega arith)) ends
 
@@ -76,7 +76,7 @@ from_first slots makes made (suc n) held p = let h : held ≡ true = p (omega ar
 -- what the first instruction makes so, and each leaves so, is so at each later slot
 pub made_first : (slots : List (Option Insn)) (makes : Option Insn → Bool) → makes (instruction_at slots 0) ≡ true → (slot : ℕ) → 0 < slot → OnEachPath slots makes always false slot
 made_first slots makes made slot later rest path ends =
-    along slots makes always (λ n held. 0 < n → held ≡ true)
+    holds_along_path slots makes always (λ n held. 0 < n → held ≡ true)
     (λ from to held edge p le. from_first slots makes made from held p)
     rest 0 false path (λ le. absurd (omega arith)) (rw ends later)
 

@@ -4,7 +4,7 @@ use Rattle.std.proofs.lemmas.Result.{err_from_is_err_and}
 use Rattle.clap.specs.Words.{Row, Text, found_of, rows_of, subcommand_name_of, subcommand_rows_of}
 use Rattle.clap.specs.declared.parser.matches.ArgMatches.TheViews.{out-ArgMatches, out-SubCommand}
 use Rattle.std.specs.Box.{box_value}
-use Rattle.bq_cli.proofs.ParWordLemmas.{asked, entered}
+use Rattle.bq_cli.proofs.ParWordLemmas.{only_par_has_its_name, name_and_rows_of_entry}
 use Rattle.bq_cli.proofs.words.job_in.Goals as goal
 
 pub returns-in_err-parallel-clause-taken : goal.returns-in_err-parallel-clause-taken
@@ -15,5 +15,5 @@ returns-in_err-parallel-clause-taken c =
     let named : subcommand_name_of m ≡ Some (codes "par") = search rules in
     let listed : option_map (λ (q : Text × List Row). q.1) (subcommand_rows_of m) ≡ Some rows = search rules in
     rw (p.1, p.2) (λ job given.
-    let both = entered (out-ArgMatches m).subcommand (λ b. (out-SubCommand (box_value b)).name.now) (λ b. rows_of (found_of (out-SubCommand (box_value b)).matches)) (codes "par") given.0 given.1 rows named listed given.2 in
-    asked given.0 given.1 rows job _ both.0 both.1 given.3 c.in_err-parallel.ensures.taken)
+    let both = name_and_rows_of_entry (out-ArgMatches m).subcommand (λ b. (out-SubCommand (box_value b)).name.now) (λ b. rows_of (found_of (out-SubCommand (box_value b)).matches)) (codes "par") given.0 given.1 rows named listed given.2 in
+    only_par_has_its_name given.0 given.1 rows job _ both.0 both.1 given.3 c.in_err-parallel.ensures.taken)

@@ -1,6 +1,6 @@
 use Rattle.std.proofs.Common.{◌≡◌, ℕ, ◌<◌, ◌≤◌, arith}
 use Rattle.bq_parts.specs.Processors.{opening}
-use Rattle.bq_core.proofs.CutListLemmas.{first_part_reads, second_part_reads, joined, joined_reversed}
+use Rattle.bq_core.proofs.CutListLemmas.{first_part_reads, second_part_reads, written_parts_joined, joined_reversed}
 use Rattle.bq_core.proofs.pulling.pull_between.Goals as goal
 
 -- a list can be cut at each of its places
@@ -52,7 +52,7 @@ returns-then-processor-from-clause-share g c =
       c.pull.new.self,
       c.pull.new.source,
       rw (puller, source) at c.pull.ensures.share,
-      joined c.args.cpus.now _ _ c.args.processor c.args.from _ _ c.pull.new.self c.pull.new.source cut.ensures.front cut.ensures.back c.from.ensures c.from-then-processor-from.ensures less,
+      written_parts_joined c.args.cpus.now _ _ c.args.processor c.args.from _ _ c.pull.new.self c.pull.new.source cut.ensures.front cut.ensures.back c.from.ensures c.from-then-processor-from.ensures less,
     )
 
 pub returns-else-processor-from-clause-share : goal.returns-else-processor-from-clause-share

@@ -8,7 +8,7 @@ use Rattle.bq_graph.proofs.SpreadLemmas.{spread_begins}
 use Rattle.bq_import.specs.Copies.{IsCopy}
 use Rattle.bq_import.specs.Backward.{AreGood}
 use Rattle.bq_import.proofs.OrderLemmas.{is_copy}
-use Rattle.bq_import.proofs.ProgramLemmas.{are_good, formed}
+use Rattle.bq_import.proofs.ProgramLemmas.{are_good, written_is_well_formed}
 use Rattle.bq_import.proofs.order.order_slots.Goals as goal
 
 pub check-requires-clause-short : goal.check-requires-clause-short
@@ -39,4 +39,4 @@ returns-clause-well_formed c =
     let back = c.run.new.self.copy.slots.items in
     let origins = c.run.new.self.copy.origins.items in
     subst (λ (xs : List Insn). is_well_formed xs ≡ true) (sym c.in_ok-ordered.ensures.insns)
-    (formed c.args.maps c.args.slots.now back origins c.in_ok-run.ensures.built c.in_ok-run.ensures.front)
+    (written_is_well_formed c.args.maps c.args.slots.now back origins c.in_ok-run.ensures.built c.in_ok-run.ensures.front)

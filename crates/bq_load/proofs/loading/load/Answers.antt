@@ -3,13 +3,13 @@ use Rattle.std.proofs.lemmas.Result.{err_from_is_err_and}
 use Rattle.bq_load.specs.Headers.{spelled_of}
 use Rattle.bq_load.proofs.FieldLemmas.{AreBytes-fit}
 use Rattle.bq_load.proofs.FramingLemmas.{has_image, is_image}
-use Rattle.bq_load.proofs.LoadLemmas.{unloaded, unloaded_program, unloaded_refusal, has_program, loaded, straight_bytes, straight_code, straight_program}
+use Rattle.bq_load.proofs.LoadLemmas.{fault_is_unloaded, unloaded_program, unloaded_refusal, has_program, accepted_is_loaded, straight_bytes, straight_code, straight_program}
 use Rattle.bq_load.proofs.loading.load.Goals as goal
 
 pub returns-in_err-header-clause-unloaded : goal.returns-in_err-header-clause-unloaded
 returns-in_err-header-clause-unloaded c =
     let p = err_from_is_err_and c.from_residual.result c.from_residual.ensures.1 in
-    rw (p.1, p.2) (unloaded c.args.bytes.now c.in_err-header.field-0.0 c.in_err-header.ensures.err)
+    rw (p.1, p.2) (fault_is_unloaded c.args.bytes.now c.in_err-header.field-0.0 c.in_err-header.ensures.err)
 
 pub returns-in_err-header-clause-accepts : goal.returns-in_err-header-clause-accepts
 returns-in_err-header-clause-accepts c = λ straight. absurd (straight_bytes c.args.bytes.now c.in_err-header.field-0.0 (AreBytes-fit c.args.bytes.now c.type_inv.bytes) straight c.in_err-header.ensures.err)
@@ -55,7 +55,7 @@ returns-in_err-verified-clause-accepts c = λ straight.
 
 pub returns-clause-loaded : goal.returns-clause-loaded
 returns-clause-loaded c =
-    loaded c.args.bytes.now (spelled_of c.in_ok-header.header) c.in_ok-header.program.now c.in_ok-insns.insns.items c.in_ok-shapes.shapes.items c.in_ok-verified.verified c.in_ok-header.ensures.ok
+    accepted_is_loaded c.args.bytes.now (spelled_of c.in_ok-header.header) c.in_ok-header.program.now c.in_ok-insns.insns.items c.in_ok-shapes.shapes.items c.in_ok-verified.verified c.in_ok-header.ensures.ok
     c.in_ok-insns.ensures.spelled c.in_ok-insns.ensures.well_formed c.in_ok-insns.ensures.numbers c.in_ok-shapes.ensures.ok
     c.in_ok-verified.ensures.slots c.in_ok-verified.ensures.shapes c.in_ok-verified.ensures.hook c.in_ok-verified.ensures.version
     (is_image c.args.bytes.now (spelled_of c.in_ok-header.header) c.in_ok-header.program.now c.in_ok-shapes.shapes.items c.in_ok-header.ensures.ok c.in_ok-shapes.ensures.ok).framed.header.few

@@ -4,7 +4,7 @@ use Rattle.std.proofs.lemmas.Result.{IfOk-weaker}
 use Rattle.bq_one_run.specs.declared.permitted.Word.{Word}
 use Rattle.bq_one_run.specs.declared.permitted.Word.TheVariants.{Permitted, NotPermitted, NotShown}
 use Rattle.bq_policy_runs.specs.Judging.{TellsWord}
-use Rattle.bq_policy_runs.proofs.JudgeLemmas.{refused}
+use Rattle.bq_policy_runs.proofs.JudgeLemmas.{not_permitted_is_left}
 use Rattle.bq_policy_runs.proofs.word_text.place_text.Goals as goal
 
 pub returns-in-Permitted : goal.returns-in-Permitted
@@ -17,4 +17,4 @@ pub returns-in-NotPermitted : goal.returns-in-NotPermitted
 returns-in-NotPermitted c =
     let word = c.args.word in
     IfOk-weaker c.no_place_text.result (λ text. TellsWord NotPermitted (string_bytes text)) (λ text. 36 ≤ length c.args.context.now → word ≢ NotShown → TellsWord word (string_bytes text))
-    (λ text told long other. subst (λ (w : Word). TellsWord w (string_bytes text)) (sym (refused word c.in-NotPermitted.is other)) told) c.no_place_text.ensures
+    (λ text told long other. subst (λ (w : Word). TellsWord w (string_bytes text)) (sym (not_permitted_is_left word c.in-NotPermitted.is other)) told) c.no_place_text.ensures

@@ -2,7 +2,7 @@ use Rattle.std.proofs.Common.{sym, subst}
 use Rattle.std.specs.Prelude.{IfErr}
 use Rattle.std.proofs.lemmas.Result.{err_from_is_err_and}
 use Rattle.bq_program.specs.Files.{HasHead, IsTextFault, IsWhole}
-use Rattle.bq_program.proofs.HeadLemmas.{bad_program, uncombinable}
+use Rattle.bq_program.proofs.HeadLemmas.{bad_program, uncombinable_is_fault}
 use Rattle.bq_program.proofs.reading.from_str.Goals as goal
 
 pub returns-in-Ok-clause-policy : goal.returns-in-Ok-clause-policy
@@ -28,4 +28,4 @@ pub returns-clause-fault : goal.returns-clause-fault
 returns-clause-fault c =
     let whole : IsWhole c.args.text.now c.in_ok-said.said =
     record { head = record { text = c.utf8.text; says = c.in_ok-said.ensures.head }; insns = c.in_ok-insns.insns.items; assembles = c.in_ok-insns.ensures.assembles } in
-    uncombinable c.args.text.now c.args.given.now c.in_ok-said.said c.in-Err.fault whole c.in-Err.ensures.err
+    uncombinable_is_fault c.args.text.now c.args.given.now c.in_ok-said.said c.in-Err.fault whole c.in-Err.ensures.err

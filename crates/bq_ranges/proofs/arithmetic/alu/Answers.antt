@@ -1,6 +1,6 @@
 use Rattle.std.proofs.Common.{◌≡◌, ◌%◌, arith}
 use Rattle.bq_bpf.specs.Meaning.{modulus}
-use Rattle.bq_ranges.proofs.TightLemmas.{tight_within, reaches, least_reached, greatest_reached, common_below}
+use Rattle.bq_ranges.proofs.TightLemmas.{tight_within, low_bits_reach, least_reached, greatest_reached, common_below}
 use Rattle.bq_ranges.proofs.arithmetic.alu.Goals as goal
 
 pub returns-then-is_single-2-clause-and_left : goal.returns-then-is_single-2-clause-and_left
@@ -19,8 +19,8 @@ pub returns-clause-tight : goal.returns-clause-tight
 returns-clause-tight c = λ promised.
     let within = tight_within c.args.width c.args.op c.args.a c.args.b c.low.result c.low-2.result c.low.ensures.tight_low c.low.ensures.tight_high c.low-2.ensures.tight_low c.low-2.ensures.tight_high promised in
     record {
-      low = reaches c.args.width c.args.op c.args.a c.args.b _ _ _ c.low.ensures.tight_low (least_reached c.args.width c.args.op c.args.b c.low-2.result c.low-2.ensures.tight_low c.low-2.ensures.tight_high) (c.outcomes.ensures.tight_low within);
-      high = reaches c.args.width c.args.op c.args.a c.args.b _ _ _ c.low.ensures.tight_high (greatest_reached c.args.width c.args.op c.args.b c.low-2.result c.low-2.ensures.tight_low c.low-2.ensures.tight_high) (c.outcomes.ensures.tight_high within);
+      low = low_bits_reach c.args.width c.args.op c.args.a c.args.b _ _ _ c.low.ensures.tight_low (least_reached c.args.width c.args.op c.args.b c.low-2.result c.low-2.ensures.tight_low c.low-2.ensures.tight_high) (c.outcomes.ensures.tight_low within);
+      high = low_bits_reach c.args.width c.args.op c.args.a c.args.b _ _ _ c.low.ensures.tight_high (greatest_reached c.args.width c.args.op c.args.b c.low-2.result c.low-2.ensures.tight_low c.low-2.ensures.tight_high) (c.outcomes.ensures.tight_high within);
     }
 
 pub returns-then-is_single-2-clause-holds : goal.returns-then-is_single-2-clause-holds

@@ -2,13 +2,13 @@ use Rattle.std.proofs.Common.{◌≡◌, arith}
 use Rattle.bq_bpf.specs.Meaning.{operate}
 use Rattle.bq_insn.specs.declared.Operation.TheVariants as op
 use Rattle.bq_ranges.proofs.BitLemmas.{plain_shift, sign_shifts}
-use Rattle.bq_ranges.proofs.OutcomeLemmas.{held, held_by_all}
+use Rattle.bq_ranges.proofs.OutcomeLemmas.{holds_low_word, held_by_all}
 use Rattle.bq_ranges.proofs.arithmetic.arsh.Goals as goal
 
 pub returns-then-a-half : goal.returns-then-a-half
 returns-then-a-half c = λ x y p q.
     let plain = plain_shift c.args.width c.sign-half.result x y c.sign-half.ensures (omega arith) in
-    held c.args.width c.rsh.result (operate c.args.width op.Arsh x y) (omega arith) (rw plain (c.rsh.ensures.holds x y p q))
+    holds_low_word c.args.width c.rsh.result (operate c.args.width op.Arsh x y) (omega arith) (rw plain (c.rsh.ensures.holds x y p q))
 
 pub returns : goal.returns
 returns c = λ x y p q.

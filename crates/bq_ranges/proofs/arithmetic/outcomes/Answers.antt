@@ -1,6 +1,6 @@
 use Rattle.std.proofs.Common.{refl, arith}
 use Rattle.bq_bpf.specs.Meaning.{operate}
-use Rattle.bq_ranges.proofs.OutcomeLemmas.{as_word, held, held_bits, held_by_all, quotient_held, remainder_held, union_between, difference_between}
+use Rattle.bq_ranges.proofs.OutcomeLemmas.{as_word, holds_low_word, held_bits, held_by_all, quotient_held, remainder_held, union_between, difference_between}
 use Rattle.bq_ranges.proofs.TightLemmas.{as_difference}
 use Rattle.bq_ranges.proofs.arithmetic.outcomes.Goals as goal
 
@@ -78,11 +78,11 @@ returns-in-Xor-clause-holds c = λ x y p q. rw c.in-Xor.is (held_bits c.args.wid
 
 pub returns-in-And-clause-holds : goal.returns-in-And-clause-holds
 unfolding operate
-returns-in-And-clause-holds c = λ x y p q. rw c.in-And.is (held c.args.width c.and.result _ (omega arith) (c.and.ensures.holds x y p q))
+returns-in-And-clause-holds c = λ x y p q. rw c.in-And.is (holds_low_word c.args.width c.and.result _ (omega arith) (c.and.ensures.holds x y p q))
 
 pub returns-in-Rsh-clause-holds : goal.returns-in-Rsh-clause-holds
 unfolding operate
-returns-in-Rsh-clause-holds c = λ x y p q. rw c.in-Rsh.is (held c.args.width c.rsh.result _ (omega arith) (c.rsh.ensures.holds x y p q))
+returns-in-Rsh-clause-holds c = λ x y p q. rw c.in-Rsh.is (holds_low_word c.args.width c.rsh.result _ (omega arith) (c.rsh.ensures.holds x y p q))
 
 pub returns-in-Rsh-clause-tight_low : goal.returns-in-Rsh-clause-tight_low
 unfolding operate
@@ -100,7 +100,7 @@ returns-in-Rsh-clause-tight_high c = λ h.
 
 pub returns-in-Mov-clause-holds : goal.returns-in-Mov-clause-holds
 unfolding operate
-returns-in-Mov-clause-holds c = λ x y p q. rw c.in-Mov.is (held c.args.width c.args.b _ c.requires.right q)
+returns-in-Mov-clause-holds c = λ x y p q. rw c.in-Mov.is (holds_low_word c.args.width c.args.b _ c.requires.right q)
 
 pub returns-in-Mov-clause-tight_low : goal.returns-in-Mov-clause-tight_low
 unfolding operate

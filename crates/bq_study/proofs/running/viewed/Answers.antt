@@ -5,7 +5,7 @@ use Rattle.bq_trace.specs.News.{Gets}
 use Rattle.bq_simulate.specs.Simulations.{Accepted, IsSimulation}
 use Rattle.bq_study.specs.Names.{comments_of}
 use Rattle.bq_study.specs.declared.later.Later.{Later}
-use Rattle.bq_study.proofs.ViewLemmas.{TakesLater, no_other, viewed}
+use Rattle.bq_study.proofs.ViewLemmas.{TakesLater, no_other, views_simulation}
 use Rattle.bq_study.proofs.running.viewed.Goals as goal
 
 pub returns-clause-viewed : goal.returns-clause-viewed
@@ -13,7 +13,7 @@ returns-clause-viewed c =
     let w = c.args.workload.now in
     let later : Later = record { viewer = c.tell_names.new.sink; above = c.in_ok-above.above } in
     let told = subst (λ (l : List Accepted). Gets TakesLater later c.simulate.new.sink (IsSimulation l w)) c.loaded.ensures.value c.in_ok-simulate.ensures.told in
-    viewed c.new-viewer.result later c.simulate.new.sink (comments_of w) c.args.policies.now.loaded w
+    views_simulation c.new-viewer.result later c.simulate.new.sink (comments_of w) c.args.policies.now.loaded w
     c.new-viewer.ensures.schedule c.new-viewer.ensures.troubles c.in_ok-simulate.ensures.sound c.in_ok-above.ensures.told told
 
 pub returns-in_err-simulate-clause-flaw : goal.returns-in_err-simulate-clause-flaw

@@ -1,7 +1,7 @@
 use Rattle.std.proofs.Common.{refl, ap, sym, ◌∙◌}
 use Rattle.bq_disc.specs.Chains.{task_of}
 use Rattle.bq_tree.specs.Trees.{height_behind}
-use Rattle.bq_tree.proofs.TurnLemmas.{order_from_right, order_of_left, order_from_middle, few_of_three, few_of_pairs, knows_same, same_around, higher_side, higher_inner, swapped, single_height, double_height}
+use Rattle.bq_tree.proofs.TurnLemmas.{order_from_right, order_of_left, order_from_middle, few_of_three, few_of_pairs, knows_same, same_around, higher_side, higher_inner, same_height_swapped, single_height, double_height}
 use Rattle.bq_tree.proofs.balance.turned_left.Goals as goal
 
 pub unreachable-requires : goal.unreachable-requires
@@ -30,8 +30,8 @@ returns-then-height-clause-order g c =
 pub returns-then-height-clause-height : goal.returns-then-height-clause-height
 returns-then-height-clause-height g c =
     let top = sym (ap height_behind c.in-Some.is) ∙ c.parted-left.ensures.right_height in
-    let sides = c.opened-inner.ensures.height ∙ swapped _ _ in
-    single_height _ _ _ _ _ _ _ _ _ _ c.requires.higher top c.parted-left.ensures.left_height sides c.height.ensures c.height-2.ensures c.if-height.true c.opened-inner.ensures.balanced.1 (c.fork-low.ensures.height ∙ swapped _ _) (c.crown.ensures.height ∙ swapped _ _)
+    let sides = c.opened-inner.ensures.height ∙ same_height_swapped _ _ in
+    single_height _ _ _ _ _ _ _ _ _ _ c.requires.higher top c.parted-left.ensures.left_height sides c.height.ensures c.height-2.ensures c.if-height.true c.opened-inner.ensures.balanced.1 (c.fork-low.ensures.height ∙ same_height_swapped _ _) (c.crown.ensures.height ∙ same_height_swapped _ _)
 
 pub unreachable-requires-in_default-inner : goal.unreachable-requires-in_default-inner
 unreachable-requires-in_default-inner g c =
@@ -66,7 +66,7 @@ returns-clause-order g c =
 pub returns-clause-height : goal.returns-clause-height
 returns-clause-height g c =
     let top = sym (ap height_behind c.in-Some.is) ∙ c.parted-left.ensures.right_height in
-    let sides = c.opened-inner.ensures.height ∙ swapped _ _ in
-    let inner = ap height_behind c.in-Some-inner.is ∙ c.opened-far.ensures.height ∙ swapped _ _ in
-    let crown = c.crown-2.ensures.height ∙ swapped _ _ in
-    double_height _ _ _ _ _ _ _ _ _ _ _ _ _ c.requires.higher top c.parted-left.ensures.left_height sides c.height.ensures c.height-2.ensures c.if-height.false c.opened-inner.ensures.balanced.0 inner (c.fork-after.ensures.height ∙ swapped _ _) (c.fork-before.ensures.height ∙ swapped _ _) crown
+    let sides = c.opened-inner.ensures.height ∙ same_height_swapped _ _ in
+    let inner = ap height_behind c.in-Some-inner.is ∙ c.opened-far.ensures.height ∙ same_height_swapped _ _ in
+    let crown = c.crown-2.ensures.height ∙ same_height_swapped _ _ in
+    double_height _ _ _ _ _ _ _ _ _ _ _ _ _ c.requires.higher top c.parted-left.ensures.left_height sides c.height.ensures c.height-2.ensures c.if-height.false c.opened-inner.ensures.balanced.0 inner (c.fork-after.ensures.height ∙ same_height_swapped _ _) (c.fork-before.ensures.height ∙ same_height_swapped _ _) crown

@@ -7,7 +7,7 @@ use Rattle.bq_transfer.specs.Ready.{IsReady}
 use Rattle.bq_states.specs.Certainty.{Has, Outlasts}
 use Rattle.bq_transfer.specs.Sides.{is_found}
 use Rattle.bq_insn.proofs.OptionLemmas.{some_none}
-use Rattle.bq_verify.proofs.SideLemmas.{transferred_if_no_jump, differ_if_goes_on, differ_if_jumps, has_tested, outlasts, lasting_after}
+use Rattle.bq_verify.proofs.SideLemmas.{transferred_if_no_jump, differ_if_goes_on, differ_if_jumps, has_tested, sure_outlasts_test, lasting_after}
 use Rattle.bq_transfer.proofs.CertaintyLemmas.{has_left, not_both}
 use mir.Syntax.{w16, w32}
 use mir.Val.{SFits}
@@ -159,7 +159,7 @@ returns-in-Branch-clause-sure c = λ ready.
           let left = λ (edge : IsEdge c.args.subject.now.slots.now c.args.slot k).
           let after' = subst (λ (i : Insn). After x c.args.slot k i c.args.view.now) c.in-Branch.is (after edge) in
           let on : Outlasts x c.in-Branch.dst × IsLasting x × Has x c.args.view.now = (
-            outlasts x c.args.slot k c.in-Branch.width c.in-Branch.cond c.in-Branch.dst c.in-Branch.src c.in-Branch.off c.args.view.now after',
+            sure_outlasts_test x c.args.slot k c.in-Branch.width c.in-Branch.cond c.in-Branch.dst c.in-Branch.src c.in-Branch.off c.args.view.now after',
             lasting_after x c.args.slot k c.in-Branch.width c.in-Branch.cond c.in-Branch.dst c.in-Branch.src c.in-Branch.off c.args.view.now after',
             has_left x c.args.slot k insn c.args.view.now (λ r gives. some_none _ _ gives refl) (λ n r gives. gives) (λ kind o r gives. not_both _ (EntryOrNull gives.1) 0 numbers.0 gives.4) (λ i stores. stores) after',
           ) in

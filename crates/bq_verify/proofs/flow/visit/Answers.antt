@@ -7,7 +7,7 @@ use Rattle.bq_graph.specs.Edges.{IsEdge}
 use Rattle.bq_transfer.specs.After.{After}
 use Rattle.bq_transfer.proofs.CertaintyLemmas.{has_answered}
 use Rattle.bq_verify.specs.Control.{IsKnown}
-use Rattle.bq_verify.proofs.AskLemmas.{asked, not_asked}
+use Rattle.bq_verify.proofs.AskLemmas.{ready_is_asked, not_asked}
 use Rattle.bq_verify.proofs.PassLemmas.{goes_asking}
 use Rattle.bq_verify.proofs.flow.visit.Goals as goal
 
@@ -21,12 +21,12 @@ returns-then-is_counter_call-clause-goes c = (
 
 pub returns-in_err-ask-clause-accepts : goal.returns-in_err-ask-clause-accepts
 returns-in_err-ask-clause-accepts c = λ ready.
-    let a = asked c.args.subject.now.shapes.now c.args.subject.now.context c.args.view.now c.args.insn (c.is_counter_call.ensures.is c.if-is_counter_call.true) ready in
+    let a = ready_is_asked c.args.subject.now.shapes.now c.args.subject.now.context c.args.view.now c.args.insn (c.is_counter_call.ensures.is c.if-is_counter_call.true) ready in
     absurd (false≢true ((c.in_err-ask.ensures.accepts a.helper a.is a.needs).0))
 
 pub returns-then-is_counter_call-clause-sure : goal.returns-then-is_counter_call-clause-sure
 returns-then-is_counter_call-clause-sure c = λ ready x k waits after.
-    let a = asked c.args.subject.now.shapes.now c.args.subject.now.context c.args.view.now c.args.insn (c.is_counter_call.ensures.is c.if-is_counter_call.true) ready in
+    let a = ready_is_asked c.args.subject.now.shapes.now c.args.subject.now.context c.args.view.now c.args.insn (c.is_counter_call.ensures.is c.if-is_counter_call.true) ready in
     let here : instruction_at c.args.subject.now.slots.now c.args.slot ≡ Some (Call a.helper) = c.requires.here ∙ ap (λ (i : Insn). Some i) a.is in
     record {
       waiting = waits;

@@ -13,7 +13,7 @@ use Rattle.bq_parts.specs.Refusals.{refusal, argument_refusal, state_refusal, ei
 use Rattle.bq_parts.specs.Choices.{Regime, policies}
 use Rattle.bq_parts.specs.Steps.{WorldStep}
 use Rattle.bq_parts.proofs.NumberTestLemmas.{below_from_not_at_most, differ_from_test}
-use Rattle.bq_core.proofs.OrderLemmas.{there, passed}
+use Rattle.bq_core.proofs.OrderLemmas.{not_refused_is_there, first_refusal_passed}
 use Rattle.bq_core.proofs.parts.Parts.step.Goals as goal
 
 -- where the test of the arguments found none, none of the event that it is is refused
@@ -26,20 +26,20 @@ one_refused w e n o r f g h = ap (λ (x : Option Refusal). either x (state_refus
 
 -- the task that retires has an entry
 retires_entry : (count id : ℕ) → argument_refusal count (Retire id) ≡ None → id < 1024
-retires_entry count id h = below_from_not_at_most id 1024 (passed (nat_le 1024 id) no.NoTask None h).0
+retires_entry count id h = below_from_not_at_most id 1024 (first_refusal_passed (nat_le 1024 id) no.NoTask None h).0
 
 -- the processor where a wake begins is there, and the task has an entry
 begins_inside : (count processor id : ℕ) → argument_refusal count (BeginWake processor id) ≡ None → (processor < count) × (id < 1024)
 begins_inside count processor id h =
-    let f = there count processor _ h in
-    (f.0, below_from_not_at_most id 1024 (passed (nat_le 1024 id) no.NoTask None f.1).0)
+    let f = not_refused_is_there count processor _ h in
+    (f.0, below_from_not_at_most id 1024 (first_refusal_passed (nat_le 1024 id) no.NoTask None f.1).0)
 
 -- the two processors of a pull are there, and differ
 pulls_inside : (count processor from now : ℕ) → argument_refusal count (Pull processor from now) ≡ None → (processor < count) × (from < count) × (processor ≢ from)
 pulls_inside count processor from now h =
-    let f = there count processor _ h in
-    let k = there count from _ f.1 in
-    (f.0, k.0, differ_from_test processor from (passed (processor == from) no.SameProcessor None k.1).0)
+    let f = not_refused_is_there count processor _ h in
+    let k = not_refused_is_there count from _ f.1 in
+    (f.0, k.0, differ_from_test processor from (first_refusal_passed (processor == from) no.SameProcessor None k.1).0)
 
 -- a step by what the event is, is one by the event
 step_at : (s : Regime) (w w' : World) (e e' : Event) (calls : List Asked) (r : Result Reply Refusal) → e ≡ e' → WorldStep s w e' calls r w' → WorldStep s w e calls r w'
@@ -119,7 +119,7 @@ pub returns-in-BeginWake-clause-board : goal.returns-in-BeginWake-clause-board
 returns-in-BeginWake-clause-board g c = none_asked g.B.Board.leads c.args.board.now c.clear.new.self c.clear.ensures
 
 pub end_wake-requires : goal.end_wake-requires
-end_wake-requires g c = record { orderly = c.requires.orderly; inside = (there (count_in c.args.self.now) c.in-EndWake.processor None (none_refused c.argument_refusal.ensures c.in_default.is c.processors.ensures.value c.in-EndWake.is)).0; unasked = c.clear.ensures }
+end_wake-requires g c = record { orderly = c.requires.orderly; inside = (not_refused_is_there (count_in c.args.self.now) c.in-EndWake.processor None (none_refused c.argument_refusal.ensures c.in_default.is c.processors.ensures.value c.in-EndWake.is)).0; unasked = c.clear.ensures }
 
 pub returns-in-EndWake-clause-step : goal.returns-in-EndWake-clause-step
 returns-in-EndWake-clause-step g c = step_at (policies g.Q.R.Discipline.discipline) c.args.self.now c.end_wake.new.self c.args.event _ c.end_wake.new.scratch c.end_wake.result c.in-EndWake.is c.end_wake.ensures.step
@@ -128,7 +128,7 @@ pub returns-in-EndWake-clause-board : goal.returns-in-EndWake-clause-board
 returns-in-EndWake-clause-board g c = c.end_wake.ensures.board
 
 pub drain-requires : goal.drain-requires
-drain-requires g c = record { orderly = c.requires.orderly; inside = (there (count_in c.args.self.now) c.in-Drain.processor None (none_refused c.argument_refusal.ensures c.in_default.is c.processors.ensures.value c.in-Drain.is)).0; unasked = c.clear.ensures }
+drain-requires g c = record { orderly = c.requires.orderly; inside = (not_refused_is_there (count_in c.args.self.now) c.in-Drain.processor None (none_refused c.argument_refusal.ensures c.in_default.is c.processors.ensures.value c.in-Drain.is)).0; unasked = c.clear.ensures }
 
 pub returns-in-Drain-clause-step : goal.returns-in-Drain-clause-step
 returns-in-Drain-clause-step g c = step_at (policies g.Q.R.Discipline.discipline) c.args.self.now c.drain.new.self c.args.event _ c.drain.new.scratch c.drain.result c.in-Drain.is c.drain.ensures.step
@@ -137,7 +137,7 @@ pub returns-in-Drain-clause-board : goal.returns-in-Drain-clause-board
 returns-in-Drain-clause-board g c = c.drain.ensures.board
 
 pub tick-requires : goal.tick-requires
-tick-requires g c = record { orderly = c.requires.orderly; inside = (there (count_in c.args.self.now) c.in-Tick.processor None (none_refused c.argument_refusal.ensures c.in_default.is c.processors.ensures.value c.in-Tick.is)).0; unasked = c.clear.ensures }
+tick-requires g c = record { orderly = c.requires.orderly; inside = (not_refused_is_there (count_in c.args.self.now) c.in-Tick.processor None (none_refused c.argument_refusal.ensures c.in_default.is c.processors.ensures.value c.in-Tick.is)).0; unasked = c.clear.ensures }
 
 pub returns-in-Tick-clause-step : goal.returns-in-Tick-clause-step
 returns-in-Tick-clause-step g c = step_at (policies g.Q.R.Discipline.discipline) c.args.self.now c.tick.new.self c.args.event _ c.tick.new.scratch c.tick.result c.in-Tick.is c.tick.ensures.step
@@ -146,7 +146,7 @@ pub returns-in-Tick-clause-board : goal.returns-in-Tick-clause-board
 returns-in-Tick-clause-board g c = c.tick.ensures.board
 
 pub block-requires : goal.block-requires
-block-requires g c = record { orderly = c.requires.orderly; inside = (there (count_in c.args.self.now) c.in-Block.processor None (none_refused c.argument_refusal.ensures c.in_default.is c.processors.ensures.value c.in-Block.is)).0 }
+block-requires g c = record { orderly = c.requires.orderly; inside = (not_refused_is_there (count_in c.args.self.now) c.in-Block.processor None (none_refused c.argument_refusal.ensures c.in_default.is c.processors.ensures.value c.in-Block.is)).0 }
 
 pub returns-in-Block-clause-step : goal.returns-in-Block-clause-step
 returns-in-Block-clause-step g c =

@@ -3,7 +3,7 @@ use Rattle.std.specs.Prelude.{slice_index}
 use Rattle.bq_bpf.specs.declared.board.Call.TheVariants.{Add}
 use Rattle.atomic_table.specs.Table.{keeps}
 use Rattle.bq_seats.specs.Sums.{calling}
-use Rattle.bq_seats.proofs.KeepingLemmas.{adds}
+use Rattle.bq_seats.proofs.KeepingLemmas.{sums_after_add}
 use Rattle.bq_seats.proofs.counters.Counters.add.Goals as goal
 
 pub fetch_add-requires : goal.fetch_add-requires
@@ -16,7 +16,7 @@ fetch_add-requires g c =
         calling c.tally.inside.seat.me.0 (Add c.from.result c.args.amount (slice_index s.words c.from.result)),
         keeps,
         tt,
-        adds c.self.inside.table.shared.key s.words s.views c.tally.inside.seat.id c.from.result c.args.amount c.tally.inside.seat.me.0 rule at low some_seat,
+        sums_after_add c.self.inside.table.shared.key s.words s.views c.tally.inside.seat.id c.from.result c.args.amount c.tally.inside.seat.me.0 rule at low some_seat,
         (refl, refl),
       ),
     )

@@ -1,6 +1,6 @@
 use Rattle.std.proofs.Common.{◌<◌, refl, sym, ◌∙◌, arith}
 use Rattle.atomic_table.specs.Table.{keeps}
-use Rattle.bq_seats.proofs.KeepingLemmas.{looks}
+use Rattle.bq_seats.proofs.KeepingLemmas.{sums_after_look}
 use Rattle.bq_seats.proofs.counters.Counters.counter.Goals as goal
 
 pub load-requires : goal.load-requires
@@ -12,7 +12,7 @@ load-requires g c =
         c.tally.inside.seat.me.0,
         keeps,
         tt,
-        looks c.self.inside.table.shared.key s.words s.views c.tally.inside.seat.id c.from.result c.tally.inside.seat.me.0 rule at low small,
+        sums_after_look c.self.inside.table.shared.key s.words s.views c.tally.inside.seat.id c.from.result c.tally.inside.seat.me.0 rule at low small,
         (refl, refl),
       ),
     )

@@ -3,7 +3,7 @@ use Rattle.std.specs.Prelude.{slice_index}
 use Rattle.bq_bpf.specs.declared.board.Call.TheVariants.{Read}
 use Rattle.atomic_table.specs.Table.{keeps}
 use Rattle.bq_seats.specs.Sums.{calling}
-use Rattle.bq_seats.proofs.KeepingLemmas.{reads}
+use Rattle.bq_seats.proofs.KeepingLemmas.{sums_after_read}
 use Rattle.bq_seats.proofs.counters.Counters.read.Goals as goal
 
 pub load-requires : goal.load-requires
@@ -16,7 +16,7 @@ load-requires g c =
         calling c.tally.inside.seat.me.0 (Read c.from.result (slice_index s.words c.from.result)),
         keeps,
         tt,
-        reads c.self.inside.table.shared.key s.words s.views c.tally.inside.seat.id c.from.result c.tally.inside.seat.me.0 rule at low some_seat small,
+        sums_after_read c.self.inside.table.shared.key s.words s.views c.tally.inside.seat.id c.from.result c.tally.inside.seat.me.0 rule at low some_seat small,
         (refl, refl),
       ),
     )

@@ -2,7 +2,7 @@
 use Rattle.std.proofs.Common.{◌≡◌, ◌∷◌, ◌++◌, [], None, map, take, arith, ap, ◌∙◌}
 use Rattle.std.proofs.lemmas.List.{map-append}
 use Rattle.bq_study.specs.Standing.{Standing, image_for, standing, with_bytes}
-use Rattle.bq_study.proofs.StandingLemmas.{AreOfTheirImages-adds, front}
+use Rattle.bq_study.proofs.StandingLemmas.{AreOfTheirImages-adds, front_as_before}
 use Rattle.bq_study.proofs.policies.Policies.keep.Goals as goal
 
 pub invariant_of-self : goal.invariant_of-self
@@ -12,7 +12,7 @@ pub invariant_of-self-in-Err : goal.invariant_of-self-in-Err
 invariant_of-self-in-Err c =
     let before = c.self.inside.images in
     let images : c.truncate.new.self.items ≡ before.items =
-    c.truncate.ensures.items ∙ ap (take c.len-count.result) c.in_ok-push.ensures.items ∙ front c.len-count.result before.items ((c.args.hook, c.args.image) ∷ []) (omega arith) in
+    c.truncate.ensures.items ∙ ap (take c.len-count.result) c.in_ok-push.ensures.items ∙ front_as_before c.len-count.result before.items ((c.args.hook, c.args.image) ∷ []) (omega arith) in
     rw (images, c.in-Err.ensures.items) c.self.invariant
 
 pub invariant_of-self-in_default : goal.invariant_of-self-in_default

@@ -6,7 +6,7 @@ use Rattle.bq_simulate.specs.Retelling.{IsOfImage}
 use Rattle.bq_program.specs.Files.{IsPolicy, IsPolicyFault}
 use Rattle.bq_study.specs.Standing.{image_for}
 use Rattle.bq_study.specs.Taking.{IsToldOfImage}
-use Rattle.bq_study.proofs.StandingLemmas.{found, not_found}
+use Rattle.bq_study.proofs.StandingLemmas.{found_is_there, not_found}
 use Rattle.bq_study.proofs.TakingLemmas.{image_told, memory_told, none_told}
 use Rattle.bq_study.proofs.policies.Policies.take.Goals as goal
 
@@ -15,7 +15,7 @@ returns-in-Err-clause-told c = none_told (IsPolicy c.args.file.now c.args.asked.
 
 pub returns-then-is_some-clause-told : goal.returns-then-is_some-clause-told
 returns-then-is_some-clause-told c =
-    (c.in-Ok.read, c.in-Ok.ensures.policy, found (λ (b : Bor (List ℕ)). b.now) c.image_at.result _ c.image_at.ensures (search rules))
+    (c.in-Ok.read, c.in-Ok.ensures.policy, found_is_there (λ (b : Bor (List ℕ)). b.now) c.image_at.result _ c.image_at.ensures (search rules))
 
 pub keep-requires-clause-of : goal.keep-requires-clause-of
 keep-requires-clause-of c = subst (λ (b : List ℕ). IsOfImage (Some b) c.in_ok-policy.policy) c.as_slice.ensures.value c.in_ok-policy.ensures.of

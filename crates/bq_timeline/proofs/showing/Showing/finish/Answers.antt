@@ -6,7 +6,7 @@ use Rattle.bq_schedule.specs.Figures.{Figures}
 use Rattle.bq_timeline.specs.Notes.{absent_notes, last_notes}
 use Rattle.bq_timeline.specs.Timelines.{Watches}
 use Rattle.bq_timeline.specs.Watching.{schedule_after}
-use Rattle.bq_timeline.proofs.WatchLemmas.{watches}
+use Rattle.bq_timeline.proofs.WatchLemmas.{watches_what_it_gets}
 use Rattle.bq_timeline.proofs.showing.Showing.finish.Goals as goal
 
 pub returns-clause-told : goal.returns-clause-told
@@ -14,7 +14,7 @@ returns-clause-told g c = λ begun stands.
     let old = c.args.self.now in
     let new = c.end.new.sink in
     let w : Watches old.viewer new (λ told. Story old.position.progress (lines begun) told c.end.new.self.progress) =
-    watches old.viewer new new (λ told. Story old.position.progress (lines begun) told c.end.new.self.progress) (c.in_ok-end.ensures begun stands) refl refl
+    watches_what_it_gets old.viewer new new (λ told. Story old.position.progress (lines begun) told c.end.new.self.progress) (c.in_ok-end.ensures begun stands) refl refl
     in
     let screen = new.screen in
     let absent = λ (s : Option Figures). string_bytes screen.notes ++ absent_notes s screen.tasks.items screen.processors in
