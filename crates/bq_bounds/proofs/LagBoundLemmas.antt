@@ -12,8 +12,8 @@ use Rattle.bq_fair.specs.Steps.{Step, Pass, Decide, Enter, Leave, Mark, stepped,
 use Rattle.bq_fair.proofs.SoundLemmas.{IsWellFormed, well_formed}
 use Rattle.bq_fair.proofs.StepLemmas.{well_formed_stepped}
 use Rattle.bq_bounds.specs.declared.charge.Charge.{Charge}
-use Rattle.bq_bounds.specs.declared.lags.Course.{Course}
-use Rattle.bq_bounds.specs.declared.lags.Course.TheVariants.{Passes, Decides}
+use Rattle.bq_bounds.specs.declared.lags.Effect.{Effect}
+use Rattle.bq_bounds.specs.declared.lags.Effect.TheVariants.{Passes, Decides}
 use Rattle.bq_bounds.specs.declared.lags.Lags.{Lags}
 use Rattle.bq_bounds.specs.declared.stretch.Stretch.{Stretch}
 use Rattle.bq_bounds.specs.Watches.{greater}
@@ -139,7 +139,7 @@ owing_within : (o : Option Charge) (l : Lags) → IfSome l.greatest KeepsItsBoun
 owing_within None l h k = h
 owing_within (Some c) l h k = greater_within l.greatest c h k
 
-gone_within : (c : Course) (rise : ℕ) (xs : List Task) (s : Stretch) (p : Running) (ss : List Step) (l : Lags) → stretch_after p ss (beginning (present_at p)) ≡ decided_in c (stretched rise s) → IfSome l.greatest KeepsItsBound → IfSome (most_owed (stretched rise s) xs) KeepsItsBound → AreLagsOf p ss (gone_on c rise xs s l)
+gone_within : (c : Effect) (rise : ℕ) (xs : List Task) (s : Stretch) (p : Running) (ss : List Step) (l : Lags) → stretch_after p ss (beginning (present_at p)) ≡ decided_in c (stretched rise s) → IfSome l.greatest KeepsItsBound → IfSome (most_owed (stretched rise s) xs) KeepsItsBound → AreLagsOf p ss (gone_on c rise xs s l)
 gone_within c rise xs s p ss l e h k = record { stretch = ap (λ (z : Stretch). Some z) (sym e); greatest = owing_within (most_owed (stretched rise s) xs) l h k }
 
 passes : (p : Running) (ss : List Step) (now : ℕ) (l : Lags) → IsSound p → KeepsAll ss → AreLagsOf p ss l →

@@ -9,8 +9,8 @@ use Rattle.bq_disc.specs.Tasks.{Task}
 use Rattle.bq_disc.specs.Totals.{total_weight}
 use Rattle.bq_bounds.specs.declared.charge.Charge.{Charge}
 use Rattle.bq_bounds.specs.declared.stretch.Stretch.{Stretch}
-use Rattle.bq_bounds.specs.declared.lags.Course.{Course}
-use Rattle.bq_bounds.specs.declared.lags.Course.TheVariants.{Passes, Decides, Breaks}
+use Rattle.bq_bounds.specs.declared.lags.Effect.{Effect}
+use Rattle.bq_bounds.specs.declared.lags.Effect.TheVariants.{Passes, Decides, Breaks}
 use Rattle.bq_bounds.specs.declared.lags.Lags.{Lags}
 use Rattle.bq_bounds.specs.declared.glance.Glance.{Glance}
 use Rattle.bq_bounds.specs.Watches.{one_more, greater}
@@ -64,7 +64,7 @@ raised : (m n : ℕ) (o : Option Charge) → m ≤ n → IsBelow m o → IsBelow
 raised m n None le h = h
 raised m n (Some c) le h = omega (arith, le, h)
 
-unseen : (c : Course) (rise : ℕ) (g : Glance) (s : Stretch) (l : Lags) (best : Charge) (t : Task) (xs : List Task) → l.greatest ≡ Some best → min (at_most_owed g s) (2 ^ 64 - 1) ≤ best.difference → IsGlanceOf g s t xs →
+unseen : (c : Effect) (rise : ℕ) (g : Glance) (s : Stretch) (l : Lags) (best : Charge) (t : Task) (xs : List Task) → l.greatest ≡ Some best → min (at_most_owed g s) (2 ^ 64 - 1) ≤ best.difference → IsGlanceOf g s t xs →
     gone_on c rise (t ∷ xs) s l ≡ record l { stretch = Some (decided_in c (stretched rise s)); measured = one_more l.measured }
 unseen c rise g s l best t xs e low seen =
     let z = stretched rise s in
@@ -77,7 +77,7 @@ unseen c rise g s l best t xs e low seen =
     ap (λ (k : Lags). record k { stretch = Some (decided_in c z) }) (owing_stays l best (most_owed z (t ∷ xs)) e below)
 
 -- where a stretch goes on and none can be owed more than the greatest, only the stretch and the count change
-pub only_stretch_changes : (c : Course) (rise : ℕ) (g : Glance) (s : Stretch) (l : Lags) (best : Charge) (xs : List Task) → (c ≡ Breaks → ⊥) → l.greatest ≡ Some best → min (at_most_owed g s) (2 ^ 64 - 1) ≤ best.difference → IsGlance g (Some s) xs →
+pub only_stretch_changes : (c : Effect) (rise : ℕ) (g : Glance) (s : Stretch) (l : Lags) (best : Charge) (xs : List Task) → (c ≡ Breaks → ⊥) → l.greatest ≡ Some best → min (at_most_owed g s) (2 ^ 64 - 1) ≤ best.difference → IsGlance g (Some s) xs →
     lags_by c (Some s) rise xs l ≡ record l { stretch = Some (decided_in c (stretched rise s)); measured = one_more l.measured }
 only_stretch_changes c rise g s l best [] goes e low seen = absurd seen
 only_stretch_changes Passes rise g s l best (t ∷ xs) goes e low seen = unseen Passes rise g s l best t xs e low seen

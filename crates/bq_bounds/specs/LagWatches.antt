@@ -9,8 +9,8 @@ use Rattle.bq_parts.specs.declared.reply.Reply.TheVariants.{Placed, Drained, Tic
 use Rattle.bq_disc.specs.Tasks.{Task}
 use Rattle.bq_bounds.specs.declared.charge.Charge.{Charge}
 use Rattle.bq_bounds.specs.declared.stretch.Stretch.{Stretch}
-use Rattle.bq_bounds.specs.declared.lags.Course.{Course}
-use Rattle.bq_bounds.specs.declared.lags.Course.TheVariants.{Passes, Decides, Breaks}
+use Rattle.bq_bounds.specs.declared.lags.Effect.{Effect}
+use Rattle.bq_bounds.specs.declared.lags.Effect.TheVariants.{Passes, Decides, Breaks}
 use Rattle.bq_bounds.specs.declared.lags.Lags.{Lags}
 use Rattle.bq_bounds.specs.declared.glance.Glance.{Glance}
 use Rattle.bq_bounds.specs.Glances.{at_most_owed}
@@ -20,17 +20,17 @@ use Rattle.bq_bounds.specs.Watches.{one_more, greater}
 abbrev pub unasked : Lags
 unasked = record { stretch = None; measured = 0; left_out = 0; greatest = None }
 
-abbrev pub course_by : By → Course
+abbrev pub course_by : By → Effect
 course_by who.Discipline = Decides
 course_by who.Policy = Breaks
 
 -- a drain that brings nothing is a tick
-abbrev pub course_drained : ℕ → By → Course
+abbrev pub course_drained : ℕ → By → Effect
 course_drained zero by = course_by by
 course_drained (suc n) by = Breaks
 
 -- what an event does to the tasks that are there
-abbrev pub course_of : Event → Reply → Course
+abbrev pub course_of : Event → Reply → Effect
 course_of (Tick processor now) (Ticked run by steps) = course_by by
 course_of (Drain processor now) (Drained count run by steps) = course_drained count by
 course_of (EndWake processor now) (Placed task to by steps) = Passes
@@ -45,17 +45,17 @@ abbrev pub forgotten : Lags → Lags
 forgotten l = record l { stretch = None }
 
 -- what is known of a stretch's tasks shows that none is owed more than one was before, where the stretch goes on
-abbrev pub is_within : Course → Glance → Stretch → Charge → Bool
+abbrev pub is_within : Effect → Glance → Stretch → Charge → Bool
 is_within Breaks g s best = false
 is_within c g s best = nat_le (min (at_most_owed g s) (2 ^ 64 - 1)) best.difference
 
 -- the same where a stretch and a greatest are there
-abbrev pub is_within_of : Course → Glance → Option Stretch → Option Charge → Bool
+abbrev pub is_within_of : Effect → Glance → Option Stretch → Option Charge → Bool
 is_within_of c g (Some s) (Some best) = is_within c g s best
 is_within_of c g s best = false
 
 -- whether the lags after an event are known without a look at each task
-abbrev pub needs_no_look : Course → Glance → Lags → Bool
+abbrev pub needs_no_look : Effect → Glance → Lags → Bool
 needs_no_look c g l = is_within_of c g l.stretch l.greatest
 
 -- a stretch begins
@@ -63,22 +63,22 @@ abbrev pub begun_anew : List Task → Lags → Lags
 begun_anew xs l = record l { stretch = Some (beginning xs); left_out = one_more l.left_out }
 
 -- where the discipline decides the clock's rise is counted from there
-abbrev pub decided_in : Course → Stretch → Stretch
+abbrev pub decided_in : Effect → Stretch → Stretch
 decided_in Decides s = record s { since = 0 }
 decided_in c s = s
 
 -- a stretch goes on
-abbrev pub gone_on : Course → ℕ → List Task → Stretch → Lags → Lags
+abbrev pub gone_on : Effect → ℕ → List Task → Stretch → Lags → Lags
 gone_on c rise xs s l = record (owing (most_owed (stretched rise s) xs) l) { stretch = Some (decided_in c (stretched rise s)) }
 
 -- the lags after an event, whose clock rose, with the tasks as they are then
-abbrev pub lags_by : Course → Option Stretch → ℕ → List Task → Lags → Lags
+abbrev pub lags_by : Effect → Option Stretch → ℕ → List Task → Lags → Lags
 lags_by c None rise xs l = begun_anew xs l
 lags_by Breaks (Some s) rise xs l = begun_anew xs l
 lags_by Passes (Some s) rise xs l = gone_on Passes rise xs s l
 lags_by Decides (Some s) rise xs l = gone_on Decides rise xs s l
 
-abbrev pub lags_after : Course → ℕ → List Task → Lags → Lags
+abbrev pub lags_after : Effect → ℕ → List Task → Lags → Lags
 lags_after c rise xs l = lags_by c l.stretch rise xs l
 
 abbrev pub lags_of : List Lags → ℕ → Lags

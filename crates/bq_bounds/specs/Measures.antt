@@ -12,7 +12,7 @@ use Rattle.bq_parts.specs.declared.reply.Reply.{Reply}
 use Rattle.bq_words.specs.declared.rule.Rule.{Rule}
 use Rattle.bq_words.specs.declared.rule.Rule.TheVariants.{Cfs, Eevdf}
 use Rattle.bq_bounds.specs.declared.charge.Charge.{Charge}
-use Rattle.bq_bounds.specs.declared.lags.Course.TheVariants.{Passes, Decides}
+use Rattle.bq_bounds.specs.declared.lags.Effect.TheVariants.{Passes, Decides}
 use Rattle.bq_bounds.specs.declared.lags.Lags.{Lags}
 use Rattle.bq_bounds.specs.declared.running_task.RunningTask.{RunningTask}
 use Rattle.bq_bounds.specs.declared.stretch.Stretch.{Stretch}

@@ -15,7 +15,7 @@ use bq_parts::{By, Event, Reply};
 
 /// What an event does to the tasks that are there.
 #[derive(Clone, Copy)]
-pub enum Course {
+pub enum Effect {
     /// Time is charged, and nobody decides.
     Passes,
     /// Time is charged, and the discipline decides who runs.
@@ -57,7 +57,7 @@ impl Lags {
     {
         let course = course_of(event, reply);
         match self.stretch {
-            Some(stretch) if course != Course::Breaks => self.go_on(stretch, course, rise, tasks),
+            Some(stretch) if course != Effect::Breaks => self.go_on(stretch, course, rise, tasks),
             _ => {
                 self.left_out = self.left_out.saturating_add(1);
                 self.stretch = Some(Stretch::begin(tasks));
@@ -76,7 +76,7 @@ impl Lags {
         let (Some(stretch), Some(greatest)) = (self.stretch, self.greatest) else {
             return false;
         };
-        if course == Course::Breaks || stretch.at_most_owed(glance) > greatest.difference {
+        if course == Effect::Breaks || stretch.at_most_owed(glance) > greatest.difference {
             return false;
         }
         self.go_on_unseen(stretch, course, rise);
@@ -86,7 +86,7 @@ impl Lags {
 
 impl Lags {
     /// The stretch goes on: time is charged, and the discipline may decide.
-    fn go_on(&mut self, stretch: Stretch, course: Course, rise: u64, tasks: &[Entity])
+    fn go_on(&mut self, stretch: Stretch, course: Effect, rise: u64, tasks: &[Entity])
         requires { length tasks.now ≤ 1024 }
         ensures { self.new ≡ gone_on course rise tasks.now stretch self.old }
     {
@@ -96,20 +96,20 @@ impl Lags {
             self.measured = self.measured.saturating_add(1);
             self.greatest = Some(greater(self.greatest, lag));
         }
-        if course == Course::Decides {
+        if course == Effect::Decides {
             stretch.decide();
         }
         self.stretch = Some(stretch);
     }
 
     /// The stretch goes on, and no task is owed more than one was before.
-    fn go_on_unseen(&mut self, stretch: Stretch, course: Course, rise: u64)
+    fn go_on_unseen(&mut self, stretch: Stretch, course: Effect, rise: u64)
         ensures { self.new ≡ record self.old { stretch = Some (decided_in course (stretched rise stretch)); measured = one_more self.old.measured } }
     {
         let mut stretch = stretch;
         stretch.rise(rise);
         self.measured = self.measured.saturating_add(1);
-        if course == Course::Decides {
+        if course == Effect::Decides {
             stretch.decide();
         }
         self.stretch = Some(stretch);
@@ -124,7 +124,7 @@ impl Lags {
 }
 
 /// What an event does to the tasks that are there.
-fn course_of(event: &Event, reply: &Reply) -> Course
+fn course_of(event: &Event, reply: &Reply) -> Effect
     ensures { result ≡ course_of event.now reply.now }
 {
     match (event, reply) {
@@ -145,17 +145,17 @@ fn course_of(event: &Event, reply: &Reply) -> Course
                 steps: _,
             },
         ) => course_by(*by),
-        (Event::EndWake { .. }, Reply::Placed { .. }) => Course::Passes,
-        _ => Course::Breaks,
+        (Event::EndWake { .. }, Reply::Placed { .. }) => Effect::Passes,
+        _ => Effect::Breaks,
     }
 }
 
 /// A decision, by who made it.
-fn course_by(by: By) -> Course
+fn course_by(by: By) -> Effect
     ensures { result ≡ course_by by }
 {
     match by {
-        By::Discipline => Course::Decides,
-        By::Policy => Course::Breaks,
+        By::Discipline => Effect::Decides,
+        By::Policy => Effect::Breaks,
     }
 }

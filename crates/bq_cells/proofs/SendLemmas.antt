@@ -11,7 +11,7 @@ use Rattle.bq_bpf.proofs.board.Call.TheSendSync as call
 use Rattle.bq_hooks.proofs.loads.Loads.TheSendSync as loads
 use Rattle.bq_policies.proofs.scratch.Scratch.TheSendSync as scratch
 use Rattle.bq_parts.proofs.SendLemmas.{cpu_send}
-use Rattle.bq_cells.proofs.answer.Answer.TheSendSync as answer
+use Rattle.bq_cells.proofs.answer.PackedAnswer.TheSendSync as answer
 use Rattle.bq_parts.proofs.event.Event.TheSendSync as event
 use Rattle.bq_cells.specs.contracts.cells.NumberedCpu as Numbered
 use Rattle.bq_cells.specs.contracts.cells.NumberedInbox as NumberedInbox

@@ -52,11 +52,11 @@ pub enum Brief {
 
 /// What an event was answered, in little room. Contracts see the answer.
 #[derive(Drop)]
-pub struct Answer {
+pub struct PackedAnswer {
     brief: Brief,
 }
 
-impl Model for Answer {
+impl Model for PackedAnswer {
     ghost use Rattle.std.specs.Prelude.{Result};
     ghost use Rattle.bq_parts.specs.declared.reply.Reply.{Reply as Replied};
     ghost use Rattle.bq_parts.specs.declared.refusal.Refusal.{Refusal as Refused};
@@ -67,42 +67,42 @@ impl Model for Answer {
     ghost view = { λ a. answer_of a.brief };
 }
 
-impl Answer {
+impl PackedAnswer {
     /// An answer without loads.
-    pub fn of(answer: &Result<Reply, Refusal>) -> Answer
+    pub fn of(answer: &Result<Reply, Refusal>) -> PackedAnswer
         requires { has_loads answer.now ≡ false }
         ensures { result ≡ answer.now }
     {
-        Answer::kept(answer, None)
+        PackedAnswer::kept(answer, None)
     }
 
     /// A refusal.
-    pub fn refused(refusal: Refusal) -> Answer
+    pub fn refused(refusal: Refusal) -> PackedAnswer
         ensures { result ≡ Err refusal }
     {
-        Answer {
+        PackedAnswer {
             brief: Brief::Refused(refusal),
         }
     }
 
     /// That a clock has ticked: who runs from then on, who chose, and how many steps its policy took.
     #[inline(always)]
-    pub fn ticked(run: Option<u16>, by: By, steps: u32) -> Answer
+    pub fn ticked(run: Option<u16>, by: By, steps: u32) -> PackedAnswer
         ensures { result ≡ Ok (reply.Ticked run by steps) }
     {
-        Answer {
+        PackedAnswer {
             brief: Brief::Ticked { run, by, steps },
         }
     }
 
     /// An answer, with room for its loads where it has some.
-    pub fn with_room(answer: &Result<Reply, Refusal>, room: Box<Loads>) -> Answer
+    pub fn with_room(answer: &Result<Reply, Refusal>, room: Box<Loads>) -> PackedAnswer
         ensures { result ≡ answer.now }
     {
-        Answer::kept(answer, Some(room))
+        PackedAnswer::kept(answer, Some(room))
     }
 
-    fn kept(answer: &Result<Reply, Refusal>, room: Option<Box<Loads>>) -> Answer
+    fn kept(answer: &Result<Reply, Refusal>, room: Option<Box<Loads>>) -> PackedAnswer
         requires { has_loads answer.now ≡ true → is_some room ≡ true }
         ensures { result ≡ answer.now }
     {
@@ -171,7 +171,7 @@ impl Answer {
             },
             Err(refusal) => Brief::Refused(*refusal),
         };
-        Answer { brief }
+        PackedAnswer { brief }
     }
 
     /// The answer.
@@ -244,7 +244,7 @@ impl Answer {
     }
 
     /// Whether both are the same answer.
-    pub fn is_same(&self, other: &Answer) -> bool
+    pub fn is_same(&self, other: &PackedAnswer) -> bool
         ensures { IsTrue result ↔ (self.now ≡ other.now) }
     {
         match &self.brief {

@@ -13,7 +13,7 @@ pub mod record;
 pub mod same;
 
 pub use again::{event_again, policy_again};
-pub use answer::Answer;
+pub use answer::PackedAnswer;
 pub use bq_seats::{CallRooms, Calls, hold_calls};
 pub use cells::{NumberedCpu, NumberedInbox, OneLobby, UnderLock};
 pub use law::{CpuState, Kept, Part, Sched, Shared, WorldState};

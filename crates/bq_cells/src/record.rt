@@ -2,7 +2,7 @@
 ghost use Rattle.std.specs.Prelude.{◌≡◌, true, is_some, IfErr, OnOk};
 ghost use Rattle.bq_parts.specs.declared.refusal.Refusal.TheVariants as no;
 
-use crate::{Answer, is_same_event};
+use crate::{PackedAnswer, is_same_event};
 use bq_history::{Compared, Room};
 use bq_parts::{Event, Loads, Refusal};
 use bq_seats::{CallRooms, Calls, Told};
@@ -12,7 +12,7 @@ use std::alloc::Global;
 #[derive(Drop)]
 pub struct Record {
     pub event: Event,
-    pub reply: Answer,
+    pub reply: PackedAnswer,
     pub calls: Calls,
 }
 

@@ -7,14 +7,14 @@ use Rattle.bq_trace.specs.Machines.{discipline_of}
 use Rattle.bq_trace.specs.Replaying.{Replays, ReplaysInPart}
 use Rattle.bq_words.specs.Sizes.{processors_in}
 use Rattle.bq_par.specs.Summaries.{IsSummary, summary_line}
-use Rattle.bq_par.specs.declared.summary.Summary.{Summary}
+use Rattle.bq_par.specs.declared.summary.HistorySummary.{HistorySummary}
 use Rattle.bq_cli.specs.declared.asked.Parallel.{Parallel}
 use Rattle.bq_cli.specs.declared.asked.Job.{Job}
 use Rattle.bq_cli.specs.declared.asked.Job.TheVariants.{Filter, Par, Replay}
 
 -- The line says what a history of the scheduler that was asked for has.
 abbrev pub IsParLine : Parallel → List ℕ → Type 0
-IsParLine p line = (s : Summary) × IsSummary (discipline_of p.rule) (processors_in p.size) p.ticks s × (line ≡ summary_line s)
+IsParLine p line = (s : HistorySummary) × IsSummary (discipline_of p.rule) (processors_in p.size) p.ticks s × (line ≡ summary_line s)
 
 -- The writer got the line.
 abbrev pub WritesPar : Parallel → Option (List ℕ) → Option (List ℕ) → Type 0

@@ -11,7 +11,7 @@ use crate::asked::{Job, Parallel};
 use bq_cfs::CfsQueue;
 use bq_eevdf::EevdfQueue;
 use bq_filters::run_filter;
-use bq_par::{Summary, run};
+use bq_par::{HistorySummary, run};
 use bq_streams::{Counted, StreamFault};
 use bq_trace::replay;
 use bq_words::Rule;
@@ -68,7 +68,7 @@ fn run_as_asked<T: Threads + Wait + Sync>(
     rt: &T,
     alloc: Global,
     parallel: &Parallel,
-) -> Result<Summary, AllocError>
+) -> Result<HistorySummary, AllocError>
     ensures { IfOk result (IsSummary (discipline_of parallel.now.rule) (processors_in parallel.now.size) parallel.now.ticks) }
 {
     let Parallel { rule, size, ticks } = *parallel;

@@ -2,30 +2,30 @@
 use Rattle.std.specs.Prelude.{Bool, if◌then◌else◌, List, Option, Some, None}
 use Rattle.std.specs.Option.{option_map}
 use Rattle.bq_disc.specs.Tasks.{Task, first_by, comes_before, due_before}
-use Rattle.bq_disc.specs.declared.due.Due.{Due}
+use Rattle.bq_disc.specs.declared.due.Deadline.{Deadline}
 
 -- when a task is due
-abbrev pub due_of : Task → Due
+abbrev pub due_of : Task → Deadline
 due_of t = record { deadline = t.deadline; id = t.id }
 
 -- when the first of some tasks is due
-abbrev pub first_due : List Task → Option Due
+abbrev pub first_due : List Task → Option Deadline
 first_due xs = option_map due_of (first_by due_before xs)
 
 -- by least (deadline, id)
-abbrev pub is_earlier : Due → Due → Bool
+abbrev pub is_earlier : Deadline → Deadline → Bool
 is_earlier a b = comes_before a.deadline a.id b.deadline b.id
 
 -- the earlier of two
-abbrev pub earlier_of : Due → Due → Due
+abbrev pub earlier_of : Deadline → Deadline → Deadline
 earlier_of a b = if is_earlier b a then b else a
 
 -- the earlier of one and of another that may be there
-abbrev pub earliest_of : Due → Option Due → Due
+abbrev pub earliest_of : Deadline → Option Deadline → Deadline
 earliest_of a None = a
 earliest_of a (Some b) = earlier_of a b
 
 -- the earlier of two that may be there
-abbrev pub sooner_of : Option Due → Option Due → Option Due
+abbrev pub sooner_of : Option Deadline → Option Deadline → Option Deadline
 sooner_of None b = b
 sooner_of (Some a) b = Some (earliest_of a b)

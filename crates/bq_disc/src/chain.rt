@@ -9,7 +9,7 @@ ghost use Rattle.bq_disc.specs.Dues.{first_due};
 ghost use Rattle.bq_disc.specs.Movable.{Adds};
 
 use crate::node::{Link, behind};
-use crate::{Due, Movable, Node, Timeline, Totals};
+use crate::{Deadline, Movable, Node, Timeline, Totals};
 use std::marker::Model;
 
 /// Nodes in their order, each linked to the next.
@@ -90,7 +90,7 @@ impl Timeline for Chain {
         totals_behind(&self.head)
     }
 
-    fn earliest_at_most_mean(&self, weight: u64, moment: u128) -> Option<Due> {
+    fn earliest_at_most_mean(&self, weight: u64, moment: u128) -> Option<Deadline> {
         earliest_behind(&self.head, weight, moment)
     }
 }
@@ -187,7 +187,7 @@ fn totals_behind(chain: &Link) -> Totals
 }
 
 /// When the first is due of a chain's tasks that are at most a mean.
-fn earliest_behind(chain: &Link, weight: u64, moment: u128) -> Option<Due>
+fn earliest_behind(chain: &Link, weight: u64, moment: u128) -> Option<Deadline>
     ensures { result ≡ first_due (filter (is_at_most_mean weight moment) (chain_behind chain.now)) }
 {
     let Some(node) = chain else {

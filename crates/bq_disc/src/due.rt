@@ -4,28 +4,28 @@ ghost use Rattle.bq_disc.specs.Dues.{is_earlier, earlier_of, earliest_of};
 
 /// A virtual deadline, and the id of the task that it is set for. Of equal deadlines that of the lesser id comes first.
 #[derive(Clone, Copy)]
-pub struct Due {
+pub struct Deadline {
     pub deadline: u64,
     pub id: u16,
 }
 
-impl Due {
+impl Deadline {
     /// Whether it comes before another.
-    pub fn is_before(&self, other: &Due) -> bool
+    pub fn is_before(&self, other: &Deadline) -> bool
         ensures { result ≡ is_earlier self.now other.now }
     {
         self.deadline < other.deadline || (self.deadline == other.deadline && self.id < other.id)
     }
 
     /// The earlier of two.
-    pub fn earlier(self, other: Due) -> Due
+    pub fn earlier(self, other: Deadline) -> Deadline
         ensures { result ≡ earlier_of self other }
     {
         if other.is_before(&self) { other } else { self }
     }
 
     /// The earlier of this one and of another that may be there.
-    pub fn earliest(self, other: Option<Due>) -> Due
+    pub fn earliest(self, other: Option<Deadline>) -> Deadline
         ensures { result ≡ earliest_of self other }
     {
         match other {

@@ -6,7 +6,7 @@ ghost use Rattle.bq_disc.specs.Dues.{due_of};
 ghost use Rattle.bq_disc.specs.Totals.{is_at_most_mean};
 ghost use Rattle.bq_disc.specs.Queues.{can_use, key_of};
 
-use crate::Due;
+use crate::Deadline;
 use crate::mask::allows;
 use std::marker::Model;
 
@@ -176,10 +176,10 @@ impl Entity {
     }
 
     /// When it is due.
-    pub fn due(&self) -> Due
+    pub fn due(&self) -> Deadline
         ensures { result ≡ due_of self.now }
     {
-        Due {
+        Deadline {
             deadline: self.deadline,
             id: self.id,
         }

@@ -4,7 +4,7 @@ ghost use Rattle.std.specs.Option.{option_map, option_to_list};
 ghost use Rattle.bq_weights.specs.VirtualTime.{IsWeight};
 ghost use Rattle.bq_disc.specs.Chains.{task_of, IsLone, chain, chain_behind, IsStraightBehind};
 
-use crate::{Due, Entity, Totals};
+use crate::{Deadline, Entity, Totals};
 
 /// A way to another node, or to none.
 pub type Link = Option<Box<Node>>;
@@ -18,7 +18,7 @@ pub struct Node {
     pub entity: Entity,
     pub left: Link,
     pub right: Link,
-    pub due: Due,
+    pub due: Deadline,
     pub totals: Totals,
     pub height: u8,
 }

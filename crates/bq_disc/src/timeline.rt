@@ -9,7 +9,7 @@ ghost use Rattle.bq_disc.specs.Totals.{sums_of, is_at_most_mean, HasBounds};
 ghost use Rattle.bq_disc.specs.Dues.{first_due};
 ghost use Rattle.bq_disc.specs.Chains.{task_of, IsLone};
 
-use crate::{Due, Movable, Node, Totals};
+use crate::{Deadline, Movable, Node, Totals};
 
 /// Tasks with distinct ids, by rising (v, id). No call takes memory: nodes move.
 ///
@@ -70,6 +70,6 @@ pub trait Timeline {
         ensures few { result.count ≤ 2 ^ 16 };
 
     /// When the first is due of the tasks whose v is at most a mean: of those with `weight * v <= moment`.
-    fn earliest_at_most_mean(&self, weight: u64, moment: u128) -> Option<Due>
+    fn earliest_at_most_mean(&self, weight: u64, moment: u128) -> Option<Deadline>
         ensures { result ≡ first_due (filter (is_at_most_mean weight moment) (tasks self.now)) };
 }

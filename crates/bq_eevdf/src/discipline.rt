@@ -8,7 +8,7 @@ ghost use Rattle.bq_disc.specs.Dues.{first_due};
 ghost use Rattle.bq_eevdf.specs.Eevdf.{eevdf, eligible, is_other};
 ghost use Rattle.bq_eevdf.specs.Lawful.{eevdf_lawful};
 
-use bq_disc::{Discipline, Due, Node, RuledQueue, Timeline, Totals};
+use bq_disc::{Deadline, Discipline, Node, RuledQueue, Timeline, Totals};
 use bq_tree::{Sums, Tree};
 
 /// The rule of earliest eligible virtual deadline first (sched-eevdf.rst; Stoica and Abdel-Wahab 1995, section 3).
@@ -38,7 +38,7 @@ fn considered(current: Option<&Node>, mut queue: Totals) -> Totals
 }
 
 /// When the first of the eligible tasks is due, of a queue's and of one more.
-fn earliest<T: Timeline>(current: Option<&Node>, queue: &T) -> Option<Due>
+fn earliest<T: Timeline>(current: Option<&Node>, queue: &T) -> Option<Deadline>
     ensures { result ≡ first_due (eligible (present (option_map (λ n. task_of n.now) current.entry) (T.tasks queue.now))) }
 {
     let all = considered(current, queue.totals());

@@ -7,7 +7,7 @@ use Rattle.bq_program.specs.Asm.{AsmWrites}
 use Rattle.bq_program.specs.Check.{CheckWrites}
 use Rattle.bq_program.specs.Dis.{DisWrites}
 use Rattle.bq_program.specs.Forms.{AsksFor, RefusesOptions}
-use Rattle.bq_program.specs.declared.form.Form.{Form}
+use Rattle.bq_program.specs.declared.form.ProgramForm.{ProgramForm}
 use Rattle.bq_program.specs.declared.options.Options.{Options}
 use Rattle.bq_filters.specs.declared.filtering.Filtering.{Filtering}
 use Rattle.bq_filters.specs.declared.filtering.Filtering.TheVariants.{Asm, Check, Dis}
@@ -35,7 +35,7 @@ BreaksOff Writes from to old new = (GivesSome from to × Keeps old new) ⊎ Answ
 
 -- The options ask for a form, and the writer got the answer in it to all that the reader had.
 pub record AnswersInForm (o : Options) (from to old new : Option (List ℕ)) (accepted : Bool) : Type 0 where
-  pub form : Form
+  pub form : ProgramForm
   pub asks : AsksFor o form
   pub answers : AnswersAll (AsmWrites form) from to old new accepted
 
@@ -49,7 +49,7 @@ pub record RefusesUnread (o : Options) (from to old new : Option (List ℕ)) (ac
 
 -- The options ask for a form, and the writer got nothing so far, or a beginning of the answer in it.
 pub record BreaksOffInForm (o : Options) (from to old new : Option (List ℕ)) : Type 0 where
-  pub form : Form
+  pub form : ProgramForm
   pub asks : AsksFor o form
   pub breaks : BreaksOff (AsmWrites form) from to old new
 

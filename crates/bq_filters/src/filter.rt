@@ -7,7 +7,7 @@ ghost use Rattle.bq_streams.specs.Writing.{AppendsPart};
 ghost use Rattle.bq_streams.specs.Faults.{IsFault, IsWriteFault};
 ghost use Rattle.bq_filters.specs.Filtering.{AnswersAll, BreaksOff};
 
-use bq_program::{Answer, Form, assembled, checked, disassembled};
+use bq_program::{Answer, ProgramForm, assembled, checked, disassembled};
 use bq_streams::{Counted, StreamFault, read_whole};
 use std::alloc::{AllocError, Global};
 use std::io::{Read, Write};
@@ -23,7 +23,7 @@ pub(crate) trait Filter {
 }
 
 /// The assembler, by the form that it writes a program in.
-impl Filter for Form {
+impl Filter for ProgramForm {
     ghost use Rattle.bq_program.specs.Asm.{AsmWrites};
 
     ghost writes = { AsmWrites };

@@ -87,12 +87,12 @@ impl Unit {
 ///
 /// 1,234,567 ns are `1.234 ms` or `1234.567 us`.
 #[derive(Clone, Copy)]
-pub struct Moment {
+pub struct MomentText {
     pub time: u64,
     pub unit: Unit,
 }
 
-impl fmt::Display for Moment {
+impl fmt::Display for MomentText {
     ghost output = { λ m. Some (moment_text m.time m.unit) };
 
     fn fmt<W: fmt::Write>(&self, f: &mut fmt::Formatter<W>) -> fmt::Result {

@@ -18,7 +18,7 @@ pub mod tables;
 pub mod timehist;
 pub mod window;
 
-pub use amounts::{Micros, Millis, Moment, Unit};
+pub use amounts::{Micros, Millis, MomentText, Unit};
 pub use extent::Extent;
 pub use form::Form;
 pub use map::Map;

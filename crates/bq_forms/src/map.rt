@@ -1,6 +1,6 @@
 //! The map: a row a processor, a column a step of time, a letter a task.
 
-use crate::amounts::{Moment, Unit};
+use crate::amounts::{MomentText, Unit};
 use crate::extent::Extent;
 use crate::form::Form;
 use crate::longest::longest_in;
@@ -84,7 +84,7 @@ impl Map {
                 text.push_str("\n")?;
             }
         }
-        let length = Moment { time: step, unit };
+        let length = MomentText { time: step, unit };
         write!(text, "\na column is {length}; . is idle\n")?;
         self.write_legend(names, text)
     }
@@ -169,7 +169,7 @@ fn write_ruler(
         let time = extent
             .from
             .saturating_add(tick.saturating_mul(TICK).saturating_mul(step));
-        let moment = Moment { time, unit };
+        let moment = MomentText { time, unit };
         label = format!(in alloc; "|{moment}")?;
     }
     text.push_str(label.as_str())?;

@@ -2,41 +2,41 @@
 ghost use Rattle.std.specs.Prelude.{◌≡◌, ◌≤◌};
 ghost use Rattle.bq_insn.specs.Table.{alu_class, jump_class, code_of, condition_code, size_code, source_bit, opcode_of};
 
-use crate::form::Form;
+use crate::form::OpcodeForm;
 use crate::{Condition, Operation, Order, Size, Width};
 
-impl Form {
+impl OpcodeForm {
     /// The opcode under which the form stands.
     pub fn opcode(self) -> u8
         ensures { result ≡ opcode_of self }
     {
         match self {
-            Form::Alu {
+            OpcodeForm::Alu {
                 width,
                 op,
                 by_register,
             } => alu_class(width) + source_bit(by_register) + 16 * code_of(op),
-            Form::Neg { width } => alu_class(width) + 0x80,
-            Form::End { order } => match order {
+            OpcodeForm::Neg { width } => alu_class(width) + 0x80,
+            OpcodeForm::End { order } => match order {
                 Order::Little => 0xd4,
                 Order::Big => 0xdc,
                 Order::Swapped => 0xd7,
             },
-            Form::Load { size, signed } => {
+            OpcodeForm::Load { size, signed } => {
                 1 + 8 * size_code(size) + if signed { 0x80 } else { 0x60 }
             }
-            Form::StoreImm { size } => 2 + 8 * size_code(size) + 0x60,
-            Form::StoreReg { size } => 3 + 8 * size_code(size) + 0x60,
-            Form::Wide => 0x18,
-            Form::Goto => 0x05,
-            Form::Goto32 => 0x06,
-            Form::Branch {
+            OpcodeForm::StoreImm { size } => 2 + 8 * size_code(size) + 0x60,
+            OpcodeForm::StoreReg { size } => 3 + 8 * size_code(size) + 0x60,
+            OpcodeForm::Wide => 0x18,
+            OpcodeForm::Goto => 0x05,
+            OpcodeForm::Goto32 => 0x06,
+            OpcodeForm::Branch {
                 width,
                 cond,
                 by_register,
             } => jump_class(width) + source_bit(by_register) + 16 * condition_code(cond),
-            Form::Call => 0x85,
-            Form::Exit => 0x95,
+            OpcodeForm::Call => 0x85,
+            OpcodeForm::Exit => 0x95,
         }
     }
 }

@@ -6,7 +6,7 @@ use Rattle.std.proofs.lemmas.Bool.Decides.{nat_tests}
 use Rattle.std.proofs.lemmas.Grind.{common_steps}
 use Rattle.bq_lines.specs.Kept.{StandsFor, heard}
 use Rattle.bq_lines.specs.Lines.{reading_of, reading_heard}
-use Rattle.bq_lines.specs.declared.command.Reading.TheVariants.{Bad}
+use Rattle.bq_lines.specs.declared.command.LineReading.TheVariants.{Bad}
 
 -- where nothing is kept the line is too long
 length_unkept : (line : List ℕ) → StandsFor None line → 131073 < length line

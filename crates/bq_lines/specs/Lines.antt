@@ -16,8 +16,8 @@ use Rattle.bq_lines.specs.declared.keyword.Keyword.{Keyword}
 use Rattle.bq_lines.specs.declared.keyword.Keyword.TheVariants as keywords
 use Rattle.bq_lines.specs.declared.command.Command.{Command}
 use Rattle.bq_lines.specs.declared.command.Command.TheVariants.{Machine, Does, Wake, Load, Show, Counter}
-use Rattle.bq_lines.specs.declared.command.Reading.{Reading}
-use Rattle.bq_lines.specs.declared.command.Reading.TheVariants.{Skipped, Bad, Says}
+use Rattle.bq_lines.specs.declared.command.LineReading.{LineReading}
+use Rattle.bq_lines.specs.declared.command.LineReading.TheVariants.{Skipped, Bad, Says}
 
 -- the size that a word names
 abbrev pub size_of : List ℕ → Option ProcessorCount
@@ -137,20 +137,20 @@ command_after keywords.Counter operands = counter_of operands
 abbrev pub command_of : List ℕ → List (List ℕ) → Option Command
 command_of name operands = option_and_then (λ k. command_after k operands) (keyword_of name)
 
-abbrev pub said : Option Command → Reading
+abbrev pub said : Option Command → LineReading
 said None = Bad
 said (Some c) = Says c
 
 -- a line without words, or whose first word begins with `#`, is skipped
-abbrev pub reading_of_words : List (List ℕ) → Reading
+abbrev pub reading_of_words : List (List ℕ) → LineReading
 reading_of_words [] = Skipped
 reading_of_words (name ∷ operands) = if starts_with nat_eq name (codes "#") then Skipped else said (command_of name operands)
 
 -- a line that is too long or has a byte that is not allowed is bad, whatever it says
-unfoldable pub reading_of : List ℕ → Reading
+unfoldable pub reading_of : List ℕ → LineReading
 reading_of line = if nat_lt 131072 (length line) || not (list_all is_allowed line) then Bad else reading_of_words (words line)
 
 -- what is said by what is heard of a line
-abbrev pub reading_heard : Option (List ℕ) → Reading
+abbrev pub reading_heard : Option (List ℕ) → LineReading
 reading_heard None = Bad
 reading_heard (Some line) = reading_of line

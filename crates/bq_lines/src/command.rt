@@ -39,7 +39,7 @@ pub enum Command<'a> {
 
 /// What a line is.
 #[derive(Drop)]
-pub enum Reading<'a> {
+pub enum LineReading<'a> {
     /// It has no words, or is a comment.
     Skipped,
     /// It says nothing known.

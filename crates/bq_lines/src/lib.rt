@@ -13,7 +13,7 @@ pub mod processor_sets;
 pub mod words;
 
 pub use begun::{Begun, first_line};
-pub use command::{Command, Reading};
+pub use command::{Command, LineReading};
 pub use image::HexWord;
 pub use keyword::Keyword;
 pub use lines::read_heard;

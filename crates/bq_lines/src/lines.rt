@@ -5,7 +5,7 @@ ghost use Rattle.std.specs.Option.{option_map};
 ghost use Rattle.bq_words.specs.Words.{words};
 ghost use Rattle.bq_lines.specs.Lines.{machine_of, admit_of, retire_of, draw_of, install_words, install_of, begin_of, end_of, wake_of, drain_of, tick_of, block_of, pull_of, show_of, counter_of, command_of, machine_words, admit_words, one_task, one_number, processor_and_task, processor_and_time, wake_words, pull_words, said, reading_of_words, reading_of, reading_heard};
 
-use crate::command::{Command, Reading};
+use crate::command::{Command, LineReading};
 use crate::image::HexWord;
 use crate::keyword::Keyword;
 use crate::numbers;
@@ -18,41 +18,41 @@ pub const LONGEST: usize = 131_072;
 
 /// What a line says, without what ends it.
 #[tactic(auto, unfolding(crate::specs::Lines::reading_of))]
-pub fn read_line(line: &[u8]) -> Reading<'_>
+pub fn read_line(line: &[u8]) -> LineReading<'_>
     ensures { result ≡ reading_of line.now }
 {
     if line.len() > LONGEST || !is_allowed_line(line) {
-        return Reading::Bad;
+        return LineReading::Bad;
     }
     read_words(line)
 }
 
 /// What is said by what is heard of a line: nothing is heard of one that is too long.
-pub fn read_heard(heard: Option<&[u8]>) -> Reading<'_>
+pub fn read_heard(heard: Option<&[u8]>) -> LineReading<'_>
     ensures { result ≡ reading_heard (option_map (λ (l : Bor (List ℕ)). l.now) heard.entry) }
 {
     match heard {
-        None => Reading::Bad,
+        None => LineReading::Bad,
         Some(line) => read_line(line),
     }
 }
 
 /// What a line of allowed bytes says.
-fn read_words(line: &[u8]) -> Reading<'_>
+fn read_words(line: &[u8]) -> LineReading<'_>
     ensures { result ≡ reading_of_words (words line.now) }
 {
     let Some((name, operands)) = next_word(line) else {
-        return Reading::Skipped;
+        return LineReading::Skipped;
     };
     if name.starts_with(b"#") {
-        return Reading::Skipped;
+        return LineReading::Skipped;
     }
     command(name, operands)
 }
 
 /// What is said by the name of a command and the words after it. Each command is made where it is answered, since it would
 /// else be moved on the way of each line.
-fn command<'a>(name: &[u8], operands: &'a [u8]) -> Reading<'a>
+fn command<'a>(name: &[u8], operands: &'a [u8]) -> LineReading<'a>
     ensures { result ≡ said (command_of name.now (words operands.now)) }
 {
     match Keyword::of_word(name) {
@@ -70,7 +70,7 @@ fn command<'a>(name: &[u8], operands: &'a [u8]) -> Reading<'a>
         Some(Keyword::Pull) => pull(operands),
         Some(Keyword::Show) => show(operands),
         Some(Keyword::Counter) => counter(operands),
-        None => Reading::Bad,
+        None => LineReading::Bad,
     }
 }
 
@@ -187,62 +187,62 @@ fn pull_words(operands: &[u8]) -> Option<(u8, u8, u64)>
     Some((processor, from, now))
 }
 
-fn machine(operands: &[u8]) -> Reading<'_>
+fn machine(operands: &[u8]) -> LineReading<'_>
     ensures { result ≡ said (machine_of (words operands.now)) }
 {
     match machine_words(operands) {
-        Some((rule, size)) => Reading::Says(Command::Machine { rule, size }),
-        None => Reading::Bad,
+        Some((rule, size)) => LineReading::Says(Command::Machine { rule, size }),
+        None => LineReading::Bad,
     }
 }
 
-fn admit(operands: &[u8]) -> Reading<'_>
+fn admit(operands: &[u8]) -> LineReading<'_>
     ensures { result ≡ said (admit_of (words operands.now)) }
 {
     match admit_words(operands) {
-        Some((task, nice, mask, slice)) => Reading::Says(Command::Does(Event::Admit {
+        Some((task, nice, mask, slice)) => LineReading::Says(Command::Does(Event::Admit {
             task,
             nice,
             mask,
             slice,
         })),
-        None => Reading::Bad,
+        None => LineReading::Bad,
     }
 }
 
-fn retire(operands: &[u8]) -> Reading<'_>
+fn retire(operands: &[u8]) -> LineReading<'_>
     ensures { result ≡ said (retire_of (words operands.now)) }
 {
     match one_task(operands) {
-        Some(task) => Reading::Says(Command::Does(Event::Retire { task })),
-        None => Reading::Bad,
+        Some(task) => LineReading::Says(Command::Does(Event::Retire { task })),
+        None => LineReading::Bad,
     }
 }
 
-fn draw(operands: &[u8]) -> Reading<'_>
+fn draw(operands: &[u8]) -> LineReading<'_>
     ensures { result ≡ said (draw_of (words operands.now)) }
 {
     match end_of_words(operands) {
-        Some(()) => Reading::Says(Command::Does(Event::Draw)),
-        None => Reading::Bad,
+        Some(()) => LineReading::Says(Command::Does(Event::Draw)),
+        None => LineReading::Bad,
     }
 }
 
-fn install(operands: &[u8]) -> Reading<'_>
+fn install(operands: &[u8]) -> LineReading<'_>
     ensures { result ≡ said (install_of (words operands.now)) }
 {
     let Some((processor, generation, hook, image)) = install_words(operands) else {
-        return Reading::Bad;
+        return LineReading::Bad;
     };
     if image == b"none".as_slice() {
-        return Reading::Says(Command::Does(Event::Install {
+        return LineReading::Says(Command::Does(Event::Install {
             processor,
             hook,
             generation,
             policy: None,
         }));
     }
-    Reading::Says(Command::Load {
+    LineReading::Says(Command::Load {
         processor,
         hook,
         generation,
@@ -250,95 +250,95 @@ fn install(operands: &[u8]) -> Reading<'_>
     })
 }
 
-fn begin(operands: &[u8]) -> Reading<'_>
+fn begin(operands: &[u8]) -> LineReading<'_>
     ensures { result ≡ said (begin_of (words operands.now)) }
 {
     match processor_and_task(operands) {
         Some((processor, task)) => {
-            Reading::Says(Command::Does(Event::BeginWake { processor, task }))
+            LineReading::Says(Command::Does(Event::BeginWake { processor, task }))
         }
-        None => Reading::Bad,
+        None => LineReading::Bad,
     }
 }
 
-fn end(operands: &[u8]) -> Reading<'_>
+fn end(operands: &[u8]) -> LineReading<'_>
     ensures { result ≡ said (end_of (words operands.now)) }
 {
     match processor_and_time(operands) {
         Some((processor, now)) => {
-            Reading::Says(Command::Does(Event::EndWake { processor, now }))
+            LineReading::Says(Command::Does(Event::EndWake { processor, now }))
         }
-        None => Reading::Bad,
+        None => LineReading::Bad,
     }
 }
 
-fn wake(operands: &[u8]) -> Reading<'_>
+fn wake(operands: &[u8]) -> LineReading<'_>
     ensures { result ≡ said (wake_of (words operands.now)) }
 {
     match wake_words(operands) {
-        Some((processor, task, now)) => Reading::Says(Command::Wake {
+        Some((processor, task, now)) => LineReading::Says(Command::Wake {
             processor,
             task,
             now,
         }),
-        None => Reading::Bad,
+        None => LineReading::Bad,
     }
 }
 
-fn drain(operands: &[u8]) -> Reading<'_>
+fn drain(operands: &[u8]) -> LineReading<'_>
     ensures { result ≡ said (drain_of (words operands.now)) }
 {
     match processor_and_time(operands) {
-        Some((processor, now)) => Reading::Says(Command::Does(Event::Drain { processor, now })),
-        None => Reading::Bad,
+        Some((processor, now)) => LineReading::Says(Command::Does(Event::Drain { processor, now })),
+        None => LineReading::Bad,
     }
 }
 
-fn tick(operands: &[u8]) -> Reading<'_>
+fn tick(operands: &[u8]) -> LineReading<'_>
     ensures { result ≡ said (tick_of (words operands.now)) }
 {
     match processor_and_time(operands) {
-        Some((processor, now)) => Reading::Says(Command::Does(Event::Tick { processor, now })),
-        None => Reading::Bad,
+        Some((processor, now)) => LineReading::Says(Command::Does(Event::Tick { processor, now })),
+        None => LineReading::Bad,
     }
 }
 
-fn block(operands: &[u8]) -> Reading<'_>
+fn block(operands: &[u8]) -> LineReading<'_>
     ensures { result ≡ said (block_of (words operands.now)) }
 {
     match processor_and_time(operands) {
-        Some((processor, now)) => Reading::Says(Command::Does(Event::Block { processor, now })),
-        None => Reading::Bad,
+        Some((processor, now)) => LineReading::Says(Command::Does(Event::Block { processor, now })),
+        None => LineReading::Bad,
     }
 }
 
-fn pull(operands: &[u8]) -> Reading<'_>
+fn pull(operands: &[u8]) -> LineReading<'_>
     ensures { result ≡ said (pull_of (words operands.now)) }
 {
     match pull_words(operands) {
-        Some((processor, from, now)) => Reading::Says(Command::Does(Event::Pull {
+        Some((processor, from, now)) => LineReading::Says(Command::Does(Event::Pull {
             processor,
             from,
             now,
         })),
-        None => Reading::Bad,
+        None => LineReading::Bad,
     }
 }
 
-fn show(operands: &[u8]) -> Reading<'_>
+fn show(operands: &[u8]) -> LineReading<'_>
     ensures { result ≡ said (show_of (words operands.now)) }
 {
     match one_number(operands) {
-        Some(processor) => Reading::Says(Command::Show { processor }),
-        None => Reading::Bad,
+        Some(processor) => LineReading::Says(Command::Show { processor }),
+        None => LineReading::Bad,
     }
 }
 
-fn counter(operands: &[u8]) -> Reading<'_>
+fn counter(operands: &[u8]) -> LineReading<'_>
     ensures { result ≡ said (counter_of (words operands.now)) }
 {
     match one_number(operands) {
-        Some(counter) => Reading::Says(Command::Counter { counter }),
-        None => Reading::Bad,
+        Some(counter) => LineReading::Says(Command::Counter { counter }),
+        None => LineReading::Bad,
     }
 }

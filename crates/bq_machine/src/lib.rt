@@ -18,7 +18,7 @@ pub mod waking_calls;
 pub use bq_cells::{Calls, CpuState, Kept, Part, Record, Sched, Shared, WorldState};
 pub use bq_history::Receipt;
 pub use bq_recording::{Admission, Closed, Prepared, Seat, prepare};
-pub use bq_seats::{Counting, Unnamed};
+pub use bq_seats::{Counting, UnnamedCounters};
 pub use bq_tie::Naming;
 pub use clock::Clock;
 pub use loading_calls::{LoadReceipts, LoadRefused};

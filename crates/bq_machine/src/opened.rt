@@ -6,7 +6,7 @@ use crate::clock::Clock;
 use crate::locks::Machine;
 use bq_disc::RunQueue;
 use bq_recording::{Opening, Prepared, Seat, no_tasks};
-use bq_seats::{Counting, Unnamed};
+use bq_seats::{Counting, UnnamedCounters};
 use bq_tie::Naming;
 use std::alloc::{AllocError, Global};
 
@@ -21,7 +21,7 @@ impl<Q: RunQueue + Drop, K: Clock + Drop, N: Naming + Counting, const P: usize> 
         alloc: Global,
         clock: K,
         prepared: Prepared<Q>,
-        unnamed: Unnamed,
+        unnamed: UnnamedCounters,
         seat_count: u64,
     ) -> Result<(Machine<Q, K, N, P>, Vec<Seat<N>>), AllocError>
         requires few { P ≤ 64 }
@@ -41,7 +41,7 @@ impl<Q: RunQueue + Drop, K: Clock + Drop, N: Naming + Counting, const P: usize> 
         clock: K,
         queues: Vec<Q>,
         prepared: Prepared<Q>,
-        unnamed: Unnamed,
+        unnamed: UnnamedCounters,
         seat_count: u64,
     ) -> Result<(Machine<Q, K, N, P>, Vec<Seat<N>>), AllocError>
         requires few { P ≤ 64 }

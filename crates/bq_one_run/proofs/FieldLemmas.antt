@@ -3,7 +3,7 @@ use Rattle.std.proofs.Common.{◌≡◌, ◌≢◌, ℕ, suc, zero, ◌+◌, ◌
 use Rattle.std.specs.List.{find}
 use Rattle.std.specs.Str.{bytes_eq}
 use borrow.Author.Tests.{eq-eqb, leb-true}
-use Rattle.bq_one_run.specs.declared.fields.Width.{Width}
+use Rattle.bq_one_run.specs.declared.fields.FieldWidth.{FieldWidth}
 use Rattle.std.proofs.lemmas.Slice.Eq.{bytes_eq-Decides}
 use Rattle.bq_bpf.specs.Hooks.{context_length_of}
 use Rattle.bq_bpf.specs.declared.hook.Hook.{Hook}
@@ -17,7 +17,7 @@ use Rattle.bq_console.proofs.WordLemmas.{cut_once, free_cut, number_once}
 
 -- a row as the code's table has it
 abbrev pub Row : Type 0
-Row = Bor (List ℕ) × ℕ × Width × ℕ × ℕ
+Row = Bor (List ℕ) × ℕ × FieldWidth × ℕ × ℕ
 
 -- the first row of a name is the same in the code's table and in the definition's
 pub same_row : (rows : List Row) (name : List ℕ) → row_named (map row_of rows) name ≡ option_map row_of (find (λ (r : Row). bytes_eq r.0.now name) rows)

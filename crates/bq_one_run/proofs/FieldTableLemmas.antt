@@ -5,7 +5,7 @@ use Rattle.std.specs.Str.{bytes_eq}
 use Rattle.bq_disc.specs.Tasks.{Task, id_of}
 use Rattle.bq_hooks.specs.Contexts.{PlaceFacts, PreemptFacts, PullFacts, place_header, place_bytes_below, preempt_bytes, pull_header, pull_bytes, task_bytes, u32_bytes, u64_bytes, as_number, nobody, or_nobody}
 use Rattle.bq_bpf.specs.declared.hook.Hook.TheVariants.{Place, Preempt, Pull}
-use Rattle.bq_one_run.specs.declared.fields.Width.{Width}
+use Rattle.bq_one_run.specs.declared.fields.FieldWidth.{FieldWidth}
 use Rattle.bq_one_run.specs.Fields.{NamedField, bytes_in, fields_of, once, row_named, several}
 use Rattle.bq_one_run.specs.FieldsLaw.{Holds, Meaning, each, meaning_named, one, place_meanings, preempt_meanings, pull_meanings}
 use Rattle.bq_one_run.proofs.PieceLemmas.{load_holds, tasks_hold}
@@ -56,7 +56,7 @@ row_beside context end None m h = absurd h
 row_beside context end (Some row) m h = (row, refl, h)
 
 -- a field that stands once
-once_tells : (context : List ℕ) (end : ℕ) (name : List ℕ) (at : ℕ) (width : Width) (bytes : List ℕ) → at + bytes_in width ≤ end → Holds context at width bytes → Tells context end (once name at width) (one name bytes)
+once_tells : (context : List ℕ) (end : ℕ) (name : List ℕ) (at : ℕ) (width : FieldWidth) (bytes : List ℕ) → at + bytes_in width ≤ end → Holds context at width bytes → Tells context end (once name at width) (one name bytes)
 once_tells context end name at width bytes fits h =
     let same : (number : ℕ) → at ≡ at + number * 0 = λ number. omega arith in
     record {
@@ -68,7 +68,7 @@ once_tells context end name at width bytes fits h =
     }
 
 -- fields of one name, as many as end in the context
-several_tell : (context : List ℕ) (end : ℕ) (name : List ℕ) (at : ℕ) (width : Width) (apart count shown : ℕ) (bytes : ℕ → List ℕ) → 1 < count → 1 < shown →
+several_tell : (context : List ℕ) (end : ℕ) (name : List ℕ) (at : ℕ) (width : FieldWidth) (apart count shown : ℕ) (bytes : ℕ → List ℕ) → 1 < count → 1 < shown →
     ((number : ℕ) → (number < count) × (at + number * apart + bytes_in width ≤ end) ↔ (number < shown)) →
     ((number : ℕ) → number < shown → Holds context (at + number * apart) width (bytes number)) → Tells context end (several name at width apart count) (each name shown bytes)
 several_tell context end name at width apart count shown bytes many much within holds =

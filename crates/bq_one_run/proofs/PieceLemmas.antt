@@ -7,7 +7,7 @@ use Rattle.std.proofs.Math.Seq.{drop-append-add, drop-drop}
 use Rattle.bq_disc.specs.Tasks.{Task}
 use Rattle.bq_hooks.specs.Contexts.{PlaceFacts, PullFacts, place_header, place_bytes_below, pull_header, pull_bytes, task_bytes, u32_bytes, u64_bytes}
 use Rattle.bq_hooks.proofs.LengthLemmas.{length-task_bytes}
-use Rattle.bq_one_run.specs.declared.fields.Width.TheVariants.{Four, Eight}
+use Rattle.bq_one_run.specs.declared.fields.FieldWidth.TheVariants.{Four, Eight}
 use Rattle.bq_one_run.specs.FieldsLaw.{Holds}
 
 -- one of the pieces, and what comes after it

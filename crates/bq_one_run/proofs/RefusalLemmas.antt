@@ -13,8 +13,8 @@ use Rattle.bq_bpf.specs.declared.hook.Hook.{Hook}
 use Rattle.bq_bpf.specs.declared.hook.Version.{Version}
 use Rattle.bq_console.specs.declared.fault.WordsFault.{WordsFault}
 use Rattle.bq_one_run.specs.declared.fields.Field.{Field}
-use Rattle.bq_one_run.specs.declared.fields.Width.{Width}
-use Rattle.bq_one_run.specs.declared.fields.Width.TheVariants.{Four, Eight}
+use Rattle.bq_one_run.specs.declared.fields.FieldWidth.{FieldWidth}
+use Rattle.bq_one_run.specs.declared.fields.FieldWidth.TheVariants.{Four, Eight}
 use Rattle.bq_one_run.specs.Fields.{IsField, IsPasted, IsPut, bytes_in}
 use Rattle.bq_one_run.specs.Naming.{IsFieldWord, NamesCounter, NamesEntry, SetsCounter, SetsEntry, SetsField, SetsFields, TextsInTurn, padded, shows_nobody}
 use Rattle.bq_words.specs.Words.{parts}
@@ -24,7 +24,7 @@ use Rattle.bq_one_run.proofs.InTurnLemmas.{IsSeen, turn_refused, turns_seen}
 use Rattle.bq_console.proofs.WordLemmas.{cut_once, free_cut, number_once, value_once}
 
 -- a word that fits a field is of 64 bits
-word_small : (width : Width) (word : ℕ) → word < 256 ^ bytes_in width → word < 2 ^ 64
+word_small : (width : FieldWidth) (word : ℕ) → word < 256 ^ bytes_in width → word < 2 ^ 64
 word_small Four word fits = omega arith
 word_small Eight word fits = omega arith
 
@@ -66,8 +66,8 @@ no_field_named hook version part before name text cut none after sets =
 -- a word is put alike into two fields in one place
 put_same : (f g : Field) (word : ℕ) (before after : List ℕ) → f.at ≡ g.at → f.width ≡ g.width → IsPut f word before after → IsPut g word before after
 put_same f g word before after at width put = record {
-  fits = subst (λ (w : Width). word < 256 ^ bytes_in w) width put.fits;
-  pasted = subst (λ (w : Width). IsPasted g.at (bytes_low_first 0 (bytes_in w) word) before after) width (subst (λ (k : ℕ). IsPasted k (bytes_low_first 0 (bytes_in f.width) word) before after) at put.pasted);
+  fits = subst (λ (w : FieldWidth). word < 256 ^ bytes_in w) width put.fits;
+  pasted = subst (λ (w : FieldWidth). IsPasted g.at (bytes_low_first 0 (bytes_in w) word) before after) width (subst (λ (k : ℕ). IsPasted k (bytes_low_first 0 (bytes_in f.width) word) before after) at put.pasted);
 }
 
 -- a word that cannot be put into the field is not set

@@ -10,11 +10,11 @@ use Rattle.bq_bpf.specs.declared.hook.Hook.{Hook}
 use Rattle.bq_bpf.specs.declared.hook.Hook.TheVariants.{Place, Preempt, Pull}
 use Rattle.bq_bpf.specs.declared.hook.Version.{Version}
 use Rattle.bq_one_run.specs.declared.fields.Field.{Field}
-use Rattle.bq_one_run.specs.declared.fields.Width.{Width}
-use Rattle.bq_one_run.specs.declared.fields.Width.TheVariants.{Four, Eight}
+use Rattle.bq_one_run.specs.declared.fields.FieldWidth.{FieldWidth}
+use Rattle.bq_one_run.specs.declared.fields.FieldWidth.TheVariants.{Four, Eight}
 use Rattle.bq_console.specs.Words.{IsCut, IsNumber}
 
-abbrev pub bytes_in : Width → ℕ
+abbrev pub bytes_in : FieldWidth → ℕ
 bytes_in Four = 4
 bytes_in Eight = 8
 
@@ -22,14 +22,14 @@ bytes_in Eight = 8
 pub record NamedField : Type 0 where
   pub name : List ℕ
   pub at : ℕ
-  pub width : Width
+  pub width : FieldWidth
   pub apart : ℕ
   pub count : ℕ
 
-abbrev pub once : List ℕ → ℕ → Width → NamedField
+abbrev pub once : List ℕ → ℕ → FieldWidth → NamedField
 once name at width = record { name = name; at = at; width = width; apart = 0; count = 1 }
 
-abbrev pub several : List ℕ → ℕ → Width → ℕ → ℕ → NamedField
+abbrev pub several : List ℕ → ℕ → FieldWidth → ℕ → ℕ → NamedField
 several name at width apart count = record { name = name; at = at; width = width; apart = apart; count = count }
 
 abbrev pub fields_of : Hook → List NamedField
@@ -74,7 +74,7 @@ abbrev pub row_named : List NamedField → List ℕ → Option NamedField
 row_named rows name = find (λ r. bytes_eq r.name name) rows
 
 -- a row as the code has it
-abbrev pub row_of : Bor (List ℕ) × ℕ × Width × ℕ × ℕ → NamedField
+abbrev pub row_of : Bor (List ℕ) × ℕ × FieldWidth × ℕ × ℕ → NamedField
 row_of r = record { name = r.0.now; at = r.1; width = r.2; apart = r.3; count = r.4 }
 
 -- the field stands once, and goes by its name

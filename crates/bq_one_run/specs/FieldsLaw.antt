@@ -12,7 +12,7 @@ use Rattle.bq_bpf.specs.declared.hook.Hook.TheVariants.{Place, Preempt, Pull}
 use Rattle.bq_bpf.specs.declared.hook.Version.{Version}
 use Rattle.bq_bpf.specs.declared.hook.Version.TheVariants.{First, Second}
 use Rattle.bq_one_run.specs.declared.fields.Field.{Field}
-use Rattle.bq_one_run.specs.declared.fields.Width.{Width}
+use Rattle.bq_one_run.specs.declared.fields.FieldWidth.{FieldWidth}
 use Rattle.bq_one_run.specs.Fields.{IsField, bytes_in}
 
 -- what there is where a policy of the hook is asked
@@ -116,7 +116,7 @@ abbrev pub Says : List Meaning → List ℕ → List ℕ → Type 0
 Says meanings name bytes = SaysByName meanings name bytes ⊎ SaysByNumber meanings name bytes
 
 -- the field there has these bytes and no more
-abbrev pub Holds : List ℕ → ℕ → Width → List ℕ → Type 0
+abbrev pub Holds : List ℕ → ℕ → FieldWidth → List ℕ → Type 0
 Holds context at width bytes = slice_range context at (at + bytes_in width) ≡ bytes
 
 -- whatever the choice, the field of a name holds what the name says; each name that says something has a field; and the context is as

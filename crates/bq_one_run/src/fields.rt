@@ -11,19 +11,19 @@ use bq_console::words::{cut, decimal};
 
 /// How many bytes a field has: four, or eight.
 #[derive(Clone, Copy)]
-pub enum Width {
+pub enum FieldWidth {
     Four,
     Eight,
 }
 
-impl Width {
+impl FieldWidth {
     /// The number of bytes.
     fn bytes(self) -> usize
         ensures { result ≡ bytes_in self }
     {
         match self {
-            Width::Four => 4,
-            Width::Eight => 8,
+            FieldWidth::Four => 4,
+            FieldWidth::Eight => 8,
         }
     }
 }
@@ -32,48 +32,48 @@ impl Width {
 #[derive(Clone, Copy)]
 pub struct Field {
     pub at: usize,
-    pub width: Width,
+    pub width: FieldWidth,
 }
 
 /// A row of the table: the name, the first byte, the width, and for a field that stands several times how far apart and how often.
-type Row = (&'static str, usize, Width, usize, usize);
+type Row = (&'static str, usize, FieldWidth, usize, usize);
 
 const PLACE: [Row; 9] = [
-    ("task", 0, Width::Four, 0, 1),
-    ("weight", 4, Width::Four, 0, 1),
-    ("mask", 8, Width::Eight, 0, 1),
-    ("slice", 16, Width::Eight, 0, 1),
-    ("waker", 24, Width::Four, 0, 1),
-    ("previous", 28, Width::Four, 0, 1),
-    ("processors", 32, Width::Four, 0, 1),
-    ("own", 36, Width::Four, 0, 1),
-    ("load", 40, Width::Four, 4, 64),
+    ("task", 0, FieldWidth::Four, 0, 1),
+    ("weight", 4, FieldWidth::Four, 0, 1),
+    ("mask", 8, FieldWidth::Eight, 0, 1),
+    ("slice", 16, FieldWidth::Eight, 0, 1),
+    ("waker", 24, FieldWidth::Four, 0, 1),
+    ("previous", 28, FieldWidth::Four, 0, 1),
+    ("processors", 32, FieldWidth::Four, 0, 1),
+    ("own", 36, FieldWidth::Four, 0, 1),
+    ("load", 40, FieldWidth::Four, 4, 64),
 ];
 
 const PREEMPT: [Row; 10] = [
-    ("processor", 0, Width::Four, 0, 1),
-    ("queued", 4, Width::Four, 0, 1),
-    ("task", 8, Width::Four, 0, 1),
-    ("weight", 12, Width::Four, 0, 1),
-    ("v", 16, Width::Eight, 0, 1),
-    ("deadline", 24, Width::Eight, 0, 1),
-    ("next", 32, Width::Four, 0, 1),
-    ("next_weight", 36, Width::Four, 0, 1),
-    ("next_v", 40, Width::Eight, 0, 1),
-    ("own", 48, Width::Four, 0, 1),
+    ("processor", 0, FieldWidth::Four, 0, 1),
+    ("queued", 4, FieldWidth::Four, 0, 1),
+    ("task", 8, FieldWidth::Four, 0, 1),
+    ("weight", 12, FieldWidth::Four, 0, 1),
+    ("v", 16, FieldWidth::Eight, 0, 1),
+    ("deadline", 24, FieldWidth::Eight, 0, 1),
+    ("next", 32, FieldWidth::Four, 0, 1),
+    ("next_weight", 36, FieldWidth::Four, 0, 1),
+    ("next_v", 40, FieldWidth::Eight, 0, 1),
+    ("own", 48, FieldWidth::Four, 0, 1),
 ];
 
 const PULL: [Row; 10] = [
-    ("puller", 0, Width::Four, 0, 1),
-    ("other", 4, Width::Four, 0, 1),
-    ("size", 8, Width::Four, 0, 1),
-    ("other_size", 12, Width::Four, 0, 1),
-    ("movable", 16, Width::Four, 0, 1),
-    ("shown", 20, Width::Four, 0, 1),
-    ("own", 24, Width::Four, 0, 1),
-    ("task", 32, Width::Four, 16, 8),
-    ("weight", 36, Width::Four, 16, 8),
-    ("v", 40, Width::Eight, 16, 8),
+    ("puller", 0, FieldWidth::Four, 0, 1),
+    ("other", 4, FieldWidth::Four, 0, 1),
+    ("size", 8, FieldWidth::Four, 0, 1),
+    ("other_size", 12, FieldWidth::Four, 0, 1),
+    ("movable", 16, FieldWidth::Four, 0, 1),
+    ("shown", 20, FieldWidth::Four, 0, 1),
+    ("own", 24, FieldWidth::Four, 0, 1),
+    ("task", 32, FieldWidth::Four, 16, 8),
+    ("weight", 36, FieldWidth::Four, 16, 8),
+    ("v", 40, FieldWidth::Eight, 16, 8),
 ];
 
 /// The field of that name: of one that stands several times it has a dot and the number.
@@ -177,11 +177,11 @@ pub(crate) fn put(context: &mut [u8], field: Field, word: u64) -> bool
     ensures none { OnFalse result ((after : List ℕ) → ¬ IsPut field word context.old after) }
 {
     match field.width {
-        Width::Four => match u32::try_from(word) {
+        FieldWidth::Four => match u32::try_from(word) {
             Ok(word) => paste(context, field.at, &word.to_le_bytes()),
             Err(_) => false,
         },
-        Width::Eight => paste(context, field.at, &word.to_le_bytes()),
+        FieldWidth::Eight => paste(context, field.at, &word.to_le_bytes()),
     }
 }
 

@@ -14,7 +14,7 @@ mod settings;
 
 pub use bq_interp::Moment;
 pub use changes::{copied, write_calls, write_changes};
-pub use fields::{Field, Width};
+pub use fields::{Field, FieldWidth};
 pub use inputs::{Inputs, inputs_of};
 pub use one_run::{OneRun, run_often, run_once, trace_once};
 pub use permitted::{Word, word_on};

@@ -28,7 +28,7 @@ use Rattle.bq_cells.specs.contracts.record.RecordTold.TheImpl as told
 use Rattle.bq_cells.specs.contracts.law.Kept as Kept
 use Rattle.bq_cells.specs.contracts.law.Part as Part
 use Rattle.bq_cells.proofs.SendLemmas.{record_send}
-use Rattle.bq_par.specs.contracts.shift.Done as Done
+use Rattle.bq_par.specs.contracts.shift.ReturnedSeat as ReturnedSeat
 
 slip_inside : (T : RattleType) → IsSend T → IsSend (slip.the_row T)
 slip_inside T s = search (crosses, knot.crosses, sendable) depth 60 fits 20000
@@ -57,5 +57,5 @@ receipt_send : IsSend (Receipt.the_row Record.the_row)
 receipt_send = search (receipt.the_send, record_send) depth 10
 
 -- a seat that has come back, and its receipts
-pub done_send : (N : RattleType) (n : Naming.Ghosts N.Denot) (m : Counting.Ghosts N.Denot) → IsSend (Done.the_row N n m)
-done_send N n m = declared_send (Done.the_type N n m) (seat_send N n m, (Vec-send (Receipt.the_row Record.the_row) receipt_send, tt))
+pub done_send : (N : RattleType) (n : Naming.Ghosts N.Denot) (m : Counting.Ghosts N.Denot) → IsSend (ReturnedSeat.the_row N n m)
+done_send N n m = declared_send (ReturnedSeat.the_type N n m) (seat_send N n m, (Vec-send (Receipt.the_row Record.the_row) receipt_send, tt))

@@ -10,10 +10,10 @@ use Rattle.bq_cells.specs.Parts.{RecordStep}
 use Rattle.bq_cells.specs.declared.record.Record.{Record}
 use Rattle.bq_par.specs.Shifts.{IsShift}
 use Rattle.bq_par.specs.Ticks.{ticks_in}
-use Rattle.bq_par.specs.declared.summary.Summary.{Summary}
+use Rattle.bq_par.specs.declared.summary.HistorySummary.{HistorySummary}
 
 -- Some history of so many processors under the discipline, each asked for so many ticks, has these numbers
-pub record IsSummary (d : Discipline) (processors ticks : ℕ) (s : Summary) : Type 0 where
+pub record IsSummary (d : Discipline) (processors ticks : ℕ) (s : HistorySummary) : Type 0 where
   pub log : List Record
   pub world : World
   pub callers : List (ℕ × List (Receipt Record))
@@ -32,5 +32,5 @@ pub record IsSummary (d : Discipline) (processors ticks : ℕ) (s : Summary) : T
   pub confirmed : s.confirmed ≡ total (λ (c : ℕ × List (Receipt Record)). length c.1) callers
 
 -- the line that says so
-abbrev pub summary_line : Summary → List ℕ
+abbrev pub summary_line : HistorySummary → List ℕ
 summary_line s = codes "events " ++ (decimal s.events ++ (codes " ticks " ++ (decimal s.ticks ++ (codes " confirmed " ++ (decimal s.confirmed ++ codes "\n")))))

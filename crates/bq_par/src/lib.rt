@@ -10,4 +10,4 @@ mod summary;
 
 pub use metronome::Metronome;
 pub use runs::run;
-pub use summary::Summary;
+pub use summary::HistorySummary;

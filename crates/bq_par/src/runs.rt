@@ -6,10 +6,10 @@ ghost use Rattle.bq_par.specs.Shifts.{IsShift};
 ghost use Rattle.bq_par.specs.Summaries.{IsSummary};
 
 use crate::metronome::Metronome;
-use crate::shift::{Done, drive};
-use crate::summary::{Summary, finish};
+use crate::shift::{ReturnedSeat, drive};
+use crate::summary::{HistorySummary, finish};
 use bq_disc::RunQueue;
-use bq_machine::{Machine, Prepared, Seat, Unnamed, prepare};
+use bq_machine::{Machine, Prepared, Seat, UnnamedCounters, prepare};
 use bq_parts::Refusal;
 use bq_seats::Counting;
 use bq_tie::Naming;
@@ -27,7 +27,7 @@ pub fn run<Q: RunQueue + Drop + Send, T: Threads + Wait + Sync>(
     alloc: Global,
     size: ProcessorCount,
     ticks: u32,
-) -> Result<Summary, AllocError>
+) -> Result<HistorySummary, AllocError>
 where
     Q::R: Send,
     ensures { IfOk result (IsSummary Q.R.discipline (processors_in size) ticks) }
@@ -46,10 +46,10 @@ fn run_sized<
     rt: &T,
     alloc: Global,
     prepared: Prepared<Q>,
-    unnamed: Unnamed,
+    unnamed: UnnamedCounters,
     size: ProcessorCount,
     ticks: u32,
-) -> Result<Summary, AllocError>
+) -> Result<HistorySummary, AllocError>
 where
     Q::R: Send,
     requires name { prepared.0 ≡ N.table }
@@ -82,9 +82,9 @@ fn run_machine<
     rt: &T,
     alloc: Global,
     prepared: Prepared<Q>,
-    unnamed: Unnamed,
+    unnamed: UnnamedCounters,
     ticks: u32,
-) -> Result<Summary, AllocError>
+) -> Result<HistorySummary, AllocError>
 where
     Q::R: Send,
     requires few { P ≤ 64 }
@@ -113,7 +113,7 @@ fn drive_all<
     machine: &Machine<Q, Metronome, N, P>,
     seats: Vec<Seat<N>>,
     ticks: u32,
-) -> Result<Vec<Result<Done<N>, Refusal>>, AllocError>
+) -> Result<Vec<Result<ReturnedSeat<N>, Refusal>>, AllocError>
 where
     Q::R: Send,
     requires fresh { All (λ s. (s.0 < 256) × (s.1 ≡ [])) seats.items }
@@ -123,7 +123,7 @@ where
     map_vec(
         rt,
         seats,
-        &|seat: Seat<N>| -> Result<Done<N>, Refusal>
+        &|seat: Seat<N>| -> Result<ReturnedSeat<N>, Refusal>
             requires number { seat.0 < 256 }
             requires fresh { seat.1 ≡ [] }
             ensures { IfOk result (λ d. IsShift d.seat.0 ticks d.seat.1) }

@@ -15,7 +15,7 @@ use std::sync::Wait;
 
 /// A seat that has come back, and all receipts that it got.
 #[derive(Drop)]
-pub struct Done<N: Naming + Counting> {
+pub struct ReturnedSeat<N: Naming + Counting> {
     pub seat: Seat<N>,
     pub receipts: Vec<Receipt<Record>>,
     ghost held: { seat.1 ≡ receipts.items },
@@ -36,7 +36,7 @@ pub fn drive<Q: RunQueue + Drop, K: Clock + Drop, N: Naming + Counting, R: Wait,
     machine: &Machine<Q, K, N, P>,
     seat: Seat<N>,
     ticks: u32,
-) -> Result<Done<N>, Refusal>
+) -> Result<ReturnedSeat<N>, Refusal>
     requires number { seat.0 < 256 }
     requires fresh { seat.1 ≡ [] }
     ensures own { IfOk result (λ d. d.seat.0 ≡ seat.0) }
@@ -50,7 +50,7 @@ pub fn drive<Q: RunQueue + Drop, K: Clock + Drop, N: Naming + Counting, R: Wait,
     start(rt, alloc, machine, &mut seat, &mut receipts, processor)?;
     let duty = Duty { processor, ticks };
     tick_all(rt, alloc, machine, &mut seat, &mut receipts, &duty)?;
-    Ok(Done { seat, receipts })
+    Ok(ReturnedSeat { seat, receipts })
 }
 
 /// Lets a processor tick so often. It stands apart, so that the compiler keeps what the loop needs in registers; what it is to

@@ -8,7 +8,7 @@ ghost use Rattle.bq_par.specs.Shifts.{IsShift};
 ghost use Rattle.bq_par.specs.Summaries.{IsSummary, summary_line};
 ghost use Rattle.bq_par.specs.Ticks.{one_tick};
 
-use crate::shift::Done;
+use crate::shift::ReturnedSeat;
 use bq_disc::RunQueue;
 use bq_history::{Compared, Receipt};
 use bq_machine::{Clock, Machine, Record, Seat};
@@ -19,18 +19,18 @@ use std::alloc::{AllocError, Global};
 
 /// How many events the history has, how many of them are ticks, and how many of the receipts stand in it.
 #[derive(Clone, Copy)]
-pub struct Summary {
+pub struct HistorySummary {
     pub events: u64,
     pub ticks: u64,
     pub confirmed: u64,
 }
 
-impl Summary {
+impl HistorySummary {
     /// The line that says so.
     pub fn line(&self, alloc: Global) -> Result<String, AllocError>
         ensures { IfOk result (λ t. string_bytes t ≡ summary_line self.now) }
     {
-        let Summary {
+        let HistorySummary {
             events,
             ticks,
             confirmed,
@@ -52,9 +52,9 @@ struct ReturnedSeats<N: Naming + Counting> {
 pub fn finish<Q: RunQueue + Drop, K: Clock + Drop, N: Naming + Counting, const P: usize>(
     alloc: Global,
     machine: Machine<Q, K, N, P>,
-    done: Vec<Result<Done<N>, Refusal>>,
+    done: Vec<Result<ReturnedSeat<N>, Refusal>>,
     ticks: u32,
-) -> Result<Summary, AllocError>
+) -> Result<HistorySummary, AllocError>
     requires callers { machine.recorder.history.callers ≡ P }
     requires many { vec_len done ≡ P }
     requires shifts { All (λ r. IfOk r (λ d. IsShift d.seat.0 ticks d.seat.1)) done.items }
@@ -67,7 +67,7 @@ pub fn finish<Q: RunQueue + Drop, K: Clock + Drop, N: Naming + Counting, const P
     }
     let closed = machine.close(seats);
     let records = closed.history.in_order(alloc)?;
-    Ok(Summary {
+    Ok(HistorySummary {
         events: closed.len(),
         ticks: ticks_among(&records),
         confirmed: confirmed_among(&records, &lists),
@@ -77,7 +77,7 @@ pub fn finish<Q: RunQueue + Drop, K: Clock + Drop, N: Naming + Counting, const P
 /// The seats and the receipts of all threads, each those of its processor's shift. A thread that wanted memory is an error.
 fn returned<N: Naming + Counting>(
     alloc: Global,
-    done: Vec<Result<Done<N>, Refusal>>,
+    done: Vec<Result<ReturnedSeat<N>, Refusal>>,
     ticks: u32,
 ) -> Result<ReturnedSeats<N>, AllocError>
     requires { All (λ r. IfOk r (λ d. IsShift d.seat.0 ticks d.seat.1)) done.items }
@@ -88,7 +88,7 @@ fn returned<N: Naming + Counting>(
     let mut seats = Vec::with_capacity(alloc, done.len())?;
     let mut lists = Vec::with_capacity(alloc, done.len())?;
     while let Some(one) = done.pop() {
-        let Ok(Done { seat, receipts }) = one else {
+        let Ok(ReturnedSeat { seat, receipts }) = one else {
             return Err(AllocError);
         };
         seats.push(seat)?;

@@ -17,8 +17,8 @@ use Rattle.bq_bpf.specs.declared.shape.MapShape.{MapShape}
 use Rattle.bq_bpf.specs.declared.hook.Hook.{Hook}
 use Rattle.bq_bpf.specs.declared.hook.Version.{Version}
 use Rattle.bq_load.specs.Layout.{header_bytes, IsImage}
-use Rattle.bq_program.specs.declared.form.Form.{Form}
-use Rattle.bq_program.specs.declared.form.Form.TheVariants.{Program, Image}
+use Rattle.bq_program.specs.declared.form.ProgramForm.{ProgramForm}
+use Rattle.bq_program.specs.declared.form.ProgramForm.TheVariants.{Program, Image}
 use Rattle.bq_program.specs.Forms.{SpellsForm}
 use Rattle.bq_program.specs.HexText.{IsNoHex}
 use Rattle.bq_program.specs.Refusals.{refusal}
@@ -29,7 +29,7 @@ use Rattle.bq_program.specs.Asm.{IsAssembled, IsNoText, IsFaultyText}
 use Rattle.bq_program.specs.Dis.{IsListed, IsFaultyProgram}
 use Rattle.bq_program.specs.Laws.{OneAssembly, OneListing}
 
-assembled_or_refused : (form : Form) (text x y : List ℕ) → IsAssembled form text x → IsNoText text y ⊎ IsFaultyText text y → ⊥
+assembled_or_refused : (form : ProgramForm) (text x y : List ℕ) → IsAssembled form text x → IsNoText text y ⊎ IsFaultyText text y → ⊥
 assembled_or_refused form text x y p (inl q) = q.0 p.is_text
 assembled_or_refused form text x y p (inr q) = asm.no_program_is_faulty text p.insns q.1 q.2 p.assembles q.3
 
@@ -41,7 +41,7 @@ one_image a b version hook shapes program p q =
     p.framed.bytes_are ∙ ap (λ n. header_bytes (record { version = version; hook = hook; shapes = shapes; slots = n }) ++ program) slots ∙ sym q.framed.bytes_are
 
 -- a program has one spelling in a form
-one_spelling : (form : Form) (insns : List Insn) (a b : List ℕ) → SpellsForm form insns a → SpellsForm form insns b → a ≡ b
+one_spelling : (form : ProgramForm) (insns : List Insn) (a b : List ℕ) → SpellsForm form insns a → SpellsForm form insns b → a ≡ b
 one_spelling Program insns a b p q = p ∙ sym q
 one_spelling (Image i) insns a b p q = one_image a b i.version i.hook i.shapes.items (spelling insns) p q
 
@@ -54,7 +54,7 @@ one_text_refusal text x y (inr p) (inr q) =
     p.4 ∙ ap (λ n. refusal (asm_text (assembly.At n p.2))) same.0
     ∙ ap (λ c. refusal (asm_text (assembly.At q.1 c))) same.1 ∙ sym q.4
 
-same_assembly : (form : Form) (text x y : List ℕ) → IsAssembled form text x → IsAssembled form text y → x ≡ y
+same_assembly : (form : ProgramForm) (text x y : List ℕ) → IsAssembled form text x → IsAssembled form text y → x ≡ y
 same_assembly form text x y p q =
     let insns : p.insns ≡ q.insns = asm.one_program text p.insns q.insns p.assembles q.assembles in
     let bytes : p.bytes ≡ q.bytes = one_spelling form q.insns p.bytes q.bytes (subst (λ l. SpellsForm form l p.bytes) insns p.spells) q.spells in

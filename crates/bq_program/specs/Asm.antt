@@ -9,12 +9,12 @@ use Rattle.bq_asm.specs.Causes.{fault_text}
 use Rattle.bq_asm.specs.Lines.{lines_of}
 use Rattle.bq_asm.specs.Assembly.{Assembles}
 use Rattle.bq_asm.specs.Faults.{Faulty}
-use Rattle.bq_program.specs.declared.form.Form.{Form}
+use Rattle.bq_program.specs.declared.form.ProgramForm.{ProgramForm}
 use Rattle.bq_program.specs.Forms.{SpellsForm}
 use Rattle.bq_program.specs.Refusals.{refusal}
 
 -- the text stands for a program: its bytes in that form as hex in lower case, and the line's end
-pub record IsAssembled (form : Form) (text written : List ℕ) : Type 0 where
+pub record IsAssembled (form : ProgramForm) (text written : List ℕ) : Type 0 where
   pub is_text : IsUtf8 text
   pub insns : List Insn
   pub assembles : Assembles text insns
@@ -32,6 +32,6 @@ IsFaultyText text written =
     IsUtf8 text × (line : ℕ) × (cause : Cause) × Faulty (lines_of text) line cause × (written ≡ refusal (fault_text (At line cause)))
 
 -- what is written for a text that is accepted, or for one that is not
-abbrev pub AsmWrites : Form → List ℕ → Bool → List ℕ → Type 0
+abbrev pub AsmWrites : ProgramForm → List ℕ → Bool → List ℕ → Type 0
 AsmWrites form text true written = IsAssembled form text written
 AsmWrites form text false written = IsNoText text written ⊎ IsFaultyText text written

@@ -9,8 +9,8 @@ use Rattle.bq_load.specs.Layout.{IsImage}
 use Rattle.bq_program.specs.declared.options.Options.{Options}
 use Rattle.bq_program.specs.declared.options.OptionsFault.{OptionsFault}
 use Rattle.bq_program.specs.declared.options.OptionsFault.TheVariants.{Maps, Format, OutOfMemory}
-use Rattle.bq_program.specs.declared.form.Form.{Form}
-use Rattle.bq_program.specs.declared.form.Form.TheVariants.{Program, Image}
+use Rattle.bq_program.specs.declared.form.ProgramForm.{ProgramForm}
+use Rattle.bq_program.specs.declared.form.ProgramForm.TheVariants.{Program, Image}
 use Rattle.bq_program.specs.Refusals.{refusal}
 use Rattle.bq_program.specs.ShapesText.{NamesShapes, NamesNoShapes}
 
@@ -24,7 +24,7 @@ HasShapes None shapes = shapes ≡ []
 HasShapes (Some text) shapes = NamesShapes text shapes
 
 -- without a hook the program alone, and then no other option is there; with one an image, of version 1 if none is named
-abbrev pub AsksFor : Options → Form → Type 0
+abbrev pub AsksFor : Options → ProgramForm → Type 0
 AsksFor o Program = (o.hook ≡ None) × (maps_text o ≡ None) × (o.format ≡ None)
 AsksFor o (Image i) = (o.hook ≡ Some i.hook) × HasShapes (maps_text o) i.shapes.items × (i.version ≡ unwrap_or o.format First)
 
@@ -47,6 +47,6 @@ abbrev pub RefusesOptions : Options → List ℕ → Type 0
 RefusesOptions o written = (HasBadMaps o × (written ≡ refusal (codes "maps"))) ⊎ (HasBadFormat o × (written ≡ refusal (codes "format")))
 
 -- the bytes are those of the program in this form
-abbrev pub SpellsForm : Form → List Insn → List ℕ → Type 0
+abbrev pub SpellsForm : ProgramForm → List Insn → List ℕ → Type 0
 SpellsForm Program insns bytes = bytes ≡ spelling insns
 SpellsForm (Image i) insns bytes = IsImage bytes i.version i.hook i.shapes.items (spelling insns)

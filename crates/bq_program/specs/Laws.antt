@@ -4,7 +4,7 @@ use Rattle.bq_insn.specs.Laws.{AllFit}
 use Rattle.bq_load.specs.Laws.{AreBytes}
 use Rattle.bq_program.specs.declared.fault.PolicyFault.{PolicyFault}
 use Rattle.bq_program.specs.declared.fault.PolicyFault.TheVariants.{OutOfMemory}
-use Rattle.bq_program.specs.declared.form.Form.{Form}
+use Rattle.bq_program.specs.declared.form.ProgramForm.{ProgramForm}
 use Rattle.bq_program.specs.declared.head.Head.{Head}
 use Rattle.bq_program.specs.declared.policy_source.PolicySource.{PolicySource}
 use Rattle.bq_program.specs.Asm.{AsmWrites}
@@ -13,7 +13,7 @@ use Rattle.bq_program.specs.Files.{IsPolicy, IsPolicyFault}
 
 -- in each form `asm` does not both accept and refuse an input, and writes one text for it
 abbrev pub OneAssembly : Type 0
-OneAssembly = (form : Form) (text : List ℕ) (a b : Bool) (x y : List ℕ) → AsmWrites form text a x → AsmWrites form text b y → (a ≡ b) × (x ≡ y)
+OneAssembly = (form : ProgramForm) (text : List ℕ) (a b : Bool) (x y : List ℕ) → AsmWrites form text a x → AsmWrites form text b y → (a ≡ b) × (x ≡ y)
 
 -- nor does `dis`
 abbrev pub OneListing : Type 0

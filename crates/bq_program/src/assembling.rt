@@ -4,12 +4,12 @@ ghost use Rattle.std.specs.String.{string_bytes};
 ghost use Rattle.bq_program.specs.Asm.{AsmWrites};
 
 use crate::Answer;
-use crate::form::Form;
+use crate::form::ProgramForm;
 use bq_asm::{AsmFault, assemble};
 use std::alloc::{AllocError, Global};
 
 /// The lower-case hex of the program that an assembler text stands for, in that form, and LF; else why it is refused.
-pub fn assembled(alloc: Global, form: &Form, text: &[u8]) -> Result<Answer, AllocError>
+pub fn assembled(alloc: Global, form: &ProgramForm, text: &[u8]) -> Result<Answer, AllocError>
     ensures { IfOk result (λ a. AsmWrites form.now text.now a.accepted (string_bytes a.text)) }
 {
     let Ok(text) = std::str::from_utf8(text) else {

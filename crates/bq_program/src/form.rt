@@ -10,14 +10,14 @@ use std::alloc::{AllocError, Global};
 
 /// In what form a program is written.
 #[derive(Drop)]
-pub enum Form {
+pub enum ProgramForm {
     /// The bytes of its instructions alone.
     Program,
     /// An image with it.
     Image(ImageForm),
 }
 
-impl Form {
+impl ProgramForm {
     /// The bytes of a well-formed program in this form.
     pub(crate) fn bytes_of(&self, alloc: Global, insns: &[Insn]) -> Result<Vec<u8>, AllocError>
         requires { is_well_formed insns.now ≡ true }
@@ -26,8 +26,8 @@ impl Form {
         let mut program = Vec::new(alloc);
         encode(insns, &mut program)?;
         match self {
-            Form::Program => Ok(program),
-            Form::Image(form) => form.image_of(alloc, program),
+            ProgramForm::Program => Ok(program),
+            ProgramForm::Image(form) => form.image_of(alloc, program),
         }
     }
 }

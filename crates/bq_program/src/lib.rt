@@ -31,7 +31,7 @@ pub use assembling::assembled;
 pub use bq_load::{Hook, Version};
 pub use checking::{accepted_line, checked, fault_text};
 pub use fault::{HeadCause, HeadFault, PolicyFault};
-pub use form::Form;
+pub use form::ProgramForm;
 pub use head::Head;
 pub use hex_text::{bytes_of, is_blank};
 pub use image_form::ImageForm;

@@ -4,7 +4,7 @@ ghost use Rattle.std.specs.String.{string_bytes};
 ghost use Rattle.bq_program.specs.Forms.{AsksFor, HasOptionsFault, RefusesOptions};
 
 use crate::Answer;
-use crate::form::Form;
+use crate::form::ProgramForm;
 use crate::image_form::ImageForm;
 use crate::mark::Key;
 use crate::shapes_text::shapes_of;
@@ -57,7 +57,7 @@ impl From<AllocError> for OptionsFault {
 
 impl Options {
     /// The form that they ask for. Where both faults are there, `Maps` is answered.
-    pub fn form(&self, alloc: Global) -> Result<Form, OptionsFault>
+    pub fn form(&self, alloc: Global) -> Result<ProgramForm, OptionsFault>
         ensures ok { IfOk result (AsksFor self.now) }
         ensures err { IfErr result (HasOptionsFault self.now) }
     {
@@ -71,7 +71,7 @@ impl Options {
                 Some(shapes) => shapes,
             },
         };
-        Ok(Form::Image(ImageForm {
+        Ok(ProgramForm::Image(ImageForm {
             hook,
             shapes,
             version: self.format.unwrap_or(Version::First),
@@ -79,7 +79,7 @@ impl Options {
     }
 
     /// The form without a hook, beside which no other option may stand.
-    fn program_alone(&self) -> Result<Form, OptionsFault>
+    fn program_alone(&self) -> Result<ProgramForm, OptionsFault>
         requires { self.now.hook ≡ None }
         ensures ok { IfOk result (AsksFor self.now) }
         ensures err { IfErr result (HasOptionsFault self.now) }
@@ -90,7 +90,7 @@ impl Options {
         if self.format.is_some() {
             return Err(OptionsFault::Format);
         }
-        Ok(Form::Program)
+        Ok(ProgramForm::Program)
     }
 }
 

@@ -2,7 +2,7 @@
 
 use crate::play::{Play, Script};
 use crate::script::{AllPlayed, run_script};
-use bq_cells::Answer;
+use bq_cells::PackedAnswer;
 use bq_parts::{Event, Reply};
 use std::alloc::Global;
 use std::process::Abort;
@@ -69,7 +69,7 @@ fn is_whole(rt: &impl Abort, outcome: &AllPlayed) {
 fn bent_receipts_are_not_confirmed(rt: &impl Abort, outcome: &mut AllPlayed) {
     for list in &mut outcome.receipts {
         let first = list.get_mut(0).expect(rt, "a receipt of each seat");
-        first.entry.reply = Answer::of(&Ok(Reply::Retired));
+        first.entry.reply = PackedAnswer::of(&Ok(Reply::Retired));
     }
     assert_eq!(rt; outcome.confirmed(), 4012);
 }

@@ -2,12 +2,12 @@
 ghost use Rattle.std.specs.Prelude.{◌≡◌};
 
 use crate::asking::{Request, ask};
-use bq_cells::Answer;
+use bq_cells::PackedAnswer;
 use bq_cfs::CfsQueue;
 use bq_load::LoadFault;
 use bq_machine::{
     Clock, Closed, Counting, LoadRefused, Machine, Naming, Prepared, Receipt, Record, Seat,
-    Unnamed, prepare,
+    UnnamedCounters, prepare,
 };
 use bq_parts::{By, Hook, Refusal, Reply};
 use std::alloc::Global;
@@ -141,7 +141,7 @@ fn has_both(
     pulled: Receipt<Record>,
 ) -> bool {
     let stands = closed.len() == 8 && closed.confirms(&idle) && closed.confirms(&pulled);
-    idle.entry.reply = Answer::of(&Ok(Reply::Retired));
+    idle.entry.reply = PackedAnswer::of(&Ok(Reply::Retired));
     stands && !closed.confirms(&idle)
 }
 
@@ -149,7 +149,7 @@ fn rows<N: Naming + Counting, R: Abort + Wait>(
     rt: &R,
     alloc: Global,
     prepared: Prepared<CfsQueue>,
-    unnamed: Unnamed,
+    unnamed: UnnamedCounters,
 ) -> bool
     requires name { prepared.0 ≡ N.table }
     requires counters { unnamed.0 ≡ N.counters }

@@ -6,7 +6,7 @@ use crate::replayed::is_replayed;
 use bq_cfs::CfsQueue;
 use bq_disc::RunQueue;
 use bq_eevdf::EevdfQueue;
-use bq_machine::{Closed, Counting, Machine, Naming, Prepared, Seat, Unnamed, prepare};
+use bq_machine::{Closed, Counting, Machine, Naming, Prepared, Seat, UnnamedCounters, prepare};
 use bq_par::Metronome;
 use std::alloc::Global;
 use std::marker::Brand;
@@ -41,7 +41,7 @@ fn race_under<
     Q: RunQueue + Drop + Send,
     N: Naming + Counting + Send + Sync,
     T: Abort + Threads + Wait + Sync,
->(rt: &T, alloc: Global, prepared: Prepared<Q>, unnamed: Unnamed) -> Closed<Q, 64>
+>(rt: &T, alloc: Global, prepared: Prepared<Q>, unnamed: UnnamedCounters) -> Closed<Q, 64>
 where
     Q::R: Send,
     requires name { prepared.0 ≡ N.table }

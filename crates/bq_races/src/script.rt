@@ -6,7 +6,9 @@ use crate::counting_clock::CountingClock;
 use crate::gate::Gate;
 use crate::held_queue::HeldQueue;
 use crate::play::{Play, Script};
-use bq_machine::{Closed, Counting, Naming, Prepared, Receipt, Record, Seat, Unnamed, prepare};
+use bq_machine::{
+    Closed, Counting, Naming, Prepared, Receipt, Record, Seat, UnnamedCounters, prepare,
+};
 use bq_parts::Refusal;
 use std::alloc::{AllocError, Global};
 use std::marker::Brand;
@@ -138,7 +140,7 @@ fn play_all<N: Naming + Counting + Send + Sync, R: Abort + Threads + Wait + Sync
     rt: &R,
     alloc: Global,
     prepared: Prepared<HeldQueue>,
-    unnamed: Unnamed,
+    unnamed: UnnamedCounters,
     parts: Parts,
     script: Script,
 ) -> AllPlayed

@@ -8,7 +8,7 @@ use bq_bpf::board::COUNTERS;
 use bq_cells::Record;
 use bq_core::Core;
 use bq_disc::RunQueue;
-use bq_history::{Closed as History, Receipt};
+use bq_history::{ClosedRecords as History, Receipt};
 use bq_parts::{Event, Refusal, Reply};
 
 /// The history of a machine, the world that it leaves, and its counters.

@@ -10,7 +10,7 @@ use crate::recorder::{Recorder, WorkingSeat};
 use crate::told::{answer_twice, both_records, no_calls, quiet_twice};
 use bq_cells::{NumberedCpu, Record, UnderLock, policy_again};
 use bq_disc::RunQueue;
-use bq_history::{Draft, Receipt, Room};
+use bq_history::{CommitDraft, Receipt, Room};
 use bq_parts::{Event, Hook, Installed, Policy, Reply};
 use bq_seats::Counting;
 use bq_tie::Naming;
@@ -85,7 +85,7 @@ impl<Q: RunQueue + Drop, N: Naming + Counting> Recorder<Q, N> {
         let receipt = working.commit(
             &self.history,
             journal,
-            Draft {
+            CommitDraft {
                 room,
                 logged,
                 told,
@@ -131,7 +131,7 @@ impl<Q: RunQueue + Drop, N: Naming + Counting> Recorder<Q, N> {
             &self.history,
             journal,
             &mut place.cell,
-            Draft {
+            CommitDraft {
                 room: &mut room,
                 logged,
                 told,

@@ -9,7 +9,7 @@ use crate::recorder::{Recorder, WorkingSeat};
 use crate::told::quiet_twice;
 use bq_cells::{OneLobby, Record, UnderLock};
 use bq_disc::RunQueue;
-use bq_history::{Draft, Receipt, Room};
+use bq_history::{CommitDraft, Receipt, Room};
 use bq_parts::{Event, Unlinked};
 use bq_seats::Counting;
 use bq_tie::Naming;
@@ -69,7 +69,7 @@ impl<Q: RunQueue + Drop, N: Naming + Counting> Recorder<Q, N> {
             &self.history,
             journal,
             &mut place.cell,
-            Draft {
+            CommitDraft {
                 room,
                 logged,
                 told,
@@ -102,7 +102,7 @@ impl<Q: RunQueue + Drop, N: Naming + Counting> Recorder<Q, N> {
             &self.history,
             journal,
             &mut place.cell,
-            Draft {
+            CommitDraft {
                 room,
                 logged,
                 told,

@@ -12,7 +12,7 @@ use bq_cells::{Kept, NumberedCpu, NumberedInbox, OneLobby, Part, Record, UnderLo
 use bq_disc::RunQueue;
 use bq_history::{Item, Journal};
 use bq_parts::Loads;
-use bq_seats::{Counting, Tally, Unnamed, seats};
+use bq_seats::{CounterTally, Counting, UnnamedCounters, seats};
 use bq_tie::{Holder, Naming};
 use std::alloc::{AllocError, Global};
 use std::sync::Mutex;
@@ -41,7 +41,7 @@ impl<Q: RunQueue + Drop, N: Naming + Counting, const P: usize> Opening<Q, N, P> 
         alloc: Global,
         queues: Vec<Q>,
         prepared: Prepared<Q>,
-        unnamed: Unnamed,
+        unnamed: UnnamedCounters,
         seat_count: u64,
     ) -> Result<(Opening<Q, N, P>, Vec<Seat<N>>), AllocError>
         requires few { P ≤ 64 }
@@ -85,12 +85,12 @@ impl<Q: RunQueue + Drop, N: Naming + Counting, const P: usize> Opening<Q, N, P> 
 /// all seats.
 fn recorder_at_start<Q: RunQueue + Drop, N: Naming + Counting>(
     prepared: Prepared<Q>,
-    unnamed: Unnamed,
+    unnamed: UnnamedCounters,
     count: usize,
 ) -> (
     Recorder<Q, N>,
     Holder<Item<Record, Part, Kept>, N>,
-    Tally<N>,
+    CounterTally<N>,
 )
     requires few { count ≤ 64 }
     requires name { prepared.0 ≡ N.table }

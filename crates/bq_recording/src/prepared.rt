@@ -3,8 +3,8 @@ ghost use Rattle.std.specs.Prelude.{◌≡◌, IfOk};
 
 use bq_cells::{Kept, Part, Record, Sched, WorldState};
 use bq_disc::RunQueue;
-use bq_history::{Opened, Setup, open};
-use bq_seats::Unnamed;
+use bq_history::{FixedAtStart, Opened, open};
+use bq_seats::UnnamedCounters;
 use std::alloc::{AllocError, Global};
 
 /// A world with an empty history, which has no name yet.
@@ -15,17 +15,17 @@ pub fn prepare<Q: RunQueue>(
     alloc: Global,
     processors: u64,
     seats: u64,
-) -> Result<(Prepared<Q>, Unnamed), AllocError>
+) -> Result<(Prepared<Q>, UnnamedCounters), AllocError>
     ensures world { IfOk result (λ p. (p.0.1.about ≡ processors) × (p.0.1.callers ≡ seats)) }
     ensures counters { IfOk result (λ p. p.1.1 ≡ seats) }
 {
     let prepared = open::<Record, WorldState, Part, Kept, u64, Sched<Q>>(
         alloc,
-        &Setup {
+        &FixedAtStart {
             about: processors,
             callers: seats,
         },
     )?;
-    let unnamed = Unnamed::new(alloc, seats)?;
+    let unnamed = UnnamedCounters::new(alloc, seats)?;
     Ok((prepared, unnamed))
 }

@@ -8,7 +8,7 @@ use crate::rooms::EventRooms;
 use crate::told::told_twice;
 use bq_cells::{NumberedCpu, Record, UnderLock, hold_calls};
 use bq_disc::RunQueue;
-use bq_history::{Draft, Receipt, look_at_both};
+use bq_history::{CommitDraft, Receipt, look_at_both};
 use bq_parts::Event;
 use bq_seats::Counting;
 use bq_tie::Naming;
@@ -64,7 +64,7 @@ impl<Q: RunQueue + Drop, N: Naming + Counting> Recorder<Q, N> {
             journal,
             &mut place.cell,
             &mut source.cell,
-            Draft {
+            CommitDraft {
                 room: rooms.record,
                 logged,
                 told,

@@ -6,9 +6,9 @@ ghost use Rattle.bq_cells.specs.Parts.{told_calls};
 use crate::recorder::{Recorder, WorkingSeat};
 use crate::rooms::EventRooms;
 use crate::told::{both_records, event_twice, quiet_twice, told_twice};
-use bq_cells::{Answer, NumberedCpu, NumberedInbox, OneLobby, Record, UnderLock, hold_calls};
+use bq_cells::{NumberedCpu, NumberedInbox, OneLobby, PackedAnswer, Record, UnderLock, hold_calls};
 use bq_disc::RunQueue;
-use bq_history::{Draft, Receipt, Room, look_at_both};
+use bq_history::{CommitDraft, Receipt, Room, look_at_both};
 use bq_parts::{Event, Reply};
 use bq_seats::Counting;
 use bq_tie::Naming;
@@ -46,8 +46,8 @@ impl<Q: RunQueue + Drop, N: Naming + Counting> Recorder<Q, N> {
         };
         let events = event_twice(Event::Tick { processor, now });
         let answers = (
-            Answer::ticked(run, by, steps),
-            Answer::ticked(run, by, steps),
+            PackedAnswer::ticked(run, by, steps),
+            PackedAnswer::ticked(run, by, steps),
         );
         let calls = hold_calls(rooms.calls, content.scratch.calls());
         let (logged, told) = both_records(events, answers, calls);
@@ -57,7 +57,7 @@ impl<Q: RunQueue + Drop, N: Naming + Counting> Recorder<Q, N> {
             &self.history,
             journal,
             &mut place.cell,
-            Draft {
+            CommitDraft {
                 room: rooms.record,
                 logged,
                 told,
@@ -107,7 +107,7 @@ impl<Q: RunQueue + Drop, N: Naming + Counting> Recorder<Q, N> {
             journal,
             &mut place.cell,
             &mut inbox.cell,
-            Draft {
+            CommitDraft {
                 room: rooms.record,
                 logged,
                 told,
@@ -148,7 +148,7 @@ impl<Q: RunQueue + Drop, N: Naming + Counting> Recorder<Q, N> {
             journal,
             &mut place.cell,
             &mut lobby.cell,
-            Draft {
+            CommitDraft {
                 room,
                 logged,
                 told,

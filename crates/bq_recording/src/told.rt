@@ -3,14 +3,14 @@ ghost use Rattle.std.specs.Prelude.{◌≡◌, [], false};
 ghost use Rattle.bq_cells.specs.Brief.{has_loads};
 ghost use Rattle.bq_cells.specs.Events.{CarriesPolicy};
 
-use bq_cells::{Answer, Calls, Record, event_again};
+use bq_cells::{Calls, PackedAnswer, Record, event_again};
 use bq_parts::{Event, Refusal, Reply};
 
 /// Both records of an event, from what each of them tells.
 #[inline(always)]
 pub(crate) fn both_records(
     events: (Event, Event),
-    answers: (Answer, Answer),
+    answers: (PackedAnswer, PackedAnswer),
     calls: (Calls, Calls),
 ) -> (Record, Record)
     ensures logged { result.0 ≡ record { event = events.0; reply = answers.0; calls = calls.0 } }
@@ -44,12 +44,12 @@ pub(crate) fn event_twice(event: Event) -> (Event, Event)
 
 /// An answer without loads, for both records.
 #[inline(always)]
-pub(crate) fn answer_twice(answer: &Result<Reply, Refusal>) -> (Answer, Answer)
+pub(crate) fn answer_twice(answer: &Result<Reply, Refusal>) -> (PackedAnswer, PackedAnswer)
     requires { has_loads answer.now ≡ false }
     ensures logged { result.0 ≡ answer.now }
     ensures entry { result.1 ≡ answer.now }
 {
-    (Answer::of(answer), Answer::of(answer))
+    (PackedAnswer::of(answer), PackedAnswer::of(answer))
 }
 
 /// No calls of counters, for both records.

@@ -14,9 +14,9 @@ ghost use Rattle.bq_recording.specs.Placing.{IsPlaced};
 use crate::recorder::{CpuCell, Recorder, WorkingSeat, need_own};
 use crate::rooms::{BeginRooms, EventRooms};
 use crate::told::{both_records, event_twice, no_calls, told_twice};
-use bq_cells::{Answer, NumberedCpu, NumberedInbox, OneLobby, Record, UnderLock, hold_calls};
+use bq_cells::{NumberedCpu, NumberedInbox, OneLobby, PackedAnswer, Record, UnderLock, hold_calls};
 use bq_disc::RunQueue;
-use bq_history::{Draft, Receipt};
+use bq_history::{CommitDraft, Receipt};
 use bq_parts::{Event, Placement, Reply};
 use bq_seats::Counting;
 use bq_tie::Naming;
@@ -70,8 +70,8 @@ impl<Q: RunQueue + Drop, N: Naming + Counting> Recorder<Q, N> {
             .begin_wake(&mut lobby.cell.content.state, task, &journal.kept().loads);
         let events = event_twice(Event::BeginWake { processor, task });
         let answers = (
-            Answer::with_room(&reply, rooms.loads.for_record),
-            Answer::with_room(&reply, rooms.loads.for_receipt),
+            PackedAnswer::with_room(&reply, rooms.loads.for_record),
+            PackedAnswer::with_room(&reply, rooms.loads.for_receipt),
         );
         let (logged, told) = both_records(events, answers, no_calls());
         working.commit_two(
@@ -79,7 +79,7 @@ impl<Q: RunQueue + Drop, N: Naming + Counting> Recorder<Q, N> {
             journal,
             cell,
             &mut lobby.cell,
-            Draft {
+            CommitDraft {
                 room: rooms.record,
                 logged,
                 told,
@@ -145,7 +145,7 @@ impl<Q: RunQueue + Drop, N: Naming + Counting> Recorder<Q, N> {
             journal,
             cell,
             &mut inbox.cell,
-            Draft {
+            CommitDraft {
                 room: rooms.record,
                 logged,
                 told,

@@ -25,12 +25,12 @@ impl Counting for Brand {
 
 /// An account of the counters that `N` names. It has no bytes.
 #[derive(Drop)]
-pub struct Tally<N: Counting> {
+pub struct CounterTally<N: Counting> {
     pub(crate) seat: Seat<(), Account>,
     pub(crate) of: PhantomData<N>,
 }
 
-impl<N: Counting> Model for Tally<N> {
+impl<N: Counting> Model for CounterTally<N> {
     ghost use Rattle.std.specs.Prelude.{◌≡◌, []};
     ghost use Rattle.bq_seats.specs.declared.account.Account.{Account as AccountOf};
 

@@ -4,7 +4,8 @@ ghost use Rattle.bq_bpf.specs.declared.board.Call.TheVariants.{Add, Read};
 ghost use Rattle.bq_seats.specs.Sums.{AreSumsOf, both, calling, opened, spent, without_one};
 
 use crate::account::{
-    Account, Adding, Apart, Blank, Counting, Looking, Reading, Summed, Tally, Together, Whole,
+    Account, Adding, Apart, Blank, CounterTally, Counting, Looking, Reading, Summed, Together,
+    Whole,
 };
 use atomic_table::{Seat, Table};
 use bq_bpf::board::COUNTERS;
@@ -13,12 +14,12 @@ use std::marker::{Model, PhantomData};
 
 /// Counters that have no name yet. Contracts see them as the table's name and the number of seats.
 #[derive(Drop)]
-pub struct Unnamed {
+pub struct UnnamedCounters {
     table: Table<(), Account, u64, Summed, Global>,
     seat: Seat<(), Account>,
 }
 
-impl Model for Unnamed {
+impl Model for UnnamedCounters {
     ghost use Rattle.std.specs.Prelude.{◌≡◌, ℕ, []};
     ghost use Rattle.atomic_table.specs.Seated.{TableId};
     ghost use Rattle.bq_seats.specs.Sums.{opened};
@@ -47,27 +48,27 @@ impl<N: Counting> Model for Counters<N> {
     ghost invariant = { λ c. (c.table.shared.table_id ≡ N.counters) × (c.table.shared.table_id.words ≡ 64) × (c.table.shared.table_id.slots ≡ 0) };
 }
 
-impl Unnamed {
+impl UnnamedCounters {
     /// All counters are 0.
-    pub fn new(alloc: Global, seats: u64) -> Result<Unnamed, AllocError>
+    pub fn new(alloc: Global, seats: u64) -> Result<UnnamedCounters, AllocError>
         ensures { IfOk result (λ u. u.1 ≡ seats) }
     {
         let (table, seat) = Table::of_words(alloc, &[0; COUNTERS], &seats)?;
-        Ok(Unnamed { table, seat })
+        Ok(UnnamedCounters { table, seat })
     }
 
     /// The counters, and the account of all seats.
-    pub fn named<N: Counting>(self) -> (Counters<N>, Tally<N>)
+    pub fn named<N: Counting>(self) -> (Counters<N>, CounterTally<N>)
         requires { self.0 ≡ N.counters }
         ensures { (result.0 ≡ self.1) × (result.1 ≡ opened self.1) }
     {
-        let Unnamed { table, seat } = self;
+        let UnnamedCounters { table, seat } = self;
         (
             Counters {
                 table,
                 of: PhantomData,
             },
-            Tally {
+            CounterTally {
                 seat,
                 of: PhantomData,
             },
@@ -77,49 +78,49 @@ impl Unnamed {
 
 impl<N: Counting> Counters<N> {
     /// An account of no seat.
-    pub fn none(&self) -> Tally<N>
+    pub fn none(&self) -> CounterTally<N>
         ensures { result ≡ spent }
     {
         let (_, seat) = self.table.shared.load_new_seat::<Blank>(0);
-        Tally {
+        CounterTally {
             seat,
             of: PhantomData,
         }
     }
 
     /// The account of one more seat.
-    pub fn part(&self, from: &mut Tally<N>) -> Tally<N>
+    pub fn part(&self, from: &mut CounterTally<N>) -> CounterTally<N>
         requires { (1 ≤ from.old.seats) × (from.old.calls ≡ []) }
         ensures { (from.new ≡ without_one from.old) × (result ≡ opened 1) }
     {
         let seat = self.table.shared.split_seat::<Apart>(&mut from.seat);
-        Tally {
+        CounterTally {
             seat,
             of: PhantomData,
         }
     }
 
     /// The whole account goes to a new tally.
-    pub fn take(&self, from: &mut Tally<N>) -> Tally<N>
+    pub fn take(&self, from: &mut CounterTally<N>) -> CounterTally<N>
         ensures { (from.new ≡ spent) × (result ≡ from.old) }
     {
         let seat = self.table.shared.split_seat::<Whole>(&mut from.seat);
-        Tally {
+        CounterTally {
             seat,
             of: PhantomData,
         }
     }
 
     /// One tally takes the account of another.
-    pub fn join(&self, to: &mut Tally<N>, other: Tally<N>)
+    pub fn join(&self, to: &mut CounterTally<N>, other: CounterTally<N>)
         ensures { to.new ≡ both to.old other }
     {
-        let Tally { seat, of: _ } = other;
+        let CounterTally { seat, of: _ } = other;
         self.table.shared.join_seat::<Together>(&mut to.seat, seat);
     }
 
     /// Adds to a counter, and answers what it was.
-    pub fn add(&self, tally: &mut Tally<N>, counter: u8, amount: u64) -> u64
+    pub fn add(&self, tally: &mut CounterTally<N>, counter: u8, amount: u64) -> u64
         requires counter { counter < 64 }
         requires seat { 1 ≤ tally.old.seats }
         ensures { tally.new ≡ calling tally.old (Add counter amount result) }
@@ -130,7 +131,7 @@ impl<N: Counting> Counters<N> {
     }
 
     /// What a counter is, told to the account.
-    pub fn read(&self, tally: &mut Tally<N>, counter: u8) -> u64
+    pub fn read(&self, tally: &mut CounterTally<N>, counter: u8) -> u64
         requires counter { counter < 64 }
         requires seat { 1 ≤ tally.old.seats }
         ensures { tally.new ≡ calling tally.old (Read counter result) }
@@ -141,7 +142,7 @@ impl<N: Counting> Counters<N> {
     }
 
     /// What a counter is.
-    pub fn counter(&self, tally: &mut Tally<N>, counter: u8) -> u64
+    pub fn counter(&self, tally: &mut CounterTally<N>, counter: u8) -> u64
         requires { counter < 64 }
         ensures { tally.new ≡ tally.old }
     {
@@ -151,12 +152,12 @@ impl<N: Counting> Counters<N> {
     }
 
     /// The counters at the end: with the account of all seats, each is the sum of the recorded adds.
-    pub fn close(self, all: Tally<N>) -> [u64; COUNTERS]
+    pub fn close(self, all: CounterTally<N>) -> [u64; COUNTERS]
         requires whole { all.seats ≡ self }
         ensures { AreSumsOf all.calls result }
     {
         let Counters { table, of: _ } = self;
-        let Tally { seat, of: _ } = all;
+        let CounterTally { seat, of: _ } = all;
         let closed = table.close_with(seat);
         let mut words = [0; COUNTERS];
         for i in 0..COUNTERS {

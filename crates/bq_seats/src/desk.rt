@@ -1,7 +1,7 @@
 //! The counters as one program sees them.
 ghost use Rattle.std.specs.Prelude.{◌≡◌, ◌≤◌};
 
-use crate::account::{Counting, Tally};
+use crate::account::{CounterTally, Counting};
 use crate::counters::Counters;
 use bq_bpf::{Board, Call};
 
@@ -9,7 +9,7 @@ use bq_bpf::{Board, Call};
 #[derive(Drop)]
 pub struct Desk<'a, N: Counting> {
     pub counters: &'a Counters<N>,
-    pub tally: Tally<N>,
+    pub tally: CounterTally<N>,
     ghost seated: { 1 ≤ tally.seats },
 }
 

@@ -22,7 +22,7 @@ use Rattle.bq_lines.specs.declared.keyword.Keyword.TheVariants as keywords
 use Rattle.bq_lines.specs.Lines.{reading_of, reading_of_words, said, size_of, installing as reads_install}
 use Rattle.bq_lines.specs.declared.command.Command.{Command}
 use Rattle.bq_lines.specs.declared.command.Command.TheVariants.{Does, Machine}
-use Rattle.bq_lines.specs.declared.command.Reading.TheVariants.{Says}
+use Rattle.bq_lines.specs.declared.command.LineReading.TheVariants.{Says}
 use Rattle.bq_simulate.specs.Spelling.{HasFittingNumbers, event_words, image_word, spaced_words}
 use Rattle.bq_simulate.specs.Laws.{CanStandInLine, asked, installing}
 use Rattle.bq_simulate.proofs.HexWordLemmas.{plain_hex, hex_not_none}

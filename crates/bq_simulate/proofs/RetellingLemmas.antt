@@ -15,8 +15,8 @@ use Rattle.bq_words.specs.declared.processor_count.ProcessorCount.{ProcessorCoun
 use Rattle.bq_lines.specs.Kept.{IsOneLine}
 use Rattle.bq_lines.specs.Lines.{reading_of}
 use Rattle.bq_lines.specs.declared.command.Command.TheVariants as asks
-use Rattle.bq_lines.specs.declared.command.Reading.{Reading}
-use Rattle.bq_lines.specs.declared.command.Reading.TheVariants as says
+use Rattle.bq_lines.specs.declared.command.LineReading.{LineReading}
+use Rattle.bq_lines.specs.declared.command.LineReading.TheVariants as says
 use Rattle.bq_insn.specs.Spelling.{spelling}
 use Rattle.bq_load.specs.Answers.{Loads}
 use Rattle.bq_load.specs.Layout.{Header, IsFramed, header_bytes}
@@ -47,7 +47,7 @@ abbrev pub after : Phase → ℕ → Progress
 after phase n = record { phase = phase; line = n; clean = true }
 
 -- a line that does no harm, by what it says
-line_says : (line text : List ℕ) (reading : Reading) (p q : Phase) (n : ℕ) → reading_of line ≡ reading → AnswersIn p reading (one_more n) text q false
+line_says : (line text : List ℕ) (reading : LineReading) (p q : Phase) (n : ℕ) → reading_of line ≡ reading → AnswersIn p reading (one_more n) text q false
     → AnswersLine (after p n) line text (after q (one_more n))
 line_says line text reading p q n is h = record {
   counted = refl;

@@ -11,7 +11,7 @@ use Rattle.bq_lines.specs.Kept.{IsOneLine}
 use Rattle.bq_lines.specs.Lines.{reading_of}
 use Rattle.bq_lines.specs.declared.command.Command.{Command}
 use Rattle.bq_lines.specs.declared.command.Command.TheVariants.{Does, Load, Machine}
-use Rattle.bq_lines.specs.declared.command.Reading.TheVariants.{Says}
+use Rattle.bq_lines.specs.declared.command.LineReading.TheVariants.{Says}
 use Rattle.bq_simulate.specs.Spelling.{HasFittingNumbers, asking_line, machine_line}
 
 -- some bytes, and no more than a line has room for

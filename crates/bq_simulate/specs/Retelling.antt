@@ -5,7 +5,7 @@ use Rattle.hex.specs.Hex.{IsBytes}
 use Rattle.bq_simulate.specs.Drives.{Drives, Starts}
 use Rattle.bq_simulate.specs.declared.driver.Driver.{Driver}
 use Rattle.bq_lines.specs.Lines.{reading_of}
-use Rattle.bq_lines.specs.declared.command.Reading.TheVariants as says
+use Rattle.bq_lines.specs.declared.command.LineReading.TheVariants as says
 use Rattle.bq_load.specs.Answers.{Loads}
 use Rattle.bq_parts.specs.declared.event.Event.{Event}
 use Rattle.bq_parts.specs.declared.event.Event.TheVariants.{Install}

@@ -19,7 +19,7 @@ use Rattle.bq_actions.specs.Soundness.{first_flaw}
 use Rattle.bq_actions.proofs.SoundLemmas.{sound-few, sound-named}
 use Rattle.bq_lines.specs.Bytes.{is_allowed}
 use Rattle.bq_lines.specs.Lines.{reading_of, reading_of_words}
-use Rattle.bq_lines.specs.declared.command.Reading.TheVariants as says
+use Rattle.bq_lines.specs.declared.command.LineReading.TheVariants as says
 use Rattle.bq_simulate.proofs.LineLawLemmas.{allowed_whole}
 use Rattle.bq_simulate.proofs.NumberWordLemmas.{plain_decimal, short_decimal}
 use Rattle.bq_simulate.proofs.PlainWordLemmas.{allowed-spaced}

@@ -8,8 +8,8 @@ use Rattle.bq_parts.specs.declared.event.Event.TheVariants.{EndWake}
 use Rattle.bq_parts.specs.declared.reply.Reply.{Reply}
 use Rattle.bq_parts.specs.declared.refusal.Refusal.{Refusal}
 use Rattle.bq_lines.specs.declared.command.Command.TheVariants.{Machine, Does, Wake, Load, Show, Counter}
-use Rattle.bq_lines.specs.declared.command.Reading.{Reading}
-use Rattle.bq_lines.specs.declared.command.Reading.TheVariants as says
+use Rattle.bq_lines.specs.declared.command.LineReading.{LineReading}
+use Rattle.bq_lines.specs.declared.command.LineReading.TheVariants as says
 use Rattle.bq_lines.proofs.KeptLemmas.{reading_heard-line}
 use Rattle.bq_trace.specs.Machines.{Driven}
 use Rattle.bq_trace.specs.Doing.{DoesAndAnswers}
@@ -67,7 +67,7 @@ counter_text n i value line true = append-nil (counter_line i value)
 counter_text n i value line false = append-nil (bad_line n)
 
 -- the texts of what comes of a line are what answers it
-pub tells_text : (p : Phase) (n : ℕ) (line : Option (List ℕ)) (r : Reading) (told : Told) (q : Phase) (bad : Bool) → Tells p n line r told q bad → Answers p r n (texts told) q bad
+pub tells_text : (p : Phase) (n : ℕ) (line : Option (List ℕ)) (r : LineReading) (told : Told) (q : Phase) (bad : Bool) → Tells p n line r told q bad → Answers p r n (texts told) q bad
 tells_text Over n line r told q bad h = (ap texts h.0, h.1, h.2)
 tells_text Waiting n line says.Skipped told q bad h = (ap texts h.0 ∙ skips_text n line, h.1, h.2)
 tells_text Waiting n line says.Bad told q bad h = (bad_text n line told h.0, h.1, h.2)

@@ -17,8 +17,8 @@ use Rattle.bq_parts.specs.declared.refusal.Refusal.TheVariants as no
 use Rattle.bq_lines.specs.Kept.{IsOneLine, StandsFor, heard}
 use Rattle.bq_lines.specs.Lines.{reading_heard}
 use Rattle.bq_lines.specs.declared.command.Command.TheVariants.{Machine, Does, Wake, Load, Show, Counter}
-use Rattle.bq_lines.specs.declared.command.Reading.{Reading}
-use Rattle.bq_lines.specs.declared.command.Reading.TheVariants as says
+use Rattle.bq_lines.specs.declared.command.LineReading.{LineReading}
+use Rattle.bq_lines.specs.declared.command.LineReading.TheVariants as says
 use Rattle.bq_trace.specs.Bare.{bare}
 use Rattle.bq_streams.specs.Counts.{one_more}
 use Rattle.bq_trace.specs.Feeding.{with_feeds}
@@ -70,7 +70,7 @@ skips n None = []
 skips n (Some line) = (n, Skipped line) ∷ []
 
 -- What comes in a phase of line n, of which so much is heard, by what it says; the phase after it; and whether it is bad.
-abbrev pub Tells : Phase → ℕ → Option (List ℕ) → Reading → Told → Phase → Bool → Type 0
+abbrev pub Tells : Phase → ℕ → Option (List ℕ) → LineReading → Told → Phase → Bool → Type 0
 Tells Over n line reading told after bad = (told ≡ []) × (after ≡ Over) × (bad ≡ false)
 Tells Waiting n line says.Skipped told after bad = (told ≡ skips n line) × (after ≡ Waiting) × (bad ≡ false)
 Tells Waiting n line (says.Says (Machine rule size)) told after bad =

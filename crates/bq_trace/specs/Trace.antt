@@ -12,8 +12,8 @@ use Rattle.bq_streams.specs.Writing.{AppendsPart}
 use Rattle.bq_lines.specs.Lines.{reading_of}
 use Rattle.bq_trace.specs.Texts.{bad_line, show_line, counter_line}
 use Rattle.bq_lines.specs.declared.command.Command.TheVariants.{Machine, Does, Wake, Load, Show, Counter}
-use Rattle.bq_lines.specs.declared.command.Reading.{Reading}
-use Rattle.bq_lines.specs.declared.command.Reading.TheVariants.{Skipped, Bad, Says}
+use Rattle.bq_lines.specs.declared.command.LineReading.{LineReading}
+use Rattle.bq_lines.specs.declared.command.LineReading.TheVariants.{Skipped, Bad, Says}
 use Rattle.bq_trace.specs.declared.progress.Phase.{Phase}
 use Rattle.bq_trace.specs.declared.progress.Phase.TheVariants.{Waiting, Over, Running}
 use Rattle.bq_trace.specs.declared.progress.Progress.{Progress}
@@ -34,7 +34,7 @@ pub record Wakes (m : Driven) (c task now : ℕ) (text : List ℕ) (n : Driven) 
   pub whole : text ≡ first ++ more
 
 -- What the line of this number writes in a phase, the phase after it, and whether it was called bad.
-abbrev pub Answers : Phase → Reading → ℕ → List ℕ → Phase → Bool → Type 0
+abbrev pub Answers : Phase → LineReading → ℕ → List ℕ → Phase → Bool → Type 0
 Answers Over reading n text after bad = (text ≡ []) × (after ≡ Over) × (bad ≡ false)
 Answers Waiting Skipped n text after bad = (text ≡ []) × (after ≡ Waiting) × (bad ≡ false)
 Answers Waiting (Says (Machine rule size)) n text after bad = (text ≡ []) × (after ≡ Running (opening_machine rule size)) × (bad ≡ false)
@@ -51,7 +51,7 @@ Answers (Running m) (Says (Machine rule size)) n text after bad = (text ≡ bad_
 Answers (Running m) Bad n text after bad = (text ≡ bad_line n) × (after ≡ Running m) × (bad ≡ true)
 
 -- One line after p, by what it says: what is written, and what holds then.
-pub record AnswersReading (p : Progress) (reading : Reading) (text : List ℕ) (q : Progress) : Type 0 where
+pub record AnswersReading (p : Progress) (reading : LineReading) (text : List ℕ) (q : Progress) : Type 0 where
   pub counted : q.line ≡ one_more p.line
   pub bad : Bool
   pub answered : Answers p.phase reading q.line text q.phase bad

@@ -15,7 +15,7 @@ use crate::sink::Sink;
 use crate::telling;
 use bq_bpf::board::COUNTERS;
 use bq_core::{Event, Refusal, Reply};
-use bq_lines::{Command, Reading, read_heard};
+use bq_lines::{Command, LineReading, read_heard};
 use std::alloc::{AllocError, Global};
 
 /// Whether memory was wanted for an event.
@@ -75,22 +75,22 @@ impl AnyCore {
         alloc: Global,
         number: u64,
         line: Option<&[u8]>,
-        reading: Reading<'_>,
+        reading: LineReading<'_>,
         sink: &mut S,
     ) -> Result<bool, AllocError>
         ensures { IfOk result (λ bad. Gets S.takes sink.old sink.new
             (λ told. Tells (Phase.Running self.old) number (option_map (λ (l : Bor (List ℕ)). l.now) line.entry) reading.entry told (Phase.Running self.new) bad)) }
     {
         match reading {
-            Reading::Skipped => {
+            LineReading::Skipped => {
                 telling::skip(number, line, sink)?;
                 Ok(false)
             }
-            Reading::Says(Command::Does(event)) => {
+            LineReading::Says(Command::Does(event)) => {
                 self.happen(alloc, number, event, sink)?;
                 Ok(false)
             }
-            Reading::Says(
+            LineReading::Says(
                 Command::Wake {
                     processor,
                     task,
@@ -100,7 +100,7 @@ impl AnyCore {
                 self.wake(alloc, number, processor, task, now, sink)?;
                 Ok(false)
             }
-            Reading::Says(
+            LineReading::Says(
                 Command::Load {
                     processor,
                     hook,
@@ -117,7 +117,7 @@ impl AnyCore {
                 self.install_image(alloc, number, installation, sink)?;
                 Ok(false)
             }
-            Reading::Says(Command::Counter { counter }) => {
+            LineReading::Says(Command::Counter { counter }) => {
                 if usize::from(counter) >= COUNTERS {
                     telling::call_bad(number, line, sink)?;
                     return Ok(true);
@@ -125,11 +125,11 @@ impl AnyCore {
                 telling::count(number, counter, self.counter(counter), sink)?;
                 Ok(false)
             }
-            Reading::Says(Command::Show { processor }) => {
+            LineReading::Says(Command::Show { processor }) => {
                 telling::show(number, processor, self, sink)?;
                 Ok(false)
             }
-            Reading::Bad | Reading::Says(Command::Machine { .. }) => {
+            LineReading::Bad | LineReading::Says(Command::Machine { .. }) => {
                 telling::call_bad(number, line, sink)?;
                 Ok(true)
             }
@@ -154,18 +154,18 @@ fn first_phase<S: Sink>(
     alloc: Global,
     number: u64,
     line: Option<&[u8]>,
-    reading: Reading<'_>,
+    reading: LineReading<'_>,
     sink: &mut S,
 ) -> Result<(Phase, bool), AllocError>
     ensures { IfOk result (λ first. Gets S.takes sink.old sink.new
         (λ told. Tells Phase.Waiting number (option_map (λ (l : Bor (List ℕ)). l.now) line.entry) reading.entry told first.0 first.1)) }
 {
     match reading {
-        Reading::Skipped => {
+        LineReading::Skipped => {
             telling::skip(number, line, sink)?;
             Ok((Phase::Waiting, false))
         }
-        Reading::Says(Command::Machine { rule, size }) => {
+        LineReading::Says(Command::Machine { rule, size }) => {
             let machine = AnyCore::new(alloc, rule, size)?;
             telling::open(number, rule, size, sink)?;
             Ok((Phase::Running(machine), false))
@@ -187,7 +187,7 @@ impl Phase {
         alloc: Global,
         number: u64,
         line: Option<&[u8]>,
-        reading: Reading<'_>,
+        reading: LineReading<'_>,
         sink: &mut S,
     ) -> Result<bool, AllocError>
         ensures { IfOk result (λ bad. Gets S.takes sink.old sink.new
@@ -204,7 +204,7 @@ impl Phase {
         alloc: Global,
         number: u64,
         line: Option<&[u8]>,
-        reading: Reading<'_>,
+        reading: LineReading<'_>,
         sink: &mut S,
     ) -> Result<bool, AllocError>
         ensures { IfOk result (λ bad. Gets S.takes sink.old sink.new

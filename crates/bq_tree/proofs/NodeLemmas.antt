@@ -5,12 +5,12 @@ use Rattle.bq_disc.specs.Totals.{IsBounded}
 use Rattle.bq_disc.specs.Rising.{IsRising}
 use Rattle.bq_tree.specs.Trees.{Knowledge, left_height, right_height, IsTree, IsFork, in_order, in_order_behind, IsTreeBehind, height_of, height_behind, DifferByAtMost, hanging}
 use Rattle.bq_tree.proofs.OrderLemmas.{IsRising-left, IsRising-right}
-use Rattle.bq_disc.specs.declared.due.Due.{Due}
+use Rattle.bq_disc.specs.declared.due.Deadline.{Deadline}
 use Rattle.bq_disc.specs.declared.totals.Totals.{Totals}
 use Rattle.bq_disc.specs.declared.node.Node.{Node, out-Node, roll-Node, Node', None', Some'}
 
 -- a node of these fields
-abbrev pub made : Task → Option (Box Node Global) → Option (Box Node Global) → Due → Totals → ℕ → Node
+abbrev pub made : Task → Option (Box Node Global) → Option (Box Node Global) → Deadline → Totals → ℕ → Node
 made entity left right due totals height = roll-Node (record { entity = entity; left = left; right = right; due = due; totals = totals; height = height })
 
 -- a root with another left side
@@ -22,7 +22,7 @@ abbrev pub on_right : Node → Option (Box Node Global) → Node
 on_right k new = made (out-Node k).entity (out-Node k).left new (out-Node k).due (out-Node k).totals (out-Node k).height
 
 -- the tasks of a node in order are those of its left side, its own, and those of its right side
-pub in_order-made : (e : Task) (l r : Option (Box Node Global)) (d : Due) (s : Totals) (h : ℕ) → in_order (made e l r d s h) ≡ in_order_behind l ++ e ∷ in_order_behind r
+pub in_order-made : (e : Task) (l r : Option (Box Node Global)) (d : Deadline) (s : Totals) (h : ℕ) → in_order (made e l r d s h) ≡ in_order_behind l ++ e ∷ in_order_behind r
 unfolding roll-Node denote.Hole.Carrier.roll
 in_order-made e None None d s h = refl
 in_order-made e None (Some r) d s h = refl
@@ -30,7 +30,7 @@ in_order-made e (Some l) None d s h = refl
 in_order-made e (Some l) (Some r) d s h = refl
 
 -- the height that a node has in its field is the one that it was made with
-pub height-made : (e : Task) (l r : Option (Box Node Global)) (d : Due) (s : Totals) (h : ℕ) → (out-Node (made e l r d s h)).height ≡ h
+pub height-made : (e : Task) (l r : Option (Box Node Global)) (d : Deadline) (s : Totals) (h : ℕ) → (out-Node (made e l r d s h)).height ≡ h
 unfolding out-Node roll-Node denote.Hole.Carrier.out denote.Hole.Carrier.roll
 height-made e None None d s h = refl
 height-made e None (Some r) d s h = refl
@@ -38,7 +38,7 @@ height-made e (Some l) None d s h = refl
 height-made e (Some l) (Some r) d s h = refl
 
 -- the left height of a node is that of the left side that it was made with
-pub left_height-made : (e : Task) (l r : Option (Box Node Global)) (d : Due) (s : Totals) (h : ℕ) → left_height (made e l r d s h) ≡ height_behind l
+pub left_height-made : (e : Task) (l r : Option (Box Node Global)) (d : Deadline) (s : Totals) (h : ℕ) → left_height (made e l r d s h) ≡ height_behind l
 unfolding roll-Node denote.Hole.Carrier.roll
 left_height-made e None None d s h = refl
 left_height-made e None (Some r) d s h = refl
@@ -46,7 +46,7 @@ left_height-made e (Some l) None d s h = refl
 left_height-made e (Some l) (Some r) d s h = refl
 
 -- the right height of a node is that of the right side that it was made with
-pub right_height-made : (e : Task) (l r : Option (Box Node Global)) (d : Due) (s : Totals) (h : ℕ) → right_height (made e l r d s h) ≡ height_behind r
+pub right_height-made : (e : Task) (l r : Option (Box Node Global)) (d : Deadline) (s : Totals) (h : ℕ) → right_height (made e l r d s h) ≡ height_behind r
 unfolding roll-Node denote.Hole.Carrier.roll
 right_height-made e None None d s h = refl
 right_height-made e None (Some r) d s h = refl
@@ -54,7 +54,7 @@ right_height-made e (Some l) None d s h = refl
 right_height-made e (Some l) (Some r) d s h = refl
 
 -- from a node hang the tasks of its left side, its own, and those of its right side
-pub hanging-made : (e : Task) (l r : Option (Box Node Global)) (d : Due) (s : Totals) (h : ℕ) → hanging (made e l r d s h) ≡ in_order_behind l ++ e ∷ in_order_behind r
+pub hanging-made : (e : Task) (l r : Option (Box Node Global)) (d : Deadline) (s : Totals) (h : ℕ) → hanging (made e l r d s h) ≡ in_order_behind l ++ e ∷ in_order_behind r
 unfolding out-Node roll-Node denote.Hole.Carrier.out denote.Hole.Carrier.roll
 hanging-made e None None d s h = refl
 hanging-made e None (Some r) d s h = refl
@@ -62,7 +62,7 @@ hanging-made e (Some l) None d s h = refl
 hanging-made e (Some l) (Some r) d s h = refl
 
 -- a node is a fork where its sides are trees and it knows what hangs from it
-pub IsFork-made : (knows : Knowledge) (e : Task) (l r : Option (Box Node Global)) (d : Due) (s : Totals) (h : ℕ) → IsTreeBehind knows l → IsTreeBehind knows r → IsBounded e → knows (in_order_behind l ++ e ∷ in_order_behind r) d s → IsFork knows (made e l r d s h)
+pub IsFork-made : (knows : Knowledge) (e : Task) (l r : Option (Box Node Global)) (d : Deadline) (s : Totals) (h : ℕ) → IsTreeBehind knows l → IsTreeBehind knows r → IsBounded e → knows (in_order_behind l ++ e ∷ in_order_behind r) d s → IsFork knows (made e l r d s h)
 unfolding roll-Node denote.Hole.Carrier.roll
 IsFork-made knows e None None d s h a b c k = (a, b, c, k)
 IsFork-made knows e None (Some r) d s h a b c k = (a, b, c, k)
@@ -70,7 +70,7 @@ IsFork-made knows e (Some l) None d s h a b c k = (a, b, c, k)
 IsFork-made knows e (Some l) (Some r) d s h a b c k = (a, b, c, k)
 
 -- and a tree where its height is right and its sides are balanced, too
-pub IsTree-fork : (knows : Knowledge) (e : Task) (l r : Option (Box Node Global)) (d : Due) (s : Totals) (h : ℕ) → IsFork knows (made e l r d s h) → DifferByAtMost 1 (height_behind l) (height_behind r) → h ≡ max (height_behind l) (height_behind r) + 1 → IsTree knows (made e l r d s h)
+pub IsTree-fork : (knows : Knowledge) (e : Task) (l r : Option (Box Node Global)) (d : Deadline) (s : Totals) (h : ℕ) → IsFork knows (made e l r d s h) → DifferByAtMost 1 (height_behind l) (height_behind r) → h ≡ max (height_behind l) (height_behind r) + 1 → IsTree knows (made e l r d s h)
 unfolding roll-Node denote.Hole.Carrier.roll
 IsTree-fork knows e None None d s h f balanced high = (f.0, f.1, balanced, high, f.2, f.3)
 IsTree-fork knows e None (Some r) d s h f balanced high = (f.0, f.1, balanced, high, f.2, f.3)

@@ -6,7 +6,7 @@ use Rattle.bq_disc.specs.Tasks.{Task, place, runs_before}
 use Rattle.bq_disc.specs.Totals.{total_weight, weighted_sum, sums_of, added, joined}
 use Rattle.bq_disc.specs.Dues.{due_of, first_due, is_earlier, earlier_of, earliest_of, sooner_of}
 use Rattle.bq_disc.proofs.DueLemmas.{first_due-cons}
-use Rattle.bq_disc.specs.declared.due.Due.{Due}
+use Rattle.bq_disc.specs.declared.due.Deadline.{Deadline}
 use Rattle.bq_disc.specs.declared.totals.Totals.{Totals}
 
 -- two lists joined weigh what both weigh together
@@ -27,13 +27,13 @@ sums_of-append xs ys =
     let c = length-append xs ys in
     cc
 
-is_earlier-trans : (x y z : Due) → is_earlier y x ≡ true → is_earlier z y ≡ true → is_earlier z x ≡ true
+is_earlier-trans : (x y z : Deadline) → is_earlier y x ≡ true → is_earlier z y ≡ true → is_earlier z x ≡ true
 is_earlier-trans x y z p q = grind (arith, nat_tests)
 
-is_earlier-trans_not : (x y z : Due) → is_earlier y x ≡ false → is_earlier z y ≡ false → is_earlier z x ≡ false
+is_earlier-trans_not : (x y z : Deadline) → is_earlier y x ≡ false → is_earlier z y ≡ false → is_earlier z x ≡ false
 is_earlier-trans_not x y z p q = grind (arith, nat_tests)
 
-assoc_by_tests : (x y z : Due) (b c d : Bool) → is_earlier y x ≡ b → is_earlier z y ≡ c → is_earlier z x ≡ d → earlier_of (earlier_of x y) z ≡ earlier_of x (earlier_of y z)
+assoc_by_tests : (x y z : Deadline) (b c d : Bool) → is_earlier y x ≡ b → is_earlier z y ≡ c → is_earlier z x ≡ d → earlier_of (earlier_of x y) z ≡ earlier_of x (earlier_of y z)
 assoc_by_tests x y z true true true p q r = rw (p, q, r) refl
 assoc_by_tests x y z true true false p q r = let t = is_earlier-trans x y z p q in cc
 assoc_by_tests x y z true false d p q r = rw (p, q, p) refl
@@ -42,32 +42,32 @@ assoc_by_tests x y z false false true p q r = let t = is_earlier-trans_not x y z
 assoc_by_tests x y z false false false p q r = rw (p, q, r, p) refl
 
 -- the earliest of three is the same whichever two are compared first
-pub earlier_of-assoc : (x y z : Due) → earlier_of (earlier_of x y) z ≡ earlier_of x (earlier_of y z)
+pub earlier_of-assoc : (x y z : Deadline) → earlier_of (earlier_of x y) z ≡ earlier_of x (earlier_of y z)
 earlier_of-assoc x y z = assoc_by_tests x y z (is_earlier y x) (is_earlier z y) (is_earlier z x) refl refl refl
 
 same_number : (a b : ℕ) → nat_lt a b ≡ false → nat_lt b a ≡ false → a ≡ b
 same_number a b p q = grind (arith, nat_tests)
 
-same_due : (x y : Due) → is_earlier x y ≡ false → is_earlier y x ≡ false → x ≡ y
+same_due : (x y : Deadline) → is_earlier x y ≡ false → is_earlier y x ≡ false → x ≡ y
 same_due x y p q =
     let d : x.deadline ≡ y.deadline = grind (arith, nat_tests) in
     let i : x.id ≡ y.id = grind (arith, nat_tests) in
-    ap (λ n. let r : Due = record { deadline = n; id = x.id } in r) d ∙ ap (λ n. let r : Due = record { deadline = y.deadline; id = n } in r) i
+    ap (λ n. let r : Deadline = record { deadline = n; id = x.id } in r) d ∙ ap (λ n. let r : Deadline = record { deadline = y.deadline; id = n } in r) i
 
-not_both : (x y : Due) → is_earlier x y ≡ true → is_earlier y x ≡ true → ⊥
+not_both : (x y : Deadline) → is_earlier x y ≡ true → is_earlier y x ≡ true → ⊥
 not_both x y p q = grind (arith, nat_tests)
 
-comm_by_tests : (x y : Due) (b c : Bool) → is_earlier y x ≡ b → is_earlier x y ≡ c → earlier_of x y ≡ earlier_of y x
+comm_by_tests : (x y : Deadline) (b c : Bool) → is_earlier y x ≡ b → is_earlier x y ≡ c → earlier_of x y ≡ earlier_of y x
 comm_by_tests x y true true p q = absurd (not_both x y q p)
 comm_by_tests x y true false p q = rw (p, q) refl
 comm_by_tests x y false true p q = rw (p, q) refl
 comm_by_tests x y false false p q = rw (p, q) (same_due x y q p)
 
 -- the earlier of two is the same in either order
-pub earlier_of-comm : (x y : Due) → earlier_of x y ≡ earlier_of y x
+pub earlier_of-comm : (x y : Deadline) → earlier_of x y ≡ earlier_of y x
 earlier_of-comm x y = comm_by_tests x y (is_earlier y x) (is_earlier x y) refl refl
 
-earliest_of-sooner : (x : Due) (a b : Option Due) → earliest_of x (sooner_of a b) ≡ earliest_of (earliest_of x a) b
+earliest_of-sooner : (x : Deadline) (a b : Option Deadline) → earliest_of x (sooner_of a b) ≡ earliest_of (earliest_of x a) b
 earliest_of-sooner x None b = refl
 earliest_of-sooner x (Some y) None = refl
 earliest_of-sooner x (Some y) (Some z) = sym (earlier_of-assoc x y z)
@@ -82,7 +82,7 @@ first_due-append (x ∷ xs) ys =
     ∙ ap (λ o. sooner_of o (first_due ys)) (sym (first_due-cons x xs))
 
 -- the earliest of a node and its two sides is the same, whether the left side is compared last or right after the node
-pub sooner_of-fork : (d : Due) (a b : Option Due) → sooner_of a (Some (earliest_of d b)) ≡ Some (earliest_of (earliest_of d a) b)
+pub sooner_of-fork : (d : Deadline) (a b : Option Deadline) → sooner_of a (Some (earliest_of d b)) ≡ Some (earliest_of (earliest_of d a) b)
 sooner_of-fork d None b = refl
 sooner_of-fork d (Some x) None = ap (λ e. Some e) (earlier_of-comm x d)
 sooner_of-fork d (Some x) (Some y) = ap (λ e. Some e) (sym (earlier_of-assoc x d y) ∙ ap (λ e. earlier_of e y) (earlier_of-comm x d))
@@ -92,7 +92,7 @@ pub first_due-fork : (xs : List Task) (x : Task) (ys : List Task) → first_due 
 first_due-fork xs x ys =
     first_due-append xs (x ∷ ys) ∙ ap (λ o. sooner_of (first_due xs) o) (first_due-cons x ys) ∙ sooner_of-fork (due_of x) (first_due xs) (first_due ys)
 
-earliest_of-earlier : (x y : Due) (o : Option Due) → earlier_of x (earliest_of y o) ≡ earlier_of y (earliest_of x o)
+earliest_of-earlier : (x y : Deadline) (o : Option Deadline) → earlier_of x (earliest_of y o) ≡ earlier_of y (earliest_of x o)
 earliest_of-earlier x y None = earlier_of-comm x y
 earliest_of-earlier x y (Some z) = sym (earlier_of-assoc x y z) ∙ ap (λ e. earlier_of e z) (earlier_of-comm x y) ∙ earlier_of-assoc y x z
 
@@ -148,13 +148,13 @@ first_due-cut xs t ys =
     ∙ ap (λ o. Some (earliest_of (due_of t) o)) (sym (first_due-append xs ys))
 
 -- whether two have one deadline and one id
-abbrev pub is_same_due : Due → Due → Bool
+abbrev pub is_same_due : Deadline → Deadline → Bool
 is_same_due a b = a.deadline == b.deadline && a.id == b.id
 
-itself : (d : Due) → is_same_due d d ≡ true
+itself : (d : Deadline) → is_same_due d d ≡ true
 itself d = grind (arith, nat_tests)
 
-other_by_test : (x y d : Due) (b : Bool) → is_earlier y x ≡ b → earlier_of x y ≡ d → is_same_due d x ≡ false → y ≡ d
+other_by_test : (x y d : Deadline) (b : Bool) → is_earlier y x ≡ b → earlier_of x y ≡ d → is_same_due d x ≡ false → y ≡ d
 other_by_test x y d true e f n = let here : earlier_of x y ≡ y = rw e refl in sym here ∙ f
 other_by_test x y d false e f n =
     let here : earlier_of x y ≡ x = rw e refl in
@@ -163,7 +163,7 @@ other_by_test x y d false e f n =
     cc
 
 -- where another is the first, it stays so when one goes
-pub other_is_first : (x d : Due) (o : Option Due) → Some (earliest_of x o) ≡ Some d → is_same_due d x ≡ false → o ≡ Some d
+pub other_is_first : (x d : Deadline) (o : Option Deadline) → Some (earliest_of x o) ≡ Some d → is_same_due d x ≡ false → o ≡ Some d
 other_is_first x d None e n =
     let same : x ≡ d = cc in
     let t = ap (λ z. is_same_due d z) same ∙ itself d in

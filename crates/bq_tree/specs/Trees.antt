@@ -4,7 +4,7 @@ use Rattle.std.specs.declared.boxed.Box.{Box}
 use Rattle.std.specs.declared.alloc.Global.{Global}
 use Rattle.bq_disc.specs.Tasks.{Task, place}
 use Rattle.bq_disc.specs.Totals.{IsBounded}
-use Rattle.bq_disc.specs.declared.due.Due.{Due}
+use Rattle.bq_disc.specs.declared.due.Deadline.{Deadline}
 use Rattle.bq_disc.specs.declared.totals.Totals.{Totals}
 use Rattle.bq_disc.specs.declared.node.Node.{Node, out-Node, Node', Held-Node-left, None', Some'}
 
@@ -30,7 +30,7 @@ DifferByAtMost by l r = (l ≤ r + by) × (r ≤ l + by)
 
 -- what a node is to know of the tasks that hang from it, by the due task and the totals that it keeps
 abbrev pub Knowledge : Type 1
-Knowledge = List Task → Due → Totals → Type 0
+Knowledge = List Task → Deadline → Totals → Type 0
 
 abbrev mutual
   -- every node knows its height, and what it is to know of all that hang from it; and its sides differ by at most one in

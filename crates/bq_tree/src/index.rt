@@ -11,7 +11,7 @@ use crate::summary::Summary;
 use crate::{balance, walks};
 use bq_disc::limits::TASKS;
 use bq_disc::node::Link;
-use bq_disc::{Due, Movable, Node, Timeline, Totals};
+use bq_disc::{Deadline, Movable, Node, Timeline, Totals};
 use std::marker::{Model, PhantomData};
 
 /// The ids whose times stand in the table: all.
@@ -128,7 +128,7 @@ impl<S: Summary> Timeline for Tree<S> {
         S::totals(&self.root)
     }
 
-    fn earliest_at_most_mean(&self, weight: u64, moment: u128) -> Option<Due> {
+    fn earliest_at_most_mean(&self, weight: u64, moment: u128) -> Option<Deadline> {
         S::earliest_at_most_mean(&self.root, weight, moment)
     }
 }

@@ -5,7 +5,7 @@ ghost use Rattle.bq_disc.specs.Chains.{task_of, IsLone};
 ghost use Rattle.bq_disc.specs.Totals.{sums_of, added, HasBounds, IsBounded, is_at_most_mean};
 ghost use Rattle.bq_disc.specs.Dues.{due_of, first_due, earlier_of};
 ghost use Rattle.bq_disc.specs.declared.node.Node.{out-Node};
-ghost use Rattle.bq_disc.specs.declared.due.Due.{Due};
+ghost use Rattle.bq_disc.specs.declared.due.Deadline.{Deadline};
 ghost use Rattle.bq_disc.specs.declared.totals.Totals.{Totals};
 ghost use Rattle.bq_disc.specs.Rising.{IsRising};
 ghost use Rattle.bq_tree.specs.Trees.{in_order, IsTree, IsTreeBehind, in_order_behind, CountsIn, StillCounts, KeepsSides, hanging};
@@ -13,12 +13,12 @@ ghost use Rattle.bq_tree.specs.Knowing.{knows_sums, knows_nothing};
 
 use crate::walks;
 use bq_disc::node::Link;
-use bq_disc::{Due, Entity, Node, Totals};
+use bq_disc::{Deadline, Entity, Node, Totals};
 
 /// What each node of a tree is to know of all the tasks that hang from it, and how that changes with them.
 pub trait Summary {
     /// What a node knows of some tasks by the due task and the totals that it keeps.
-    ghost knows: { List Task → Due → Totals → Type 0 };
+    ghost knows: { List Task → Deadline → Totals → Type 0 };
 
     /// A lone node learns of its own task and of two trees that are to be its sides.
     fn gather(node: &mut Node, left: &Link, right: &Link)
@@ -60,7 +60,7 @@ pub trait Summary {
         ensures bounds { HasBounds result };
 
     /// When the first is due of a tree's tasks that are at most a mean.
-    fn earliest_at_most_mean(link: &Link, weight: u64, moment: u128) -> Option<Due>
+    fn earliest_at_most_mean(link: &Link, weight: u64, moment: u128) -> Option<Deadline>
         requires tree { IsTreeBehind knows link.now }
         requires rising { IsRising (in_order_behind link.now) }
         ensures { result ≡ first_due (filter (is_at_most_mean weight moment) (in_order_behind link.now)) };
@@ -99,7 +99,7 @@ impl Summary for Sums {
         totals(link)
     }
 
-    fn earliest_at_most_mean(link: &Link, weight: u64, moment: u128) -> Option<Due> {
+    fn earliest_at_most_mean(link: &Link, weight: u64, moment: u128) -> Option<Deadline> {
         walks::earliest_from(link, weight, moment, None)
     }
 }
@@ -119,13 +119,13 @@ impl Summary for NoSums {
         walks::totals_of_all(link)
     }
 
-    fn earliest_at_most_mean(link: &Link, weight: u64, moment: u128) -> Option<Due> {
+    fn earliest_at_most_mean(link: &Link, weight: u64, moment: u128) -> Option<Deadline> {
         walks::earliest_of_all(link, weight, moment)
     }
 }
 
 /// When the first task of a tree is due.
-pub(crate) fn due(link: &Link) -> Option<Due>
+pub(crate) fn due(link: &Link) -> Option<Deadline>
     requires { IsTreeBehind knows_sums link.now }
     ensures { result ≡ first_due (in_order_behind link.now) }
 {
@@ -150,7 +150,7 @@ fn totals(link: &Link) -> Totals
 
 /// When the first is due of a node's task and of two trees.
 #[tactic(auto, using(crate::proofs::TotalsLemmas::totals_facts))]
-fn first_of(node: &Node, left: &Link, right: &Link) -> Due
+fn first_of(node: &Node, left: &Link, right: &Link) -> Deadline
     requires left { IsTreeBehind knows_sums left.now }
     requires right { IsTreeBehind knows_sums right.now }
     ensures { first_due (in_order_behind left.now ++ task_of node.now ∷ in_order_behind right.now) ≡ Some result }
@@ -172,7 +172,7 @@ fn totals_of(node: &Node, left: &Link, right: &Link) -> Totals
 }
 
 /// Whether it is the entity that is due then.
-fn is_due(due: &Due, entity: &Entity) -> bool
+fn is_due(due: &Deadline, entity: &Entity) -> bool
     ensures { result ≡ (due.now.deadline == entity.now.deadline && due.now.id == entity.now.id) }
 {
     due.deadline == entity.deadline() && due.id == entity.id()

@@ -15,7 +15,7 @@ ghost use Rattle.bq_disc.specs.Dues.{first_due, sooner_of};
 use crate::edits::{is_after, is_at};
 use crate::summary::due;
 use bq_disc::node::Link;
-use bq_disc::{Due, Movable, Node, Totals};
+use bq_disc::{Deadline, Movable, Node, Totals};
 
 /// The two sides of a node.
 fn sides(node: &Node) -> (&Link, &Link)
@@ -105,8 +105,8 @@ pub(crate) fn earliest_from(
     link: &Link,
     weight: u64,
     moment: u128,
-    found: Option<Due>,
-) -> Option<Due>
+    found: Option<Deadline>,
+) -> Option<Deadline>
     requires tree { IsTreeBehind knows_sums link.now }
     requires rising { IsRising (in_order_behind link.now) }
     ensures { result ≡ sooner_of found (first_due (filter (is_at_most_mean weight moment) (in_order_behind link.now))) }
@@ -155,7 +155,7 @@ pub(crate) fn totals_of_all(link: &Link) -> Totals
 }
 
 /// When the first is due of a tree's tasks that are at most a mean, where no node knows.
-pub(crate) fn earliest_of_all(link: &Link, weight: u64, moment: u128) -> Option<Due>
+pub(crate) fn earliest_of_all(link: &Link, weight: u64, moment: u128) -> Option<Deadline>
     requires { IsRising (in_order_behind link.now) }
     ensures { result ≡ first_due (filter (is_at_most_mean weight moment) (in_order_behind link.now)) }
 {

@@ -2,14 +2,14 @@
 use Rattle.std.specs.Prelude.{◌≡◌}
 use Rattle.bq_insn.specs.declared.Insn.{Insn}
 use Rattle.bq_transfer.specs.Doubts.{MayDoubt}
-use Rattle.bq_verify.specs.declared.stop.Stop.TheVariants as stop
-use Rattle.bq_verify.specs.declared.stop.Stop.TheVariants.{Doubted}
-use Rattle.bq_verify.specs.declared.stop.Stop.{Stop}
+use Rattle.bq_verify.specs.declared.stop.PassStop.TheVariants as stop
+use Rattle.bq_verify.specs.declared.stop.PassStop.TheVariants.{Doubted}
+use Rattle.bq_verify.specs.declared.stop.PassStop.{PassStop}
 
-abbrev pub IsWantOfMemory : Stop → Type 0
+abbrev pub IsWantOfMemory : PassStop → Type 0
 IsWantOfMemory reason = reason ≡ stop.OutOfMemory
 
 -- the pass stops at an instruction for what is not shown of it, or for want of memory
-abbrev pub MayStop : Stop → Insn → Type 0
+abbrev pub MayStop : PassStop → Insn → Type 0
 MayStop (Doubted doubt) insn = MayDoubt doubt insn
 MayStop stop.OutOfMemory insn = Unit {0}

@@ -15,7 +15,7 @@ ghost use Rattle.bq_states.specs.Told.{IsLasting};
 ghost use Rattle.bq_states.specs.AbstractStates.{Contains};
 ghost use Rattle.bq_verify.specs.Control.{Goes, IsKnown, IsOnSide, PartsTo, WaitsBoxed};
 
-use crate::stop::Stop;
+use crate::stop::PassStop;
 use crate::subject::Subject;
 use crate::waiting::wait;
 use bq_graph::passes::target;
@@ -56,7 +56,7 @@ pub fn visit(
     insn: Insn,
     view: &mut AbstractState,
     pending: &mut [Option<Box<AbstractState>>],
-) -> Result<bool, Stop>
+) -> Result<bool, PassStop>
     requires here { instruction_at subject.now.slots.now slot ≡ Some insn }
     requires inside { slot < length subject.now.slots.now }
     requires sound { IsSound subject.now.slots.now }
@@ -86,7 +86,7 @@ fn go_on(
     insn: Insn,
     view: &mut AbstractState,
     pending: &mut [Option<Box<AbstractState>>],
-) -> Result<bool, Stop>
+) -> Result<bool, PassStop>
     requires here { instruction_at subject.now.slots.now slot ≡ Some insn }
     requires inside { slot < length subject.now.slots.now }
     requires sound { IsSound subject.now.slots.now }
@@ -167,7 +167,7 @@ fn branch(
     next: usize,
     view: &mut AbstractState,
     pending: &mut [Option<Box<AbstractState>>],
-) -> Result<bool, Stop>
+) -> Result<bool, PassStop>
     requires to { to < length pending.old }
     ensures long { length pending.new ≡ length pending.old }
     ensures parts { IfOk result (λ live. ((f : Setting) (s : State) → WaitsBoxed f pending.old s → WaitsBoxed f pending.new s)
@@ -179,13 +179,13 @@ fn branch(
     ensures sure { StandsAt Scalar view.old test.dst → IsScalarOperand view.old test.src → IfOk result (λ live. (x : Fact) (k : ℕ) → HasWaiting x pending.old k → ((k ≡ to) ⊎ (k ≡ next) → Outlasts x test.dst × IsLasting x × Has x view.old) → IsSureOf x pending.new view.new live next k) }
 {
     let Some(right) = operand(view, test.src) else {
-        return Err(Stop::Doubted(Doubt::Unset));
+        return Err(PassStop::Doubted(Doubt::Unset));
     };
     let Some(left) = known(view, test.dst) else {
-        return Err(Stop::Doubted(Doubt::Unset));
+        return Err(PassStop::Doubted(Doubt::Unset));
     };
     if test.dst >= 10 {
-        return Err(Stop::Doubted(Doubt::PointerUse));
+        return Err(PassStop::Doubted(Doubt::PointerUse));
     }
     let yes = side(test.width, test.cond, left, test.src, right, true)?;
     let no = side(test.width, test.cond, left, test.src, right, false)?;

@@ -9,7 +9,7 @@ ghost use Rattle.bq_verify.specs.declared.refused.Refused.TheVariants.{At};
 ghost use Rattle.bq_verify.specs.Refusals.{IsOutOfMemory, IsStopped};
 
 use crate::cause::Cause;
-use crate::stop::Stop;
+use crate::stop::PassStop;
 use std::alloc::AllocError;
 
 /// Why a program is not accepted: a cause at a slot, or want of memory.
@@ -32,16 +32,16 @@ impl From<AllocError> for Refused {
 }
 
 /// The refusal where the pass stopped at a slot.
-pub(crate) fn refuse(slot: usize, stop: Stop) -> Refused
+pub(crate) fn refuse(slot: usize, stop: PassStop) -> Refused
     ensures stopped { (slots : List (Option Insn)) (insn : Insn) → instruction_at slots slot ≡ Some insn → MayStop stop insn → IsStopped slots result }
-    ensures named { (doubt : Missing) → stop ≡ Stop.Doubted doubt → result ≡ At slot (Cause.State doubt) }
+    ensures named { (doubt : Missing) → stop ≡ PassStop.Doubted doubt → result ≡ At slot (Cause.State doubt) }
     ensures memory { IsWantOfMemory stop → IsOutOfMemory result }
 {
     match stop {
-        Stop::Doubted(doubt) => Refused::At {
+        PassStop::Doubted(doubt) => Refused::At {
             slot,
             cause: Cause::State(doubt),
         },
-        Stop::OutOfMemory => Refused::OutOfMemory,
+        PassStop::OutOfMemory => Refused::OutOfMemory,
     }
 }

@@ -5,31 +5,31 @@ use std::alloc::AllocError;
 
 /// Why the pass stops at an instruction.
 #[derive(Clone, Copy)]
-pub enum Stop {
+pub enum PassStop {
     /// Something is not shown of it.
     Doubted(Doubt),
     /// A growth was refused.
     OutOfMemory,
 }
 
-impl From<Doubt> for Stop {
+impl From<Doubt> for PassStop {
     ghost use Rattle.std.specs.Prelude.{◌≡◌};
-    ghost use Rattle.bq_verify.specs.declared.stop.Stop.TheVariants.{Doubted};
+    ghost use Rattle.bq_verify.specs.declared.stop.PassStop.TheVariants.{Doubted};
 
     ghost from_gives = { λ d e. e ≡ Doubted d };
 
-    fn from(doubt: Doubt) -> Stop {
-        Stop::Doubted(doubt)
+    fn from(doubt: Doubt) -> PassStop {
+        PassStop::Doubted(doubt)
     }
 }
 
-impl From<AllocError> for Stop {
+impl From<AllocError> for PassStop {
     ghost use Rattle.std.specs.Prelude.{◌≡◌};
-    ghost use Rattle.bq_verify.specs.declared.stop.Stop.TheVariants.{OutOfMemory};
+    ghost use Rattle.bq_verify.specs.declared.stop.PassStop.TheVariants.{OutOfMemory};
 
     ghost from_gives = { λ _ e. e ≡ OutOfMemory };
 
-    fn from(_e: AllocError) -> Stop {
-        Stop::OutOfMemory
+    fn from(_e: AllocError) -> PassStop {
+        PassStop::OutOfMemory
     }
 }

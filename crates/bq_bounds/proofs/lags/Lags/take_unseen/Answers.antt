@@ -1,7 +1,7 @@
 use Rattle.std.proofs.Common.{◌≡◌, ◌≤◌, ◌-◌, ◌^◌, min, Option, sym, subst, ◌∙◌, arith}
 use Rattle.bq_bounds.specs.declared.stretch.Stretch.{Stretch}
-use Rattle.bq_bounds.specs.declared.lags.Course.{Course}
-use Rattle.bq_bounds.specs.declared.lags.Course.TheVariants.{Breaks}
+use Rattle.bq_bounds.specs.declared.lags.Effect.{Effect}
+use Rattle.bq_bounds.specs.declared.lags.Effect.TheVariants.{Breaks}
 use Rattle.bq_bounds.specs.Glances.{IsGlance, at_most_owed}
 use Rattle.bq_bounds.specs.LagWatches.{lags_by}
 use Rattle.bq_bounds.proofs.UnchangedLagLemmas.{only_stretch_changes}
@@ -18,4 +18,4 @@ returns-clause-done c = λ xs _ seen.
     let there = subst (λ (o : Option Stretch). IsGlance c.args.glance o xs) c.in-Some-Some.is-0 seen in
     let same = only_stretch_changes course c.args.rise c.args.glance s l c.in-Some-Some.greatest xs goes c.in-Some-Some.is-1 low there in
     let by = subst (λ (o : Option Stretch). lags_by course o c.args.rise xs l ≡ c.go_on_unseen.new.self) (sym c.in-Some-Some.is-0) (same ∙ sym c.go_on_unseen.ensures) in
-    sym (subst (λ (k : Course). lags_by k l.stretch c.args.rise xs l ≡ c.go_on_unseen.new.self) c.course_of-course.ensures by)
+    sym (subst (λ (k : Effect). lags_by k l.stretch c.args.rise xs l ≡ c.go_on_unseen.new.self) c.course_of-course.ensures by)

@@ -3,7 +3,7 @@ use Rattle.std.specs.Prelude.{slice_get}
 use Rattle.std.specs.Option.{option_map}
 use Rattle.bq_history.specs.Chains.{row_below}
 use Rattle.bq_history.proofs.ChunkingLemmas.{in_chunk, no_chunk}
-use Rattle.bq_history.proofs.ended.Closed.logged.Goals as goal
+use Rattle.bq_history.proofs.ended.ClosedRecords.logged.Goals as goal
 
 pub returns-in_err-chunk : goal.returns-in_err-chunk
 returns-in_err-chunk g c =

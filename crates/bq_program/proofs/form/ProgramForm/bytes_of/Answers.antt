@@ -2,7 +2,7 @@ use Rattle.std.proofs.Common.{◌≡◌, true, rules, subst, sym}
 use Rattle.bq_insn.specs.Spelling.{spelling}
 use Rattle.bq_insn.specs.Faults.{is_length}
 use Rattle.bq_insn.proofs.LengthLemmas.{program_length}
-use Rattle.bq_program.proofs.form.Form.bytes_of.Goals as goal
+use Rattle.bq_program.proofs.form.ProgramForm.bytes_of.Goals as goal
 
 pub image_of-requires : goal.image_of-requires
 image_of-requires c =
