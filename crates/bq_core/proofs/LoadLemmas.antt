@@ -1,5 +1,6 @@
 -- The loads of the processors, found one after another.
-use Rattle.std.proofs.Common.{◌≡◌, ℕ, ◌+◌, ◌<◌, ◌≤◌, ◌++◌, List, [], ◌∷◌, length, get_or, drop, sym, ap, ◌∙◌, append_assoc, append-nil}
+use Rattle.std.proofs.Common.{◌≡◌, ℕ, ◌+◌, ◌<◌, ◌≤◌, ◌++◌, List, [], ◌∷◌, length, get_or, drop, sym, ap, ◌∙◌, append_assoc, append-nil, arith}
+use Rattle.std.proofs.Math.ListN.{length-append}
 use Rattle.std.proofs.lemmas.List.{at_drop_more, at_drop_all, get_or_read}
 use Rattle.bq_disc.specs.Tasks.{Task}
 use Rattle.bq_parts.specs.Processors.{Processor, opening, load_of}
@@ -22,6 +23,10 @@ one_more ps xss loads more i load p xs goes e is at_p at_xs h same =
     let step : load ∷ rest ≡ loads_of (drop i ps) (drop i xss) = ap (λ (n : ℕ). n ∷ rest) next ∙ sym (loads_from ps xss i p xs h inside) in
     ap (λ (ns : List ℕ). ns ++ rest) e ∙ append_assoc loads (load ∷ []) rest ∙ ap (λ (ns : List ℕ). loads ++ ns) step ∙ goes
 
+-- one load more is one place more
+pub one_longer : (loads more : List ℕ) (i load : ℕ) → more ≡ loads ++ load ∷ [] → length loads ≡ i → length more ≡ i + 1
+one_longer loads more i load e h = omega (arith, ap length e, length-append loads (load ∷ []), h)
+
 -- past the last place no load is left
 pub all_found : (ps : List Processor) (xss : List (List Task)) (loads : List ℕ) (i : ℕ) → loads ++ loads_of (drop i ps) (drop i xss) ≡ loads_of ps xss → length ps ≤ i → loads ≡ loads_of ps xss
 all_found ps xss loads i goes h =
@@ -36,6 +41,3 @@ read_is_small ps xss i p xs small at_p at_xs h same =
     let processor : p ≡ get_or ps i opening = get_or_read ps i p h at_p opening in
     let inbox : xs ≡ get_or xss i [] = get_or_read xss i xs inside at_xs [] in
     rw (processor, inbox) small
-
--- what `loads_of` owes
-pub ruleset loading = (one_more, all_found, read_is_small)

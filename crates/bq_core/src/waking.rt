@@ -64,7 +64,6 @@ impl<Q: RunQueue> Parts<Q> {
 }
 
 /// The load of each processor.
-#[tactic(auto, using(crate::proofs::LoadLemmas::loading))]
 fn loads_of<Q: RunQueue>(cpus: &[Cpu<Q>], inboxes: &[Inbox]) -> Loads
     requires same { length cpus.now ≡ length inboxes.now }
     requires few { length cpus.now ≤ 64 }
