@@ -21,6 +21,10 @@ module _ {v w : World} (view : v ≡ w) where
   pub in_range : {i processor len : ℕ} → i ≡ processor → len ≡ length v.processors → processor < count_in w → i < len
   in_range e f h = rw (e, f, ap (λ (u : World). length u.processors) view) h
 
+  -- so it is in range of the inboxes
+  pub inbox_in_range : {i processor len : ℕ} → i ≡ processor → len ≡ length v.inboxes → length v.processors ≡ length v.inboxes → processor < count_in w → i < len
+  inbox_in_range e f same h = rw (e, f, ← same, ap (λ (u : World). length u.processors) view) h
+
   -- a number of the parts' processors is that of the world's
   pub counted : {n : ℕ} → n ≡ length v.processors → n ≡ count_in w
   counted e = e ∙ ap (λ (u : World). length u.processors) view

@@ -1,6 +1,7 @@
 use Rattle.std.proofs.Common.{refl}
+use Rattle.std.proofs.Math.ListN.{length-set}
 use Rattle.bq_parts.proofs.OnceLemmas.{each_once_runnable, none_beyond_at}
-use Rattle.bq_core.proofs.StepLemmas.{borrowed, borrowed_inbox, inbox_there, lobby_whole, write_back_both}
+use Rattle.bq_core.proofs.StepLemmas.{borrowed, borrowed_inbox, in_range, inbox_in_range, inbox_there, lobby_whole, write_back_both}
 use Rattle.bq_core.proofs.ShareStepLemmas.{drains_at}
 use Rattle.bq_core.proofs.parts.Parts.drain.Goals as goal
 
@@ -22,3 +23,24 @@ returns-clause-step g c =
     let box = borrowed_inbox c.self.view_is c.from.ensures (inbox_there c.self.view_is c.self.invariant.0 c.requires.inside) c.index_mut-inbox.ensures.value in
     drains_at g.Q.R.Discipline.discipline c.args.self.now _ c.args.processor c.args.now _ _ c.drain.new.self _ _ c.requires.inside place box c.drain.ensures.share
     (write_back_both _ c.args.self.now _ _ c.args.processor _ _ _ _ c.self.view_is c.from-2.ensures c.from.ensures refl c.drain.ensures.emptied)
+
+pub from-requires : goal.from-requires
+from-requires g c = tt
+
+pub from-requires-2 : goal.from-requires-2
+from-requires-2 g c = tt
+
+pub index_mut-inbox-requires : goal.index_mut-inbox-requires
+index_mut-inbox-requires g c = inbox_in_range c.self.view_is c.from.ensures c.self.inside.inboxes.ok.0 c.self.invariant.0 c.requires.inside
+
+pub index_mut-cpu-requires : goal.index_mut-cpu-requires
+index_mut-cpu-requires g c = in_range c.self.view_is c.from-2.ensures c.self.inside.cpus.ok.0 c.requires.inside
+
+pub drain-requires-clause-unasked : goal.drain-requires-clause-unasked
+drain-requires-clause-unasked g c = c.requires.unasked
+
+pub invariant_of-self : goal.invariant_of-self
+invariant_of-self g c = (rw (length-set, length-set) c.self.invariant.0, rw length-set c.self.invariant.1, c.self.invariant.2)
+
+pub returns-clause-board : goal.returns-clause-board
+returns-clause-board g c = c.drain.ensures.board
