@@ -34,11 +34,9 @@ impl<Q: RunQueue + Drop> Parts<Q> {
         ensures { IfOk result (λ w. w ≡ opening_world count) }
     {
         let mut cpus = Vec::with_capacity(alloc, count)?;
+        let mut inboxes = Vec::with_capacity(alloc, count)?;
         'processors: for _ in 0..count {
             cpus.push(Cpu::new())?;
-        }
-        let mut inboxes = Vec::with_capacity(alloc, count)?;
-        'inboxes: for _ in 0..count {
             inboxes.push(Inbox::new())?;
         }
         let lobby = Lobby::new(alloc)?;

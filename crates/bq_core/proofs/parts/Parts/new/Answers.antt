@@ -20,36 +20,32 @@ filled : {X : Type 0} (xs : List X) (n p : ℕ) (x : X) → xs ≡ replicate n x
 filled xs n p x h e = ap length h ∙ length-replicate n x ∙ e
 
 -- the world of such lists
-opened : (n m p many : ℕ) (cpus : List Processor) (boxes : List (List Task)) (lobby : List LobbyEntry) → cpus ≡ replicate n opening → boxes ≡ replicate m [] → lobby ≡ replicate many Absent → n ≡ p → m ≡ p →
+opened : (n p many : ℕ) (cpus : List Processor) (boxes : List (List Task)) (lobby : List LobbyEntry) → cpus ≡ replicate n opening → boxes ≡ replicate n [] → lobby ≡ replicate many Absent → n ≡ p →
     ◌≡◌ {A = World} (record { processors = cpus; inboxes = boxes; lobby = lobby; drawn = 0 }) (record { processors = replicate p opening; inboxes = replicate p []; lobby = replicate many Absent; drawn = 0 })
-opened n m p many cpus boxes lobby h k l e f = rw (h, k, l, e, f) refl
+opened n p many cpus boxes lobby h k l e = rw (h, k, l, e) refl
 
 pub processors-init : goal.processors-init
-processors-init g c = c.in_ok-cpus.ensures.items
+processors-init g c = record { processors = c.in_ok-cpus.ensures.items; inboxes = c.in_ok-inboxes.ensures.items }
 
 pub processors-preserved : goal.processors-preserved
 processors-preserved g c =
-    one_more c.processors.counter opening c.new.result c.processors.cpus.items c.push.new.self.items c.in_ok-push.ensures.items c.new.ensures c.processors.invariant
-
-pub inboxes-init : goal.inboxes-init
-inboxes-init g c = c.in_ok-inboxes.ensures.items
-
-pub inboxes-preserved : goal.inboxes-preserved
-inboxes-preserved g c =
-    one_more c.inboxes.counter [] c.new-in-inboxes.result c.inboxes.inboxes.items c.push-in-inboxes.new.self.items c.in_ok-push-2.ensures.items c.new-in-inboxes.ensures c.inboxes.invariant
+    let n = c.processors.counter in
+    let was = c.processors.invariant in
+    record {
+      processors = one_more n opening c.new.result c.processors.cpus.items c.push.new.self.items c.in_ok-push.ensures.items c.new.ensures was.processors;
+      inboxes = one_more n [] c.new-in-processors.result c.processors.inboxes.items c.push-in-processors.new.self.items c.in_ok-push-2.ensures.items c.new-in-processors.ensures was.inboxes;
+    }
 
 pub invariant_of-result : goal.invariant_of-result
 invariant_of-result g c =
-    let processors = at_end c.processors.counter c.args.count c.processors-test.false c.processors.auto.counter-end in
-    let inboxes = at_end c.inboxes.counter c.args.count c.inboxes-test.false c.inboxes.auto.counter-end in
-    let boxes = filled c.inboxes.inboxes.items c.inboxes.counter c.args.count [] c.inboxes.invariant inboxes in (
-      filled c.processors.cpus.items c.processors.counter c.args.count opening c.processors.invariant processors ∙ sym boxes,
+    let all = at_end c.processors.counter c.args.count c.processors-test.false c.processors.auto.counter-end in
+    let boxes = filled c.processors.inboxes.items c.processors.counter c.args.count [] c.processors.invariant.inboxes all in (
+      filled c.processors.cpus.items c.processors.counter c.args.count opening c.processors.invariant.processors all ∙ sym boxes,
       rw boxes c.requires.few,
       filled c.in_ok-lobby.lobby 1024 1024 Absent c.in_ok-lobby.ensures refl,
     )
 
 pub returns : goal.returns
 returns g c =
-    let processors = at_end c.processors.counter c.args.count c.processors-test.false c.processors.auto.counter-end in
-    let inboxes = at_end c.inboxes.counter c.args.count c.inboxes-test.false c.inboxes.auto.counter-end in
-    opened c.processors.counter c.inboxes.counter c.args.count 1024 c.processors.cpus.items c.inboxes.inboxes.items c.in_ok-lobby.lobby c.processors.invariant c.inboxes.invariant c.in_ok-lobby.ensures processors inboxes
+    let all = at_end c.processors.counter c.args.count c.processors-test.false c.processors.auto.counter-end in
+    opened c.processors.counter c.args.count 1024 c.processors.cpus.items c.processors.inboxes.items c.in_ok-lobby.lobby c.processors.invariant.processors c.processors.invariant.inboxes c.in_ok-lobby.ensures all
