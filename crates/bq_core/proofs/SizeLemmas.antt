@@ -1,14 +1,20 @@
--- The number of processors stays, whatever happens.
-use Rattle.std.proofs.Common.{◌≡◌, List, [], ◌∷◌, ap, ◌∙◌}
+-- The number of processors stays, whatever happens, and so does that of the entries of the lobby.
+use Rattle.std.proofs.Common.{◌≡◌, ℕ, List, [], ◌∷◌, length, ap, ◌∙◌}
 use Rattle.std.specs.Prelude.{Result, Ok, Err, IfOk, OnErr}
 use Rattle.std.specs.declared.vec.Vec.{Vec}
 use Rattle.std.specs.declared.alloc.Global.{Global}
 use Rattle.std.proofs.lemmas.List.{length-set}
 use Rattle.bq_bpf.specs.declared.board.Call.{Call as Asked}
+use Rattle.bq_disc.specs.Tasks.{Task}
+use Rattle.bq_disc.specs.Discipline.{Discipline}
 use Rattle.bq_parts.specs.declared.event.Event.{Event}
 use Rattle.bq_parts.specs.declared.event.Event.TheVariants.{Admit, Retire, Draw, Install, BeginWake, EndWake, Drain, Tick, Block, Pull}
 use Rattle.bq_parts.specs.declared.reply.Reply.{Reply}
 use Rattle.bq_parts.specs.declared.refusal.Refusal.{Refusal}
+use Rattle.bq_parts.specs.declared.lobby_entry.LobbyEntry.{LobbyEntry}
+use Rattle.bq_parts.specs.declared.lobby_entry.LobbyEntry.TheVariants.{Blocked, Away}
+use Rattle.bq_parts.specs.Processors.{Processor}
+use Rattle.bq_parts.specs.Shares.{Admits, Blocks, Begins}
 use Rattle.bq_parts.specs.World.{World, count_in, with_processor}
 use Rattle.bq_parts.specs.Choices.{Regime}
 use Rattle.bq_parts.specs.Steps.{Performs, WorldStep, WorldRun}
@@ -42,3 +48,18 @@ pub outcome_count : (s : Regime) (w w' : World) (es : List Event) (more : List (
     IfOk answer (λ answers. (calls : List (List Asked)) × WorldRun s w es calls answers.items w' × more calls) → OnErr answer (w' ≡ w) → count_in w' ≡ count_in w
 outcome_count s w w' es more (Ok answers) ok err = run_count s w es ok.0 answers.items w' ok.1
 outcome_count s w w' es more (Err refusal) ok err = ap count_in err
+
+-- an event's share in the lobby leaves an entry for each id: that of an admission
+pub entries_admitted : (id : ℕ) (t : Task) (lobby lobby' : List LobbyEntry) (r : Result Reply Refusal) → Admits id t lobby r lobby' → length lobby' ≡ length lobby
+entries_admitted id t lobby lobby' (Ok r) h = ap length h.2 ∙ length-set lobby id (Blocked t)
+entries_admitted id t lobby lobby' (Err e) h = ap length h.2
+
+-- that of a block
+pub entries_blocked : (d : Discipline) (processor now : ℕ) (p q : Processor) (lobby lobby' : List LobbyEntry) (r : Result Reply Refusal) → Blocks d processor now p lobby r q lobby' → length lobby' ≡ length lobby
+entries_blocked d processor now p q lobby lobby' (Ok r) h = ap length h.1.3 ∙ length-set lobby h.0.id _
+entries_blocked d processor now p q lobby lobby' (Err e) h = ap length h.3
+
+-- and that of a wake that begins
+pub entries_begun : (id : ℕ) (loads : List ℕ) (p q : Processor) (lobby lobby' : List LobbyEntry) (r : Result Reply Refusal) → Begins id loads p lobby r q lobby' → length lobby' ≡ length lobby
+entries_begun id loads p q lobby lobby' (Ok r) h = ap length h.5 ∙ length-set lobby id Away
+entries_begun id loads p q lobby lobby' (Err e) h = ap length h.2

@@ -6,6 +6,7 @@ use Rattle.bq_parts.specs.declared.event.Event.TheVariants.{Admit}
 use Rattle.bq_parts.specs.Moves.{admitted}
 use Rattle.bq_parts.specs.Refusals.{argument_refusal}
 use Rattle.bq_parts.specs.World.{World, count_in}
+use Rattle.bq_core.proofs.SizeLemmas.{entries_admitted}
 use Rattle.bq_core.proofs.ShareStepLemmas.{admits_at}
 use Rattle.bq_core.proofs.parts.Parts.admit.Goals as goal
 
@@ -44,3 +45,6 @@ returns g c =
 
 pub returns-in_default : goal.returns-in_default
 returns-in_default g c = record { step = (refl, refl, inr (tt, c.requires.fits, refl)) }
+
+pub invariant_of-self : goal.invariant_of-self
+invariant_of-self g c = (c.self.invariant.0, c.self.invariant.1, entries_admitted c.args.task c.in-Ok.new c.self.inside.lobby c.admit.new.self c.admit.result c.admit.ensures.share ∙ c.self.invariant.2)

@@ -1,7 +1,9 @@
 use Rattle.std.proofs.Common.{ap, sym, ◌∙◌, length, ◌≡◌, arith}
+use Rattle.std.proofs.Math.ListN.{length-set}
 use Rattle.bq_parts.specs.World.{World, loads_of}
 use Rattle.bq_parts.proofs.OnceLemmas.{few_at}
 use Rattle.bq_core.proofs.StepLemmas.{borrowed, in_range, lent, lobby_whole, write_back_lobby}
+use Rattle.bq_core.proofs.SizeLemmas.{entries_begun}
 use Rattle.bq_core.proofs.ShareStepLemmas.{begins_at}
 use Rattle.bq_core.proofs.parts.Parts.begin_wake.Goals as goal
 
@@ -35,3 +37,6 @@ returns g c =
     let step = begins_at g.Q.R.Discipline.discipline w _ c.args.processor c.args.task c.loads_of-loads.result c.begin_with.result c.begin_with.new.self _ _ c.begin_with.new.lobby c.requires.inside c.requires.below loads place lobby c.begin_with.ensures.share
     (write_back_lobby _ w _ c.args.processor c.begin_with.new.self c.begin_with.new.lobby c.self.view_is c.from.ensures) in
     record { step = step }
+
+pub invariant_of-self : goal.invariant_of-self
+invariant_of-self g c = (rw length-set c.self.invariant.0, c.self.invariant.1, entries_begun c.args.task c.loads_of-loads.result c.index_mut-cpu.result.now c.begin_with.new.self c.self.inside.lobby c.begin_with.new.lobby c.begin_with.result c.begin_with.ensures.share ∙ c.self.invariant.2)
