@@ -154,11 +154,11 @@ fn first_phase<S: Sink>(
     alloc: Global,
     number: u64,
     line: Option<&[u8]>,
-    reading: LineReading<'_>,
+    reading: &LineReading<'_>,
     sink: &mut S,
 ) -> Result<(Phase, bool), AllocError>
     ensures { IfOk result (λ first. Gets S.takes sink.old sink.new
-        (λ told. Tells Phase.Waiting number (option_map (λ (l : Bor (List ℕ)). l.now) line.entry) reading.entry told first.0 first.1)) }
+        (λ told. Tells Phase.Waiting number (option_map (λ (l : Bor (List ℕ)). l.now) line.entry) reading.now told first.0 first.1)) }
 {
     match reading {
         LineReading::Skipped => {
@@ -166,8 +166,8 @@ fn first_phase<S: Sink>(
             Ok((Phase::Waiting, false))
         }
         LineReading::Says(Command::Machine { rule, size }) => {
-            let machine = AnyCore::new(alloc, rule, size)?;
-            telling::open(number, rule, size, sink)?;
+            let machine = AnyCore::new(alloc, *rule, *size)?;
+            telling::open(number, *rule, *size, sink)?;
             Ok((Phase::Running(machine), false))
         }
         _ => {
@@ -187,11 +187,11 @@ impl Phase {
         alloc: Global,
         number: u64,
         line: Option<&[u8]>,
-        reading: LineReading<'_>,
+        reading: &LineReading<'_>,
         sink: &mut S,
     ) -> Result<bool, AllocError>
         ensures { IfOk result (λ bad. Gets S.takes sink.old sink.new
-            (λ told. Tells Phase.Waiting number (option_map (λ (l : Bor (List ℕ)). l.now) line.entry) reading.entry told self.new bad)) }
+            (λ told. Tells Phase.Waiting number (option_map (λ (l : Bor (List ℕ)). l.now) line.entry) reading.now told self.new bad)) }
     {
         let (phase, bad) = first_phase(alloc, number, line, reading, sink)?;
         *self = phase;
@@ -212,7 +212,7 @@ impl Phase {
     {
         match self {
             Phase::Over => Ok(false),
-            Phase::Waiting => self.begin(alloc, number, line, reading, sink),
+            Phase::Waiting => self.begin(alloc, number, line, &reading, sink),
             Phase::Running(machine) => machine.obey(alloc, number, line, reading, sink),
         }
     }
