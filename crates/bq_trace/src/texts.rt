@@ -137,10 +137,10 @@ fn write_reply(text: &mut String, reply: &Reply) -> Result<(), AllocError>
     ensures { OnOk result (string_bytes text.new ≡ string_bytes text.old ++ event_line (Ok reply.now)) }
 {
     match reply {
-        Reply::Admitted => write!(text, "admit ok\n"),
-        Reply::Retired => write!(text, "retire ok\n"),
+        Reply::Admitted => text.push_str("admit ok\n"),
+        Reply::Retired => text.push_str("retire ok\n"),
         Reply::Drawn { generation } => write!(text, "draw {generation}\n"),
-        Reply::Installed => write!(text, "install ok\n"),
+        Reply::Installed => text.push_str("install ok\n"),
         Reply::Begun { task, loads } => write_begun(text, *task, loads.as_slice()),
         Reply::Placed {
             task,
