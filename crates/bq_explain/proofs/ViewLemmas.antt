@@ -1,4 +1,4 @@
--- What is printed of a view holds of each state that it covers.
+-- What is printed of an abstract state holds of each state that it contains.
 use Rattle.std.proofs.Common.{◌≡◌, ℕ, suc, zero, Bool, true, false, List, [], ◌∷◌, ◌++◌, Option, Some, None, slice_index_or, append-nil, sym, subst, inl, inr}
 use Rattle.std.specs.Prelude.{codes}
 use Rattle.bq_bpf.specs.Memory.{Setting, State}
@@ -18,22 +18,22 @@ tells_register f s before r (Some k) (n, is, describes) told = one_register f s 
 
 -- the first registers
 pub tells_registers : (f : Setting) (s : State) (v : AbstractState) → Contains f v s → (n : ℕ) → TellsRegisters f s (registers_below n v.registers)
-tells_registers f s v covers zero = no_register f s
-tells_registers f s v covers (suc n) =
-    tells_register f s (registers_below n v.registers) n (slice_index_or v.registers n None) (covers.registers n) (tells_registers f s v covers n)
+tells_registers f s v contains zero = no_register f s
+tells_registers f s v contains (suc n) =
+    tells_register f s (registers_below n v.registers) n (slice_index_or v.registers n None) (contains.registers n) (tells_registers f s v contains n)
 
 -- one word more that is kept
 pub tells_slot : (f : Setting) (s : State) (before : List ℕ) (j : ℕ) (known : Option AbstractValue) → Keeps f.shapes known s.stack j → TellsKept f s before → TellsKept f s (before ++ kept_text j known)
 tells_slot f s before j None holds told = subst (λ (t : List ℕ). TellsKept f s t) (sym (append-nil before)) told
 tells_slot f s before j (Some k) (n, describes, bytes) told = one_kept f s before (known_text k) j n told bytes (says_known k f.shapes n describes)
 
--- the lines of the words that a view keeps tell what the stack of each state of it has
+-- the lines of the words that an abstract state keeps tell what the stack of each state of it has
 pub tells_kept : (f : Setting) (s : State) (v : AbstractState) → Contains f v s → (n : ℕ) → TellsKept f s (kept_below n v.kept)
-tells_kept f s v covers zero = no_kept f s
-tells_kept f s v covers (suc n) =
-    tells_slot f s (kept_below n v.kept) n (slice_index_or v.kept n None) (covers.kept n) (tells_kept f s v covers n)
+tells_kept f s v contains zero = no_kept f s
+tells_kept f s v contains (suc n) =
+    tells_slot f s (kept_below n v.kept) n (slice_index_or v.kept n None) (contains.kept n) (tells_kept f s v contains n)
 
--- runs of bytes that the view knows to be set are set
+-- runs of bytes that the abstract state knows to be set are set
 pub tells_runs : (s : State) {set : List Bool} {past : ℕ} {text : List ℕ} → ((i : ℕ) → slice_index_or set i false ≡ true → (b : ℕ) × (s.stack i ≡ Some b)) → AreRuns set past text → TellsRuns s text
 tells_runs s is (no_byte set) = no_run_told s
 tells_runs s is (unset_byte set before byte rest unset) = tells_runs s is rest
@@ -45,10 +45,10 @@ tells_line : (s : State) (runs text : List ℕ) → text ≡ stack_text runs →
 tells_line s [] text is told = inl is
 tells_line s (first ∷ rest) text is told = inr (first ∷ rest, is, told)
 
--- the line of the bytes that a view knows to be set tells bytes that are set in each state of it
+-- the line of the bytes that an abstract state knows to be set tells bytes that are set in each state of it
 pub tells_stack : (f : Setting) (s : State) (v : AbstractState) (text : List ℕ) → Contains f v s → IsStackText v.set text → TellsStack s text
-tells_stack f s v text covers (runs, are, is) =
-    tells_line s runs text is (tells_runs s (λ i set. let told = covers.set i set in (told.0, told.1)) are)
+tells_stack f s v text contains (runs, are, is) =
+    tells_line s runs text is (tells_runs s (λ i set. let told = contains.set i set in (told.0, told.1)) are)
 
 -- the parts of the text make it whole
 pub is_view_text : (v : AbstractState) (registers unset stack kept text : List ℕ) → registers ≡ registers_below 11 v.registers → unset ≡ unset_text v.registers → IsStackText v.set stack → kept ≡ kept_below 64 v.kept → text ≡ codes " " ++ (registers ++ (unset ++ (stack ++ kept))) → IsViewText v text
@@ -57,15 +57,15 @@ is_view_text v registers unset stack kept text registers_are unset_are is_stack 
 
 -- the whole text
 pub tells_state : (v : AbstractState) (text : List ℕ) → IsViewText v text → (f : Setting) (s : State) → Contains f v s → TellsState f s text
-tells_state v text is f s covers =
+tells_state v text is f s contains =
     record {
       registers = registers_below 11 v.registers;
       unset = unset_text v.registers;
       stack = is.stack;
       kept = kept_below 64 v.kept;
       text_is = is.text_is;
-      registers_told = tells_registers f s v covers 11;
+      registers_told = tells_registers f s v contains 11;
       unset_named = names_unset v.registers;
-      stack_told = tells_stack f s v is.stack covers is.is_stack;
-      kept_told = tells_kept f s v covers 64;
+      stack_told = tells_stack f s v is.stack contains is.is_stack;
+      kept_told = tells_kept f s v contains 64;
     }

@@ -9,7 +9,7 @@ use Rattle.bq_bpf.specs.Safe.{IsSetting}
 use Rattle.bq_bpf.specs.Steps.{instruction_at}
 use Rattle.bq_bpf.specs.declared.board.Call.{Call as Asked}
 use Rattle.bq_bpf.specs.Hooks.{context_length_of}
-use Rattle.bq_verify.specs.KnownAt.{CoversRuns}
+use Rattle.bq_verify.specs.KnownAt.{ContainsRuns}
 use Rattle.bq_states.specs.declared.abstract_state.AbstractState.{AbstractState}
 use Rattle.bq_program.specs.declared.policy_source.PolicySource.{PolicySource}
 use Rattle.bq_explain.specs.declared.explanation.Explained.{Explained}
@@ -40,11 +40,11 @@ pub record IsKnown (p : PolicySource) (slot : ℕ) (text known : List ℕ) : Typ
 abbrev pub HasKnown : PolicySource → ℕ → Explained → Type 0
 HasKnown p slot e = IfSome e.known (λ known. IsKnown p slot (string_bytes e.text) (string_bytes known))
 
--- the lines on the state tell of a view that every run which comes to the slot is within; the line before them tells, by the cause, a need of the
--- instruction there that this view does not give
+-- the lines on the state tell of an abstract state that every run which comes to the slot is within; the line before them tells, by the cause, a need of the
+-- instruction there that this abstract state does not give
 pub record IsNeedAt (p : PolicySource) (slot : ℕ) (cause : Cause) (text known : List ℕ) : Type 0 where
   pub view : AbstractState
-  pub covers : CoversRuns (spread p.insns.items) p.shapes.items (context_length_of p.hook p.version) slot view
+  pub contains : ContainsRuns (spread p.insns.items) p.shapes.items (context_length_of p.hook p.version) slot view
   pub view_told : IsViewText view known
   pub insn : Insn
   pub here : instruction_at (spread p.insns.items) slot ≡ Some insn

@@ -3,7 +3,7 @@ ghost use Rattle.std.specs.Prelude.{◌≡◌, ◌≤◌, IfOk, None, Some, fals
 ghost use Rattle.bq_insn.specs.Spelling.{is_well_formed};
 ghost use Rattle.bq_insn.specs.Slots.{spread};
 ghost use Rattle.bq_bpf.specs.Hooks.{context_length_of};
-ghost use Rattle.bq_verify.specs.KnownAt.{CoversRuns};
+ghost use Rattle.bq_verify.specs.KnownAt.{ContainsRuns};
 ghost use Rattle.bq_bpf.specs.Steps.{instruction_at};
 ghost use Rattle.bq_explain.specs.Beginnings.{BeginsWith};
 ghost use Rattle.bq_explain.specs.Explained.{Explains, HasKnown, HasNeed};
@@ -21,7 +21,7 @@ use bq_insn::Insn;
 use bq_needs::need_text;
 use bq_program::{PolicySource, instruction_text};
 use bq_states::abstract_state::AbstractState;
-use bq_verify::{Cause, Program, view_at};
+use bq_verify::{Cause, Program, state_at};
 use std::alloc::{AllocError, Global};
 
 /// What is said of a policy.
@@ -131,7 +131,7 @@ fn reasons(
     ensures need { IfOk result (HasNeed policy.now fault.slot fault.cause) }
 {
     let program = program_of(alloc, policy)?;
-    match view_at(alloc, &program, fault.slot)? {
+    match state_at(alloc, &program, fault.slot)? {
         Some(view) => state_reasons(alloc, head, policy, &program, &view, fault),
         None => {
             let need = graph_words(fault.cause);
@@ -142,7 +142,7 @@ fn reasons(
     }
 }
 
-/// The same, where the state is known to be within a view.
+/// The same, where the state is known to be within an abstract state.
 fn state_reasons(
     alloc: Global,
     head: &str,
@@ -154,7 +154,7 @@ fn state_reasons(
     requires whole { is_well_formed program.now.insns.items ≡ true }
     requires few { length program.now.shapes.items ≤ 8 }
     requires here { instruction_at (spread policy.now.insns.items) fault.slot ≡ Some fault.insn }
-    requires covers { CoversRuns (spread policy.now.insns.items) policy.now.shapes.items (context_length_of policy.now.hook policy.now.version) fault.slot view.now }
+    requires contains { ContainsRuns (spread policy.now.insns.items) policy.now.shapes.items (context_length_of policy.now.hook policy.now.version) fault.slot view.now }
     ensures accepted { IfOk result (λ e. e.accepted ≡ false) }
     ensures begins { IfOk result (λ e. BeginsWith (string_bytes e.text) head.now) }
     ensures known { IfOk result (HasKnown policy.now fault.slot) }

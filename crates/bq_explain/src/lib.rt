@@ -3,7 +3,7 @@
 //!
 //! Complaints are of assembler texts: the line, the word that is not known, and the nearest that is.
 //!
-//! What is printed of registers and stack is what `view_at` knows, which covers every run that comes to the slot.
+//! What is printed of registers and stack is what `state_at` knows, which holds in every run that comes to the slot.
 #![tactic(auto)]
 
 mod advice;

@@ -8,7 +8,7 @@ use bq_insn::Insn;
 use bq_needs::known_text;
 use bq_program::instruction_text;
 use bq_states::registers::known;
-use bq_verify::{Program, view_at};
+use bq_verify::{Program, state_at};
 use std::alloc::{AllocError, Global};
 
 /// The most instructions that are listed.
@@ -94,7 +94,7 @@ fn write_outcome(
     requires few { length program.now.shapes.items ≤ 8 }
 {
     let next = made.slot.saturating_add(made.insn.slots());
-    let (Some(register), Some(view)) = (written(made.insn), view_at(alloc, program, next)?) else {
+    let (Some(register), Some(view)) = (written(made.insn), state_at(alloc, program, next)?) else {
         return Ok(());
     };
     if let Some(word) = known(&view, register) {

@@ -15,7 +15,7 @@ use std::alloc::{AllocError, Global};
 const STACK: usize = STACK_SIZE as usize;
 
 /// One line with what each register is known to be and the stack's written bytes, and a line for each word that is kept there.
-/// It holds of every state that the view covers.
+/// It holds of every state that the abstract state contains.
 #[tactic(auto, using(crate::proofs::ViewLemmas::tells_state))]
 pub(crate) fn view_text(alloc: Global, view: &AbstractState) -> Result<String, AllocError>
     ensures text { IfOk result (λ text. IsViewText view.now (string_bytes text)) }

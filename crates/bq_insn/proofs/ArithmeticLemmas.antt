@@ -10,7 +10,7 @@ use Rattle.bq_insn.specs.declared.Source.TheVariants.{Reg}
 use Rattle.bq_insn.specs.declared.Bits.{Bits}
 use Rattle.bq_insn.specs.declared.Bits.TheVariants.{B8, B16, B32}
 use Rattle.bq_insn.specs.declared.Insn.TheVariants as insn
-use Rattle.bq_insn.specs.declared.form.OpcodeForm.TheVariants as form
+use Rattle.bq_insn.specs.declared.form.Form.TheVariants as form
 use Rattle.bq_insn.specs.declared.slot.Slot.{Slot}
 use Rattle.bq_insn.specs.Table.{opcode_of, is_form, code_of, alu_class}
 use Rattle.bq_insn.specs.Uses.{variant_use}

@@ -2,7 +2,7 @@
 use Rattle.std.proofs.Common.{◌≡◌, ℕ, ◌≤◌, Bool, true, false, refl, sym, ap, ◌∙◌, inl, inr, ◌⊎◌, List, length, ◌%◌, arith}
 use Rattle.std.specs.Prelude.{◌&&◌, ◌||◌, ◌==◌, nat_lt, nat_le, Option, Some, None, if◌then◌else◌}
 use Rattle.std.proofs.lemmas.Bool.Decides.{nat_tests}
-use Rattle.bq_insn.specs.declared.form.OpcodeForm.{OpcodeForm}
+use Rattle.bq_insn.specs.declared.form.Form.{Form}
 use Rattle.bq_insn.specs.declared.uses.Use.{Use}
 use Rattle.bq_insn.specs.declared.uses.Use.TheVariants.{Unused, Register, Value}
 use Rattle.bq_insn.specs.declared.slot.Slot.{Slot}
@@ -20,7 +20,7 @@ neither_is_true true b h = absurd (let e : true ≡ false = h in cc)
 neither_is_true false b h = (refl, h)
 
 -- none of the tests finds a fault
-pub record IsClean (f : OpcodeForm) (s : Slot) (next : Option Slot) : Type 0 where
+pub record IsClean (f : Form) (s : Slot) (next : Option Slot) : Type 0 where
   pub registers : has_bad_register (uses_of f) s ≡ false
   pub fields : has_stray_field (uses_of f) s ≡ false
   pub second : has_stray_second f s next ≡ false
@@ -43,7 +43,7 @@ chain_none false false false false true h = absurd (let e : Some cause.WideCut �
 chain_none false false false false false h = (refl, refl, refl, refl, refl)
 
 -- a slot without a cause passes each test
-pub is_clean : (f : OpcodeForm) (s : Slot) (next : Option Slot) → cause_at f s next ≡ None → IsClean f s next
+pub is_clean : (f : Form) (s : Slot) (next : Option Slot) → cause_at f s next ≡ None → IsClean f s next
 unfolding chain
 is_clean f s next h =
     let all = chain_none (has_bad_register (uses_of f) s) (has_stray_field (uses_of f) s || has_stray_second f s next) (has_no_variant f s) (has_no_width f s) (is_cut f next) h in
@@ -69,7 +69,7 @@ same_slot s o d r f i a b c e g =
     ∙ ap (λ (x : ℕ). slot s.opcode s.dst s.src x i) e ∙ ap (λ (x : ℕ). slot s.opcode s.dst s.src s.offset x) g
 
 -- a slot without stray fields is what its form keeps of it
-pub no_strays_is_kept : (f : OpcodeForm) (s : Slot) (o : ℕ) → o ≡ s.opcode → has_stray_field (uses_of f) s ≡ false
+pub no_strays_is_kept : (f : Form) (s : Slot) (o : ℕ) → o ≡ s.opcode → has_stray_field (uses_of f) s ≡ false
     → slot o (kept (uses_of f).dst s.dst) (kept (uses_of f).src s.src) (kept (uses_of f).offset s.offset) (kept (uses_of f).imm s.imm) ≡ s
 no_strays_is_kept f s o h clean =
     let u = uses_of f in
@@ -93,7 +93,7 @@ never_length false false false false true h = let same : Some cause.WideCut ≡ 
 never_length false false false false false h = let same : None ≡ Some cause.Length = h in cc
 
 -- nor at one without a form
-cause_is_none_of_length : (o : Option OpcodeForm) (s : Slot) (next : Option Slot) → cause_of_form o s next ≡ Some cause.Length → ⊥
+cause_is_none_of_length : (o : Option Form) (s : Slot) (next : Option Slot) → cause_of_form o s next ≡ Some cause.Length → ⊥
 unfolding chain
 cause_is_none_of_length None s next h = let same : Some cause.Opcode ≡ Some cause.Length = h in cc
 cause_is_none_of_length (Some f) s next h =

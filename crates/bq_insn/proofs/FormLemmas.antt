@@ -10,8 +10,8 @@ use Rattle.bq_insn.specs.declared.Condition.{Condition}
 use Rattle.bq_insn.specs.declared.Condition.TheVariants as cond
 use Rattle.bq_insn.specs.declared.Order.TheVariants.{Little, Big, Swapped}
 use Rattle.bq_insn.specs.declared.Size.TheVariants.{Byte, Half, Word, Double}
-use Rattle.bq_insn.specs.declared.form.OpcodeForm.{OpcodeForm}
-use Rattle.bq_insn.specs.declared.form.OpcodeForm.TheVariants as form
+use Rattle.bq_insn.specs.declared.form.Form.{Form}
+use Rattle.bq_insn.specs.declared.form.Form.TheVariants as form
 use Rattle.bq_insn.specs.Table.{opcode_of, form_of, is_form}
 use Rattle.bq_insn.specs.Laws.{OneTable}
 
@@ -43,7 +43,7 @@ below-at (suc n) p h k lt =
     by_place p k n (place k n lt) parts.0 (below-at n p parts.1 k)
 
 -- a form that stands under an opcode is one of the table, and has that opcode
-agrees_with : ℕ → Option OpcodeForm → Bool
+agrees_with : ℕ → Option Form → Bool
 agrees_with n None = true
 agrees_with n (Some f) = (opcode_of f == n) && is_form f
 
@@ -53,7 +53,7 @@ unfolding below agrees_with
 all_agree = refl
 
 -- the form of an opcode has that opcode, and is one of the table
-pub in_table : (n : ℕ) (f : OpcodeForm) → n < 2 ^ 8 → form_of n ≡ Some f → (n ≡ opcode_of f) × (is_form f ≡ true)
+pub in_table : (n : ℕ) (f : Form) → n < 2 ^ 8 → form_of n ≡ Some f → (n ≡ opcode_of f) × (is_form f ≡ true)
 unfolding agrees_with
 in_table n f lt h =
     let parts = both_are_true (opcode_of f == n) (is_form f) (sym (ap (agrees_with n) h) ∙ below-at 256 (λ k. agrees_with k (form_of k)) all_agree n lt) in
@@ -91,7 +91,7 @@ is_plain w op.Srem r h = not_false h
 is_plain w o r h = refl
 
 -- a form of the table stands under its opcode
-pub form_is_known : (f : OpcodeForm) → is_form f ≡ true → form_of (opcode_of f) ≡ Some f
+pub form_is_known : (f : Form) → is_form f ≡ true → form_of (opcode_of f) ≡ Some f
 form_is_known (form.Alu w o r) h = known_alu w o r ∙ ap (λ (x : Operation). Some (form.Alu w x r)) (is_plain w o r h)
 form_is_known (form.Neg W32) h = refl
 form_is_known (form.Neg W64) h = refl

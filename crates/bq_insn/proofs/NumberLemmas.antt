@@ -9,8 +9,8 @@ use Rattle.bq_insn.specs.declared.Operation.TheVariants as op
 use Rattle.bq_insn.specs.declared.Source.TheVariants.{Reg}
 use Rattle.bq_insn.specs.declared.Insn.{Insn}
 use Rattle.bq_insn.specs.declared.Insn.TheVariants as insn
-use Rattle.bq_insn.specs.declared.form.OpcodeForm.{OpcodeForm}
-use Rattle.bq_insn.specs.declared.form.OpcodeForm.TheVariants as form
+use Rattle.bq_insn.specs.declared.form.Form.{Form}
+use Rattle.bq_insn.specs.declared.form.Form.TheVariants as form
 use Rattle.bq_insn.specs.declared.slot.Slot.{Slot}
 use Rattle.bq_insn.specs.Reading.{signed16, signed32, bits_of, alu_of, insn_of, second_imm}
 use Rattle.bq_insn.specs.Laws.{Fits, AllFit}
@@ -41,7 +41,7 @@ wide_fits s next true h k = signed32_fits s.imm h
 wide_fits s next false h k = omega arith
 
 -- the numbers that are read fit
-pub numbers_read : (f : OpcodeForm) (s : Slot) (next : Option Slot) → IsSlot s → second_imm next < 2 ^ 32 → Fits (insn_of f s next)
+pub numbers_read : (f : Form) (s : Slot) (next : Option Slot) → IsSlot s → second_imm next < 2 ^ 32 → Fits (insn_of f s next)
 numbers_read (form.Alu w o r) s next fits k = alu_fits w o r s fits.imm
 numbers_read (form.Neg w) s next fits k = tt
 numbers_read (form.End order) s next fits k = tt

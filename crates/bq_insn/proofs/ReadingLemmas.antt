@@ -9,8 +9,8 @@ use Rattle.bq_insn.specs.declared.Bits.TheVariants.{B16, B32, B64}
 use Rattle.bq_insn.specs.declared.Size.{Size}
 use Rattle.bq_insn.specs.declared.Size.TheVariants.{Byte, Half, Word, Double}
 use Rattle.bq_insn.specs.declared.Insn.TheVariants as insn
-use Rattle.bq_insn.specs.declared.form.OpcodeForm.{OpcodeForm}
-use Rattle.bq_insn.specs.declared.form.OpcodeForm.TheVariants as form
+use Rattle.bq_insn.specs.declared.form.Form.{Form}
+use Rattle.bq_insn.specs.declared.form.Form.TheVariants as form
 use Rattle.bq_insn.specs.declared.slot.Slot.{Slot}
 use Rattle.bq_insn.specs.Table.{opcode_of, form_of, is_form}
 use Rattle.bq_insn.specs.Spelling.{slot, is_insn, is_register, word32, bits_number}
@@ -118,7 +118,7 @@ reads_wide s (Some t) fits opcode clean = by_test (s.src == 5) refl second.4
     )
 
 -- by form
-reads_form : (f : OpcodeForm) (s : Slot) (next : Option Slot) → IsSlot s → is_form f ≡ true → s.opcode ≡ opcode_of f → IsClean f s next → Reads s next (insn_of f s next)
+reads_form : (f : Form) (s : Slot) (next : Option Slot) → IsSlot s → is_form f ≡ true → s.opcode ≡ opcode_of f → IsClean f s next → Reads s next (insn_of f s next)
 reads_form (form.Alu w o false) s next fits known opcode clean = reads_alu_imm w o s next fits (plain_of w o false known) opcode clean
 reads_form (form.Alu w o true) s next fits known opcode clean = reads_alu_reg w o s next fits (plain_of w o true known) opcode clean
 reads_form (form.Neg w) s next fits known opcode clean =
@@ -155,7 +155,7 @@ reads_form form.Exit s next fits known opcode clean =
     reads_by form.Exit s next insn.Exit opcode clean refl refl
 
 -- slots without a fault spell the instruction that is read
-pub faultless_slots_read : (f : OpcodeForm) (s : Slot) (next : Option Slot) → IsSlot s → form_of s.opcode ≡ Some f → cause_at f s next ≡ None → Reads s next (insn_of f s next)
+pub faultless_slots_read : (f : Form) (s : Slot) (next : Option Slot) → IsSlot s → form_of s.opcode ≡ Some f → cause_at f s next ≡ None → Reads s next (insn_of f s next)
 faultless_slots_read f s next fits known none =
     let table = in_table s.opcode f fits.opcode known in
     reads_form f s next fits table.1 table.0 (is_clean f s next none)

@@ -14,7 +14,7 @@ use Rattle.bq_insn.specs.declared.Size.TheVariants.{Byte, Half, Word, Double}
 use Rattle.bq_insn.specs.declared.Source.TheVariants.{Imm, Reg}
 use Rattle.bq_insn.specs.declared.Insn.{Insn}
 use Rattle.bq_insn.specs.declared.Insn.TheVariants as insn
-use Rattle.bq_insn.specs.declared.form.OpcodeForm.TheVariants as form
+use Rattle.bq_insn.specs.declared.form.Form.TheVariants as form
 use Rattle.bq_insn.specs.declared.slot.Slot.{Slot}
 use Rattle.bq_insn.specs.Table.{opcode_of, form_of}
 use Rattle.bq_insn.specs.Spelling.{slot, spelled, is_insn, word16, word32, variant_of}

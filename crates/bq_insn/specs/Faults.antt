@@ -9,8 +9,8 @@ use Rattle.bq_insn.specs.declared.Width.{Width}
 use Rattle.bq_insn.specs.declared.Width.TheVariants.{W32, W64}
 use Rattle.bq_insn.specs.declared.Operation.{Operation}
 use Rattle.bq_insn.specs.declared.Operation.TheVariants as op
-use Rattle.bq_insn.specs.declared.form.OpcodeForm.{OpcodeForm}
-use Rattle.bq_insn.specs.declared.form.OpcodeForm.TheVariants as form
+use Rattle.bq_insn.specs.declared.form.Form.{Form}
+use Rattle.bq_insn.specs.declared.form.Form.TheVariants as form
 use Rattle.bq_insn.specs.declared.uses.Use.{Use}
 use Rattle.bq_insn.specs.declared.uses.Use.TheVariants.{Unused, Register}
 use Rattle.bq_insn.specs.declared.uses.Uses.{Uses}
@@ -44,7 +44,7 @@ abbrev pub has_stray_field : Uses → Slot → Bool
 has_stray_field u s = is_stray u.dst s.dst || (is_stray u.src s.src || (is_stray u.offset s.offset || is_stray u.imm s.imm))
 
 -- Field, too: the second slot of a wide instruction has its immediate alone, and with a map reference not even that
-abbrev pub has_stray_second : OpcodeForm → Slot → Option Slot → Bool
+abbrev pub has_stray_second : Form → Slot → Option Slot → Bool
 has_stray_second form.Wide s (Some t) =
     nat_lt 0 t.opcode || (nat_lt 0 t.dst || (nat_lt 0 t.src || (nat_lt 0 t.offset || ((s.src == 5) && nat_lt 0 t.imm))))
 has_stray_second f s next = false
@@ -60,24 +60,24 @@ is_variant W64 op.Mov true n = (n == 0) || ((n == 8) || ((n == 16) || (n == 32))
 is_variant w o by_register n = true
 
 -- Offset: it names no variant; or the source field names no kind, which for a wide instruction is 0 or 5 and for a call 0
-abbrev pub has_no_variant : OpcodeForm → Slot → Bool
+abbrev pub has_no_variant : Form → Slot → Bool
 has_no_variant (form.Alu w o by_register) s = not (is_variant w o by_register s.offset)
 has_no_variant form.Wide s = not ((s.src == 0) || (s.src == 5))
 has_no_variant form.Call s = not (s.src == 0)
 has_no_variant f s = false
 
 -- Imm: that of a byte order is no width
-abbrev pub has_no_width : OpcodeForm → Slot → Bool
+abbrev pub has_no_width : Form → Slot → Bool
 has_no_width (form.End order) s = not ((s.imm == 16) || ((s.imm == 32) || (s.imm == 64)))
 has_no_width f s = false
 
 -- WideCut: there is no second slot
-abbrev pub is_cut : OpcodeForm → Option Slot → Bool
+abbrev pub is_cut : Form → Option Slot → Bool
 is_cut form.Wide None = true
 is_cut f next = false
 
 -- the least cause at a slot of a form, by the slot after it if there is one
-abbrev pub cause_at : OpcodeForm → Slot → Option Slot → Option Cause
+abbrev pub cause_at : Form → Slot → Option Slot → Option Cause
 cause_at f s next =
     if has_bad_register (uses_of f) s then Some cause.Register
     else if has_stray_field (uses_of f) s || has_stray_second f s next then Some cause.Field
@@ -87,7 +87,7 @@ cause_at f s next =
     else None
 
 -- Opcode: it has no form
-abbrev pub cause_of_form : Option OpcodeForm → Slot → Option Slot → Option Cause
+abbrev pub cause_of_form : Option Form → Slot → Option Slot → Option Cause
 cause_of_form None s next = Some cause.Opcode
 cause_of_form (Some f) s next = cause_at f s next
 

@@ -6,7 +6,7 @@ use Rattle.bq_insn.specs.declared.Source.{Source}
 use Rattle.bq_insn.specs.declared.Source.TheVariants.{Imm, Reg}
 use Rattle.bq_insn.specs.declared.Insn.{Insn}
 use Rattle.bq_insn.specs.declared.Insn.TheVariants.{Alu, Load, StoreImm, StoreReg, Imm64, MapRef, Goto, Goto32, Branch, Call}
-use Rattle.bq_insn.specs.declared.form.OpcodeForm.{OpcodeForm}
+use Rattle.bq_insn.specs.declared.form.Form.{Form}
 use Rattle.bq_insn.specs.Table.{opcode_of, is_form, form_of}
 use Rattle.bq_insn.specs.Spelling.{is_insn, insn_bytes, spelling}
 
@@ -44,4 +44,4 @@ OneProgram = (a b : List Insn) → list_all is_insn a ≡ true → list_all is_i
 
 -- an opcode has a form exactly where it is the opcode of that form, and that form is one of the table
 abbrev pub OneTable : Type 0
-OneTable = (n : ℕ) (f : OpcodeForm) → n < 2 ^ 8 → (form_of n ≡ Some f) ↔ ((n ≡ opcode_of f) × (is_form f ≡ true))
+OneTable = (n : ℕ) (f : Form) → n < 2 ^ 8 → (form_of n ≡ Some f) ↔ ((n ≡ opcode_of f) × (is_form f ≡ true))

@@ -10,8 +10,8 @@ use Rattle.bq_insn.specs.declared.Bits.{Bits}
 use Rattle.bq_insn.specs.declared.Bits.TheVariants.{B8, B16, B32, B64}
 use Rattle.bq_insn.specs.declared.Insn.{Insn}
 use Rattle.bq_insn.specs.declared.Insn.TheVariants as insn
-use Rattle.bq_insn.specs.declared.form.OpcodeForm.{OpcodeForm}
-use Rattle.bq_insn.specs.declared.form.OpcodeForm.TheVariants as form
+use Rattle.bq_insn.specs.declared.form.Form.{Form}
+use Rattle.bq_insn.specs.declared.form.Form.TheVariants as form
 use Rattle.bq_insn.specs.declared.slot.Slot.{Slot}
 
 -- the signed number that the bits of a field are
@@ -47,7 +47,7 @@ alu_of w op.Mov true s = move_of w s
 alu_of w o true s = insn.Alu w (variant o s.offset) s.dst (Reg s.src)
 
 -- by form
-abbrev pub insn_of : OpcodeForm → Slot → Option Slot → Insn
+abbrev pub insn_of : Form → Slot → Option Slot → Insn
 insn_of (form.Alu w o by_register) s next = alu_of w o by_register s
 insn_of (form.Neg w) s next = insn.Neg w s.dst
 insn_of (form.End order) s next = insn.End order (bits_of s.imm) s.dst

@@ -11,8 +11,8 @@ use Rattle.bq_insn.specs.declared.Condition.TheVariants as cond
 use Rattle.bq_insn.specs.declared.Order.TheVariants.{Little, Big, Swapped}
 use Rattle.bq_insn.specs.declared.Size.{Size}
 use Rattle.bq_insn.specs.declared.Size.TheVariants.{Byte, Half, Word, Double}
-use Rattle.bq_insn.specs.declared.form.OpcodeForm.{OpcodeForm}
-use Rattle.bq_insn.specs.declared.form.OpcodeForm.TheVariants.{Alu, Neg, End, Load, StoreImm, StoreReg, Wide, Goto, Goto32, Branch, Call, Exit}
+use Rattle.bq_insn.specs.declared.form.Form.{Form}
+use Rattle.bq_insn.specs.declared.form.Form.TheVariants.{Alu, Neg, End, Load, StoreImm, StoreReg, Wide, Goto, Goto32, Branch, Call, Exit}
 
 -- the classes of arithmetic, ALU and ALU64 (section 3.3)
 abbrev pub alu_class : Width → ℕ
@@ -69,7 +69,7 @@ source_bit by_register = if by_register then 8 else 0
 
 -- the opcode of a form: arithmetic (section 4.1), byte orders (4.2), loads and stores in the modes MEM, 0x60, and MEMSX,
 -- 0x80 (5.1, 5.2), wide instructions (5.4), jumps, calls and the exit (4.3)
-abbrev pub opcode_of : OpcodeForm → ℕ
+abbrev pub opcode_of : Form → ℕ
 opcode_of (Alu w o by_register) = alu_class w + source_bit by_register + 16 * code_of o
 opcode_of (Neg w) = alu_class w + 0x80
 opcode_of (End Little) = 0xd4
@@ -87,7 +87,7 @@ opcode_of Exit = 0x95
 
 -- the forms of the table: division and remainder stand there without their signed variants, and no load extends the sign
 -- of eight bytes
-abbrev pub is_form : OpcodeForm → Bool
+abbrev pub is_form : Form → Bool
 is_form (Alu w op.Sdiv by_register) = false
 is_form (Alu w op.Srem by_register) = false
 is_form (Load Double true) = false
@@ -113,21 +113,21 @@ abbrev pub size_of : ℕ → Size
 size_of n = if n == 0 then Word else if n == 1 then Half else if n == 2 then Byte else Double
 
 -- byte orders, by class and source bit
-abbrev pub end_form_of : Width → Bool → Option OpcodeForm
+abbrev pub end_form_of : Width → Bool → Option Form
 end_form_of W32 false = Some (End Little)
 end_form_of W32 true = Some (End Big)
 end_form_of W64 false = Some (End Swapped)
 end_form_of W64 true = None
 
 -- arithmetic, by class, code and source bit
-abbrev pub alu_form_of : Width → ℕ → Bool → Option OpcodeForm
+abbrev pub alu_form_of : Width → ℕ → Bool → Option Form
 alu_form_of w code by_register =
     if code == 13 then end_form_of w by_register
     else if code == 8 then (if by_register then None else Some (Neg w))
     else option_map (λ o. Alu w o by_register) (operation_of code)
 
 -- jumps, calls and exit, by class, code and source bit
-abbrev pub jump_form_of : Width → ℕ → Bool → Option OpcodeForm
+abbrev pub jump_form_of : Width → ℕ → Bool → Option Form
 jump_form_of W64 code by_register =
     if code == 0 then (if by_register then None else Some Goto)
     else if code == 8 then (if by_register then None else Some Call)
@@ -138,14 +138,14 @@ jump_form_of W32 code by_register =
     else option_map (λ c. Branch W32 c by_register) (condition_of code)
 
 -- loads, by size and mode; a sign-extended load of eight bytes is none
-abbrev pub load_form_of : Size → ℕ → Option OpcodeForm
+abbrev pub load_form_of : Size → ℕ → Option Form
 load_form_of size mode =
     if mode == 3 then Some (Load size false)
     else if mode == 4 then (if size_code size == 3 then None else Some (Load size true))
     else None
 
 -- the form of an opcode, where it is in the table
-abbrev pub form_of : ℕ → Option OpcodeForm
+abbrev pub form_of : ℕ → Option Form
 form_of n =
     if n % 8 == 0 then (if n == 0x18 then Some Wide else None)
     else if n % 8 == 1 then load_form_of (size_of (n / 8 % 4)) (n / 32)

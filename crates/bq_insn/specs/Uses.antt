@@ -2,8 +2,8 @@
 use Rattle.std.specs.Prelude.{Bool, if◌then◌else◌}
 use Rattle.bq_insn.specs.declared.Operation.{Operation}
 use Rattle.bq_insn.specs.declared.Operation.TheVariants as op
-use Rattle.bq_insn.specs.declared.form.OpcodeForm.{OpcodeForm}
-use Rattle.bq_insn.specs.declared.form.OpcodeForm.TheVariants.{Alu, Neg, End, Load, StoreImm, StoreReg, Wide, Goto, Goto32, Branch, Call, Exit}
+use Rattle.bq_insn.specs.declared.form.Form.{Form}
+use Rattle.bq_insn.specs.declared.form.Form.TheVariants.{Alu, Neg, End, Load, StoreImm, StoreReg, Wide, Goto, Goto32, Branch, Call, Exit}
 use Rattle.bq_insn.specs.declared.uses.Use.{Use}
 use Rattle.bq_insn.specs.declared.uses.Use.TheVariants.{Unused, Register, Value}
 use Rattle.bq_insn.specs.declared.uses.Uses.{Uses}
@@ -28,7 +28,7 @@ row dst src offset imm = record { dst = dst; src = src; offset = offset; imm = i
 
 -- by form: what is not used must be zero (section 3.1). The source field of a wide instruction and of a call names a kind
 -- (sections 5.4 and 4.3)
-abbrev pub uses_of : OpcodeForm → Uses
+abbrev pub uses_of : Form → Uses
 uses_of (Alu w o by_register) = row Register (src_use by_register) (variant_use o) (imm_use by_register)
 uses_of (Neg w) = row Register Unused Unused Unused
 uses_of (End order) = row Register Unused Unused Value

@@ -5,7 +5,7 @@ ghost use Rattle.bq_insn.specs.Laws.{AllFit};
 ghost use Rattle.bq_insn.specs.Faults.{IsSlot, BeginsWith, FrontHasCause, HasFront, IsFault};
 
 use crate::fault::{Cause, DecodeFault};
-use crate::form::OpcodeForm;
+use crate::form::Form;
 use crate::judge::cause_at;
 use crate::reading::insn_of;
 use crate::slot::Slot;
@@ -49,7 +49,7 @@ fn first(bytes: &[u8]) -> Result<Insn, Cause>
     ensures err { IfErr result (FrontHasCause bytes.now) }
 {
     let (slot, next) = front(bytes);
-    let Some(form) = OpcodeForm::of(slot.opcode) else {
+    let Some(form) = Form::of(slot.opcode) else {
         return Err(Cause::Opcode);
     };
     if let Some(cause) = cause_at(form, slot, next) {

@@ -7,7 +7,7 @@ use crate::{Condition, Operation, Order, Size, Width};
 /// What an opcode says: the kind of instruction, and those of its parts that no field holds (RFC 9669, sections 3.3 to
 /// 5). The signed division and remainder have no opcode of their own, so no opcode has a form with `Sdiv` or `Srem`.
 #[derive(Clone, Copy)]
-pub enum OpcodeForm {
+pub enum Form {
     /// An operation on a register, or on the immediate.
     Alu {
         width: Width,
@@ -53,9 +53,9 @@ pub enum OpcodeForm {
     Exit,
 }
 
-impl OpcodeForm {
+impl Form {
     /// The form of an opcode, where it is in the table.
-    pub fn of(opcode: u8) -> Option<OpcodeForm>
+    pub fn of(opcode: u8) -> Option<Form>
         ensures { result ≡ form_of opcode }
     {
         let size = size_of(opcode / 8 % 4);
@@ -63,20 +63,20 @@ impl OpcodeForm {
         match opcode % 8 {
             0 => {
                 if opcode == 0x18 {
-                    return Some(OpcodeForm::Wide);
+                    return Some(Form::Wide);
                 }
                 None
             }
             1 => load_form_of(size, opcode / 32),
             2 => {
                 if opcode / 32 == 3 {
-                    return Some(OpcodeForm::StoreImm { size });
+                    return Some(Form::StoreImm { size });
                 }
                 None
             }
             3 => {
                 if opcode / 32 == 3 {
-                    return Some(OpcodeForm::StoreReg { size });
+                    return Some(Form::StoreReg { size });
                 }
                 None
             }
@@ -89,7 +89,7 @@ impl OpcodeForm {
 }
 
 /// Arithmetic and byte orders, by class, code and source bit.
-fn alu_form_of(width: Width, code: u8, by_register: bool) -> Option<OpcodeForm>
+fn alu_form_of(width: Width, code: u8, by_register: bool) -> Option<Form>
     ensures { result ≡ alu_form_of width code by_register }
 {
     if code == 13 {
@@ -99,10 +99,10 @@ fn alu_form_of(width: Width, code: u8, by_register: bool) -> Option<OpcodeForm>
         if by_register {
             return None;
         }
-        return Some(OpcodeForm::Neg { width });
+        return Some(Form::Neg { width });
     }
     let op = operation_of(code)?;
-    Some(OpcodeForm::Alu {
+    Some(Form::Alu {
         width,
         op,
         by_register,
@@ -110,15 +110,15 @@ fn alu_form_of(width: Width, code: u8, by_register: bool) -> Option<OpcodeForm>
 }
 
 /// Byte orders, by class and source bit.
-fn end_form_of(width: Width, by_register: bool) -> Option<OpcodeForm>
+fn end_form_of(width: Width, by_register: bool) -> Option<Form>
     ensures { result ≡ end_form_of width by_register }
 {
     match (width, by_register) {
-        (Width::W32, false) => Some(OpcodeForm::End {
+        (Width::W32, false) => Some(Form::End {
             order: Order::Little,
         }),
-        (Width::W32, true) => Some(OpcodeForm::End { order: Order::Big }),
-        (Width::W64, false) => Some(OpcodeForm::End {
+        (Width::W32, true) => Some(Form::End { order: Order::Big }),
+        (Width::W64, false) => Some(Form::End {
             order: Order::Swapped,
         }),
         (Width::W64, true) => None,
@@ -147,25 +147,25 @@ fn operation_of(code: u8) -> Option<Operation>
 }
 
 /// Jumps, calls and the exit, by class, code and source bit.
-fn jump_form_of(width: Width, code: u8, by_register: bool) -> Option<OpcodeForm>
+fn jump_form_of(width: Width, code: u8, by_register: bool) -> Option<Form>
     ensures { result ≡ jump_form_of width code by_register }
 {
     let alone = match (width, code) {
-        (Width::W64, 0) => OpcodeForm::Goto,
-        (Width::W64, 8) => OpcodeForm::Call,
-        (Width::W64, 9) => OpcodeForm::Exit,
-        (Width::W32, 0) => OpcodeForm::Goto32,
+        (Width::W64, 0) => Form::Goto,
+        (Width::W64, 8) => Form::Call,
+        (Width::W64, 9) => Form::Exit,
+        (Width::W32, 0) => Form::Goto32,
         _ => return branch_form_of(width, code, by_register),
     };
     if by_register { None } else { Some(alone) }
 }
 
 /// Branches, by class, code and source bit.
-fn branch_form_of(width: Width, code: u8, by_register: bool) -> Option<OpcodeForm>
-    ensures { result ≡ option_map (λ c. OpcodeForm.Branch width c by_register) (condition_of code) }
+fn branch_form_of(width: Width, code: u8, by_register: bool) -> Option<Form>
+    ensures { result ≡ option_map (λ c. Form.Branch width c by_register) (condition_of code) }
 {
     let cond = condition_of(code)?;
-    Some(OpcodeForm::Branch {
+    Some(Form::Branch {
         width,
         cond,
         by_register,
@@ -193,11 +193,11 @@ fn condition_of(code: u8) -> Option<Condition>
 }
 
 /// Loads, by size and mode.
-fn load_form_of(size: Size, mode: u8) -> Option<OpcodeForm>
+fn load_form_of(size: Size, mode: u8) -> Option<Form>
     ensures { result ≡ load_form_of size mode }
 {
     if mode == 3 {
-        return Some(OpcodeForm::Load {
+        return Some(Form::Load {
             size,
             signed: false,
         });
@@ -205,7 +205,7 @@ fn load_form_of(size: Size, mode: u8) -> Option<OpcodeForm>
     if mode == 4 {
         return match size {
             Size::Double => None,
-            _ => Some(OpcodeForm::Load { size, signed: true }),
+            _ => Some(Form::Load { size, signed: true }),
         };
     }
     None

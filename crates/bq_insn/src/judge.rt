@@ -3,14 +3,14 @@ ghost use Rattle.std.specs.Prelude.{◌≡◌};
 ghost use Rattle.bq_insn.specs.Faults.{is_no_register, is_stray, has_bad_register, has_stray_field, has_stray_second, is_variant, has_no_variant, has_no_width, is_cut, cause_at};
 
 use crate::fault::Cause;
-use crate::form::OpcodeForm;
+use crate::form::Form;
 use crate::slot::Slot;
 use crate::uses::{Use, Uses};
 use crate::{Operation, Width};
 
 /// The least cause at a slot of this form, by the slot after it if there is one; None where there is no fault. The
 /// causes of an opcode without a form and of a wrong length are found before.
-pub fn cause_at(form: OpcodeForm, slot: Slot, next: Option<Slot>) -> Option<Cause>
+pub fn cause_at(form: Form, slot: Slot, next: Option<Slot>) -> Option<Cause>
     ensures { result ≡ cause_at form slot next }
 {
     if has_bad_register(form.uses(), slot) {
@@ -64,11 +64,11 @@ fn is_stray(used: Use, value: u32) -> bool
 
 /// The second slot of a wide instruction has more than its immediate (RFC 9669, section 3.2), or even that where it
 /// belongs to a map reference (section 5.4).
-fn has_stray_second(form: OpcodeForm, slot: Slot, next: Option<Slot>) -> bool
+fn has_stray_second(form: Form, slot: Slot, next: Option<Slot>) -> bool
     ensures { result ≡ has_stray_second form slot next }
 {
     match (form, next) {
-        (OpcodeForm::Wide, Some(second)) => {
+        (Form::Wide, Some(second)) => {
             second.opcode > 0
                 || second.dst > 0
                 || second.src > 0
@@ -80,17 +80,17 @@ fn has_stray_second(form: OpcodeForm, slot: Slot, next: Option<Slot>) -> bool
 }
 
 /// The offset names no variant of the operation, or the source field no kind of wide instruction or of call.
-fn has_no_variant(form: OpcodeForm, slot: Slot) -> bool
+fn has_no_variant(form: Form, slot: Slot) -> bool
     ensures { result ≡ has_no_variant form slot }
 {
     match form {
-        OpcodeForm::Alu {
+        Form::Alu {
             width,
             op,
             by_register,
         } => !is_variant(width, op, by_register, slot.offset),
-        OpcodeForm::Wide => !(slot.src == 0 || slot.src == 5),
-        OpcodeForm::Call => slot.src != 0,
+        Form::Wide => !(slot.src == 0 || slot.src == 5),
+        Form::Call => slot.src != 0,
         _ => false,
     }
 }
@@ -111,15 +111,15 @@ fn is_variant(width: Width, op: Operation, by_register: bool, offset: u16) -> bo
 }
 
 /// The immediate of a byte order is no width (RFC 9669, section 4.2).
-fn has_no_width(form: OpcodeForm, slot: Slot) -> bool
+fn has_no_width(form: Form, slot: Slot) -> bool
     ensures { result ≡ has_no_width form slot }
 {
-    matches!(form, OpcodeForm::End { .. }) && !(slot.imm == 16 || slot.imm == 32 || slot.imm == 64)
+    matches!(form, Form::End { .. }) && !(slot.imm == 16 || slot.imm == 32 || slot.imm == 64)
 }
 
 /// A wide instruction has no second slot.
-fn is_cut(form: OpcodeForm, next: Option<Slot>) -> bool
+fn is_cut(form: Form, next: Option<Slot>) -> bool
     ensures { result ≡ is_cut form next }
 {
-    matches!((form, next), (OpcodeForm::Wide, None))
+    matches!((form, next), (Form::Wide, None))
 }

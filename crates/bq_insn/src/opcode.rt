@@ -2,41 +2,41 @@
 ghost use Rattle.std.specs.Prelude.{◌≡◌, ◌≤◌};
 ghost use Rattle.bq_insn.specs.Table.{alu_class, jump_class, code_of, condition_code, size_code, source_bit, opcode_of};
 
-use crate::form::OpcodeForm;
+use crate::form::Form;
 use crate::{Condition, Operation, Order, Size, Width};
 
-impl OpcodeForm {
+impl Form {
     /// The opcode under which the form stands.
     pub fn opcode(self) -> u8
         ensures { result ≡ opcode_of self }
     {
         match self {
-            OpcodeForm::Alu {
+            Form::Alu {
                 width,
                 op,
                 by_register,
             } => alu_class(width) + source_bit(by_register) + 16 * code_of(op),
-            OpcodeForm::Neg { width } => alu_class(width) + 0x80,
-            OpcodeForm::End { order } => match order {
+            Form::Neg { width } => alu_class(width) + 0x80,
+            Form::End { order } => match order {
                 Order::Little => 0xd4,
                 Order::Big => 0xdc,
                 Order::Swapped => 0xd7,
             },
-            OpcodeForm::Load { size, signed } => {
+            Form::Load { size, signed } => {
                 1 + 8 * size_code(size) + if signed { 0x80 } else { 0x60 }
             }
-            OpcodeForm::StoreImm { size } => 2 + 8 * size_code(size) + 0x60,
-            OpcodeForm::StoreReg { size } => 3 + 8 * size_code(size) + 0x60,
-            OpcodeForm::Wide => 0x18,
-            OpcodeForm::Goto => 0x05,
-            OpcodeForm::Goto32 => 0x06,
-            OpcodeForm::Branch {
+            Form::StoreImm { size } => 2 + 8 * size_code(size) + 0x60,
+            Form::StoreReg { size } => 3 + 8 * size_code(size) + 0x60,
+            Form::Wide => 0x18,
+            Form::Goto => 0x05,
+            Form::Goto32 => 0x06,
+            Form::Branch {
                 width,
                 cond,
                 by_register,
             } => jump_class(width) + source_bit(by_register) + 16 * condition_code(cond),
-            OpcodeForm::Call => 0x85,
-            OpcodeForm::Exit => 0x95,
+            Form::Call => 0x85,
+            Form::Exit => 0x95,
         }
     }
 }

@@ -2,44 +2,44 @@
 ghost use Rattle.std.specs.Prelude.{◌≡◌, None};
 ghost use Rattle.bq_insn.specs.Reading.{bits_of, variant, second_imm, move_of, alu_of, insn_of};
 
-use crate::form::OpcodeForm;
+use crate::form::Form;
 use crate::slot::Slot;
 use crate::{Bits, Condition, Insn, Operation, Order, Size, Source, Width};
 
 /// The instruction of this form that the slots spell, where they have no fault.
-pub fn insn_of(form: OpcodeForm, slot: Slot, next: Option<Slot>) -> Insn
+pub fn insn_of(form: Form, slot: Slot, next: Option<Slot>) -> Insn
     ensures { result ≡ insn_of form slot next }
 {
     match form {
-        OpcodeForm::Alu {
+        Form::Alu {
             width,
             op,
             by_register,
         } => alu_of(width, op, by_register, slot),
-        OpcodeForm::Neg { width } => Insn::Neg {
+        Form::Neg { width } => Insn::Neg {
             width,
             dst: slot.dst,
         },
-        OpcodeForm::End { order } => end_of(order, slot),
-        OpcodeForm::Load { size, signed } => load_of(size, signed, slot),
-        OpcodeForm::StoreImm { size } => store_imm_of(size, slot),
-        OpcodeForm::StoreReg { size } => store_reg_of(size, slot),
-        OpcodeForm::Wide => wide_of(slot, next),
-        OpcodeForm::Goto => Insn::Goto {
+        Form::End { order } => end_of(order, slot),
+        Form::Load { size, signed } => load_of(size, signed, slot),
+        Form::StoreImm { size } => store_imm_of(size, slot),
+        Form::StoreReg { size } => store_reg_of(size, slot),
+        Form::Wide => wide_of(slot, next),
+        Form::Goto => Insn::Goto {
             off: slot.signed_offset(),
         },
-        OpcodeForm::Goto32 => Insn::Goto32 {
+        Form::Goto32 => Insn::Goto32 {
             imm: slot.signed_imm(),
         },
-        OpcodeForm::Branch {
+        Form::Branch {
             width,
             cond,
             by_register,
         } => branch_of(width, cond, by_register, slot),
-        OpcodeForm::Call => Insn::Call {
+        Form::Call => Insn::Call {
             helper: slot.signed_imm(),
         },
-        OpcodeForm::Exit => Insn::Exit,
+        Form::Exit => Insn::Exit,
     }
 }
 
@@ -112,7 +112,7 @@ fn bits_of(number: u32) -> Bits
 
 /// A byte order, of the bits that its immediate names (RFC 9669, section 4.2).
 fn end_of(order: Order, slot: Slot) -> Insn
-    ensures { result ≡ insn_of (OpcodeForm.End order) slot None }
+    ensures { result ≡ insn_of (Form.End order) slot None }
 {
     Insn::End {
         kind: order,
@@ -123,7 +123,7 @@ fn end_of(order: Order, slot: Slot) -> Insn
 
 /// A load from where the source register and the offset say (RFC 9669, section 5).
 fn load_of(size: Size, signed: bool, slot: Slot) -> Insn
-    ensures { result ≡ insn_of (OpcodeForm.Load size signed) slot None }
+    ensures { result ≡ insn_of (Form.Load size signed) slot None }
 {
     Insn::Load {
         size,
@@ -136,7 +136,7 @@ fn load_of(size: Size, signed: bool, slot: Slot) -> Insn
 
 /// A store of the immediate (RFC 9669, section 5.1).
 fn store_imm_of(size: Size, slot: Slot) -> Insn
-    ensures { result ≡ insn_of (OpcodeForm.StoreImm size) slot None }
+    ensures { result ≡ insn_of (Form.StoreImm size) slot None }
 {
     Insn::StoreImm {
         size,
@@ -148,7 +148,7 @@ fn store_imm_of(size: Size, slot: Slot) -> Insn
 
 /// A store of the source register (RFC 9669, section 5.1).
 fn store_reg_of(size: Size, slot: Slot) -> Insn
-    ensures { result ≡ insn_of (OpcodeForm.StoreReg size) slot None }
+    ensures { result ≡ insn_of (Form.StoreReg size) slot None }
 {
     Insn::StoreReg {
         size,
@@ -160,7 +160,7 @@ fn store_reg_of(size: Size, slot: Slot) -> Insn
 
 /// A branch that compares with the immediate or with the source register (RFC 9669, section 4.3).
 fn branch_of(width: Width, cond: Condition, by_register: bool, slot: Slot) -> Insn
-    ensures { result ≡ insn_of (OpcodeForm.Branch width cond by_register) slot None }
+    ensures { result ≡ insn_of (Form.Branch width cond by_register) slot None }
 {
     Insn::Branch {
         width,
@@ -177,7 +177,7 @@ fn branch_of(width: Width, cond: Condition, by_register: bool, slot: Slot) -> In
 
 /// A wide instruction, by the kind that its source field names (RFC 9669, section 5.4).
 fn wide_of(slot: Slot, next: Option<Slot>) -> Insn
-    ensures { result ≡ insn_of OpcodeForm.Wide slot next }
+    ensures { result ≡ insn_of Form.Wide slot next }
 {
     if slot.src == 5 {
         return Insn::MapRef {

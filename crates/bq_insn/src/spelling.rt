@@ -3,7 +3,7 @@ ghost use Rattle.std.specs.Prelude.{◌≡◌, ◌∷◌, []};
 ghost use Rattle.bq_insn.specs.Spelling.{slot, AreSlots, variant_of, bits_number, spelled};
 ghost use Rattle.bq_insn.specs.Table.{opcode_of};
 
-use crate::form::OpcodeForm;
+use crate::form::Form;
 use crate::slot::Slot;
 use crate::{Bits, Condition, Insn, Operation, Order, Size, Source, Width};
 
@@ -24,7 +24,7 @@ pub fn slots_of(insn: Insn) -> (Slot, Option<Slot>)
             dst,
             src,
         } => extension_slots(width, bits, dst, src),
-        Insn::Neg { width, dst } => one(OpcodeForm::Neg { width }, dst, 0, 0, 0),
+        Insn::Neg { width, dst } => one(Form::Neg { width }, dst, 0, 0, 0),
         Insn::End { kind, bits, dst } => end_slots(kind, bits, dst),
         Insn::Load {
             size,
@@ -33,7 +33,7 @@ pub fn slots_of(insn: Insn) -> (Slot, Option<Slot>)
             src,
             off,
         } => one(
-            OpcodeForm::Load { size, signed },
+            Form::Load { size, signed },
             dst,
             src,
             off.cast_unsigned(),
@@ -45,7 +45,7 @@ pub fn slots_of(insn: Insn) -> (Slot, Option<Slot>)
             off,
             imm,
         } => one(
-            OpcodeForm::StoreImm { size },
+            Form::StoreImm { size },
             dst,
             0,
             off.cast_unsigned(),
@@ -56,17 +56,11 @@ pub fn slots_of(insn: Insn) -> (Slot, Option<Slot>)
             dst,
             off,
             src,
-        } => one(
-            OpcodeForm::StoreReg { size },
-            dst,
-            src,
-            off.cast_unsigned(),
-            0,
-        ),
+        } => one(Form::StoreReg { size }, dst, src, off.cast_unsigned(), 0),
         Insn::Imm64 { dst, value } => number_slots(dst, value),
         Insn::MapRef { dst, index } => two(dst, 5, index.cast_unsigned(), 0),
-        Insn::Goto { off } => one(OpcodeForm::Goto, 0, 0, off.cast_unsigned(), 0),
-        Insn::Goto32 { imm } => one(OpcodeForm::Goto32, 0, 0, 0, imm.cast_unsigned()),
+        Insn::Goto { off } => one(Form::Goto, 0, 0, off.cast_unsigned(), 0),
+        Insn::Goto32 { imm } => one(Form::Goto32, 0, 0, 0, imm.cast_unsigned()),
         Insn::Branch {
             width,
             cond,
@@ -74,8 +68,8 @@ pub fn slots_of(insn: Insn) -> (Slot, Option<Slot>)
             src,
             off,
         } => branch_slots(width, cond, dst, src, off),
-        Insn::Call { helper } => one(OpcodeForm::Call, 0, 0, 0, helper.cast_unsigned()),
-        Insn::Exit => one(OpcodeForm::Exit, 0, 0, 0, 0),
+        Insn::Call { helper } => one(Form::Call, 0, 0, 0, helper.cast_unsigned()),
+        Insn::Exit => one(Form::Exit, 0, 0, 0, 0),
     }
 }
 
@@ -91,10 +85,10 @@ fn operation_slots(width: Width, op: Operation, dst: u8, src: Source) -> (Slot, 
 }
 
 /// The form of an operation.
-fn alu(width: Width, op: Operation, by_register: bool) -> OpcodeForm
-    ensures { result ≡ OpcodeForm.Alu width op by_register }
+fn alu(width: Width, op: Operation, by_register: bool) -> Form
+    ensures { result ≡ Form.Alu width op by_register }
 {
-    OpcodeForm::Alu {
+    Form::Alu {
         width,
         op,
         by_register,
@@ -118,13 +112,7 @@ fn extension_slots(width: Width, bits: Bits, dst: u8, src: u8) -> (Slot, Option<
 fn end_slots(order: Order, bits: Bits, dst: u8) -> (Slot, Option<Slot>)
     ensures { AreSlots result (spelled (Insn.End order bits dst)) }
 {
-    one(
-        OpcodeForm::End { order },
-        dst,
-        0,
-        0,
-        u32::from(bits_number(bits)),
-    )
+    one(Form::End { order }, dst, 0, 0, u32::from(bits_number(bits)))
 }
 
 /// The slot of a branch, by where its second operand stands.
@@ -140,7 +128,7 @@ fn branch_slots(
     let offset = off.cast_unsigned();
     match src {
         Source::Imm(imm) => {
-            let form = OpcodeForm::Branch {
+            let form = Form::Branch {
                 width,
                 cond,
                 by_register: false,
@@ -148,7 +136,7 @@ fn branch_slots(
             one(form, dst, 0, offset, imm.cast_unsigned())
         }
         Source::Reg(register) => {
-            let form = OpcodeForm::Branch {
+            let form = Form::Branch {
                 width,
                 cond,
                 by_register: true,
@@ -168,7 +156,7 @@ fn number_slots(dst: u8, value: u64) -> (Slot, Option<Slot>)
 }
 
 /// A slot of that form, alone.
-fn one(form: OpcodeForm, dst: u8, src: u8, offset: u16, imm: u32) -> (Slot, Option<Slot>)
+fn one(form: Form, dst: u8, src: u8, offset: u16, imm: u32) -> (Slot, Option<Slot>)
     ensures { AreSlots result (slot (opcode_of form) dst src offset imm ∷ []) }
 {
     (slot(form.opcode(), dst, src, offset, imm), None)

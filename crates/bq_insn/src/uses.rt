@@ -3,7 +3,7 @@ ghost use Rattle.std.specs.Prelude.{◌≡◌};
 ghost use Rattle.bq_insn.specs.Uses.{row, uses_of, src_use, imm_use, variant_use};
 
 use crate::Operation;
-use crate::form::OpcodeForm;
+use crate::form::Form;
 use Use::{Register, Unused, Value};
 
 /// What a field of a slot is for.
@@ -30,13 +30,13 @@ pub struct Uses {
     pub imm: Use,
 }
 
-impl OpcodeForm {
+impl Form {
     /// What its fields are for.
     pub fn uses(self) -> Uses
         ensures { result ≡ uses_of self }
     {
         match self {
-            OpcodeForm::Alu {
+            Form::Alu {
                 op,
                 by_register,
                 ..
@@ -46,22 +46,22 @@ impl OpcodeForm {
                 variant_use(op),
                 imm_use(by_register),
             ),
-            OpcodeForm::Neg { .. } => row(Register, Unused, Unused, Unused),
-            OpcodeForm::End { .. } => row(Register, Unused, Unused, Value),
-            OpcodeForm::Load { .. } => row(Register, Register, Value, Unused),
-            OpcodeForm::StoreImm { .. } => row(Register, Unused, Value, Value),
-            OpcodeForm::StoreReg { .. } => row(Register, Register, Value, Unused),
-            OpcodeForm::Wide => row(Register, Value, Unused, Value),
-            OpcodeForm::Goto => row(Unused, Unused, Value, Unused),
-            OpcodeForm::Goto32 => row(Unused, Unused, Unused, Value),
-            OpcodeForm::Branch { by_register, .. } => row(
+            Form::Neg { .. } => row(Register, Unused, Unused, Unused),
+            Form::End { .. } => row(Register, Unused, Unused, Value),
+            Form::Load { .. } => row(Register, Register, Value, Unused),
+            Form::StoreImm { .. } => row(Register, Unused, Value, Value),
+            Form::StoreReg { .. } => row(Register, Register, Value, Unused),
+            Form::Wide => row(Register, Value, Unused, Value),
+            Form::Goto => row(Unused, Unused, Value, Unused),
+            Form::Goto32 => row(Unused, Unused, Unused, Value),
+            Form::Branch { by_register, .. } => row(
                 Register,
                 src_use(by_register),
                 Value,
                 imm_use(by_register),
             ),
-            OpcodeForm::Call => row(Unused, Value, Unused, Value),
-            OpcodeForm::Exit => row(Unused, Unused, Unused, Unused),
+            Form::Call => row(Unused, Value, Unused, Value),
+            Form::Exit => row(Unused, Unused, Unused, Unused),
         }
     }
 }

@@ -1,4 +1,4 @@
--- What an instruction needs of the view before it, by the cause that is named, and what a text tells of a need that the view does not give.
+-- What an instruction needs of the abstract state before it, by the cause that is named, and what a text tells of a need that the abstract state does not give.
 use Rattle.std.specs.Prelude.{◌≡◌, ◌≢◌, ℕ, zero, suc, ℤ, pos, ◌+◌, ◌<◌, ◌&&◌, true, false, is_none, if◌then◌else◌, List, [], ◌++◌, ◌⊎◌, Option, Some, None, codes, length, slice_get}
 use Rattle.std.specs.Fmt.{decimal, signed_decimal}
 use Rattle.bq_insn.specs.declared.Insn.{Insn}
@@ -82,7 +82,7 @@ AreGoodArguments p view (MapRef dst index) = IsMap p index
 AreGoodArguments p view (Call helper) = GivesHelper p view helper
 AreGoodArguments p view insn = Unit {0}
 
--- the view gives the instruction what the cause says that it lacks
+-- the abstract state gives the instruction what the cause says that it lacks
 abbrev pub IsMet : PolicySource → AbstractState → Insn → Cause → Type 0
 IsMet p view insn (State Unset) = AreKnown view insn
 IsMet p view insn (State Access) = IsGoodAccess p view insn
@@ -176,7 +176,7 @@ TellsNeed p view insn (State Argument) text = TellsArgument p view insn text
 TellsNeed p view insn (State Answer) text = text ≡ answer_text (known_in view 0)
 TellsNeed p view insn other text = ⊥
 
--- the text tells a need that the view does not give; where it gives what the cause says, no need is told
+-- the text tells a need that the abstract state does not give; where it gives what the cause says, no need is told
 abbrev pub IsNeed : PolicySource → AbstractState → Insn → Cause → List ℕ → Type 0
 IsNeed p view insn cause text =
     (TellsNeed p view insn cause text × ¬ (IsMet p view insn cause)) ⊎ ((text ≡ codes "is not shown to be safe") × IsMet p view insn cause)

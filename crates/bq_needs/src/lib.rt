@@ -1,6 +1,6 @@
 //! What an instruction needs of what is known before it, and lacks, in words; and what is known of a word, in words.
 //!
-//! By contract a need that is told is one that the view does not give. It stands on the views of the verifier.
+//! By contract a need that is told is one that the abstract state does not give. It stands on the abstract states of the verifier.
 #![tactic(auto)]
 
 mod accesses;

@@ -1,4 +1,4 @@
-//! What an instruction needs and the view before it does not give, in words, for causes of what is known of the states.
+//! What an instruction needs and the abstract state before it does not give, in words, for causes of what is known of the states.
 ghost use Rattle.std.specs.Prelude.{◌≡◌, ◌↔◌, ◌<◌, Some, true, IfOk, IfSome, IsTrue, MatchOption, string_bytes};
 ghost use Rattle.bq_states.specs.Certainty.{Scalar, StandsAt};
 ghost use Rattle.bq_needs.specs.Accesses.{verb};
@@ -17,7 +17,7 @@ use bq_states::registers::known;
 use bq_verify::{Cause, Doubt};
 use std::alloc::{AllocError, Global};
 
-/// The need that the view does not give, by the cause.
+/// The need that the abstract state does not give, by the cause.
 pub fn need_text(
     alloc: Global,
     policy: &PolicySource,
@@ -33,7 +33,7 @@ pub fn need_text(
     }
 }
 
-/// The same, if the view does not give what the cause says.
+/// The same, if the abstract state does not give what the cause says.
 fn told(
     alloc: Global,
     policy: &PolicySource,

@@ -34,7 +34,7 @@ use Rattle.bq_trace.specs.Trace.{Answers as AnswersIn, AnswersLine, AnswersAll, 
 use Rattle.bq_trace.specs.declared.progress.Phase.{Phase}
 use Rattle.bq_trace.specs.declared.progress.Phase.TheVariants.{Waiting, Running}
 use Rattle.bq_trace.specs.declared.progress.Progress.{Progress}
-use Rattle.bq_trace.proofs.ChainLemmas.{AnswersAll-append, lines-with_feeds}
+use Rattle.bq_trace.proofs.LineLemmas.{AnswersAll-append, lines-with_feeds}
 use Rattle.bq_trace.proofs.StoryTextLemmas.{happens_text}
 use Rattle.bq_trace.proofs.TakingLemmas.{texts-append}
 use Rattle.bq_simulate.specs.Drives.{Does, Drives}

@@ -26,15 +26,15 @@ Keeps-more shapes a None stack j more h = tt
 Keeps-more shapes None (Some b) stack j more h = absurd more
 Keeps-more shapes (Some a) (Some b) stack j more h = (h.0, more shapes h.0 h.1, h.2)
 
--- a view that allows more covers no less
+-- an abstract state that allows more contains no less
 pub Contains-more : (f : Setting) (s : State) (v w : AbstractState) → ((k : ℕ) → Allows (slice_index_or v.registers k None) (slice_index_or w.registers k None)) → ((k : ℕ) → slice_index_or w.set k false ≡ true → slice_index_or v.set k false ≡ true) → ((k : ℕ) → Allows (slice_index_or v.kept k None) (slice_index_or w.kept k None)) → ((k : ℕ) → AllowsPart (slice_index_or v.parts k None) (slice_index_or w.parts k None)) → KeepsClasses v.classes w.classes → Contains f v s → Contains f w s
-Contains-more f s v w registers set kept parts classes covers = record {
-  registers = λ r. Holds-more f.shapes _ _ (s.register r) (registers r) (covers.registers r);
-  set = λ i h. covers.set i (set i h);
-  kept = λ j. Keeps-more f.shapes _ _ s.stack j (kept j) (covers.kept j);
-  parts = λ k. (parts k).has s.stack (covers.parts k);
-  maps = covers.maps;
-  copies = copies_kept v.classes w.classes s classes covers.copies;
+Contains-more f s v w registers set kept parts classes contains = record {
+  registers = λ r. Holds-more f.shapes _ _ (s.register r) (registers r) (contains.registers r);
+  set = λ i h. contains.set i (set i h);
+  kept = λ j. Keeps-more f.shapes _ _ s.stack j (kept j) (contains.kept j);
+  parts = λ k. (parts k).has s.stack (contains.parts k);
+  maps = contains.maps;
+  copies = copies_kept v.classes w.classes s classes contains.copies;
 }
 
 stands_by : (s : Certainty) (old now other : List (Option AbstractValue)) (i : ℕ) (x a b : Option AbstractValue) → i < length now → i < length other → a ≡ get_or now i a → b ≡ get_or other i b → get_or now i None ≡ get_or old i None → (Stands s a → Stands s b → Stands s x) → ((k : ℕ) → k < i → Stands s (get_or old k None) → Stands s (get_or other k None) → Stands s (get_or now k None)) → (k : ℕ) (t : Bool) → k < i + 1 → ((t ≡ true) × (k ≡ i)) ⊎ ((t ≡ false) × (k ≢ i)) → Stands s (get_or old k None) → Stands s (get_or other k None) → Stands s (get_or (set now i x) k None)
@@ -59,7 +59,7 @@ stands_all_by s old now other i rest before k (inr le) p q = subst (λ (v : Opti
 pub stands_all : (s : Certainty) (old now other : List (Option AbstractValue)) (i : ℕ) → ((k : ℕ) → i ≤ k → get_or now k None ≡ get_or old k None) → ((k : ℕ) → k < i → Stands s (get_or old k None) → Stands s (get_or other k None) → Stands s (get_or now k None)) → (k : ℕ) → Stands s (get_or old k None) → Stands s (get_or other k None) → Stands s (get_or now k None)
 stands_all s old now other i rest before k p q = stands_all_by s old now other i rest before k (cases_lt k i) p q
 
--- what is sure of both views is sure of one that has what both have
+-- what is sure of both abstract states is sure of one that has what both have
 pub Has-both : (x : Fact) (a b v : AbstractState) → ((s : Certainty) (k : ℕ) → Stands s (slice_index_or a.registers k None) → Stands s (slice_index_or b.registers k None) → Stands s (slice_index_or v.registers k None)) → ((k : ℕ) → slice_index_or a.set k false ≡ true → slice_index_or b.set k false ≡ true → slice_index_or v.set k false ≡ true) → ((s : Certainty) (k : ℕ) → Stands s (slice_index_or a.kept k None) → Stands s (slice_index_or b.kept k None) → Stands s (slice_index_or v.kept k None)) → Has x a → Has x b → Has x v
 Has-both Never a b v registers set kept p q = p
 Has-both (AtRegister s r) a b v registers set kept p q = registers s r p q

@@ -81,9 +81,9 @@ read_numbers Stack at numbers size f s address bytes parts r any on have long sm
     on s.stack r.offset bytes refl have within (long, λ i lt. subst (λ (region : Region). byte_at f s region (r.offset + i) ≡ Some (slice_index bytes i)) is (r.set i (rw long lt))) small
 read_numbers kind at numbers size f s address bytes parts r any on have long small is within = any (number_of bytes) (λ e. let no : ⊥ = cc in no) small
 
--- a view with other parts, which are right
-pub covers_parts : (f : Setting) (v : AbstractState) (t : State) (parts : List (Option Part)) → HaveParts t.stack parts → Contains f v t → Contains f (record v { parts = parts }) t
-covers_parts f v t parts have covers = record { registers = covers.registers; set = covers.set; kept = covers.kept; parts = have; maps = covers.maps; copies = covers.copies }
+-- an abstract state with other parts, which are right
+pub contains_parts : (f : Setting) (v : AbstractState) (t : State) (parts : List (Option Part)) → HaveParts t.stack parts → Contains f v t → Contains f (record v { parts = parts }) t
+contains_parts f v t parts have contains = record { registers = contains.registers; set = contains.set; kept = contains.kept; parts = have; maps = contains.maps; copies = contains.copies }
 
 -- an element that is there is read the same whatever stands for one that is not
 pub part_known : (parts : List (Option Part)) (i : ℕ) (other : Option Part) (p : Part) → i < length parts → get_or parts i other ≡ Some p → get_or parts i None ≡ Some p

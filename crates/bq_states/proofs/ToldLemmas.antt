@@ -57,40 +57,40 @@ Keeps-sharper shapes told n (Some a) (Some b) stack j sharper small bytes d h =
     let same : h.0 ≡ n = same_bytes h.0 n (word_fits shapes a h.0 h.1) small (λ i lt. some_is _ _ (sym (h.2 i lt) ∙ bytes i lt)) in
     (n, sharper shapes n d (subst (λ (k : ℕ). Describes shapes a k) same h.1), bytes)
 
-module _ (f : Setting) (v : AbstractState) (s : State) (told : AbstractValue) (register n : ℕ) (covers : Contains f v s) (is : s.register register ≡ Some n) (d : Describes f.shapes told n) where
+module _ (f : Setting) (v : AbstractState) (s : State) (told : AbstractValue) (register n : ℕ) (contains : Contains f v s) (is : s.register register ≡ Some n) (d : Describes f.shapes told n) where
   -- more is known of a register of no class
-  pub covers_sharper_one : (a x : Option AbstractValue) → register < length v.registers → a ≡ get_or v.registers register a → IsSharper told a x → Contains f (record v { registers = slice_set v.registers register x }) s
-  covers_sharper_one a x there read sharper = record {
-    registers = λ r. each r covers.registers;
-    set = covers.set;
-    kept = covers.kept;
-    parts = covers.parts;
-    maps = covers.maps;
-    copies = covers.copies;
+  pub contains_sharper_one : (a x : Option AbstractValue) → register < length v.registers → a ≡ get_or v.registers register a → IsSharper told a x → Contains f (record v { registers = slice_set v.registers register x }) s
+  contains_sharper_one a x there read sharper = record {
+    registers = λ r. each r contains.registers;
+    set = contains.set;
+    kept = contains.kept;
+    parts = contains.parts;
+    maps = contains.maps;
+    copies = contains.copies;
   }
     where
       each : (r : ℕ) → ((k : ℕ) → Holds f.shapes (get_or v.registers k None) (s.register k)) → Holds f.shapes (get_or (set v.registers register x) r None) (s.register r)
       each r all = set_each (λ k old new. Holds f.shapes old (s.register k) → Holds f.shapes new (s.register k)) v.registers v.registers register x a there read refl (λ h. Holds-sharper f.shapes told n a x (s.register register) sharper is d h) (λ k h. h) r (all r)
 
   -- more is known of all places of a class
-  pub covers_sharper_all : (class : ℕ) (registers kept : List (Option AbstractValue)) → class ≡ slice_index v.classes register → class ≢ 0 → register < 11 → length v.registers ≤ 11
+  pub contains_sharper_all : (class : ℕ) (registers kept : List (Option AbstractValue)) → class ≡ slice_index v.classes register → class ≢ 0 → register < 11 → length v.registers ≤ 11
       → ((k : ℕ) → IsSharper told (slice_index_or v.registers k None) (slice_index_or registers k None)) → ((k : ℕ) → slice_index v.classes (0 + k) ≢ class → slice_index_or registers k None ≡ slice_index_or v.registers k None)
       → ((k : ℕ) → IsSharper told (slice_index_or v.kept k None) (slice_index_or kept k None)) → ((k : ℕ) → slice_index v.classes (11 + k) ≢ class → slice_index_or kept k None ≡ slice_index_or v.kept k None)
       → Contains f (record v { registers = registers; kept = kept }) s
-  covers_sharper_all class registers kept class_is some low short sharper others sharper' others' = record {
+  contains_sharper_all class registers kept class_is some low short sharper others sharper' others' = record {
     registers = λ r. register_at r _ (eqb_tells (slice_index v.classes (0 + r)) class) (cases_lt r 11);
-    set = covers.set;
+    set = contains.set;
     kept = λ j. slot_at j _ (eqb_tells (slice_index v.classes (11 + j)) class);
-    parts = covers.parts;
-    maps = covers.maps;
-    copies = covers.copies;
+    parts = contains.parts;
+    maps = contains.maps;
+    copies = contains.copies;
   }
     where
       word : ℕ
-      word = covers.copies.0 class
+      word = contains.copies.0 class
 
       has : (p : ℕ) → slice_index v.classes p ≡ class → HasWord s p word
-      has p e = subst (λ (k : ℕ). HasWord s p (covers.copies.0 k)) e (covers.copies.1 p (λ none. some (sym e ∙ none)))
+      has p e = subst (λ (k : ℕ). HasWord s p (contains.copies.0 k)) e (contains.copies.1 p (λ none. some (sym e ∙ none)))
 
       told_word : Describes f.shapes told word
       told_word = subst (λ (k : ℕ). Describes f.shapes told k) (some_is n word (sym is ∙ (has register (sym class_is)).0 low)) d
@@ -99,16 +99,16 @@ module _ (f : Setting) (v : AbstractState) (s : State) (told : AbstractValue) (r
       register_at r b either (inr past) = Holds-none f.shapes told (slice_index_or v.registers r None) (slice_index_or registers r None) (s.register r) (get_or_past v.registers r None (omega arith)) (sharper r)
       register_at r b (inl (_, e)) (inl lt) =
           let same : slice_index v.classes r ≡ class = subst (λ (p : ℕ). slice_index v.classes p ≡ class) (let plain : 0 + r ≡ r = omega arith in plain) e in
-          Holds-sharper f.shapes told word _ _ (s.register r) (sharper r) ((has r same).0 lt) told_word (covers.registers r)
-      register_at r b (inr (_, other)) (inl lt) = subst (λ (k : Option AbstractValue). Holds f.shapes k (s.register r)) (sym (others r other)) (covers.registers r)
+          Holds-sharper f.shapes told word _ _ (s.register r) (sharper r) ((has r same).0 lt) told_word (contains.registers r)
+      register_at r b (inr (_, other)) (inl lt) = subst (λ (k : Option AbstractValue). Holds f.shapes k (s.register r)) (sym (others r other)) (contains.registers r)
 
       slot_at : (j : ℕ) (b : Bool) → ((b ≡ true) × (slice_index v.classes (11 + j) ≡ class)) ⊎ ((b ≡ false) × (slice_index v.classes (11 + j) ≢ class)) → Keeps f.shapes (slice_index_or kept j None) s.stack j
       slot_at j b (inl (_, e)) =
           let bytes = (has (11 + j) e).1 j refl in
-          Keeps-sharper f.shapes told word _ _ s.stack j (sharper' j) bytes.0 bytes.1 told_word (covers.kept j)
-      slot_at j b (inr (_, other)) = subst (λ (k : Option AbstractValue). Keeps f.shapes k s.stack j) (sym (others' j other)) (covers.kept j)
+          Keeps-sharper f.shapes told word _ _ s.stack j (sharper' j) bytes.0 bytes.1 told_word (contains.kept j)
+      slot_at j b (inr (_, other)) = subst (λ (k : Option AbstractValue). Keeps f.shapes k s.stack j) (sym (others' j other)) (contains.kept j)
 
--- what stays sure of a view of which more is known
+-- what stays sure of an abstract state of which more is known
 pub has_sharper : (x : Fact) (v : AbstractState) (registers kept : List (Option AbstractValue)) → ((s : Certainty) (k : ℕ) → IsLastingWord s → Stands s (slice_index_or v.registers k None) → Stands s (slice_index_or registers k None)) → ((s : Certainty) (k : ℕ) → IsLastingWord s → Stands s (slice_index_or v.kept k None) → Stands s (slice_index_or kept k None)) → IsLasting x → Has x v → Has x (record v { registers = registers; kept = kept })
 has_sharper Never v registers kept stands stands' lasting has = has
 has_sharper (AtRegister s r) v registers kept stands stands' lasting has = stands s r lasting has
@@ -116,14 +116,14 @@ has_sharper (IsSetAt i) v registers kept stands stands' lasting has = has
 has_sharper (IsPlainAt j) v registers kept stands stands' lasting has = stands' NoPointer j tt has
 
 -- the word of the left operand, last
-pub covers_left : (f : Setting) (v : AbstractState) (s : State) (dst n : ℕ) (left : AbstractValue) → dst < length v.registers → s.register dst ≡ Some n → Contains f v s → Describes f.shapes left n → Contains f (record v { registers = slice_set v.registers dst (Some left) }) s
-covers_left f v s dst n left there is covers d = record {
-  registers = λ r. learn_at f.shapes v.registers s.register dst n left r _ there is (covers.registers r) d (eqb_tells r dst);
-  set = covers.set;
-  kept = covers.kept;
-  parts = covers.parts;
-  maps = covers.maps;
-  copies = covers.copies;
+pub contains_left : (f : Setting) (v : AbstractState) (s : State) (dst n : ℕ) (left : AbstractValue) → dst < length v.registers → s.register dst ≡ Some n → Contains f v s → Describes f.shapes left n → Contains f (record v { registers = slice_set v.registers dst (Some left) }) s
+contains_left f v s dst n left there is contains d = record {
+  registers = λ r. learn_at f.shapes v.registers s.register dst n left r _ there is (contains.registers r) d (eqb_tells r dst);
+  set = contains.set;
+  kept = contains.kept;
+  parts = contains.parts;
+  maps = contains.maps;
+  copies = contains.copies;
 }
 
 learnt_at : (s : Certainty) (old new : List (Option AbstractValue)) (dst r : ℕ) (left : AbstractValue) (b : Bool) → dst < length old → dst < length new → ((b ≡ true) × (r ≡ dst)) ⊎ ((b ≡ false) × (r ≢ dst)) → (Stands s (get_or old r None) → Stands s (get_or new r None)) → Stands s (get_or (set old dst (Some left)) r None) → Stands s (get_or (set new dst (Some left)) r None)

@@ -1,4 +1,4 @@
--- The states that a view speaks of.
+-- The states that an abstract state speaks of.
 use Rattle.std.specs.Prelude.{Bool, ◌≡◌, ℕ, ◌+◌, ◌*◌, ◌%◌, ◌^◌, ◌<◌, ◌≤◌, true, false, List, Option, Some, None, length, slice_get, slice_set, slice_index, slice_index_or, ◌⊎◌}
 use Rattle.std.specs.Int.{byte_at}
 use Rattle.bq_bpf.specs.declared.shape.MapShape.{MapShape}
@@ -47,7 +47,7 @@ abbrev pub Keeps : List MapShape → Option AbstractValue → (ℕ → Option �
 Keeps shapes None stack j = Unit {0}
 Keeps shapes (Some k) stack j = (n : ℕ) × Describes shapes k n × ((i : ℕ) → i < 8 → stack (8 * j + i) ≡ Some (byte_at i n))
 
--- the view is right about the state
+-- the abstract state is right about the state
 pub record Contains (f : Setting) (v : AbstractState) (s : State) : Type 0 where
   pub registers : (r : ℕ) → Holds f.shapes (slice_index_or v.registers r None) (s.register r)
   pub set : (i : ℕ) → slice_index_or v.set i false ≡ true → (b : ℕ) × (s.stack i ≡ Some b) × (b < 256)
@@ -64,7 +64,7 @@ pub record Suits (shapes : List MapShape) (context_length : ℕ) (f : Setting) :
   pub now_fits : f.now < 2 ^ 64
   pub processor_fits : f.processor < 2 ^ 32
 
--- in every state of the view the operand is set, and is such a word
+-- in every state of the abstract state the operand is set, and is such a word
 abbrev pub Finds : AbstractState → Source → AbstractValue → Type 0
 Finds v src k = (f : Setting) (s : State) → Contains f v s → (b : ℕ) × IsOperand s src b × Describes f.shapes k b
 
@@ -96,7 +96,7 @@ pub record Clears (old new : List (Option AbstractValue)) : Type 0 where
   pub first : slice_index_or new 0 None ≡ slice_index_or old 0 None
   pub others : (r : ℕ) → 6 ≤ r → slice_index_or new r None ≡ slice_index_or old r None
 
--- in every state of the view the register points to so many bytes that may be read
+-- in every state of the abstract state the register points to so many bytes that may be read
 abbrev pub FindsBytes : List MapShape → ℕ → AbstractState → ℕ → ℕ → Type 0
 FindsBytes shapes context_length view r count =
     (f : Setting) (s : State) → Suits shapes context_length f → Contains f view s → (word : ℕ) × (bytes : List ℕ) × (s.register r ≡ Some word) × (length bytes ≡ count) × Reads f s word bytes × ((i : ℕ) → slice_index bytes i < 256)

@@ -1,4 +1,4 @@
--- What is sure of a view: the ground on which straight programs are accepted.
+-- What is sure of an abstract state: the ground on which straight programs are accepted.
 use Rattle.std.specs.Prelude.{true, false, ◌≡◌, ◌≢◌, ℕ, ◌<◌, ◌≤◌, Option, Some, None, slice_index_or}
 use Rattle.bq_insn.specs.declared.Source.TheVariants.{Imm, Reg}
 use Rattle.bq_insn.specs.declared.Source.{Source}
@@ -27,7 +27,7 @@ Stands NoPointer (Some k) = k.kind ≡ Number
 abbrev pub StandsAt : Certainty → AbstractState → ℕ → Type 0
 StandsAt s view r = Stands s (slice_index_or view.registers r None)
 
--- of a register, of a byte of the stack that it is set, of a slot of eight bytes that no pointer is kept there; and what is true of no view
+-- of a register, of a byte of the stack that it is set, of a slot of eight bytes that no pointer is kept there; and what is true of no abstract state
 pub data Fact : Type 0 where
   Never : Fact
   AtRegister : Certainty → ℕ → Fact

@@ -25,7 +25,7 @@ abbrev pub IsLasting : Fact → Type 0
 IsLasting (AtRegister s r) = IsLastingWord s
 IsLasting x = Unit {0}
 
--- the fact is true of the view with that word in the register
+-- the fact is true of the abstract state with that word in the register
 abbrev pub HasLearnt : Fact → AbstractState → ℕ → AbstractValue → Type 0
 HasLearnt x view dst word = Has x (record view { registers = slice_set view.registers dst (Some word) })
 

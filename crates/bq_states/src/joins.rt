@@ -67,7 +67,7 @@ fn keep_common(into: &mut [bool], other: &[bool])
     }
 }
 
-/// The join of the two: the view is right wherever it was, and wherever the other is.
+/// The join of the two: the abstract state is right wherever it was, and wherever the other is.
 pub fn join_states(into: &mut AbstractState, other: &AbstractState)
     ensures left { (f : Setting) (s : State) → Contains f into.old s → Contains f into.new s }
     ensures right { (f : Setting) (s : State) → Contains f other.now s → Contains f into.new s }

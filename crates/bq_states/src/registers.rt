@@ -1,4 +1,4 @@
-//! Registers of a view.
+//! Registers of an abstract state.
 
 ghost use Rattle.std.specs.Prelude.{◌≡◌, ◌<◌, ℕ, ℤ, None, IfSome, length, slice_index_or};
 ghost use Rattle.bq_bpf.specs.Meaning.{word_of};

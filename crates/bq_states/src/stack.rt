@@ -19,7 +19,7 @@ pub fn overwrite(view: &mut AbstractState, at: Range, size: Size)
     requires { at.hi + byte_count size ≤ stack_size }
     ensures long { length view.new.kept ≡ 64 }
     ensures stored { at.lo ≡ at.hi → IsStoredAt view.old view.new at.lo (at.hi + byte_count size) }
-    ensures covers { (f : Setting) (s : State) (o : ℕ) (bytes : List ℕ) → Contains f view.old s → Within at o → length bytes ≡ byte_count size → ((k : ℕ) → k < length bytes → slice_index bytes k < 256) → Contains f view.new (next (written s InStack o bytes)) }
+    ensures contains { (f : Setting) (s : State) (o : ℕ) (bytes : List ℕ) → Contains f view.old s → Within at o → length bytes ≡ byte_count size → ((k : ℕ) → k < length bytes → slice_index bytes k < 256) → Contains f view.new (next (written s InStack o bytes)) }
 {
     let from = at.lo as usize;
     let to = at.hi as usize + size.bytes();

@@ -18,7 +18,7 @@ pub fn tell(
     right: AbstractValue,
 )
     requires { dst < 11 }
-    ensures covers { (f : Setting) (s : State) → Contains f view.old s → IsTold f s dst src left right → Contains f view.new s }
+    ensures contains { (f : Setting) (s : State) → Contains f view.old s → IsTold f s dst src left right → Contains f view.new s }
     ensures has { (x : Fact) → IsLasting x → HasLearnt x view.old dst left → Has x view.new }
 {
     tell_right(view, src, right);
@@ -28,7 +28,7 @@ pub fn tell(
 
 /// The right operand is as told.
 fn tell_right(view: &mut AbstractState, src: Source, told: AbstractValue)
-    ensures covers { (f : Setting) (s : State) → Contains f view.old s → ((r : ℕ) → src ≡ Source.Reg r → (n : ℕ) × (s.register r ≡ Some n) × Describes f.shapes told n) → Contains f view.new s }
+    ensures contains { (f : Setting) (s : State) → Contains f view.old s → ((r : ℕ) → src ≡ Source.Reg r → (n : ℕ) × (s.register r ≡ Some n) × Describes f.shapes told n) → Contains f view.new s }
     ensures has { (x : Fact) → IsLasting x → Has x view.old → Has x view.new }
 {
     match src {
@@ -44,7 +44,7 @@ fn tell_right(view: &mut AbstractState, src: Source, told: AbstractValue)
 /// The word of a register is as told, and so are its copies.
 fn sharpen(view: &mut AbstractState, register: u8, told: AbstractValue)
     requires { register < 11 }
-    ensures covers { (f : Setting) (s : State) (n : ℕ) → Contains f view.old s → s.register register ≡ Some n → Describes f.shapes told n → Contains f view.new s }
+    ensures contains { (f : Setting) (s : State) (n : ℕ) → Contains f view.old s → s.register register ≡ Some n → Describes f.shapes told n → Contains f view.new s }
     ensures has { (x : Fact) → IsLasting x → Has x view.old → Has x view.new }
 {
     let register = usize::from(register);

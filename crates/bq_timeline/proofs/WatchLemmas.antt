@@ -11,7 +11,7 @@ use Rattle.bq_trace.specs.Feeding.{with_feeds}
 use Rattle.bq_trace.specs.News.{News, Told, Gets, TakesAll}
 use Rattle.bq_trace.specs.Telling.{GoesOn, Story}
 use Rattle.bq_trace.specs.Trace.{start}
-use Rattle.bq_trace.proofs.ChainLemmas.{lines-with_feeds}
+use Rattle.bq_trace.proofs.LineLemmas.{lines-with_feeds}
 use Rattle.bq_trace.proofs.ReplayLemmas.{with_feeds-join}
 use Rattle.bq_trace.proofs.StandingLemmas.{Story-append, stands_for_nothing}
 use Rattle.bq_timeline.specs.Notes.{last_notes}

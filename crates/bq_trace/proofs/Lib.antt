@@ -1,4 +1,4 @@
-pub mod ChainLemmas
+pub mod LineLemmas
 pub mod NumberTextLemmas
 pub mod QueueWalkLemmas
 pub mod ReplayLemmas

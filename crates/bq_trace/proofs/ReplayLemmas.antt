@@ -10,7 +10,7 @@ use Rattle.bq_lines.specs.Kept.{IsOneLine, StandsFor}
 use Rattle.bq_trace.specs.Trace.{AnswersAll, start}
 use Rattle.bq_trace.specs.Feeding.{with_feeds, Continues, Feeds, BreaksOff, Finishes}
 use Rattle.bq_trace.specs.Replaying.{Replays, ReplaysInPart}
-use Rattle.bq_trace.proofs.ChainLemmas.{AnswersAll-append, lines-with_feeds}
+use Rattle.bq_trace.proofs.LineLemmas.{AnswersAll-append, lines-with_feeds}
 use Rattle.bq_trace.proofs.StandingLemmas.{stands_for_nothing}
 use Rattle.bq_trace.specs.declared.trace_position.TracePosition.{TracePosition}
 

@@ -7,7 +7,7 @@ use Rattle.bq_streams.specs.Writing.{AppendsPart}
 use Rattle.bq_trace.specs.Writing.{Adds}
 use Rattle.bq_trace.specs.Trace.{AnswersAll}
 use Rattle.bq_trace.specs.Feeding.{Continues, Feeds, BreaksOff, Finishes}
-use Rattle.bq_trace.proofs.ChainLemmas.{lines-with_feeds}
+use Rattle.bq_trace.proofs.LineLemmas.{lines-with_feeds}
 use Rattle.bq_trace.specs.declared.trace_position.TracePosition.{TracePosition}
 
 -- what was added to nothing is the piece

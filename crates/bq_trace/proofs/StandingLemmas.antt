@@ -8,7 +8,7 @@ use Rattle.bq_lines.specs.Kept.{IsOneLine, StandsFor}
 use Rattle.bq_trace.specs.News.{News, Told, TakesAll, Gets}
 use Rattle.bq_trace.specs.Telling.{TellsLine, Story}
 use Rattle.bq_trace.specs.Feeding.{with_feeds}
-use Rattle.bq_trace.proofs.ChainLemmas.{lines-one}
+use Rattle.bq_trace.proofs.LineLemmas.{lines-one}
 use Rattle.bq_trace.proofs.TakingLemmas.{TakesAll-append}
 use Rattle.bq_trace.specs.declared.progress.Progress.{Progress}
 use Rattle.bq_trace.specs.declared.trace_position.TracePosition.{TracePosition}

@@ -7,7 +7,7 @@ use Rattle.bq_lines.specs.Kept.{StandsFor}
 use Rattle.bq_trace.specs.Trace.{AnswersAll, start}
 use Rattle.bq_trace.specs.Feeding.{Continues, Feeds, Finishes}
 use Rattle.bq_trace.specs.Sessions.{IsFed, joined, GetsAnswers, SessionAnswers}
-use Rattle.bq_trace.proofs.ChainLemmas.{AnswersAll-append, lines-with_feeds}
+use Rattle.bq_trace.proofs.LineLemmas.{AnswersAll-append, lines-with_feeds}
 use Rattle.bq_trace.proofs.ReplayLemmas.{Continues-join}
 use Rattle.bq_trace.proofs.StandingLemmas.{stands_for_nothing}
 use Rattle.bq_trace.specs.declared.trace_position.TracePosition.{TracePosition}

@@ -16,7 +16,7 @@ use Rattle.bq_states.proofs.CopyLemmas.{copies_called}
 use Rattle.bq_states.specs.AbstractStates.{Describes, Holds, Contains, Clears, FindsBytes}
 use Rattle.bq_transfer.specs.Transfers.{Transfers, IsBelow}
 use Rattle.bq_states.proofs.AccessLemmas.{entry_low}
-use Rattle.bq_transfer.proofs.WriteLemmas.{covers_entry}
+use Rattle.bq_transfer.proofs.WriteLemmas.{contains_entry}
 
 answer_at : (shapes : List MapShape) (m k : ℕ) (shape : MapShape) (r : Range) (b : Bool) → slice_get shapes m ≡ Some shape → m < 256 → r.lo ≡ 0 → ((b ≡ true) × (suc k ≤ shape.entries)) ⊎ ((b ≡ false) × (shape.entries < suc k)) → Describes shapes (record { kind = EntryOrNull m; offset = r }) (cond b (values_base m + k * shape.value_size) 0)
 answer_at shapes m k shape r b known few lo (inl (e, there)) =
@@ -48,22 +48,22 @@ called_at shapes old cleared register answer k r b c lt clears h d (inr (e, othe
 called_at shapes old cleared register answer k r b c lt clears h d (inr (e, other)) (inr (e', high)) =
     rw (e, e', get_or-set_other cleared 0 r (Some k) None other, clears.others r (omega arith)) h
 
--- after a call the view that forgot registers 1 to 5 and knows the answer in register 0 is right
-pub covers_called : (f : Setting) (v : AbstractState) (s : State) (cleared : List (Option AbstractValue)) (parts : List ℕ) (answer : ℕ) (k : AbstractValue) → 0 < length cleared → Clears v.registers cleared → PartsFirst v.classes parts → Contains f v s → Describes f.shapes k answer → Contains f (record v { registers = slice_set cleared 0 (Some k); classes = slice_set parts 0 0 }) (called s answer)
-covers_called f v s cleared parts answer k lt clears first covers d = record {
-  registers = λ r. called_at f.shapes v.registers cleared s.register answer k r _ _ lt clears (covers.registers r) d (eqb_tells r 0) (leb_tells (suc r) 6);
-  set = covers.set;
-  kept = covers.kept;
-  parts = covers.parts;
-  maps = covers.maps;
-  copies = copies_called v.classes parts s answer first covers.copies;
+-- after a call the abstract state that forgot registers 1 to 5 and knows the answer in register 0 is right
+pub contains_called : (f : Setting) (v : AbstractState) (s : State) (cleared : List (Option AbstractValue)) (parts : List ℕ) (answer : ℕ) (k : AbstractValue) → 0 < length cleared → Clears v.registers cleared → PartsFirst v.classes parts → Contains f v s → Describes f.shapes k answer → Contains f (record v { registers = slice_set cleared 0 (Some k); classes = slice_set parts 0 0 }) (called s answer)
+contains_called f v s cleared parts answer k lt clears first contains d = record {
+  registers = λ r. called_at f.shapes v.registers cleared s.register answer k r _ _ lt clears (contains.registers r) d (eqb_tells r 0) (leb_tells (suc r) 6);
+  set = contains.set;
+  kept = contains.kept;
+  parts = contains.parts;
+  maps = contains.maps;
+  copies = copies_called v.classes parts s answer first contains.copies;
 }
 
--- a look-up transfers the view on
+-- a look-up transfers the abstract state on
 pub carries_look_up : (shapes : List MapShape) (context_length : ℕ) (v : AbstractState) (cleared : List (Option AbstractValue)) (parts : List ℕ) (m : ℕ) (r : Range) → 0 < length cleared → Clears v.registers cleared → PartsFirst v.classes parts → r.lo ≡ 0 → m < 256 → ((f : Setting) (s : State) → Contains f v s → (s.register 1 ≡ Some (reference m)) × (m < length f.shapes)) → FindsBytes shapes context_length v 2 4 → Transfers shapes context_length (Call (pos 1)) v (record v { registers = slice_set cleared 0 (Some (record { kind = EntryOrNull m; offset = r })); classes = slice_set parts 0 0 })
-carries_look_up shapes context_length v cleared parts m r lt clears first lo few names finds f s suits covers =
-    let named = names f s covers in
-    let found = finds f s suits covers in
+carries_look_up shapes context_length v cleared parts m r lt clears first lo few names finds f s suits contains =
+    let named = names f s contains in
+    let found = finds f s suits contains in
     let shape = shape_at f.shapes m named.1 in
     let k : ℕ = number_of found.1 in
     let entry : NamesEntry f s m shape.0 k = record {
@@ -78,18 +78,18 @@ carries_look_up shapes context_length v cleared parts m r lt clears first lo few
     } in (
       called s (entry_address shape.0 m k),
       inl (refl, (m, shape.0, k, entry, refl)),
-      covers_called f v s cleared parts (entry_address shape.0 m k) (record { kind = EntryOrNull m; offset = r }) lt clears first covers (answer_is f.shapes m k shape.0 r shape.1 few lo),
+      contains_called f v s cleared parts (entry_address shape.0 m k) (record { kind = EntryOrNull m; offset = r }) lt clears first contains (answer_is f.shapes m k shape.0 r shape.1 few lo),
       refl,
     )
 
 -- the write of a value into an entry
 entry_written : (f : Setting) (v : AbstractState) (s : State) (m k : ℕ) (shape : MapShape) (value : List ℕ) → slice_get f.shapes m ≡ Some shape → k < shape.entries → length value ≡ shape.value_size → ((i : ℕ) → slice_index value i < 256) → Contains f v s → (u : State) × Writes f s (entry_address shape m k) value u × Contains f v u × (u.slot ≡ s.slot)
-entry_written f v s m k shape value known there long small covers =
+entry_written f v s m k shape value known there long small contains =
     let first : ℕ = k * shape.value_size in
     let entry : IsEntry f.shapes m first shape.value_size = record { shape = shape; known = known; number = k; there = there; first_is = refl; size_is = refl } in
     let address : entry_address shape m k ≡ values_base m + first + 0 = entry_at shape m k there in
     let good : IsGood f (entry_address shape m k) (length value) (InEntry m first) 0 = record { base = values_base m + first; size = shape.value_size; spans = (refl, entry); address_is = address; inside = omega (arith, long) } in
-    let after = covers_entry f v s m first (entry_address shape m k) (length value) 0 value good refl small covers in (
+    let after = contains_entry f v s m first (entry_address shape m k) (length value) 0 value good refl small contains in (
       written s (InEntry m first) 0 value,
       record { region = InEntry m first; offset = 0; writable = tt; good = good; after = refl },
       record { registers = after.registers; set = after.set; kept = after.kept; parts = after.parts; maps = after.maps; copies = after.copies },
@@ -100,27 +100,27 @@ entry_written f v s m k shape value known there long small covers =
     entry_at shape m k there = grind (arith, nat_tests)
 
 update_by : (f : Setting) (s : State) (v new : AbstractState) (m k : ℕ) (shape : MapShape) (from : ℕ) (value : List ℕ) → NamesEntry f s m shape k → s.register 3 ≡ Some from → length value ≡ shape.value_size → Reads f s from value → s.register 4 ≡ Some 0 → ((i : ℕ) → slice_index value i < 256) → Contains f v s → ((s : State) (x : ℕ) → Contains f v s → x < 2 ^ 64 → Contains f new (called s x)) → (k < shape.entries) ⊎ (shape.entries ≤ k) → (t : State) × Does f (Call (pos 2)) s t × Contains f new t × (t.slot ≡ s.slot + 1)
-update_by f s v new m k shape from value entry is long reads none small covers answered (inl there) =
-    let on = entry_written f v s m k shape value entry.known there long small covers in (
+update_by f s v new m k shape from value entry is long reads none small contains answered (inl there) =
+    let on = entry_written f v s m k shape value entry.known there long small contains in (
       called on.0 0,
       inr (inl (refl, (m, shape, k, from, value, entry, is, long, reads, none, inl (there, on.0, on.1, refl)))),
       answered on.0 0 on.2 (omega arith),
       ap (λ (n : ℕ). n + 1) on.3,
     )
-update_by f s v new m k shape from value entry is long reads none small covers answered (inr past) = (
+update_by f s v new m k shape from value entry is long reads none small contains answered (inr past) = (
   called s (2 ^ 64 - 1),
   inr (inl (refl, (m, shape, k, from, value, entry, is, long, reads, none, inr (past, refl)))),
-  answered s (2 ^ 64 - 1) covers (omega arith),
+  answered s (2 ^ 64 - 1) contains (omega arith),
   refl,
 )
 
--- an update transfers the view on
+-- an update transfers the abstract state on
 pub carries_update : (shapes : List MapShape) (context_length : ℕ) (v new : AbstractState) (m : ℕ) (shape : MapShape) → slice_get shapes m ≡ Some shape → ((f : Setting) (s : State) → Contains f v s → (s.register 1 ≡ Some (reference m)) × (m < length f.shapes)) → FindsBytes shapes context_length v 2 4 → FindsBytes shapes context_length v 3 shape.value_size → IsBelow v 4 1 → ((f : Setting) (s : State) (x : ℕ) → Contains f v s → x < 2 ^ 64 → Contains f new (called s x)) → Transfers shapes context_length (Call (pos 2)) v new
-carries_update shapes context_length v new m shape known names finds values below answered f s suits covers =
-    let named = names f s covers in
-    let found = finds f s suits covers in
-    let value = values f s suits covers in
-    let last = below f s covers in
+carries_update shapes context_length v new m shape known names finds values below answered f s suits contains =
+    let named = names f s contains in
+    let found = finds f s suits contains in
+    let value = values f s suits contains in
+    let last = below f s contains in
     let none : s.register 4 ≡ Some 0 = last.1 ∙ ap Some (omega arith) in
     let k : ℕ = number_of found.1 in
     let at : slice_get f.shapes m ≡ Some shape = rw suits.shapes_are known in
@@ -134,4 +134,4 @@ carries_update shapes context_length v new m shape known names finds values belo
       reads = found.4;
       number_is = refl;
     } in
-    update_by f s v new m k shape value.0 value.1 entry value.2 value.3 value.4 none value.5 covers (answered f) (cases_lt k shape.entries)
+    update_by f s v new m k shape value.0 value.1 entry value.2 value.3 value.4 none value.5 contains (answered f) (cases_lt k shape.entries)

@@ -1,4 +1,4 @@
--- What is sure of a view goes on.
+-- What is sure of an abstract state goes on.
 use Rattle.std.proofs.Common.{◌≡◌, ◌≢◌, ℕ, ◌+◌, ◌<◌, ◌≤◌, Bool, true, false, List, Option, Some, None, length, refl, sym, subst, ap, ◌⊎◌, inl, inr, ◌∙◌, ℤ, pos, arith, get_or-set_same, get_or-set_other}
 use Rattle.std.specs.Prelude.{slice_index_or, ◌+ℤ◌, IsOk, OnOk, Ok, Err}
 use Rattle.std.specs.declared.result.Result.{Result}
@@ -285,7 +285,7 @@ knowing_made s view dst k there stands = record {
 pub made_classes : (s : Certainty) (old new : AbstractState) (dst : ℕ) (classes : List ℕ) → IsMade s old new dst → IsMade s old (record new { classes = classes }) dst
 made_classes s old new dst classes made = record { given = made.given; kept = made.kept; set_same = made.set_same; kept_same = made.kept_same }
 
--- a view that learns a number in a register has a number there, and all else as before
+-- an abstract state that learns a number in a register has a number there, and all else as before
 pub knowing_given : (view : AbstractState) (dst : ℕ) (k : AbstractValue) → dst < length view.registers → k.kind ≡ Number → IsGiven view (knowing view dst k) dst
 knowing_given view dst k there number = knowing_made Scalar view dst k there number
 

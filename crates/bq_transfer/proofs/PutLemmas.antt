@@ -29,33 +29,33 @@ put_at : (shapes : List MapShape) (regs : List (Option AbstractValue)) (register
 put_at shapes regs register dst n k r b lt h d (inl (e, same)) = rw (e, same, get_or-set_same regs dst (Some k) None lt) (n, refl, d)
 put_at shapes regs register dst n k r b lt h d (inr (e, other)) = rw (e, get_or-set_other regs dst r (Some k) None other) h
 
--- a view that learns the word which a register was given stays right
-pub covers_put : (f : Setting) (v : AbstractState) (s : State) (slots dst n : ℕ) (k : AbstractValue) → dst < length v.registers → Contains f v s → Describes f.shapes k n → Contains f (knowing v dst k) (put s slots dst n)
-covers_put f v s slots dst n k lt covers d = record {
-  registers = λ r. put_at f.shapes v.registers s.register dst n k r _ lt (covers.registers r) d (eqb_tells r dst);
-  set = covers.set;
-  kept = covers.kept;
-  parts = covers.parts;
-  maps = covers.maps;
-  copies = copies_put v.classes s slots dst n covers.copies;
+-- an abstract state that learns the word which a register was given stays right
+pub contains_put : (f : Setting) (v : AbstractState) (s : State) (slots dst n : ℕ) (k : AbstractValue) → dst < length v.registers → Contains f v s → Describes f.shapes k n → Contains f (knowing v dst k) (put s slots dst n)
+contains_put f v s slots dst n k lt contains d = record {
+  registers = λ r. put_at f.shapes v.registers s.register dst n k r _ lt (contains.registers r) d (eqb_tells r dst);
+  set = contains.set;
+  kept = contains.kept;
+  parts = contains.parts;
+  maps = contains.maps;
+  copies = copies_put v.classes s slots dst n contains.copies;
 }
 
 -- a register that is written with what it holds
-pub covers_same : (f : Setting) (v : AbstractState) (s : State) (slots dst n : ℕ) → s.register dst ≡ Some n → Contains f v s → Contains f v (put s slots dst n)
-covers_same f v s slots dst n is covers = record {
-  registers = λ r. rw (put_same s slots dst n is r) (covers.registers r);
-  set = covers.set;
-  kept = covers.kept;
-  parts = covers.parts;
-  maps = covers.maps;
-  copies = copies_same v.classes s slots dst n is covers.copies;
+pub contains_same : (f : Setting) (v : AbstractState) (s : State) (slots dst n : ℕ) → s.register dst ≡ Some n → Contains f v s → Contains f v (put s slots dst n)
+contains_same f v s slots dst n is contains = record {
+  registers = λ r. rw (put_same s slots dst n is r) (contains.registers r);
+  set = contains.set;
+  kept = contains.kept;
+  parts = contains.parts;
+  maps = contains.maps;
+  copies = copies_same v.classes s slots dst n is contains.copies;
 }
 
--- an instruction that gives a register such a word transfers the view on
+-- an instruction that gives a register such a word transfers the abstract state on
 pub carries_put : (shapes : List MapShape) (context_length : ℕ) (insn : Insn) (v : AbstractState) (dst : ℕ) (k : AbstractValue) → dst < length v.registers → ((f : Setting) (s : State) → Suits shapes context_length f → Contains f v s → (n : ℕ) × Does f insn s (put s (slots_of insn) dst n) × Describes f.shapes k n) → Transfers shapes context_length insn v (knowing v dst k)
-carries_put shapes context_length insn v dst k lt gives f s suits covers =
-    let given = gives f s suits covers in
-    (put s (slots_of insn) dst given.0, given.1, covers_put f v s (slots_of insn) dst given.0 k lt covers given.2, refl)
+carries_put shapes context_length insn v dst k lt gives f s suits contains =
+    let given = gives f s suits contains in
+    (put s (slots_of insn) dst given.0, given.1, contains_put f v s (slots_of insn) dst given.0 k lt contains given.2, refl)
 
 -- and so does one that calculates it from the number in a register
 pub carries_number : (shapes : List MapShape) (context_length : ℕ) (insn : Insn) (old new : AbstractState) (dst src : ℕ) (from to : Range) (calculated : ℕ → ℕ) → dst < 10 → length old.registers ≡ 11 → new ≡ knowing old dst (record { kind = Number; offset = to })
@@ -64,17 +64,17 @@ carries_number shapes context_length insn old new dst src from to calculated bel
     let there : dst < length old.registers = omega arith in
     rw is
     (carries_put shapes context_length insn old dst (record { kind = Number; offset = to }) there
-    (λ f s suits covers. let word = holds f s covers in (calculated word.0, does f s word.0 word.1, describes_number f.shapes to (calculated word.0) (within word.0 word.2))))
+    (λ f s suits contains. let word = holds f s contains in (calculated word.0, does f s word.0 word.1, describes_number f.shapes to (calculated word.0) (within word.0 word.2))))
 
 -- the same as the first, where the register is a copy of a slot then
 pub carries_linked : (shapes : List MapShape) (context_length : ℕ) (insn : Insn) (v : AbstractState) (dst slot : ℕ) (k : AbstractValue) (classes : List ℕ) → dst < length v.registers → dst < 11 → ((f : Setting) (s : State) → Suits shapes context_length f → Contains f v s → (n : ℕ) × Does f insn s (put s (slots_of insn) dst n) × Describes f.shapes k n × HasWord s (11 + slot) n) → ((t : State) (n : ℕ) → AreCopies (slice_set v.classes dst 0) t → HasWord t (11 + slot) n → ((m : ℕ) → HasWord t (11 + slot) m → HasWord t dst m) → AreCopies classes t) → Transfers shapes context_length insn v (record (knowing v dst k) { classes = classes })
-carries_linked shapes context_length insn v dst slot k classes lt low gives linked f s suits covers =
-    let given = gives f s suits covers in
+carries_linked shapes context_length insn v dst slot k classes lt low gives linked f s suits contains =
+    let given = gives f s suits contains in
     let t : State = put s (slots_of insn) dst given.0 in
-    let put_covers : Contains f (knowing v dst k) t = covers_put f v s (slots_of insn) dst given.0 k lt covers given.2 in
+    let put_contains : Contains f (knowing v dst k) t = contains_put f v s (slots_of insn) dst given.0 k lt contains given.2 in
     let there : HasWord t (11 + slot) given.0 = (λ below. absurd (let no : ⊥ = omega (arith, below) in no), given.3.1) in
-    let copies = linked t given.0 put_covers.copies there (λ m has. loaded_copy t dst slot given.0 m low (put_here s (slots_of insn) dst given.0) there has) in
-    (t, given.1, record { registers = put_covers.registers; set = put_covers.set; kept = put_covers.kept; parts = put_covers.parts; maps = put_covers.maps; copies = copies }, refl)
+    let copies = linked t given.0 put_contains.copies there (λ m has. loaded_copy t dst slot given.0 m low (put_here s (slots_of insn) dst given.0) there has) in
+    (t, given.1, record { registers = put_contains.registers; set = put_contains.set; kept = put_contains.kept; parts = put_contains.parts; maps = put_contains.maps; copies = copies }, refl)
 
 -- the reference of a map
 pub reference_is : (shapes : List MapShape) (m : ℕ) (r : Range) → m < length shapes → m < 256 → r.lo ≡ 0 → Describes shapes (record { kind = Map m; offset = r }) (reference m)

@@ -52,35 +52,35 @@ low_small size v k = at (cases_lt k (byte_count size))
         rw (get_or_past (low_bytes size v) k 0 beyond) (omega arith)
 
 keeps_at : (f : Setting) (w : AbstractState) (t : State) (j i : ℕ) (k : AbstractValue) (b : Bool) → j < length w.kept → Keeps f.shapes (Some k) t.stack j → Contains f w t → ((b ≡ true) × (i ≡ j)) ⊎ ((b ≡ false) × (i ≢ j)) → Keeps f.shapes (get_or (set w.kept j (Some k)) i None) t.stack i
-keeps_at f w t j i k b there keeps covers (inl (_, same)) =
+keeps_at f w t j i k b there keeps contains (inl (_, same)) =
     rw (same, get_or-set_same w.kept j (Some k) None there) keeps
-keeps_at f w t j i k b there keeps covers (inr (_, other)) =
-    subst (λ (v : Option AbstractValue). Keeps f.shapes v t.stack i) (sym (get_or-set_other w.kept j i (Some k) None other)) (covers.kept i)
+keeps_at f w t j i k b there keeps contains (inr (_, other)) =
+    subst (λ (v : Option AbstractValue). Keeps f.shapes v t.stack i) (sym (get_or-set_other w.kept j i (Some k) None other)) (contains.kept i)
 
 -- a slot whose word is known
-pub covers_keeping : (f : Setting) (w : AbstractState) (t : State) (j : ℕ) (k : AbstractValue) → j < length w.kept → Keeps f.shapes (Some k) t.stack j → Contains f w t → Contains f (keeping w j k) t
-covers_keeping f w t j k there keeps covers = record {
-  registers = covers.registers;
-  set = covers.set;
-  kept = λ i. keeps_at f w t j i k _ there keeps covers (eqb_tells i j);
-  parts = covers.parts;
-  maps = covers.maps;
-  copies = covers.copies;
+pub contains_keeping : (f : Setting) (w : AbstractState) (t : State) (j : ℕ) (k : AbstractValue) → j < length w.kept → Keeps f.shapes (Some k) t.stack j → Contains f w t → Contains f (keeping w j k) t
+contains_keeping f w t j k there keeps contains = record {
+  registers = contains.registers;
+  set = contains.set;
+  kept = λ i. keeps_at f w t j i k _ there keeps contains (eqb_tells i j);
+  parts = contains.parts;
+  maps = contains.maps;
+  copies = contains.copies;
 }
 
 -- bytes written into an entry
-pub covers_entry : (f : Setting) (v : AbstractState) (s : State) (m first address n o : ℕ) (bytes : List ℕ) → IsGood f address n (InEntry m first) o → length bytes ≡ n → ((k : ℕ) → slice_index bytes k < 256) → Contains f v s → Contains f v (next (written s (InEntry m first) o bytes))
-covers_entry f v s m first address n o bytes good long small covers =
+pub contains_entry : (f : Setting) (v : AbstractState) (s : State) (m first address n o : ℕ) (bytes : List ℕ) → IsGood f address n (InEntry m first) o → length bytes ≡ n → ((k : ℕ) → slice_index bytes k < 256) → Contains f v s → Contains f v (next (written s (InEntry m first) o bytes))
+contains_entry f v s m first address n o bytes good long small contains =
     let entry = good.spans.1 in
-    let inside = entry_inside f.shapes s.maps m first good.size covers.maps entry in
+    let inside = entry_inside f.shapes s.maps m first good.size contains.maps entry in
     let there : m < length f.shapes = slice_get_within f.shapes m entry.shape entry.known in
     record {
-      registers = covers.registers;
-      set = covers.set;
-      kept = covers.kept;
-      parts = covers.parts;
-      copies = covers.copies;
-      maps = have_overwritten f.shapes s.maps m (first + o) bytes covers.maps there (omega (arith, good.inside, long, inside)) small;
+      registers = contains.registers;
+      set = contains.set;
+      kept = contains.kept;
+      parts = contains.parts;
+      copies = contains.copies;
+      maps = have_overwritten f.shapes s.maps m (first + o) bytes contains.maps there (omega (arith, good.inside, long, inside)) small;
     }
 
 -- the word in a slot that was written whole
@@ -101,15 +101,15 @@ some_slot (Some m) n P h e = let same : m ≡ n = cc in subst P same h
 
 -- a store on the stack
 stores_on_stack : (shapes : List MapShape) (context_length dst : ℕ) (off : ℤ) (size : Size) (k : AbstractValue) (at : Range) (kind : Kind) (old new : AbstractState) (slot : Option ℕ) → IfSome slot (IsWholeSlot at size) → kind ≡ Stack → FindsPlace shapes context_length old dst off size kind at → ((f : Setting) (s : State) (o v : ℕ) → Contains f old s → Within at o → Describes f.shapes k v → Contains f new (next (written s InStack o (low_bytes size v)))) → Stores shapes context_length dst off size k old new slot
-stores_on_stack shapes context_length dst off size k at kind old new slot whole stack finds after f s v suits covers d =
-    let found = finds f s suits covers in
+stores_on_stack shapes context_length dst off size k at kind old new slot whole stack finds after f s v suits contains d =
+    let found = finds f s suits contains in
     let region : found.1 ≡ InStack = subst (λ (x : Kind). IsOfKind x found.1) stack found.5 in
     let good = subst (λ (r : Region). IsGood f (address_of found.0 off) (byte_count size) r found.2) region found.4 in (
       found.0,
       written s InStack found.2 (low_bytes size v),
       found.3,
       record { region = InStack; offset = found.2; writable = tt; good = rw (low_long size v) good; after = refl },
-      after f s found.2 v covers found.6 d,
+      after f s found.2 v contains found.6 d,
       refl,
       refl,
       λ n is. slot_word f.shapes s k at size found.2 v n (some_slot slot n (IsWholeSlot at size) whole is) found.6 d,
@@ -123,39 +123,39 @@ stores_if_ok shapes context_length dst off size k at kind old new (Err doubt) wh
 
 -- a store into an entry
 pub stores_in_entry : (shapes : List MapShape) (context_length dst : ℕ) (off : ℤ) (size : Size) (k : AbstractValue) (at : Range) (kind : Kind) (m : ℕ) (view : AbstractState) → kind ≡ Entry m → FindsPlace shapes context_length view dst off size kind at → Stores shapes context_length dst off size k view view None
-stores_in_entry shapes context_length dst off size k at kind m view entry finds f s v suits covers d =
-    let found = finds f s suits covers in
+stores_in_entry shapes context_length dst off size k at kind m view entry finds f s v suits contains d =
+    let found = finds f s suits contains in
     let into : (first : ℕ) × (found.1 ≡ InEntry m first) = subst (λ (x : Kind). IsOfKind x found.1) entry found.5 in
     let good = subst (λ (r : Region). IsGood f (address_of found.0 off) (byte_count size) r found.2) into.1 found.4 in (
       found.0,
       written s (InEntry m into.0) found.2 (low_bytes size v),
       found.3,
       record { region = InEntry m into.0; offset = found.2; writable = tt; good = rw (low_long size v) good; after = refl },
-      covers_entry f view s m into.0 (address_of found.0 off) (byte_count size) found.2 (low_bytes size v) good (low_long size v) (low_small size v) covers,
+      contains_entry f view s m into.0 (address_of found.0 off) (byte_count size) found.2 (low_bytes size v) good (low_long size v) (low_small size v) contains,
       refl,
       refl,
       λ n is. absurd (let no : ⊥ = cc in no),
     )
 
--- where an immediate can be stored, the instruction that stores it leads to the view after it
+-- where an immediate can be stored, the instruction that stores it leads to the abstract state after it
 pub carries_imm : (shapes : List MapShape) (context_length dst : ℕ) (off imm : ℤ) (size : Size) (k : AbstractValue) (old new : AbstractState) (slot : Option ℕ) → ((f : Setting) → Describes f.shapes k (word_of imm)) → Stores shapes context_length dst off size k old new slot → Transfers shapes context_length (StoreImm size dst off imm) old new
-carries_imm shapes context_length dst off imm size k old new slot word stores f s suits covers =
-    let on = stores f s (word_of imm) suits covers (word f) in
+carries_imm shapes context_length dst off imm size k old new slot word stores f s suits contains =
+    let on = stores f s (word_of imm) suits contains (word f) in
     (next on.1, (on.0, on.1, on.2, on.3, refl), on.4, ap (λ (n : ℕ). n + 1) on.5)
 
--- a view with other classes, which are right
-pub covers_classes : (f : Setting) (v : AbstractState) (t : State) (classes : List ℕ) → AreCopies classes t → Contains f v t → Contains f (record v { classes = classes }) t
-covers_classes f v t classes copies covers = record { registers = covers.registers; set = covers.set; kept = covers.kept; parts = covers.parts; maps = covers.maps; copies = copies }
+-- an abstract state with other classes, which are right
+pub contains_classes : (f : Setting) (v : AbstractState) (t : State) (classes : List ℕ) → AreCopies classes t → Contains f v t → Contains f (record v { classes = classes }) t
+contains_classes f v t classes copies contains = record { registers = contains.registers; set = contains.set; kept = contains.kept; parts = contains.parts; maps = contains.maps; copies = copies }
 
--- where a register can be stored, the instruction leads to the view after it, with classes that are right there
+-- where a register can be stored, the instruction leads to the abstract state after it, with classes that are right there
 pub carries_reg : (shapes : List MapShape) (context_length dst src : ℕ) (off : ℤ) (size : Size) (k : AbstractValue) (old new : AbstractState) (slot : Option ℕ) (classes : List ℕ) → ((f : Setting) (s : State) → Contains f old s → (v : ℕ) × (s.register src ≡ Some v) × Describes f.shapes k v) → Stores shapes context_length dst off size k old new slot → ((t : State) (v : ℕ) → AreCopies new.classes t → t.register src ≡ Some v → ((n : ℕ) → slot ≡ Some n → HasWord t (11 + n) v) → AreCopies classes t) → Transfers shapes context_length (StoreReg size dst off src) old (record new { classes = classes })
-carries_reg shapes context_length dst src off size k old new slot classes word stores linked f s suits covers =
-    let v = word f s covers in
-    let on = stores f s v.0 suits covers v.2 in
+carries_reg shapes context_length dst src off size k old new slot classes word stores linked f s suits contains =
+    let v = word f s contains in
+    let on = stores f s v.0 suits contains v.2 in
     let same : on.1.register ≡ s.register = on.6 in
     let is : on.1.register src ≡ Some v.0 = rw same v.1 in
     let after = on.4 in
-    (next on.1, (on.0, v.0, on.1, on.2, v.1, on.3, refl), covers_classes f new (next on.1) classes (linked (next on.1) v.0 after.copies is on.7) after, ap (λ (n : ℕ). n + 1) on.5)
+    (next on.1, (on.0, v.0, on.1, on.2, v.1, on.3, refl), contains_classes f new (next on.1) classes (linked (next on.1) v.0 after.copies is on.7) after, ap (λ (n : ℕ). n + 1) on.5)
 
 -- a slot in which a number is kept, and each that had no pointer, has none
 pub plain_kept : (kept : List (Option AbstractValue)) (slot j : ℕ) (k : AbstractValue) → k.kind ≡ Number → Stands NoPointer (slice_index_or kept j None) → Stands NoPointer (slice_index_or (slice_set kept slot (Some k)) j None)

@@ -1,4 +1,4 @@
--- What is sure of a view after an instruction, by the view before it.
+-- What is sure of an abstract state after an instruction, by the abstract state before it.
 use Rattle.std.specs.Prelude.{◌≡◌, ◌≢◌, ℕ, ◌+◌, ◌<◌, ◌≤◌, ℤ, pos, ◌+ℤ◌, Some, ◌⊎◌}
 use Rattle.bq_insn.specs.Slots.{byte_count}
 use Rattle.bq_bpf.specs.Meaning.{word_of}
@@ -62,7 +62,7 @@ IsFoundSide Equal off slot to = (to ≡ slot + 1) × (LeadsTo slot off to → �
 IsFoundSide NotEqual off slot to = LeadsTo slot off to × (to ≢ slot + 1)
 IsFoundSide _ off slot to = ⊥
 
--- the instruction gives the register such a pointer, by the view before it: a map's name, a copy, a sum, a look-up's answer, and what a test leaves of it
+-- the instruction gives the register such a pointer, by the abstract state before it: a map's name, a copy, a sum, a look-up's answer, and what a test leaves of it
 abbrev pub GivesPointer : Kind → ℕ → ℕ → ℕ → Insn → ℕ → AbstractState → Type 0
 GivesPointer kind o slot k (MapRef dst index) r view = (dst ≡ r) × (m : ℕ) × (index ≡ pos m) × (kind ≡ Map m) × (o ≡ 0)
 GivesPointer kind o slot k (Alu w Mov dst (Reg src)) r view = (dst ≡ r) × (src ≡ 10) × StandsAt (Pointer kind o) view 10

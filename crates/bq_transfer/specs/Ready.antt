@@ -1,4 +1,4 @@
--- What each instruction needs of the view before it, so that nothing is left to be shown.
+-- What each instruction needs of the abstract state before it, so that nothing is left to be shown.
 use Rattle.std.specs.Prelude.{length, ◌≡◌, ◌≢◌, ℕ, ◌+◌, ◌-◌, ◌<◌, ◌≤◌, ℤ, pos, ◌+ℤ◌, List, Option, Some, None, slice_get, slice_index_or, ◌⊎◌}
 use Rattle.bq_insn.specs.Slots.{byte_count}
 use Rattle.bq_insn.specs.declared.Condition.TheVariants.{Equal, NotEqual}
@@ -117,7 +117,7 @@ pub record IsNullCheck (w : Width) (c : Condition) (src : Source) : Type 0 where
   pub of_null : IsNullTest c
   pub with_zero : src ≡ Imm (pos 0)
 
--- what an instruction needs, by the view before it
+-- what an instruction needs, by the abstract state before it
 abbrev pub IsReady : List MapShape → ℕ → AbstractState → Insn → Type 0
 IsReady shapes context view (Alu w op dst src) = (dst < 10) × ((IsLeftReady op view dst × IsScalarOperand view src) ⊎ (IsCopyOfFrame view w op src ⊎ IsMoveOfPointer view w op dst src))
 IsReady shapes context view (MovSx w bits dst src) = (dst < 10) × StandsAt Scalar view src

@@ -1,4 +1,4 @@
--- What an instruction does to a view: from every state of the old one it leads to a state of the new one.
+-- What an instruction does to an abstract state: from every state of the old one it leads to a state of the new one.
 use Rattle.std.specs.Prelude.{◌≡◌, ℕ, ℤ, ◌+◌, ◌*◌, ◌^◌, ◌<◌, List, Option, Some}
 use Rattle.bq_insn.specs.declared.Insn.{Insn}
 use Rattle.bq_insn.specs.Slots.{slots_of, byte_count}
@@ -21,25 +21,25 @@ use Rattle.bq_insn.specs.declared.Operation.TheVariants.{Mov}
 use Rattle.bq_insn.specs.declared.Width.{Width}
 use Rattle.bq_states.specs.AbstractStates.{Contains, Describes, IsOfKind, Suits}
 
--- from every state of the old view the instruction has a step, to a state of the new one at the next slot
+-- from every state of the old abstract state the instruction has a step, to a state of the new one at the next slot
 abbrev pub Transfers : List MapShape → ℕ → Insn → AbstractState → AbstractState → Type 0
 Transfers shapes context_length insn old new =
     (f : Setting) (s : State) → Suits shapes context_length f → Contains f old s → (t : State) × Does f insn s t × Contains f new t × (t.slot ≡ s.slot + slots_of insn)
 
--- in every state of the old view the instruction calls a counter, and whatever the answer is, the new view is right after it
+-- in every state of the old abstract state the instruction calls a counter, and whatever the answer is, the new abstract state is right after it
 abbrev pub AsksFrom : Insn → AbstractState → AbstractState → Type 0
 AsksFrom insn old new =
     (f : Setting) (s : State) (x : ℕ) → Contains f old s → x < 2 ^ 64 → (c : Asked) × (answer_of c ≡ x) × Asks insn s c × Contains f new (called s x)
 
--- in every state of the view the register is set, and is below that number
+-- in every state of the abstract state the register is set, and is below that number
 abbrev pub IsBelow : AbstractState → ℕ → ℕ → Type 0
 IsBelow view r bound = (f : Setting) (s : State) → Contains f view s → (n : ℕ) × (s.register r ≡ Some n) × (n < bound)
 
--- in every state of the view the register is set, to a number of the range
+-- in every state of the abstract state the register is set, to a number of the range
 abbrev pub HoldsNumber : AbstractState → ℕ → Range → Type 0
 HoldsNumber view r range = (f : Setting) (s : State) → Contains f view s → (n : ℕ) × (s.register r ≡ Some n) × Within range n
 
--- in every state of the view the access is good: the region is of that kind, and the offset in the range
+-- in every state of the abstract state the access is good: the region is of that kind, and the offset in the range
 abbrev pub FindsPlace : List MapShape → ℕ → AbstractState → ℕ → ℤ → Size → Kind → Range → Type 0
 FindsPlace shapes context_length view r off size kind at =
     (f : Setting) (s : State) → Suits shapes context_length f → Contains f view s → (word : ℕ) × (region : Region) × (o : ℕ) × (s.register r ≡ Some word) × IsGood f (address_of word off) (byte_count size) region o × IsOfKind kind region × Within at o
@@ -48,7 +48,7 @@ FindsPlace shapes context_length view r off size kind at =
 abbrev pub IsWholeSlot : Range → Size → ℕ → Type 0
 IsWholeSlot at size slot = (slot < 64) × (size ≡ Double) × (at.lo ≡ 8 * slot) × (at.hi ≡ 8 * slot)
 
--- from every state of the old view the low bytes of such a word can be written there, which leads to a state of the new one, where the slot, if there is one, has the word
+-- from every state of the old abstract state the low bytes of such a word can be written there, which leads to a state of the new one, where the slot, if there is one, has the word
 abbrev pub Stores : List MapShape → ℕ → ℕ → ℤ → Size → AbstractValue → AbstractState → AbstractState → Option ℕ → Type 0
 Stores shapes context_length dst off size k old new slot =
     (f : Setting) (s : State) (v : ℕ) → Suits shapes context_length f → Contains f old s → Describes f.shapes k v

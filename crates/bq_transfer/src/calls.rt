@@ -183,7 +183,7 @@ pub fn is_at_most(view: &AbstractState, register: u8, most: u64) -> bool
 
 /// After a call registers 1 to 5 are unset, and register 0 is a number of that range.
 pub fn answer(view: &mut AbstractState, offset: Range)
-    ensures covers { (f : Setting) (s : State) (x : ℕ) → Contains f view.old s → Within offset x → Contains f view.new (called s x) }
+    ensures contains { (f : Setting) (s : State) (x : ℕ) → Contains f view.old s → Within offset x → Contains f view.new (called s x) }
     ensures answered { IsAnswered view.old view.new }
 {
     clear(&mut view.registers);

@@ -47,7 +47,7 @@ fn read(view: &mut AbstractState) -> Result<(), Doubt>
     Ok(())
 }
 
-/// The view after a call of a counter.
+/// The abstract state after a call of a counter.
 pub fn ask(view: &mut AbstractState, insn: Insn) -> Result<(), Doubt>
     requires { IsCounterCall insn }
     ensures asks { OnOk result (AsksFrom insn view.old view.new) }

@@ -131,7 +131,7 @@ fn store_on_stack(
     word: AbstractValue,
 ) -> Result<Option<usize>, Doubt>
     ensures slot { IfOk result (λ slot. IfSome slot (IsWholeSlot at size)) }
-    ensures covers { OnOk result ((f : Setting) (s : State) (o v : ℕ) → Contains f view.old s → Within at o → Describes f.shapes word v → Contains f view.new (next (written s InStack o (low_bytes size v)))) }
+    ensures contains { OnOk result ((f : Setting) (s : State) (o v : ℕ) → Contains f view.old s → Within at o → Describes f.shapes word v → Contains f view.new (next (written s InStack o (low_bytes size v)))) }
     ensures doubts { IfErr result (λ doubt. (insn : Insn) → IsAccess insn → (word.kind ≢ Kind.Number → UsesWord insn) → MayDoubt doubt insn) }
     ensures accepts { word.kind ≡ Kind.Number → (place : ℕ) → at.lo ≡ place → at.hi ≡ place → place + byte_count size ≤ STACK_SIZE → IsOk result × IsStoredAt view.old view.new place (place + byte_count size) }
 {

@@ -18,7 +18,7 @@ use bq_bpf::MapShape;
 use bq_insn::Insn;
 use bq_states::abstract_state::AbstractState;
 
-/// The view after the instruction.
+/// The abstract state after the instruction.
 #[tactic(auto, using(crate::proofs::TransferLemmas::transferring))]
 pub fn transfer(
     view: &mut AbstractState,

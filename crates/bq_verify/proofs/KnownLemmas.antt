@@ -1,4 +1,4 @@
--- What the pass knows before a slot covers every run that comes there.
+-- What the pass knows before a slot contains every run that comes there.
 use Rattle.std.proofs.Common.{◌≡◌, ◌≢◌, ℕ, zero, suc, ◌+◌, ◌^◌, ◌<◌, ◌≤◌, Bool, true, false, List, [], ◌∷◌, ◌++◌, Option, Some, None, Box, Global, length, refl, arith, sym, ap, ◌∙◌, subst, zero-le, ◌⊎◌, inl, inr, ℤ}
 use Rattle.std.specs.Prelude.{slice_index_or}
 use Rattle.std.proofs.lemmas.Bool.Decides.{eqb_tells}
@@ -18,8 +18,8 @@ use Rattle.bq_states.specs.declared.abstract_state.AbstractState.{AbstractState}
 use Rattle.bq_states.specs.declared.abstract_state.Kind.TheVariants.{Map}
 use Rattle.bq_states.specs.AbstractStates.{Contains}
 use Rattle.bq_verify.specs.Control.{IsKnown, LeadsOn, PassesOn}
-use Rattle.bq_verify.specs.KnownAt.{CoversRuns, IsNotReached, RestIsCovered}
-use Rattle.bq_verify.proofs.ChainLemmas.{no_step, one_step}
+use Rattle.bq_verify.specs.KnownAt.{ContainsRuns, IsNotReached, RestIsCovered}
+use Rattle.bq_verify.proofs.OneStepLemmas.{no_step, one_step}
 use Rattle.bq_verify.proofs.PassLemmas.{waits_at_slot, none_waits}
 
 -- a write leaves the slot
@@ -135,7 +135,7 @@ module _ (slots : List (Option Insn)) (shapes : List MapShape) (context_length :
     pub covered_before : slot < target → PassesOn slots shapes context_length slot K L → RestIsCovered slots shapes context_length target seen (slot + 1) L → RestIsCovered slots shapes context_length target seen slot K
     covered_before before passes rest f s setting le begins known = at_state before passes rest f s _ setting le begins known (eqb_tells s.slot slot)
 
-  -- at the slot itself the view is what is known
+  -- at the slot itself the abstract state is what is known
   pub covered_at : (target : ℕ) (pending after : List (Option (Box AbstractState Global))) (view seen : AbstractState) (live arrived : Bool)
       → ((f : Setting) (s : State) → IsKnown pending view live target f s → IsKnown after seen arrived target f s) → slice_index_or after target None ≡ None
       → RestIsCovered slots shapes context_length target seen target (IsKnown pending view live target)
@@ -147,7 +147,7 @@ module _ (slots : List (Option Insn)) (shapes : List MapShape) (context_length :
     where
       is_seen : IsKnown after seen arrived target f s → s.slot ≡ target → Contains f seen s
       is_seen (inl waits) there = absurd (none_waits f s (slice_index_or after target None) empty (waits_at_slot f s after target there waits))
-      is_seen (inr (e, same, covers)) there = covers
+      is_seen (inr (e, same, contains)) there = contains
 
   -- and where nothing is known there, no chain that is left to follow comes to it
   pub covered_by_any : (target : ℕ) (pending after : List (Option (Box AbstractState Global))) (view seen any : AbstractState) (live arrived : Bool)
@@ -161,9 +161,9 @@ module _ (slots : List (Option Insn)) (shapes : List MapShape) (context_length :
     where
       is_none : IsKnown after seen arrived target f s → s.slot ≡ target → ⊥
       is_none (inl waits) there = none_waits f s (slice_index_or after target None) empty (waits_at_slot f s after target there waits)
-      is_none (inr (e, same, covers)) there = no_both arrived not e
+      is_none (inr (e, same, contains)) there = no_both arrived not e
 
--- a view of no state: its first register names a map that there is not
+-- an abstract state of no state: its first register names a map that there is not
 pub nowhere : List MapShape → AbstractState
 nowhere shapes = record {
   registers = Some (record { kind = Map (length shapes); offset = record { lo = 0; hi = 0; ordered = zero-le; fits = omega arith } }) ∷ [];
@@ -175,19 +175,19 @@ nowhere shapes = record {
 
 contains_none : (f : Setting) (s : State) → Contains f (nowhere f.shapes) s → ⊥
 unfolding nowhere
-contains_none f s covers =
-    let word = covers.registers 0 in
+contains_none f s contains =
+    let word = contains.registers 0 in
     let base = word.2.is_base in
     omega (arith, base.1)
 
--- what covers the runs with the view of no state says that there are none
-pub not_reached : (slots : List (Option Insn)) (shapes : List MapShape) (context_length target : ℕ) → CoversRuns slots shapes context_length target (nowhere shapes) → IsNotReached slots shapes context_length target
-not_reached slots shapes context_length target covers f maps setting have n calls t chain here =
-    contains_none f t (subst (λ (x : List MapShape). Contains f (nowhere x) t) (sym setting.shapes_are) (covers f maps setting have n calls t chain here))
+-- what contains the runs with the abstract state of no state says that there are none
+pub not_reached : (slots : List (Option Insn)) (shapes : List MapShape) (context_length target : ℕ) → ContainsRuns slots shapes context_length target (nowhere shapes) → IsNotReached slots shapes context_length target
+not_reached slots shapes context_length target contains f maps setting have n calls t chain here =
+    contains_none f t (subst (λ (x : List MapShape). Contains f (nowhere x) t) (sym setting.shapes_are) (contains f maps setting have n calls t chain here))
 
--- a view that covers the rest from the start covers the runs
-pub covers_runs : (slots : List (Option Insn)) (shapes : List MapShape) (context_length target : ℕ) (seen : AbstractState) (pending : List (Option (Box AbstractState Global))) (view : AbstractState)
+-- an abstract state that contains the rest from the start contains the runs
+pub contains_runs : (slots : List (Option Insn)) (shapes : List MapShape) (context_length target : ℕ) (seen : AbstractState) (pending : List (Option (Box AbstractState Global))) (view : AbstractState)
     → IsStart slots 0 → ((f : Setting) (maps : List (List ℕ)) → HaveShapes f.shapes maps → Contains f view (start maps))
-    → RestIsCovered slots shapes context_length target seen 0 (IsKnown pending view true 0) → CoversRuns slots shapes context_length target seen
-covers_runs slots shapes context_length target seen pending view first begins rest f maps setting have n calls t chain here =
+    → RestIsCovered slots shapes context_length target seen 0 (IsKnown pending view true 0) → ContainsRuns slots shapes context_length target seen
+contains_runs slots shapes context_length target seen pending view first begins rest f maps setting have n calls t chain here =
     rest f (start maps) setting zero-le first (inr (refl, refl, begins f maps (rw setting.shapes_are have))) n calls t chain here

@@ -1,6 +1,6 @@
 pub mod SideLemmas
 pub mod SureLemmas
-pub mod ChainLemmas
+pub mod OneStepLemmas
 pub mod GraphLemmas
 pub mod PassLemmas
 pub mod LongerLemmas

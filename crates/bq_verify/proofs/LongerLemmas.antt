@@ -12,7 +12,7 @@ use Rattle.bq_bpf.specs.Steps.{Does, Helps, NamesEntry, Takes, Step}
 use Rattle.bq_bpf.specs.Runs.{Ends, Steps, start}
 use Rattle.bq_bpf.specs.Safe.{GoesOn, GoesWell, IsSetting}
 use Rattle.bq_verify.specs.Laws.{shortened, SafeOnLonger, RunsOnLonger}
-use Rattle.bq_verify.proofs.ChainLemmas.{one_step, no_step}
+use Rattle.bq_verify.proofs.OneStepLemmas.{one_step, no_step}
 
 taken_get : (n : ℕ) (xs : List ℕ) (i b : ℕ) → slice_get (take n xs) i ≡ Some b → slice_get xs i ≡ Some b
 taken_get zero xs i b p = absurd (let no : ⊥ = cc in no)

@@ -29,14 +29,14 @@ use Rattle.bq_transfer.specs.Transfers.{Transfers, AsksFrom, IsStraight}
 use Rattle.bq_transfer.specs.Sides.{Fits}
 use Rattle.bq_verify.specs.Control.{IsAskingEdge, AreHeights, AreMade, EndsWithin, IsIn, WaitsBoxed, IsKnown, LeadsOn, Goes, PassesOn, RestIsSafe, IsOnSide, PartsTo}
 use Rattle.bq_insn.proofs.OptionLemmas.{some_none}
-use Rattle.bq_states.proofs.LearnLemmas.{covers_learn, found_at}
-use Rattle.bq_verify.proofs.ChainLemmas.{goes_well}
+use Rattle.bq_states.proofs.LearnLemmas.{contains_learn, found_at}
+use Rattle.bq_verify.proofs.OneStepLemmas.{goes_well}
 
--- a view that is right about a state is right about it at every slot
+-- an abstract state that is right about a state is right about it at every slot
 pub Contains-at : (f : Setting) (v : AbstractState) (s : State) (slot : ℕ) → Contains f v s → Contains f v (record s { slot = slot })
-Contains-at f v s slot covers = record { registers = covers.registers; set = covers.set; kept = covers.kept; parts = covers.parts; maps = covers.maps; copies = covers.copies }
+Contains-at f v s slot contains = record { registers = contains.registers; set = contains.set; kept = contains.kept; parts = contains.parts; maps = contains.maps; copies = contains.copies }
 
--- a setting of the program is one that views with these maps and this length of context speak of
+-- a setting of the program is one that abstract states with these maps and this length of context speak of
 pub setting_suits : (slots : List (Option Insn)) (shapes : List MapShape) (context_length : ℕ) (f : Setting) → IsSetting slots shapes context_length f → Suits shapes context_length f
 setting_suits slots shapes context_length f setting = record {
   shapes_are = setting.shapes_are;
@@ -53,9 +53,9 @@ after_call _ counter slot = absurd counter
 
 -- the side that the test chooses
 pub test_chooses_side : (f : Setting) (view : AbstractState) (s : State) (slot dst a b : ℕ) (src : Source) (word : Option AbstractValue) (right : AbstractValue) → s.register dst ≡ Some a → IsOperand s src b → Contains f view s → Fits f.shapes word a → Describes f.shapes right b → IsOnSide f view dst src word right (record s { slot = slot })
-test_chooses_side f view s slot dst a b src None right is operand covers fits told = fits
-test_chooses_side f view s slot dst a b src (Some word) right is operand covers fits told = (
-  Contains-at f view s slot covers,
+test_chooses_side f view s slot dst a b src None right is operand contains fits told = fits
+test_chooses_side f view s slot dst a b src (Some word) right is operand contains fits told = (
+  Contains-at f view s slot contains,
   record {
     word = a;
     is = is;
@@ -68,10 +68,10 @@ module _ (slots : List (Option Insn)) (shapes : List MapShape) (context_length s
   here_at : (insn : Insn) → instruction_at slots slot ≡ Some insn → (f : Setting) (s : State) → IsSetting slots shapes context_length f → s.slot ≡ slot → instruction_at f.slots s.slot ≡ Some insn
   here_at insn here f s setting same = rw (setting.slots_are, same) here
 
-  -- the next instruction, at a view of which the state is known
+  -- the next instruction, at an abstract state of which the state is known
   pub goes_on : (insn : Insn) (after : AbstractState) → instruction_at slots slot ≡ Some insn → IsStraight insn → Transfers shapes context_length insn view after → ((f : Setting) (s : State) → s.slot ≡ slot + slots_of insn → Contains f after s → K f s) → Goes slots shapes context_length slot view K
-  goes_on insn after here straight transfers added f s setting same covers =
-      let on = transfers f s (setting_suits slots shapes context_length f setting) covers in
+  goes_on insn after here straight transfers added f s setting same contains =
+      let on = transfers f s (setting_suits slots shapes context_length f setting) contains in
       let at = here_at insn here f s setting same in
       inr (inl (
         on.0,
@@ -81,31 +81,31 @@ module _ (slots : List (Option Insn)) (shapes : List MapShape) (context_length s
       ))
 
   pub goes_there : (off : ℤ) (to : ℕ) → instruction_at slots slot ≡ Some (Goto off) → LeadsTo slot off to → ((f : Setting) (s : State) → s.slot ≡ to → Contains f view s → K f s) → Goes slots shapes context_length slot view K
-  goes_there off to here leads added f s setting same covers =
+  goes_there off to here leads added f s setting same contains =
       let at = here_at (Goto off) here f s setting same in
       let there : LeadsTo s.slot off to = rw same leads in
       inr (inl (
         record s { slot = to },
         record { insn = Goto off; here = at; takes = (to, there, refl) },
         record { insn = Goto off; here = at; leaves = inr (off, refl, there) },
-        added f (record s { slot = to }) refl (Contains-at f view s to covers),
+        added f (record s { slot = to }) refl (Contains-at f view s to contains),
       ))
 
   pub goes_far : (imm : ℤ) (to : ℕ) → instruction_at slots slot ≡ Some (Goto32 imm) → LeadsTo slot imm to → ((f : Setting) (s : State) → s.slot ≡ to → Contains f view s → K f s) → Goes slots shapes context_length slot view K
-  goes_far imm to here leads added f s setting same covers =
+  goes_far imm to here leads added f s setting same contains =
       let at = here_at (Goto32 imm) here f s setting same in
       let there : LeadsTo s.slot imm to = rw same leads in
       inr (inl (
         record s { slot = to },
         record { insn = Goto32 imm; here = at; takes = (to, there, refl) },
         record { insn = Goto32 imm; here = at; leaves = inr (imm, refl, there) },
-        added f (record s { slot = to }) refl (Contains-at f view s to covers),
+        added f (record s { slot = to }) refl (Contains-at f view s to contains),
       ))
 
   pub goes_asking : (insn : Insn) (after : AbstractState) → instruction_at slots slot ≡ Some insn → IsCounterCall insn → AsksFrom insn view after → ((f : Setting) (s : State) → s.slot ≡ slot + 1 → Contains f after s → K f s) → Goes slots shapes context_length slot view K
-  goes_asking insn after here counter asks added f s setting same covers =
+  goes_asking insn after here counter asks added f s setting same contains =
       inr (inr (λ x small.
-      let on = asks f s x covers small in
+      let on = asks f s x contains small in
       let at = here_at insn here f s setting same in (
         on.0,
         called s x,
@@ -132,20 +132,20 @@ module _ (slots : List (Option Insn)) (shapes : List MapShape) (context_length s
       ))
 
   pub goes_apart : (w : Width) (c : Condition) (dst : ℕ) (src : Source) (off : ℤ) (to : ℕ) → instruction_at slots slot ≡ Some (Branch w c dst src off) → LeadsTo slot off to → ((f : Setting) (s : State) → Contains f view s → PartsTo K f s w c dst src to (slot + 1)) → Goes slots shapes context_length slot view K
-  goes_apart w c dst src off to here leads parts f s setting same covers =
-      parted w c dst src off to f s (here_at (Branch w c dst src off) here f s setting same) (rw same leads) (subst (λ (n : ℕ). PartsTo K f s w c dst src to (n + 1)) (sym same) (parts f s covers)) _ refl
+  goes_apart w c dst src off to here leads parts f s setting same contains =
+      parted w c dst src off to f s (here_at (Branch w c dst src off) here f s setting same) (rw same leads) (subst (λ (n : ℕ). PartsTo K f s w c dst src to (n + 1)) (sym same) (parts f s contains)) _ refl
 
 -- the two sides of a branch
 pub parts_of : (f : Setting) (s : State) (view : AbstractState) (w : Width) (c : Condition) (dst : ℕ) (src : Source) (to next : ℕ) (K : Setting → State → Type 0) (left right : AbstractValue) (yes_word no_word : Option AbstractValue) (yes_right no_right : AbstractValue) → Some left ≡ slice_index_or view.registers dst None → (b : ℕ) → IsOperand s src b → Describes f.shapes right b → ((shapes : List MapShape) (a b : ℕ) → Describes shapes left a → Describes shapes right b → taken w c a b ≡ true → Fits shapes yes_word a) → ((shapes : List MapShape) (a b : ℕ) → Describes shapes left a → Describes shapes right b → taken w c a b ≡ false → Fits shapes no_word a) → ((shapes : List MapShape) (a b : ℕ) → Describes shapes left a → Describes shapes right b → taken w c a b ≡ true → Describes shapes yes_right b) → ((shapes : List MapShape) (a b : ℕ) → Describes shapes left a → Describes shapes right b → taken w c a b ≡ false → Describes shapes no_right b) → ((t : State) → t.slot ≡ to → IsOnSide f view dst src yes_word yes_right t → K f t) → ((t : State) → t.slot ≡ next → IsOnSide f view dst src no_word no_right t → K f t) → Contains f view s → PartsTo K f s w c dst src to next
-parts_of f s view w c dst src to next K left right yes_word no_word yes_right no_right known b operand word yes_is no_is yes_told no_told add_yes add_no covers =
-    let found = found_at f view s dst left known covers in
+parts_of f s view w c dst src to next K left right yes_word no_word yes_right no_right known b operand word yes_is no_is yes_told no_told add_yes add_no contains =
+    let found = found_at f view s dst left known contains in
     record {
       left = found.0;
       right = b;
       left_is = found.1;
       right_is = operand;
-      yes = λ t e test. rw e (add_yes (record s { slot = to }) refl (test_chooses_side f view s to dst found.0 b src yes_word yes_right found.1 operand covers (yes_is f.shapes found.0 b found.2 word test) (yes_told f.shapes found.0 b found.2 word test)));
-      no = λ t e test. rw e (add_no (record s { slot = next }) refl (test_chooses_side f view s next dst found.0 b src no_word no_right found.1 operand covers (no_is f.shapes found.0 b found.2 word test) (no_told f.shapes found.0 b found.2 word test)));
+      yes = λ t e test. rw e (add_yes (record s { slot = to }) refl (test_chooses_side f view s to dst found.0 b src yes_word yes_right found.1 operand contains (yes_is f.shapes found.0 b found.2 word test) (yes_told f.shapes found.0 b found.2 word test)));
+      no = λ t e test. rw e (add_no (record s { slot = next }) refl (test_chooses_side f view s next dst found.0 b src no_word no_right found.1 operand contains (no_is f.shapes found.0 b found.2 word test) (no_told f.shapes found.0 b found.2 word test)));
     }
 
 -- more steps, and fewer calls before
@@ -205,14 +205,14 @@ module _ (slots : List (Option Insn)) (shapes : List MapShape) (context_length :
   pub rest_before : PassesOn slots shapes context_length slot K L → RestIsSafe slots shapes context_length heights made (slot + 1) L → RestIsSafe slots shapes context_length heights made slot K
   rest_before passes rest f s setting le begins known = at_state passes rest f s _ setting le begins known (eqb_tells s.slot slot)
 
--- where no view waits, none is right about the state
+-- where no abstract state waits, none is right about the state
 pub none_waits : (f : Setting) (s : State) (waiting : Option (Box AbstractState Global)) → waiting ≡ None → IsIn f waiting s → ⊥
 none_waits f s waiting none here = rw none at here
 
 not_true : (live : Bool) → live ≡ false → live ≡ true → ⊥
 not_true live a b = cc
 
--- a view that waits at the slot of a state waits at each slot equal to it
+-- an abstract state that waits at the slot of a state waits at each slot equal to it
 pub waits_at_slot : (f : Setting) (s : State) (pending : List (Option (Box AbstractState Global))) (slot : ℕ) → s.slot ≡ slot → WaitsBoxed f pending s → IsIn f (slice_index_or pending slot None) s
 waits_at_slot f s pending slot same waits = subst (λ (n : ℕ). IsIn f (slice_index_or pending n None) s) same waits
 
@@ -223,22 +223,22 @@ module _ (slots : List (Option Insn)) (shapes : List MapShape) (context_length s
     where
       side : IsKnown pending view live slot f s → s.slot ≢ slot → IsKnown pending after false (slot + 1) f s
       side (inl waits) other = inl waits
-      side (inr (e, same, covers)) other = absurd (other same)
+      side (inr (e, same, contains)) other = absurd (other same)
 
       here : IsKnown pending view live slot f s → s.slot ≡ slot → ⊥
       here (inl waits) same = none_waits f s (slice_index_or pending slot None) empty (waits_at_slot f s pending slot same waits)
-      here (inr (e, same', covers)) same = not_true live dead e
+      here (inr (e, same', contains)) same = not_true live dead e
 
   pub passes_by : (new : List (Option (Box AbstractState Global))) (after : AbstractState) (on : Bool) → ((f : Setting) (s : State) → WaitsBoxed f pending s → WaitsBoxed f new s) → Goes slots shapes context_length slot view (IsKnown new after on (slot + 1)) → PassesOn slots shapes context_length slot K (IsKnown new after on (slot + 1))
   passes_by new after on kept goes f s setting begins known = (λ other. side (arrives f s known) other, λ same. here (arrives f s known) same)
     where
       side : IsKnown pending view live slot f s → s.slot ≢ slot → IsKnown new after on (slot + 1) f s
       side (inl waits) other = inl (kept f s waits)
-      side (inr (e, same, covers)) other = absurd (other same)
+      side (inr (e, same, contains)) other = absurd (other same)
 
       here : IsKnown pending view live slot f s → s.slot ≡ slot → LeadsOn (IsKnown new after on (slot + 1)) f s
       here (inl waits) same = absurd (none_waits f s (slice_index_or pending slot None) empty (waits_at_slot f s pending slot same waits))
-      here (inr (e, same', covers)) same = goes f s setting same covers
+      here (inr (e, same', contains)) same = goes f s setting same contains
 
 -- no instruction begins past the end
 pub rest_at_end : (slots : List (Option Insn)) (shapes : List MapShape) (context_length : ℕ) (heights : List ℕ) (made : ℕ → ℕ) (slot : ℕ) (K : Setting → State → Type 0) → length slots ≤ slot → RestIsSafe slots shapes context_length heights made slot K
@@ -254,7 +254,7 @@ safe_from_start slots shapes context_length heights made pending view small firs
 
 -- a register of a start state
 pub start_is : (f : Setting) (maps : List (List ℕ)) (v : AbstractState) (k m : AbstractValue) → 10 < length v.registers → k.kind ≡ Context → Within k.offset 0 → m.kind ≡ Stack → Within m.offset 512 → Contains f v (start maps) → Contains f (knowing (knowing v 1 k) 10 m) (start maps)
-start_is f maps v k m long kind within kind' within' covers =
-    covers_learn f (knowing v 1 k) (start maps) 10 (stack_base + stack_size) m (rw length-set long) refl
-    (covers_learn f v (start maps) 1 context_base k (omega arith) refl covers (record { base = context_base; offset = 0; is_base = rw kind refl; within = within; word_is = refl }))
+start_is f maps v k m long kind within kind' within' contains =
+    contains_learn f (knowing v 1 k) (start maps) 10 (stack_base + stack_size) m (rw length-set long) refl
+    (contains_learn f v (start maps) 1 context_base k (omega arith) refl contains (record { base = context_base; offset = 0; is_base = rw kind refl; within = within; word_is = refl }))
     (record { base = stack_base; offset = 512; is_base = rw kind' refl; within = within'; word_is = refl })

@@ -77,7 +77,7 @@ learnt_of (AtRegister s r) view dst k has = has
 learnt_of (IsSetAt i) view dst k has = has
 learnt_of (IsPlainAt j) view dst k has = has
 
--- what is sure of a view is sure on a side of a test of numbers
+-- what is sure of an abstract state is sure on a side of a test of numbers
 pub has_on_side : (x : Fact) (view : AbstractState) (dst : ℕ) (side : Option AbstractValue) → dst < length view.registers → Outlasts x dst → IsLasting x → StandsAt Scalar view dst → IsNumberIfAny side → Has x view → HasOnSide x view dst side
 has_on_side x view dst None there lasts lasting scalar number has = tt
 has_on_side x view dst (Some k) there lasts lasting scalar number has = (lasting, learnt_of x view dst k (given_has x view (knowing view dst k) dst lasts scalar (knowing_given view dst k there number) has))

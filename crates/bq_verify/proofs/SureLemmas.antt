@@ -139,7 +139,7 @@ module _ (slots : List (Option Insn)) (makes leaves : Option Insn → Bool) wher
       by false true e f = inr (f, λ rest path ends. (left_on _ _ _ e (held rest path ends)).1)
       by false false e f = absurd (reached (λ p. let on : leaves (Some insn) ≡ true = (left_on _ _ _ e (held p.rest p.is_path p.ends)).0 in let no : ⊥ = cc in no))
 
--- what a chain of instructions makes of a register, the view knows, if it knows what was before
+-- what a chain of instructions makes of a register, the abstract state knows, if it knows what was before
 gives_pointer : (kind : Kind) (o r slot k : ℕ) (insn : Insn) (view : AbstractState) (Was : Kind → ℕ → ℕ → Type 0) → StandsAt (Pointer Stack 512) view 10 → ((kind : Kind) (o r : ℕ) → Was kind o r → StandsAt (Pointer kind o) view r) → MakesPointer kind o r slot k (Some insn) Was → GivesPointer kind o slot k insn r view
 gives_pointer kind o r slot k (MapRef dst index) view Was frame known made = made
 gives_pointer kind o r slot k (Alu w Mov dst (Reg src)) view Was frame known (same, ten, is, top) = (same, ten, rw (is, top) frame)
@@ -314,7 +314,7 @@ module _ (slots : List (Option Insn)) (shapes : List MapShape) (context slot : �
   operands w op dst src (inr (inr m)) =
       inr (inr (record { is_sum = m.is_sum; whole = m.whole; distance = m.distance; by_distance = m.by_distance; base = m.base; stands = pointer Stack m.base dst m.from; at = m.at; at_is = m.at_is; below = m.below; small = m.small }))
 
-  -- the instruction has what it needs: for a call of a counter it is the view that is asked from
+  -- the instruction has what it needs: for a call of a counter it is the abstract state that is asked from
   ready_of : (i : Insn) → Needs slots shapes context slot i → IsReady shapes context view i ⊎ IsReadyToAsk view i
   ready_of (Alu w op dst src) n = inl (n.0, operands w op dst src n.1)
   ready_of (MovSx w bits dst src) n = inl (n.0, has (AtRegister Scalar src) n.1)
@@ -350,7 +350,7 @@ straight_before slots shapes context slot straight = record { faultless = straig
 pub straight_earlier : (slots : List (Option Insn)) (shapes : List MapShape) (context slot later : ℕ) → slot ≤ later → IsStraightBefore slots shapes context later → IsStraightBefore slots shapes context slot
 straight_earlier slots shapes context slot later order straight = record { faultless = straight.faultless; before = λ k insn below here. straight.before k insn (omega arith) here }
 
--- where no view is transferred on
+-- where no abstract state is transferred on
 pub sure_over : (slots : List (Option Insn)) (pending : List (Option (Box AbstractState Global))) (view : AbstractState) (slot : ℕ) → ((x : Fact) (k : ℕ) → IsDue slots x k → HasWaiting x pending k) → IsSure slots pending view false slot
 sure_over slots pending view slot waits x k due = record { waiting = waits x k due; transferred = λ live. absurd (let no : ⊥ = cc in no) }
 

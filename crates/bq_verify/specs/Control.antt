@@ -1,5 +1,5 @@
 -- One pass over the slots: what is known along the way, and what that makes safe.
--- One view is transferred from slot to slot; where ways part a view is boxed and waits at its slot.
+-- One abstract state is transferred from slot to slot; where ways part an abstract state is boxed and waits at its slot.
 use Rattle.std.specs.Prelude.{Bool, true, false, ◌≡◌, ◌≢◌, ℕ, zero, suc, ◌+◌, ◌^◌, ◌<◌, ◌≤◌, List, Option, Some, None, slice_index, slice_index_or, ◌⊎◌}
 use Rattle.std.proofs.Common.{Global}
 use Rattle.std.specs.declared.boxed.Box.{Box}
@@ -52,16 +52,16 @@ EndsWithin f s (suc n) made =
     ⊎ ((t : State) × Step f s None t × EndsWithin f t n made)
     ⊎ ((made < most_calls) × ((x : ℕ) → x < 2 ^ 64 → (c : Asked) × (t : State) × (answer_of c ≡ x) × Step f s (Some c) t × EndsWithin f t n (made + 1)))
 
--- there is a boxed view, and it is right about the state
+-- there is a boxed abstract state, and it is right about the state
 abbrev pub IsIn : Setting → Option (Box AbstractState Global) → State → Type 0
 IsIn f None s = ⊥
 IsIn f (Some boxed) s = Contains f boxed.value s
 
--- a view that waits at the state's slot is right about it
+-- an abstract state that waits at the state's slot is right about it
 abbrev pub WaitsBoxed : Setting → List (Option (Box AbstractState Global)) → State → Type 0
 WaitsBoxed f pending s = IsIn f (slice_index_or pending s.slot None) s
 
--- the state is one of a waiting view, or one of the view that is transferred to that slot
+-- the state is one of a waiting abstract state, or one of the abstract state that is transferred to that slot
 abbrev pub IsKnown : List (Option (Box AbstractState Global)) → AbstractState → Bool → ℕ → Setting → State → Type 0
 IsKnown pending view live slot f s = WaitsBoxed f pending s ⊎ ((live ≡ true) × (s.slot ≡ slot) × Contains f view s)
 
@@ -72,7 +72,7 @@ LeadsOn K f s =
     ⊎ ((t : State) × Step f s None t × IsEdge f.slots s.slot t.slot × K f t)
     ⊎ ((x : ℕ) → x < 2 ^ 64 → (c : Asked) × (t : State) × (answer_of c ≡ x) × Step f s (Some c) t × IsAskingEdge f.slots s.slot t.slot × K f t)
 
--- from the states of the view at that slot the program goes on
+-- from the states of the abstract state at that slot the program goes on
 abbrev pub Goes : List (Option Insn) → List MapShape → ℕ → ℕ → AbstractState → (Setting → State → Type 0) → Type 0
 Goes slots shapes context_length slot view K =
     (f : Setting) (s : State) → IsSetting slots shapes context_length f → s.slot ≡ slot → Contains f view s → LeadsOn K f s
@@ -87,7 +87,7 @@ abbrev pub RestIsSafe : List (Option Insn) → List MapShape → ℕ → List �
 RestIsSafe slots shapes context_length heights made slot K =
     (f : Setting) (s : State) → IsSetting slots shapes context_length f → slot ≤ s.slot → IsStart slots s.slot → K f s → EndsWithin f s (slice_index heights s.slot) (made s.slot)
 
--- the state is one of the view, and both operands are as told there; of none where control never goes there
+-- the state is one of the abstract state, and both operands are as told there; of none where control never goes there
 abbrev pub IsOnSide : Setting → AbstractState → ℕ → Source → Option AbstractValue → AbstractValue → State → Type 0
 IsOnSide f view dst src None right s = ⊥
 IsOnSide f view dst src (Some word) right s = Contains f view s × IsTold f s dst src word right

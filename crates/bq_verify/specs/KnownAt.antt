@@ -11,9 +11,9 @@ use Rattle.bq_states.specs.declared.abstract_state.AbstractState.{AbstractState}
 use Rattle.bq_states.specs.AbstractStates.{Contains}
 
 -- whatever the context, the maps, the time, the processor and the answers of the counters are, each chain of steps from the start that
--- comes to the slot leaves there a state of the view
-abbrev pub CoversRuns : List (Option Insn) → List MapShape → ℕ → ℕ → AbstractState → Type 0
-CoversRuns slots shapes context_length slot view =
+-- comes to the slot leaves there a state of the abstract state
+abbrev pub ContainsRuns : List (Option Insn) → List MapShape → ℕ → ℕ → AbstractState → Type 0
+ContainsRuns slots shapes context_length slot view =
     (f : Setting) (maps : List (List ℕ)) → IsSetting slots shapes context_length f → HaveShapes shapes maps →
     (n : ℕ) (calls : List Asked) (t : State) → Steps f (start maps) n calls t → t.slot ≡ slot → Contains f view t
 
@@ -23,7 +23,7 @@ IsNotReached slots shapes context_length slot =
     (f : Setting) (maps : List (List ℕ)) → IsSetting slots shapes context_length f → HaveShapes shapes maps →
     (n : ℕ) (calls : List Asked) (t : State) → Steps f (start maps) n calls t → t.slot ≢ slot
 
--- from each known state at an instruction, at that slot or later, a chain that comes to the target leaves there a state of the view
+-- from each known state at an instruction, at that slot or later, a chain that comes to the target leaves there a state of the abstract state
 abbrev pub RestIsCovered : List (Option Insn) → List MapShape → ℕ → ℕ → AbstractState → ℕ → (Setting → State → Type 0) → Type 0
 RestIsCovered slots shapes context_length target view slot K =
     (f : Setting) (s : State) → IsSetting slots shapes context_length f → slot ≤ s.slot → IsStart slots s.slot → K f s →

@@ -1,4 +1,4 @@
--- What is sure of views along the ways that control takes.
+-- What is sure of abstract states along the ways that control takes.
 use Rattle.std.proofs.Common.{Global}
 use Rattle.std.specs.Prelude.{Bool, true, ◌≡◌, ◌≢◌, ℕ, ◌+◌, List, Option, Some, None, slice_index_or, ◌⊎◌}
 use Rattle.std.specs.declared.boxed.Box.{Box}
@@ -20,7 +20,7 @@ IsApartFrom x dst = Unit {0}
 abbrev pub AfterTest : Fact → AbstractState → ℕ → ℕ → Bool → Type 0
 AfterTest x view dst map found = ((found ≡ true) × (x ≡ AtRegister (Pointer (Entry map) 0) dst)) ⊎ (IsApartFrom x dst × IsLasting x × Has x view)
 
--- the fact is true of a view that waits, if one does
+-- the fact is true of an abstract state that waits, if one does
 abbrev pub HasIn : Fact → Option (Box AbstractState Global) → Type 0
 HasIn x None = Unit {0}
 HasIn x (Some boxed) = Has x boxed.value
@@ -28,7 +28,7 @@ HasIn x (Some boxed) = Has x boxed.value
 abbrev pub HasWaiting : Fact → List (Option (Box AbstractState Global)) → ℕ → Type 0
 HasWaiting x pending k = HasIn x (slice_index_or pending k None)
 
--- the fact is true of each view with which control comes to the slot: one that waits there, and the one that is transferred to it
+-- the fact is true of each abstract state with which control comes to the slot: one that waits there, and the one that is transferred to it
 pub record IsSureOf (x : Fact) (pending : List (Option (Box AbstractState Global))) (view : AbstractState) (live : Bool) (slot k : ℕ) : Type 0 where
   pub waiting : HasWaiting x pending k
   pub transferred : live ≡ true → k ≡ slot → Has x view
@@ -38,7 +38,7 @@ abbrev pub GoesOnSure : List (Option Insn) → ℕ → Insn → AbstractState �
 GoesOnSure slots slot insn view old new after live =
     (x : Fact) (k : ℕ) → HasWaiting x old k → (IsEdge slots slot k → After x slot k insn view) → IsSureOf x new after live (slot + 1) k
 
--- the fact lasts, and is true of the view with that word in the register, if control goes there
+-- the fact lasts, and is true of the abstract state with that word in the register, if control goes there
 abbrev pub HasOnSide : Fact → AbstractState → ℕ → Option AbstractValue → Type 0
 HasOnSide x view dst None = Unit {0}
 HasOnSide x view dst (Some word) = IsLasting x × HasLearnt x view dst word

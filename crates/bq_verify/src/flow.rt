@@ -48,7 +48,7 @@ struct Told {
     right: AbstractValue,
 }
 
-/// One slot where something is known: whether a view is transferred on to the next slot.
+/// One slot where something is known: whether an abstract state is transferred on to the next slot.
 pub fn visit(
     alloc: Global,
     subject: &Subject,
@@ -205,7 +205,7 @@ fn branch(
     Ok(carry_on(view, other))
 }
 
-/// The view waits for the slot with what is told of both operands there, if control goes there.
+/// The abstract state waits for the slot with what is told of both operands there, if control goes there.
 fn wait_on_side(
     alloc: Global,
     pending: &mut [Option<Box<AbstractState>>],
@@ -228,10 +228,10 @@ fn wait_on_side(
     wait(alloc, pending, slot, &there)
 }
 
-/// The view is transferred on with what is told of both operands there, if control goes there.
+/// The abstract state is transferred on with what is told of both operands there, if control goes there.
 fn carry_on(view: &mut AbstractState, told: Told) -> bool
     requires { told.dst < 11 }
-    ensures covers { (f : Setting) (s : State) → IsOnSide f view.old told.dst told.src told.left told.right s → (result ≡ true) × Contains f view.new s }
+    ensures contains { (f : Setting) (s : State) → IsOnSide f view.old told.dst told.src told.left told.right s → (result ≡ true) × Contains f view.new s }
     ensures has { (x : Fact) → HasOnSide x view.old told.dst told.left → result ≡ true → Has x view.new }
 {
     let Some(left) = told.left else {

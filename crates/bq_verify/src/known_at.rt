@@ -9,7 +9,7 @@ ghost use Rattle.bq_graph.specs.Edges.{IsStart};
 ghost use Rattle.bq_graph.specs.Passes.{IsSound};
 ghost use Rattle.bq_bpf.specs.Hooks.{context_length_of};
 ghost use Rattle.bq_verify.specs.Control.{IsKnown, SparesFrame};
-ghost use Rattle.bq_verify.specs.KnownAt.{CoversRuns, IsNotReached, RestIsCovered};
+ghost use Rattle.bq_verify.specs.KnownAt.{ContainsRuns, IsNotReached, RestIsCovered};
 ghost use Rattle.bq_verify.specs.Refusals.{IsOutOfMemory};
 ghost use Rattle.bq_verify.specs.Straight.{IsStraightBefore};
 ghost use Rattle.bq_verify.specs.Sure.{IsSure};
@@ -29,14 +29,14 @@ use std::alloc::{AllocError, Global};
 /// `None` where nothing is: the control graph has a fault, the pass of the verifier stops at a slot before, or none of its ways
 /// leads there. So of a program that `verify` refuses at a slot for what is not shown of the states, this tells what is known there.
 /// Where each instruction before the slot finds what it needs on every path (`IsStraightBefore`), `None` says that no run comes to it (`none`).
-pub fn view_at(
+pub fn state_at(
     alloc: Global,
     program: &Program,
     slot: usize,
 ) -> Result<Option<AbstractState>, AllocError>
     requires whole { is_well_formed program.now.insns.items ≡ true }
     requires few { length program.now.shapes.items ≤ 8 }
-    ensures covers { IfOk result (λ known. IfSome known (CoversRuns (spread program.now.insns.items) program.now.shapes.items (context_length_of program.now.hook program.now.version) slot)) }
+    ensures contains { IfOk result (λ known. IfSome known (ContainsRuns (spread program.now.insns.items) program.now.shapes.items (context_length_of program.now.hook program.now.version) slot)) }
     ensures none { slot < length (spread program.now.insns.items) → IsStraightBefore (spread program.now.insns.items) program.now.shapes.items (context_length_of program.now.hook program.now.version) slot → IfOk result (λ known. IfNone known (IsNotReached (spread program.now.insns.items) program.now.shapes.items (context_length_of program.now.hook program.now.version) slot)) }
 {
     known_in_slots(alloc, program, slot)
@@ -52,7 +52,7 @@ fn known_in_slots(
     requires some { 0 < length (spread program.now.insns.items) }
     requires short { length (spread program.now.insns.items) ≤ 4096 }
     requires few { length program.now.shapes.items ≤ 8 }
-    ensures covers { IfOk result (λ known. IfSome known (CoversRuns (spread program.now.insns.items) program.now.shapes.items (context_length_of program.now.hook program.now.version) slot)) }
+    ensures contains { IfOk result (λ known. IfSome known (ContainsRuns (spread program.now.insns.items) program.now.shapes.items (context_length_of program.now.hook program.now.version) slot)) }
     ensures none { slot < length (spread program.now.insns.items) → IsStraightBefore (spread program.now.insns.items) program.now.shapes.items (context_length_of program.now.hook program.now.version) slot → IfOk result (λ known. IfNone known (IsNotReached (spread program.now.insns.items) program.now.shapes.items (context_length_of program.now.hook program.now.version) slot)) }
 {
     let slots = lay_out(alloc, program.insns.as_slice())?;
@@ -86,14 +86,14 @@ fn known_at(
     requires few { length subject.now.shapes.now ≤ 8 }
     requires frame { SparesFrame subject.now.slots.now }
     requires inside { slot < length subject.now.slots.now }
-    ensures covers { IfOk result (λ known. IfSome known (CoversRuns subject.now.slots.now subject.now.shapes.now subject.now.context slot)) }
+    ensures contains { IfOk result (λ known. IfSome known (ContainsRuns subject.now.slots.now subject.now.shapes.now subject.now.context slot)) }
     ensures none { IsStraightBefore subject.now.slots.now subject.now.shapes.now subject.now.context slot → IfOk result (λ known. IfNone known (IsNotReached subject.now.slots.now subject.now.shapes.now subject.now.context slot)) }
 {
     let mut pending = nothing_waits(alloc, subject.slots.len())?;
     known_with(alloc, subject, slot, pending.as_mut_slice())
 }
 
-/// The same, where views wait in that list; none does so yet.
+/// The same, where abstract states wait in that list; none does so yet.
 fn known_with(
     alloc: Global,
     subject: &Subject,
@@ -108,7 +108,7 @@ fn known_with(
     requires frame { SparesFrame subject.now.slots.now }
     requires inside { slot < length subject.now.slots.now }
     requires room { length pending.old ≡ length subject.now.slots.now }
-    ensures covers { IfOk result (λ known. IfSome known (CoversRuns subject.now.slots.now subject.now.shapes.now subject.now.context slot)) }
+    ensures contains { IfOk result (λ known. IfSome known (ContainsRuns subject.now.slots.now subject.now.shapes.now subject.now.context slot)) }
     ensures none { ((k : ℕ) → slice_index_or pending.old k None ≡ None) → IsStraightBefore subject.now.slots.now subject.now.shapes.now subject.now.context slot → IfOk result (λ known. IfNone known (IsNotReached subject.now.slots.now subject.now.shapes.now subject.now.context slot)) }
 {
     let mut view = start();

@@ -20,7 +20,7 @@ pub use bq_bpf::{Hook, Version};
 pub use bq_graph::cause::GraphCause;
 pub use bq_transfer::doubt::Doubt;
 pub use cause::Cause;
-pub use known_at::view_at;
+pub use known_at::state_at;
 pub use program::{Program, verify};
 pub use refused::Refused;
 pub use verified::Verified;

@@ -72,7 +72,7 @@ fn pass(
     Ok(())
 }
 
-/// One slot: whether a view is transferred on to the next.
+/// One slot: whether an abstract state is transferred on to the next.
 pub(crate) fn pass_slot(
     alloc: Global,
     subject: &Subject,
@@ -108,7 +108,7 @@ pub(crate) fn pass_slot(
 
 /// What is known at the start.
 pub(crate) fn start() -> AbstractState
-    ensures covers { (f : Setting) (maps : List (List ℕ)) → HaveShapes f.shapes maps → Contains f result (beginning maps) }
+    ensures contains { (f : Setting) (maps : List (List ℕ)) → HaveShapes f.shapes maps → Contains f result (beginning maps) }
     ensures context { StandsAt (Pointer Kind.Context 0) result 1 }
     ensures frame { StandsAt (Pointer Kind.Stack STACK_SIZE) result 10 }
     ensures plain { (j : ℕ) → Has (IsPlainAt j) result }
@@ -135,7 +135,7 @@ pub(crate) fn start() -> AbstractState
 
 /// Nothing is known of registers and stack.
 fn blank() -> AbstractState
-    ensures covers { (f : Setting) (s : State) → HaveShapes f.shapes s.maps → Contains f result s }
+    ensures contains { (f : Setting) (s : State) → HaveShapes f.shapes s.maps → Contains f result s }
     ensures plain { (j : ℕ) → Has (IsPlainAt j) result }
 {
     AbstractState {

@@ -11,7 +11,7 @@ use bq_states::abstract_state::AbstractState;
 use bq_states::joins::join_states;
 use std::alloc::{AllocError, Global};
 
-/// No slot has a view that waits.
+/// No slot has an abstract state that waits.
 pub fn nothing_waits(
     alloc: Global,
     count: usize,
@@ -26,7 +26,7 @@ pub fn nothing_waits(
     Ok(pending)
 }
 
-/// Joins what waits at the slot into the view that is transferred to it; whether anything is known there.
+/// Joins what waits at the slot into the abstract state that is transferred to it; whether anything is known there.
 pub fn arrive(
     view: &mut AbstractState,
     live: bool,
@@ -60,7 +60,7 @@ fn take_over(view: &mut AbstractState, live: bool, waiting: &mut Option<Box<Abst
     true
 }
 
-/// One more view that waits for a slot.
+/// One more abstract state that waits for a slot.
 pub fn wait(
     alloc: Global,
     pending: &mut [Option<Box<AbstractState>>],

@@ -1,16 +1,16 @@
 use Rattle.std.proofs.Common.{◌≡◌, ◌<◌, ◌≤◌, ℕ, Option, Some, length, refl, sym, subst, arith, rules}
 use Rattle.std.specs.Prelude.{slice_index}
-use Rattle.bq_states.proofs.ToldLemmas.{covers_sharper_all, covers_sharper_one, has_sharper, set_each}
+use Rattle.bq_states.proofs.ToldLemmas.{contains_sharper_all, contains_sharper_one, has_sharper, set_each}
 use Rattle.bq_states.specs.Certainty.{Stands}
 use Rattle.bq_states.specs.declared.abstract_state.AbstractValue.{AbstractValue}
 use Rattle.bq_states.specs.Told.{IsLastingWord, IsSharper}
 use Rattle.bq_states.proofs.told.sharpen.Goals as goal
 
-pub returns-then-class-eq0-clause-covers : goal.returns-then-class-eq0-clause-covers
-returns-then-class-eq0-clause-covers c = λ f s n covers is d.
+pub returns-then-class-eq0-clause-contains : goal.returns-then-class-eq0-clause-contains
+returns-then-class-eq0-clause-contains c = λ f s n contains is d.
     let same : c.from-register.result ≡ c.args.register = search rules in
     let there : c.from-register.result < length c.args.view.now.registers = omega arith in
-    covers_sharper_one f c.args.view.now s c.args.told c.from-register.result n covers (subst (λ (r : ℕ). s.register r ≡ Some n) (sym same) is) d c.index-view-register.result c.sharper.result there c.index-view-register.is (subst (λ (v : Option AbstractValue). IsSharper c.args.told v c.sharper.result) (sym c.index-view-register.is) c.sharper.ensures.sharper)
+    contains_sharper_one f c.args.view.now s c.args.told c.from-register.result n contains (subst (λ (r : ℕ). s.register r ≡ Some n) (sym same) is) d c.index-view-register.result c.sharper.result there c.index-view-register.is (subst (λ (v : Option AbstractValue). IsSharper c.args.told v c.sharper.result) (sym c.index-view-register.is) c.sharper.ensures.sharper)
 
 pub returns-then-class-eq0-clause-has : goal.returns-then-class-eq0-clause-has
 returns-then-class-eq0-clause-has c = λ x lasting has.
@@ -20,12 +20,12 @@ returns-then-class-eq0-clause-has c = λ x lasting has.
     (λ s. set_each (λ k a b. IsLastingWord s → Stands s a → Stands s b) c.args.view.now.registers c.args.view.now.registers c.from-register.result c.sharper.result c.index-view-register.result there c.index-view-register.is refl (subst (λ (v : Option AbstractValue). IsLastingWord s → Stands s v → Stands s c.sharper.result) (sym c.index-view-register.is) (c.sharper.ensures.stands s)) (λ k lasts stands. stands))
     (λ s k lasts stands. stands) lasting has
 
-pub returns-clause-covers : goal.returns-clause-covers
-returns-clause-covers c = λ f s n covers is d.
+pub returns-clause-contains : goal.returns-clause-contains
+returns-clause-contains c = λ f s n contains is d.
     let same : c.from-register.result ≡ c.args.register = search rules in
     let low : c.from-register.result < 11 = omega arith in
     let short : length c.args.view.now.registers ≤ 11 = omega arith in
-    covers_sharper_all f c.args.view.now s c.args.told c.from-register.result n covers (subst (λ (r : ℕ). s.register r ≡ Some n) (sym same) is) d (slice_index c.args.view.now.classes c.from-register.result) c.sharpen_all.new.words c.sharpen_all-2.new.words refl c.if-class-eq0.false low short c.sharpen_all.ensures.sharper c.sharpen_all.ensures.others c.sharpen_all-2.ensures.sharper c.sharpen_all-2.ensures.others
+    contains_sharper_all f c.args.view.now s c.args.told c.from-register.result n contains (subst (λ (r : ℕ). s.register r ≡ Some n) (sym same) is) d (slice_index c.args.view.now.classes c.from-register.result) c.sharpen_all.new.words c.sharpen_all-2.new.words refl c.if-class-eq0.false low short c.sharpen_all.ensures.sharper c.sharpen_all.ensures.others c.sharpen_all-2.ensures.sharper c.sharpen_all-2.ensures.others
 
 pub returns-clause-has : goal.returns-clause-has
 returns-clause-has c = λ x lasting has. has_sharper x c.args.view.now c.sharpen_all.new.words c.sharpen_all-2.new.words c.sharpen_all.ensures.stands c.sharpen_all-2.ensures.stands lasting has

@@ -1,13 +1,13 @@
 use Rattle.std.proofs.Common.{◌≡◌, ◌<◌, ℕ, Some, length, sym, subst, arith, rules}
 use Rattle.bq_states.specs.Told.{HasLearnt}
-use Rattle.bq_states.proofs.ToldLemmas.{covers_left, has_left_told}
+use Rattle.bq_states.proofs.ToldLemmas.{contains_left, has_left_told}
 use Rattle.bq_states.proofs.told.tell.Goals as goal
 
-pub returns-clause-covers : goal.returns-clause-covers
-returns-clause-covers c = λ f s covers told.
+pub returns-clause-contains : goal.returns-clause-contains
+returns-clause-contains c = λ f s contains told.
     let same : c.from.result ≡ c.args.dst = search rules in
     let there : c.from.result < length c.sharpen.new.view.registers = omega arith in
-    covers_left f c.sharpen.new.view s c.from.result told.word c.args.left there (subst (λ (r : ℕ). s.register r ≡ Some told.word) (sym same) told.is) (c.sharpen.ensures.covers f s told.word (c.tell_right.ensures.covers f s covers told.right_is) told.is told.left_is) told.left_is
+    contains_left f c.sharpen.new.view s c.from.result told.word c.args.left there (subst (λ (r : ℕ). s.register r ≡ Some told.word) (sym same) told.is) (c.sharpen.ensures.contains f s told.word (c.tell_right.ensures.contains f s contains told.right_is) told.is told.left_is) told.left_is
 
 pub returns-clause-has : goal.returns-clause-has
 returns-clause-has c = λ x lasting has.

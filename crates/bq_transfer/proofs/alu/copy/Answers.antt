@@ -10,17 +10,17 @@ use Rattle.bq_bpf.specs.Steps.{IsOperand, put}
 use Rattle.bq_states.specs.AbstractStates.{Contains, knowing}
 use Rattle.bq_states.proofs.CopyLemmas.{put_here, put_there}
 use Rattle.bq_transfer.proofs.CertaintyLemmas.{knowing_made, made_classes}
-use Rattle.bq_transfer.proofs.PutLemmas.{covers_put, covers_same}
+use Rattle.bq_transfer.proofs.PutLemmas.{contains_put, contains_same}
 use Rattle.bq_transfer.proofs.alu.copy.Goals as goal
 
 pub returns-clause-transfers : goal.returns-clause-transfers
-returns-clause-transfers c = λ shapes context_length f s suits covers.
+returns-clause-transfers c = λ shapes context_length f s suits contains.
     let there : c.args.dst < length c.args.view.now.registers = omega (arith, c.requires) in
-    let right = c.in-Some.ensures.finds f s covers in
+    let right = c.in-Some.ensures.finds f s contains in
     let value : ℕ = alu_result c.args.width Mov 0 right.0 in
-    let put_covers : Contains f (knowing c.args.view.now c.args.dst c.in-Some-copied.word) (put s 1 c.args.dst value) =
-    covers_put f c.args.view.now s 1 c.args.dst value c.in-Some-copied.word there covers (c.in-Some-copied.ensures.describes f.shapes 0 right.0 right.2) in
-    let learnt : Contains f c.learn.new.view (put s 1 c.args.dst value) = subst (λ (v : AbstractState). Contains f v (put s 1 c.args.dst value)) (sym c.learn.ensures.is) put_covers in
+    let put_contains : Contains f (knowing c.args.view.now c.args.dst c.in-Some-copied.word) (put s 1 c.args.dst value) =
+    contains_put f c.args.view.now s 1 c.args.dst value c.in-Some-copied.word there contains (c.in-Some-copied.ensures.describes f.shapes 0 right.0 right.2) in
+    let learnt : Contains f c.learn.new.view (put s 1 c.args.dst value) = subst (λ (v : AbstractState). Contains f v (put s 1 c.args.dst value)) (sym c.learn.ensures.is) put_contains in
     let copies = c.link_copy.ensures (put s 1 c.args.dst value) learnt.copies
     (λ r is other. record {
       shapes = f.shapes;
@@ -48,13 +48,13 @@ returns-clause-exact c = λ i is whole.
     (subst (λ (v : AbstractState). IsMade (Exact (word_of i)) c.args.view.now v c.args.dst) (sym c.learn.ensures.is) (knowing_made (Exact (word_of i)) c.args.view.now c.args.dst c.in-Some-copied.word there stands))
 
 pub returns-then-is_whole-clause-transfers : goal.returns-then-is_whole-clause-transfers
-returns-then-is_whole-clause-transfers c = λ shapes context_length f s suits covers.
-    let right = c.in-Some.ensures.finds f s covers in
+returns-then-is_whole-clause-transfers c = λ shapes context_length f s suits contains.
+    let right = c.in-Some.ensures.finds f s contains in
     let itself : c.args.src ≡ Reg c.args.dst = search rules in
     let whole = c.is_whole.ensures c.if-is_whole.true f.shapes right.0 right.2 in
     let here : IsOperand s (Reg c.args.dst) right.0 = subst (λ (x : Source). IsOperand s x right.0) itself right.1 in (
       put s 1 c.args.dst (alu_result c.args.width Mov 0 right.0),
       (0, right.0, tt, right.1, c.requires, refl),
-      rw whole (covers_same f c.args.view.now s 1 c.args.dst right.0 here covers),
+      rw whole (contains_same f c.args.view.now s 1 c.args.dst right.0 here contains),
       refl,
     )

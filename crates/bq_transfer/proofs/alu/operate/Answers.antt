@@ -16,9 +16,9 @@ returns-clause-transfers c = λ shapes context_length.
     let there : c.args.dst < length c.args.view.now.registers = omega (arith, c.requires.below) in
     rw c.learn.ensures.is
     (carries_put shapes context_length (Alu c.args.width c.args.op c.args.dst c.args.src) c.args.view.now c.args.dst c.in-Some-combine.word there
-    (λ f s suits covers.
-    let right = c.in-Some.ensures.finds f s covers in
-    let left = found_at f c.args.view.now s c.args.dst c.in-Some-known.left c.in-Some-known.ensures covers in (
+    (λ f s suits contains.
+    let right = c.in-Some.ensures.finds f s contains in
+    let left = found_at f c.args.view.now s c.args.dst c.in-Some-known.left c.in-Some-known.ensures contains in (
       alu_result c.args.width c.args.op left.0 right.0,
       (left.0, right.0, left_from_set c.args.op (s.register c.args.dst) left.0 left.1, right.1, c.requires.below, refl),
       c.in-Some-combine.ensures.describes f.shapes left.0 right.0 left.2 right.2,

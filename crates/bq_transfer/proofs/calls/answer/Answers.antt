@@ -1,10 +1,10 @@
 use Rattle.std.proofs.Common.{◌<◌, length, arith}
 use Rattle.bq_states.proofs.WordLemmas.{describes_number}
-use Rattle.bq_transfer.proofs.CallLemmas.{covers_called}
+use Rattle.bq_transfer.proofs.CallLemmas.{contains_called}
 use Rattle.bq_transfer.proofs.calls.answer.Goals as goal
 
-pub returns-clause-covers : goal.returns-clause-covers
-returns-clause-covers c = λ f s x covers within.
+pub returns-clause-contains : goal.returns-clause-contains
+returns-clause-contains c = λ f s x contains within.
     let there : 0 < length c.clear.new.registers = omega arith in
     rw c.learn.ensures.is
-    (covers_called f c.args.view.now s c.clear.new.registers c.part_first.new.classes x _ there c.clear.ensures c.part_first.ensures covers (describes_number f.shapes c.args.offset x within))
+    (contains_called f c.args.view.now s c.clear.new.registers c.part_first.new.classes x _ there c.clear.ensures c.part_first.ensures contains (describes_number f.shapes c.args.offset x within))

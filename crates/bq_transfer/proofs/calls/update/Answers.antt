@@ -11,7 +11,7 @@ returns-clause-transfers c =
     let values = rw size at (c.reads_value.ensures.finds c.if-not-reads_value.false) in
     carries_update c.args.shapes.now c.args.context c.args.view.now c.answer.new.view c.in-Some.map c.in-Some-shape_of.shape (sym c.in-Some-shape_of.ensures) c.in-Some.ensures.names
     (c.reads.ensures.finds c.if-not-reads.false) values (c.is_at_most.ensures.below c.if-not-is_at_most.false 1 (omega arith))
-    (λ f s x covers small. c.answer.ensures.covers f s x covers (omega (arith, c.full.ensures.lo), omega (arith, c.full.ensures.hi)))
+    (λ f s x contains small. c.answer.ensures.contains f s x contains (omega (arith, c.full.ensures.lo), omega (arith, c.full.ensures.hi)))
 
 shape_there : (o : Option MapShape) (size : ℕ) → size_of_shape o ≡ Some size → (shape : MapShape) × (o ≡ Some shape)
 shape_there None size e = absurd (let no : ⊥ = cc in no)

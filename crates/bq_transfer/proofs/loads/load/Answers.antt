@@ -19,7 +19,7 @@ returns-in-Some-clause-transfers c =
     let linked = rw c.learn.ensures.is at c.link.ensures in
     rw c.learn.ensures.is
     (carries_linked c.args.shapes.now c.args.context (Load c.args.access.size c.args.signed c.args.dst c.args.access.base c.args.access.off) c.args.view.now c.args.dst slot c.in-Some.word c.link.new.classes there (omega (arith, c.requires.below))
-    (λ f s suits covers. let given = gives f s suits covers in (given.0, given.1, given.2, given.3 slot first))
+    (λ f s suits contains. let given = gives f s suits contains in (given.0, given.1, given.2, given.3 slot first))
     (λ t n copies has copy. linked t n copies has (λ m h. subst (λ (p : ℕ). HasWord t p m) (sym to) (copy m h))))
 
 pub returns-clause-transfers : goal.returns-clause-transfers
@@ -29,7 +29,7 @@ returns-clause-transfers c =
     (carries_put c.args.shapes.now c.args.context (Load c.args.access.size c.args.signed c.args.dst c.args.access.base c.args.access.off) c.args.view.now c.args.dst _ there
     (load_gives c.args.shapes.now c.args.context c.args.view.now c.args.access.size c.args.signed c.args.dst c.args.access.base c.args.access.off c.in_ok-found.found.kind c.in_ok-found.found.at c.loads.result
     c.in_ok-found.ensures.finds (search rules)
-    (λ f s word bytes r covers long small is within. c.loads.ensures _ (read_numbers c.in_ok-found.found.kind c.in_ok-found.found.at c.reads_at.result c.args.access.size f s _ bytes c.args.view.now.parts r c.reads_at.ensures.any c.reads_at.ensures.stack covers.parts long small is within)) c.requires.below))
+    (λ f s word bytes r contains long small is within. c.loads.ensures _ (read_numbers c.in_ok-found.found.kind c.in_ok-found.found.at c.reads_at.result c.args.access.size f s _ bytes c.args.view.now.parts r c.reads_at.ensures.any c.reads_at.ensures.stack contains.parts long small is within)) c.requires.below))
 
 pub returns-in_err-found-clause-accepts : goal.returns-in_err-found-clause-accepts
 returns-in_err-found-clause-accepts c = λ ready.

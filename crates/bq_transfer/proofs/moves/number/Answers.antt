@@ -5,8 +5,8 @@ use Rattle.bq_states.proofs.WordLemmas.{number_within}
 use Rattle.bq_transfer.proofs.moves.number.Goals as goal
 
 pub returns-clause-holds : goal.returns-clause-holds
-returns-clause-holds c = λ f s covers.
-    let found = found_at f c.args.view.now s c.args.register c.in-Some.word c.in-Some.ensures covers in
+returns-clause-holds c = λ f s contains.
+    let found = found_at f c.args.view.now s c.args.register c.in-Some.word c.in-Some.ensures contains in
     let plain : c.in-Some.word.kind ≡ Number = search rules in
     (found.0, found.1, number_within f.shapes c.in-Some.word found.0 plain found.2)
 

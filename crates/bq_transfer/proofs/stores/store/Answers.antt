@@ -7,7 +7,7 @@ use Rattle.bq_transfer.proofs.stores.store.Goals as goal
 
 pub returns-in-Stack-clause-stores : goal.returns-in-Stack-clause-stores
 returns-in-Stack-clause-stores c =
-    stores_if_ok c.args.shapes.now c.args.context c.args.access.base c.args.access.off c.args.access.size c.args.word c.in_ok-found.found.at c.in_ok-found.found.kind c.args.view.now c.store_on_stack.new.view c.store_on_stack.result c.store_on_stack.ensures.slot c.in-Stack.is c.in_ok-found.ensures.finds c.store_on_stack.ensures.covers
+    stores_if_ok c.args.shapes.now c.args.context c.args.access.base c.args.access.off c.args.access.size c.args.word c.in_ok-found.found.at c.in_ok-found.found.kind c.args.view.now c.store_on_stack.new.view c.store_on_stack.result c.store_on_stack.ensures.slot c.in-Stack.is c.in_ok-found.ensures.finds c.store_on_stack.ensures.contains
 
 pub returns-else-ne-clause-stores : goal.returns-else-ne-clause-stores
 returns-else-ne-clause-stores c =

@@ -1,6 +1,6 @@
 use Rattle.std.proofs.Common.{◌≡◌, ◌<◌, ◌≤◌, ◌+◌, ◌*◌, ◌/◌, ℕ, length, subst, sym, arith, rules, Some, ap, refl}
 use Rattle.std.proofs.lemmas.Bool.{false≢true}
-use Rattle.bq_transfer.proofs.WriteLemmas.{low_long, low_small, covers_keeping, plain_kept}
+use Rattle.bq_transfer.proofs.WriteLemmas.{low_long, low_small, contains_keeping, plain_kept}
 use Rattle.bq_states.proofs.StoreLemmas.{Keeps-stored}
 use Rattle.std.specs.Int.{bytes_low_first}
 use Rattle.bq_insn.specs.Slots.{byte_count}
@@ -8,15 +8,15 @@ use Rattle.bq_insn.specs.declared.Size.{Size}
 use Rattle.bq_insn.specs.declared.Size.TheVariants.{Double}
 use Rattle.bq_states.specs.declared.abstract_state.Kind.TheVariants.{Number}
 use Rattle.bq_states.proofs.WordLemmas.{number_within}
-use Rattle.bq_states.proofs.PartLemmas.{covers_parts, has_written}
+use Rattle.bq_states.proofs.PartLemmas.{contains_parts, has_written}
 use Rattle.bq_states.specs.AbstractStates.{Keeps}
 use Rattle.bq_states.specs.Certainty.{IsStoredAt}
 use Rattle.bq_bpf.specs.Memory.{InStack, stack_with, written}
 use Rattle.bq_bpf.specs.Steps.{low_bytes, next}
 use Rattle.bq_transfer.proofs.stores.store_on_stack.Goals as goal
 
-pub returns-then-at-eq0-clause-covers : goal.returns-then-at-eq0-clause-covers
-returns-then-at-eq0-clause-covers c = λ f s o v covers within d.
+pub returns-then-at-eq0-clause-contains : goal.returns-then-at-eq0-clause-contains
+returns-then-at-eq0-clause-contains c = λ f s o v contains within d.
     let single = c.is_single.ensures.0 c.if-is_single.true in
     let double : c.args.size ≡ Double = search rules in
     let slot : ℕ = c.args.at.lo / 8 in
@@ -26,18 +26,18 @@ returns-then-at-eq0-clause-covers c = λ f s o v covers within d.
     let long : length (low_bytes c.args.size v) ≡ 8 = ap length is in
     let keeps = Keeps-stored f.shapes c.args.word s.stack slot v (low_bytes c.args.size v) is long d in
     rw c.keep.ensures
-    (covers_keeping f c.overwrite.new.view (next (written s InStack o (low_bytes c.args.size v))) slot c.args.word there
+    (contains_keeping f c.overwrite.new.view (next (written s InStack o (low_bytes c.args.size v))) slot c.args.word there
     (subst (λ (n : ℕ). Keeps f.shapes (Some c.args.word) (stack_with s.stack n (low_bytes c.args.size v)) slot) place keeps)
-    (c.overwrite.ensures.covers f s o (low_bytes c.args.size v) covers within (low_long c.args.size v) (λ k lt. low_small c.args.size v k)))
+    (c.overwrite.ensures.contains f s o (low_bytes c.args.size v) contains within (low_long c.args.size v) (λ k lt. low_small c.args.size v k)))
 
-pub returns-clause-covers : goal.returns-clause-covers
-returns-clause-covers c = λ f s o v covers within d.
+pub returns-clause-contains : goal.returns-clause-contains
+returns-clause-contains c = λ f s o v contains within d.
     let long = low_long c.args.size v in
-    let after = c.overwrite-2.ensures.covers f s o (low_bytes c.args.size v) covers within long (λ k lt. low_small c.args.size v k) in
+    let after = c.overwrite-2.ensures.contains f s o (low_bytes c.args.size v) contains within long (λ k lt. low_small c.args.size v k) in
     let number : c.args.word.kind ≡ Number = search rules in
     let has = has_written s.stack o (byte_count c.args.size) (low_bytes c.args.size v) long in
     let parts = c.store_part.ensures (stack_with s.stack o (low_bytes c.args.size v)) o v within (number_within f.shapes c.args.word v number d) has after.parts in
-    covers_parts f c.overwrite-2.new.view (next (written s InStack o (low_bytes c.args.size v))) c.store_part.new.parts parts after
+    contains_parts f c.overwrite-2.new.view (next (written s InStack o (low_bytes c.args.size v))) c.store_part.new.parts parts after
 
 pub returns-then-at-eq0-clause-slot : goal.returns-then-at-eq0-clause-slot
 returns-then-at-eq0-clause-slot c =

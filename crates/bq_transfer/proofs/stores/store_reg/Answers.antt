@@ -10,7 +10,7 @@ use Rattle.bq_transfer.proofs.stores.store_reg.Goals as goal
 pub returns-clause-transfers : goal.returns-clause-transfers
 returns-clause-transfers c =
     carries_reg c.args.shapes.now c.args.context c.args.access.base c.args.src c.args.access.off c.args.access.size c.in-Some.word c.args.view.now c.store.new.view c.in_ok-slot.slot c.link_slot.new.classes
-    (λ f s covers. found_at f c.args.view.now s c.args.src c.in-Some.word c.in-Some.ensures covers) c.in_ok-slot.ensures.stores c.link_slot.ensures.copies
+    (λ f s contains. found_at f c.args.view.now s c.args.src c.in-Some.word c.in-Some.ensures contains) c.in_ok-slot.ensures.stores c.link_slot.ensures.copies
 
 pub returns-in_err-slot-clause-accepts : goal.returns-in_err-slot-clause-accepts
 returns-in_err-slot-clause-accepts c = λ scalar place placed.

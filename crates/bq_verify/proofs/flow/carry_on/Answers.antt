@@ -3,7 +3,7 @@ use Rattle.bq_states.specs.declared.abstract_state.AbstractValue.{AbstractValue}
 use Rattle.bq_verify.specs.Control.{IsOnSide}
 use Rattle.bq_verify.proofs.flow.carry_on.Goals as goal
 
-pub returns-clause-covers : goal.returns-clause-covers
-returns-clause-covers c = λ f s side.
+pub returns-clause-contains : goal.returns-clause-contains
+returns-clause-contains c = λ f s side.
     let on = subst (λ (k : Option AbstractValue). IsOnSide f c.args.view.now c.args.told.dst c.args.told.src k c.args.told.right s) c.in-Some.is side in
-    (refl, c.tell.ensures.covers f s on.0 on.1)
+    (refl, c.tell.ensures.contains f s on.0 on.1)

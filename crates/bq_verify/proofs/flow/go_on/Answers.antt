@@ -31,7 +31,7 @@ returns-in_ok-wait-in-Goto-clause-goes c =
     let here : instruction_at c.args.subject.now.slots.now c.args.slot ≡ Some (Goto c.in-Goto.off) = rw c.in-Goto.is at c.requires.here in (
       c.in_ok-wait-in-Goto.ensures.kept,
       goes_there c.args.subject.now.slots.now c.args.subject.now.shapes.now c.args.subject.now.context c.args.slot c.args.view.now (IsKnown c.wait.new.pending c.args.view.now false (c.args.slot + 1))
-          c.in-Goto.off c.target-to.result here leads (λ f s at covers. inl (c.in_ok-wait-in-Goto.ensures.added f s at covers)),
+          c.in-Goto.off c.target-to.result here leads (λ f s at contains. inl (c.in_ok-wait-in-Goto.ensures.added f s at contains)),
     )
 
 pub returns-in_ok-wait-in-Goto32-clause-goes : goal.returns-in_ok-wait-in-Goto32-clause-goes
@@ -42,7 +42,7 @@ returns-in_ok-wait-in-Goto32-clause-goes c =
     let here : instruction_at c.args.subject.now.slots.now c.args.slot ≡ Some (Goto32 c.in-Goto32.imm) = rw c.in-Goto32.is at c.requires.here in (
       c.in_ok-wait-in-Goto32.ensures.kept,
       goes_far c.args.subject.now.slots.now c.args.subject.now.shapes.now c.args.subject.now.context c.args.slot c.args.view.now (IsKnown c.wait-in-Goto32.new.pending c.args.view.now false (c.args.slot + 1))
-          c.in-Goto32.imm c.target-to-in-Goto32.result here leads (λ f s at covers. inl (c.in_ok-wait-in-Goto32.ensures.added f s at covers)),
+          c.in-Goto32.imm c.target-to-in-Goto32.result here leads (λ f s at contains. inl (c.in_ok-wait-in-Goto32.ensures.added f s at contains)),
     )
 
 pub wait-requires-in_default : goal.wait-requires-in_default
@@ -59,7 +59,7 @@ returns-in_ok-wait-in_default c = record {
     c.in_ok-wait-in_default.ensures.kept,
     goes_on c.args.subject.now.slots.now c.args.subject.now.shapes.now c.args.subject.now.context c.args.slot c.args.view.now (IsKnown c.wait-in_default.new.pending c.transfer.new.view false (c.args.slot + 1))
         c.args.insn c.transfer.new.view c.requires.here c.in_ok-transfer-in_default.ensures.straight c.in_ok-transfer-in_default.ensures.transfers
-        (λ f s at covers. inl (c.in_ok-wait-in_default.ensures.added f s (rw c.slots-count.ensures at) covers)),
+        (λ f s at contains. inl (c.in_ok-wait-in_default.ensures.added f s (rw c.slots-count.ensures at) contains)),
   );
   doubts = tt;
   accepts = λ ready. tt;
@@ -95,7 +95,7 @@ returns-then-count-eq1 c = record {
     λ f s waits. waits,
     goes_on c.args.subject.now.slots.now c.args.subject.now.shapes.now c.args.subject.now.context c.args.slot c.args.view.now (IsKnown c.args.pending.now c.transfer.new.view true (c.args.slot + 1))
         c.args.insn c.transfer.new.view c.requires.here c.in_ok-transfer-in_default.ensures.straight c.in_ok-transfer-in_default.ensures.transfers
-        (λ f s at covers. inr (refl, at ∙ ap (λ (n : ℕ). c.args.slot + n) one, covers)),
+        (λ f s at contains. inr (refl, at ∙ ap (λ (n : ℕ). c.args.slot + n) one, contains)),
   );
   doubts = tt;
   accepts = λ ready. tt;

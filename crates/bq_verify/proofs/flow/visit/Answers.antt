@@ -16,7 +16,7 @@ returns-then-is_counter_call-clause-goes c = (
   λ f s waits. waits,
   goes_asking c.args.subject.now.slots.now c.args.subject.now.shapes.now c.args.subject.now.context c.args.slot c.args.view.now (IsKnown c.args.pending.now c.ask.new.view true (c.args.slot + 1))
       c.args.insn c.ask.new.view c.requires.here (c.is_counter_call.ensures.is c.if-is_counter_call.true) c.in_ok-ask.ensures.asks
-      (λ f s at covers. inr (refl, at, covers)),
+      (λ f s at contains. inr (refl, at, contains)),
 )
 
 pub returns-in_err-ask-clause-accepts : goal.returns-in_err-ask-clause-accepts

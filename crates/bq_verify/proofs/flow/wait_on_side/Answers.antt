@@ -10,7 +10,7 @@ returns-clause-added c =
     on_ok_weaker c.wait.result
     (λ added f s at side.
     let on = subst (λ (k : Option AbstractValue). IsOnSide f c.args.view.now c.args.told.dst c.args.told.src k c.args.told.right s) c.in-Some.is side in
-    added f s at (c.tell.ensures.covers f s on.0 on.1))
+    added f s at (c.tell.ensures.contains f s on.0 on.1))
     c.wait.ensures.added
 
 pub returns-clause-has : goal.returns-clause-has

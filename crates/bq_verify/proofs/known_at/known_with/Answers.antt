@@ -1,13 +1,13 @@
 use Rattle.std.proofs.Common.{◌≡◌}
 use Rattle.bq_verify.specs.declared.refused.Refused.TheVariants.{OutOfMemory}
-use Rattle.bq_verify.proofs.KnownLemmas.{covered_at, covered_by_any, covers_runs, not_reached, nowhere}
+use Rattle.bq_verify.proofs.KnownLemmas.{covered_at, covered_by_any, contains_runs, not_reached, nowhere}
 use Rattle.bq_verify.proofs.SureLemmas.{sure_start}
 use Rattle.bq_verify.proofs.known_at.known_with.Goals as goal
 
-pub returns-then-arrive-clause-covers : goal.returns-then-arrive-clause-covers
-returns-then-arrive-clause-covers c =
-    covers_runs c.args.subject.now.slots.now c.args.subject.now.shapes.now c.args.subject.now.context c.args.slot c.arrive.new.view c.args.pending.now c.start-view.result
-    c.requires.first c.start-view.ensures.covers
+pub returns-then-arrive-clause-contains : goal.returns-then-arrive-clause-contains
+returns-then-arrive-clause-contains c =
+    contains_runs c.args.subject.now.slots.now c.args.subject.now.shapes.now c.args.subject.now.context c.args.slot c.arrive.new.view c.args.pending.now c.start-view.result
+    c.requires.first c.start-view.ensures.contains
     (c.in-Ok.ensures.covered c.arrive.new.view
     (covered_at c.args.subject.now.slots.now c.args.subject.now.shapes.now c.args.subject.now.context c.requires.sound c.requires.context c.args.slot
     c.pass_before.new.pending c.arrive.new.pending c.pass_before.new.view c.arrive.new.view c.in-Ok.live c.arrive.result c.arrive.ensures.known c.arrive.ensures.empty))
@@ -16,8 +16,8 @@ pub returns-else-arrive-clause-none : goal.returns-else-arrive-clause-none
 returns-else-arrive-clause-none c = λ blank straight.
     let any = nowhere c.args.subject.now.shapes.now in
     not_reached c.args.subject.now.slots.now c.args.subject.now.shapes.now c.args.subject.now.context c.args.slot
-    (covers_runs c.args.subject.now.slots.now c.args.subject.now.shapes.now c.args.subject.now.context c.args.slot any c.args.pending.now c.start-view.result
-    c.requires.first c.start-view.ensures.covers
+    (contains_runs c.args.subject.now.slots.now c.args.subject.now.shapes.now c.args.subject.now.context c.args.slot any c.args.pending.now c.start-view.result
+    c.requires.first c.start-view.ensures.contains
     (c.in-Ok.ensures.covered any
     (covered_by_any c.args.subject.now.slots.now c.args.subject.now.shapes.now c.args.subject.now.context c.requires.sound c.requires.context c.args.slot
     c.pass_before.new.pending c.arrive.new.pending c.pass_before.new.view c.arrive.new.view any c.in-Ok.live c.arrive.result c.arrive.ensures.known c.arrive.ensures.empty c.if-arrive.false)))

@@ -1,7 +1,7 @@
 use Rattle.bq_verify.proofs.pass.blank.Goals as goal
 
-pub returns-clause-covers : goal.returns-clause-covers
-returns-clause-covers c = λ f s have. record {
+pub returns-clause-contains : goal.returns-clause-contains
+returns-clause-contains c = λ f s have. record {
   registers = λ r. rw (c.nothing.ensures r) tt;
   set = λ i set. absurd (let unset = c.unset.ensures i in let no : ⊥ = cc in no);
   kept = λ j. rw (c.nothing-2.ensures j) tt;

@@ -9,7 +9,7 @@ pub returns-clause-safe : goal.returns-clause-safe
 returns-clause-safe c =
     let made = c.requires.made in
     safe_from_start c.args.subject.now.slots.now c.args.subject.now.shapes.now c.args.subject.now.context c.args.heights.now made.0 c.as_mut_slice.result.now c.start-view.result
-    c.requires.context c.requires.first c.start-view.ensures.covers (c.in_ok-pass.ensures.safe made.0 made.1)
+    c.requires.context c.requires.first c.start-view.ensures.contains (c.in_ok-pass.ensures.safe made.0 made.1)
 
 pub returns-in_err-pass-clause-accepts : goal.returns-in_err-pass-clause-accepts
 returns-in_err-pass-clause-accepts c = λ straight.

@@ -2,8 +2,8 @@ use Rattle.std.proofs.Common.{◌<◌, length, arith, refl}
 use Rattle.bq_verify.proofs.PassLemmas.{start_is}
 use Rattle.bq_verify.proofs.pass.start.Goals as goal
 
-pub returns-clause-covers : goal.returns-clause-covers
-returns-clause-covers c = λ f maps have.
+pub returns-clause-contains : goal.returns-clause-contains
+returns-clause-contains c = λ f maps have.
     let long : 10 < length c.blank-view.result.registers = omega arith in
     rw (c.learn-2.ensures.is, c.learn.ensures.is)
-    (start_is f maps c.blank-view.result _ _ long refl (omega arith, omega arith) refl (omega arith, omega arith) (c.blank-view.ensures.covers f _ have))
+    (start_is f maps c.blank-view.result _ _ long refl (omega arith, omega arith) refl (omega arith, omega arith) (c.blank-view.ensures.contains f _ have))

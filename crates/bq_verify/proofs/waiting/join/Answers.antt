@@ -10,7 +10,7 @@ returns-in-Some-clause-kept c = λ f s inside.
     c.join_states.ensures.left f s (rw c.deref_mut.ensures.value (subst (λ (w : Option (Box AbstractState Global)). IsIn f w s) c.in-Some.is inside))
 
 pub returns-in-Some-clause-added : goal.returns-in-Some-clause-added
-returns-in-Some-clause-added c = λ f s covers. c.join_states.ensures.right f s covers
+returns-in-Some-clause-added c = λ f s contains. c.join_states.ensures.right f s contains
 
 pub returns-in-Some-clause-has : goal.returns-in-Some-clause-has
 returns-in-Some-clause-has c = λ x waiting viewed.
@@ -20,7 +20,7 @@ pub returns-clause-kept : goal.returns-clause-kept
 returns-clause-kept c = λ f s inside. absurd (subst (λ (w : Option (Box AbstractState Global)). IsIn f w s) c.in_default.is inside)
 
 pub returns-clause-added : goal.returns-clause-added
-returns-clause-added c = λ f s covers. rw c.in_ok-new.ensures.ok covers
+returns-clause-added c = λ f s contains. rw c.in_ok-new.ensures.ok contains
 
 pub returns-clause-has : goal.returns-clause-has
 returns-clause-has c = λ x waiting viewed. rw c.in_ok-new.ensures.ok viewed
