@@ -20,21 +20,21 @@ use Rattle.bq_bounds.specs.Watches.{one_more, greater}
 abbrev pub unasked : Lags
 unasked = record { stretch = None; measured = 0; left_out = 0; greatest = None }
 
-abbrev pub course_by : By → Effect
-course_by who.Discipline = Decides
-course_by who.Policy = Breaks
+abbrev pub effect_by : By → Effect
+effect_by who.Discipline = Decides
+effect_by who.Policy = Breaks
 
 -- a drain that brings nothing is a tick
-abbrev pub course_drained : ℕ → By → Effect
-course_drained zero by = course_by by
-course_drained (suc n) by = Breaks
+abbrev pub effect_drained : ℕ → By → Effect
+effect_drained zero by = effect_by by
+effect_drained (suc n) by = Breaks
 
 -- what an event does to the tasks that are there
-abbrev pub course_of : Event → Reply → Effect
-course_of (Tick processor now) (Ticked run by steps) = course_by by
-course_of (Drain processor now) (Drained count run by steps) = course_drained count by
-course_of (EndWake processor now) (Placed task to by steps) = Passes
-course_of e r = Breaks
+abbrev pub effect_of : Event → Reply → Effect
+effect_of (Tick processor now) (Ticked run by steps) = effect_by by
+effect_of (Drain processor now) (Drained count run by steps) = effect_drained count by
+effect_of (EndWake processor now) (Placed task to by steps) = Passes
+effect_of e r = Breaks
 
 -- the greatest of what any is owed
 abbrev pub owing : Option Charge → Lags → Lags
@@ -91,4 +91,4 @@ source_forgotten e r ls = ls
 
 -- all processors after an event of one of them
 abbrev pub all_lags_after : ℕ → Event → Reply → ℕ → List Task → List Lags → List Lags
-all_lags_after processor e r rise xs ls = source_forgotten e r (slice_set ls processor (lags_after (course_of e r) rise xs (lags_of ls processor)))
+all_lags_after processor e r rise xs ls = source_forgotten e r (slice_set ls processor (lags_after (effect_of e r) rise xs (lags_of ls processor)))

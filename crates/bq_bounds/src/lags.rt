@@ -4,7 +4,7 @@ ghost use Rattle.bq_disc.specs.Tasks.{Task};
 ghost use Rattle.bq_bounds.specs.Glances.{IsGlance};
 ghost use Rattle.bq_bounds.specs.Lags.{stretched};
 ghost use Rattle.bq_bounds.specs.Watches.{one_more};
-ghost use Rattle.bq_bounds.specs.LagWatches.{course_by, course_of, decided_in, forgotten, gone_on, lags_after, needs_no_look, unasked};
+ghost use Rattle.bq_bounds.specs.LagWatches.{effect_by, effect_of, decided_in, forgotten, gone_on, lags_after, needs_no_look, unasked};
 
 use crate::charge::Charge;
 use crate::glance::Glance;
@@ -53,11 +53,11 @@ impl Lags {
     /// An event of the processor was answered, whose clock rose by so much; these are its tasks now.
     pub fn take(&mut self, event: &Event, reply: &Reply, rise: u64, tasks: &[Entity])
         requires { length tasks.now ≤ 1024 }
-        ensures { self.new ≡ lags_after (course_of event.now reply.now) rise tasks.now self.old }
+        ensures { self.new ≡ lags_after (effect_of event.now reply.now) rise tasks.now self.old }
     {
-        let course = course_of(event, reply);
+        let effect = effect_of(event, reply);
         match self.stretch {
-            Some(stretch) if course != Effect::Breaks => self.go_on(stretch, course, rise, tasks),
+            Some(stretch) if effect != Effect::Breaks => self.go_on(stretch, effect, rise, tasks),
             _ => {
                 self.left_out = self.left_out.saturating_add(1);
                 self.stretch = Some(Stretch::begin(tasks));
@@ -68,27 +68,27 @@ impl Lags {
     /// The same by what is known of the tasks without a look at each, where that shows that none is owed more than one was before;
     /// else nothing is done. Whether it was done.
     pub fn take_unseen(&mut self, event: &Event, reply: &Reply, rise: u64, glance: Glance) -> bool
-        ensures done { (xs : List Task) → IsTrue result → IsGlance glance self.old.stretch xs → self.new ≡ lags_after (course_of event.now reply.now) rise xs self.old }
+        ensures done { (xs : List Task) → IsTrue result → IsGlance glance self.old.stretch xs → self.new ≡ lags_after (effect_of event.now reply.now) rise xs self.old }
         ensures left { result ≡ false → self.new ≡ self.old }
-        ensures when { result ≡ needs_no_look (course_of event.now reply.now) glance self.old }
+        ensures when { result ≡ needs_no_look (effect_of event.now reply.now) glance self.old }
     {
-        let course = course_of(event, reply);
+        let effect = effect_of(event, reply);
         let (Some(stretch), Some(greatest)) = (self.stretch, self.greatest) else {
             return false;
         };
-        if course == Effect::Breaks || stretch.at_most_owed(glance) > greatest.difference {
+        if effect == Effect::Breaks || stretch.at_most_owed(glance) > greatest.difference {
             return false;
         }
-        self.go_on_unseen(stretch, course, rise);
+        self.go_on_unseen(stretch, effect, rise);
         true
     }
 }
 
 impl Lags {
     /// The stretch goes on: time is charged, and the discipline may decide.
-    fn go_on(&mut self, stretch: Stretch, course: Effect, rise: u64, tasks: &[Entity])
+    fn go_on(&mut self, stretch: Stretch, effect: Effect, rise: u64, tasks: &[Entity])
         requires { length tasks.now ≤ 1024 }
-        ensures { self.new ≡ gone_on course rise tasks.now stretch self.old }
+        ensures { self.new ≡ gone_on effect rise tasks.now stretch self.old }
     {
         let mut stretch = stretch;
         stretch.rise(rise);
@@ -96,20 +96,20 @@ impl Lags {
             self.measured = self.measured.saturating_add(1);
             self.greatest = Some(greater(self.greatest, lag));
         }
-        if course == Effect::Decides {
+        if effect == Effect::Decides {
             stretch.decide();
         }
         self.stretch = Some(stretch);
     }
 
     /// The stretch goes on, and no task is owed more than one was before.
-    fn go_on_unseen(&mut self, stretch: Stretch, course: Effect, rise: u64)
-        ensures { self.new ≡ record self.old { stretch = Some (decided_in course (stretched rise stretch)); measured = one_more self.old.measured } }
+    fn go_on_unseen(&mut self, stretch: Stretch, effect: Effect, rise: u64)
+        ensures { self.new ≡ record self.old { stretch = Some (decided_in effect (stretched rise stretch)); measured = one_more self.old.measured } }
     {
         let mut stretch = stretch;
         stretch.rise(rise);
         self.measured = self.measured.saturating_add(1);
-        if course == Effect::Decides {
+        if effect == Effect::Decides {
             stretch.decide();
         }
         self.stretch = Some(stretch);
@@ -124,8 +124,8 @@ impl Lags {
 }
 
 /// What an event does to the tasks that are there.
-fn course_of(event: &Event, reply: &Reply) -> Effect
-    ensures { result ≡ course_of event.now reply.now }
+fn effect_of(event: &Event, reply: &Reply) -> Effect
+    ensures { result ≡ effect_of event.now reply.now }
 {
     match (event, reply) {
         (
@@ -135,7 +135,7 @@ fn course_of(event: &Event, reply: &Reply) -> Effect
                 by,
                 steps: _,
             },
-        ) => course_by(*by),
+        ) => effect_by(*by),
         (
             Event::Drain { .. },
             Reply::Drained {
@@ -144,15 +144,15 @@ fn course_of(event: &Event, reply: &Reply) -> Effect
                 by,
                 steps: _,
             },
-        ) => course_by(*by),
+        ) => effect_by(*by),
         (Event::EndWake { .. }, Reply::Placed { .. }) => Effect::Passes,
         _ => Effect::Breaks,
     }
 }
 
 /// A decision, by who made it.
-fn course_by(by: By) -> Effect
-    ensures { result ≡ course_by by }
+fn effect_by(by: By) -> Effect
+    ensures { result ≡ effect_by by }
 {
     match by {
         By::Discipline => Effect::Decides,

@@ -16,7 +16,7 @@ use std::{fmt, str};
 
 /// What a word of a line is to be.
 #[derive(Clone, Copy)]
-pub enum Kind {
+pub enum OperandKind {
     Rule,
     ProcessorCount,
     Processor,
@@ -31,21 +31,24 @@ pub enum Kind {
     Counter,
 }
 
-impl Kind {
+impl OperandKind {
     /// Whether a word is that.
     fn fits(self, word: &[u8]) -> bool {
         match self {
-            Kind::Rule => Rule::of_word(word).is_some(),
-            Kind::ProcessorCount => numbers::size(word).is_some(),
-            Kind::Processor => numbers::processor(word).is_some(),
-            Kind::Task => numbers::task(word).is_some(),
-            Kind::Nice => numbers::nice(word).is_some(),
-            Kind::Mask => numbers::mask(word).is_some(),
-            Kind::Time | Kind::Generation | Kind::Slice => numbers::decimal(word).is_some(),
-            Kind::Hook => Hook::of_word(word).is_some(),
-            Kind::Image => true,
-            Kind::Counter => numbers::processor(word).is_some_and(|counter| usize::from(counter)
-                < COUNTERS),
+            OperandKind::Rule => Rule::of_word(word).is_some(),
+            OperandKind::ProcessorCount => numbers::size(word).is_some(),
+            OperandKind::Processor => numbers::processor(word).is_some(),
+            OperandKind::Task => numbers::task(word).is_some(),
+            OperandKind::Nice => numbers::nice(word).is_some(),
+            OperandKind::Mask => numbers::mask(word).is_some(),
+            OperandKind::Time | OperandKind::Generation | OperandKind::Slice => numbers::decimal(
+                word,
+            ).is_some(),
+            OperandKind::Hook => Hook::of_word(word).is_some(),
+            OperandKind::Image => true,
+            OperandKind::Counter => numbers::processor(word).is_some_and(|counter| usize::from(
+                counter,
+            ) < COUNTERS),
         }
     }
 
@@ -53,30 +56,33 @@ impl Kind {
     /// behind `0x` for a mask.
     fn has_form(self, word: &[u8]) -> bool {
         match self {
-            Kind::Rule | Kind::ProcessorCount | Kind::Hook | Kind::Image => true,
-            Kind::Nice => match word.strip_prefix(b"-") {
+            OperandKind::Rule
+            | OperandKind::ProcessorCount
+            | OperandKind::Hook
+            | OperandKind::Image => true,
+            OperandKind::Nice => match word.strip_prefix(b"-") {
                 Some(digits) => are_digits(digits),
                 None => are_digits(word),
             },
-            Kind::Mask => match hex_digits(word) {
+            OperandKind::Mask => match hex_digits(word) {
                 Some(digits) => {
                     !digits.is_empty() && digits.iter().all(|byte| byte.is_ascii_hexdigit())
                 }
                 None => are_digits(word),
             },
-            Kind::Processor
-            | Kind::Task
-            | Kind::Time
-            | Kind::Generation
-            | Kind::Slice
-            | Kind::Counter => are_digits(word),
+            OperandKind::Processor
+            | OperandKind::Task
+            | OperandKind::Time
+            | OperandKind::Generation
+            | OperandKind::Slice
+            | OperandKind::Counter => are_digits(word),
         }
     }
 
     /// What a word without the form is said to be.
     fn formless(self) -> &'static str {
         match self {
-            Kind::Mask => "is no mask (decimal, or hex after 0x)",
+            OperandKind::Mask => "is no mask (decimal, or hex after 0x)",
             _ => "is no number",
         }
     }
@@ -84,23 +90,23 @@ impl Kind {
     /// What a word that is not that is said to be, or not to fit.
     fn words(self) -> &'static str {
         match self {
-            Kind::Rule => with_rules!("is no rule (", ")"),
-            Kind::ProcessorCount => numbers::NO_SIZE,
-            Kind::Processor => "does not fit a processor's number (0 to 255)",
-            Kind::Task => "does not fit a task's number (0 to 65535)",
-            Kind::Nice => "does not fit a nice value (-128 to 127)",
-            Kind::Mask => "does not fit a mask (64 bits, decimal or hex after 0x)",
-            Kind::Time => "does not fit a clock reading (0 to 2^64 - 1)",
-            Kind::Generation => "does not fit a generation (0 to 2^64 - 1)",
-            Kind::Slice => "does not fit a slice (0 to 2^64 - 1)",
-            Kind::Hook => NO_HOOK,
-            Kind::Image => "is no image",
-            Kind::Counter => with_counters!("does not fit a counter's number (", ")"),
+            OperandKind::Rule => with_rules!("is no rule (", ")"),
+            OperandKind::ProcessorCount => numbers::NO_SIZE,
+            OperandKind::Processor => "does not fit a processor's number (0 to 255)",
+            OperandKind::Task => "does not fit a task's number (0 to 65535)",
+            OperandKind::Nice => "does not fit a nice value (-128 to 127)",
+            OperandKind::Mask => "does not fit a mask (64 bits, decimal or hex after 0x)",
+            OperandKind::Time => "does not fit a clock reading (0 to 2^64 - 1)",
+            OperandKind::Generation => "does not fit a generation (0 to 2^64 - 1)",
+            OperandKind::Slice => "does not fit a slice (0 to 2^64 - 1)",
+            OperandKind::Hook => NO_HOOK,
+            OperandKind::Image => "is no image",
+            OperandKind::Counter => with_counters!("does not fit a counter's number (", ")"),
         }
     }
 }
 
-impl fmt::Display for Kind {
+impl fmt::Display for OperandKind {
     fn fmt<W: fmt::Write>(&self, f: &mut fmt::Formatter<W>) -> fmt::Result {
         f.write_str(self.words())
     }
@@ -121,21 +127,35 @@ fn all_digits(word: &[u8]) -> bool
 }
 
 /// The words that follow a keyword.
-fn operands_of(keyword: Keyword) -> &'static [Kind] {
+fn operands_of(keyword: Keyword) -> &'static [OperandKind] {
     match keyword {
-        Keyword::Machine => &[Kind::Rule, Kind::ProcessorCount],
-        Keyword::Admit => &[Kind::Task, Kind::Nice, Kind::Mask, Kind::Slice],
-        Keyword::Retire => &[Kind::Task],
+        Keyword::Machine => &[OperandKind::Rule, OperandKind::ProcessorCount],
+        Keyword::Admit => &[
+            OperandKind::Task,
+            OperandKind::Nice,
+            OperandKind::Mask,
+            OperandKind::Slice,
+        ],
+        Keyword::Retire => &[OperandKind::Task],
         Keyword::Draw => &[],
-        Keyword::Install => &[Kind::Processor, Kind::Generation, Kind::Hook, Kind::Image],
-        Keyword::Begin => &[Kind::Processor, Kind::Task],
-        Keyword::Wake => &[Kind::Processor, Kind::Task, Kind::Time],
+        Keyword::Install => &[
+            OperandKind::Processor,
+            OperandKind::Generation,
+            OperandKind::Hook,
+            OperandKind::Image,
+        ],
+        Keyword::Begin => &[OperandKind::Processor, OperandKind::Task],
+        Keyword::Wake => &[OperandKind::Processor, OperandKind::Task, OperandKind::Time],
         Keyword::End | Keyword::Drain | Keyword::Tick | Keyword::Block => {
-            &[Kind::Processor, Kind::Time]
+            &[OperandKind::Processor, OperandKind::Time]
         }
-        Keyword::Pull => &[Kind::Processor, Kind::Processor, Kind::Time],
-        Keyword::Show => &[Kind::Processor],
-        Keyword::Counter => &[Kind::Counter],
+        Keyword::Pull => &[
+            OperandKind::Processor,
+            OperandKind::Processor,
+            OperandKind::Time,
+        ],
+        Keyword::Show => &[OperandKind::Processor],
+        Keyword::Counter => &[OperandKind::Counter],
     }
 }
 
@@ -151,7 +171,7 @@ pub enum Fault<'a> {
     /// The command takes another number of words.
     Count { name: &'a [u8], wanted: usize },
     /// A word is not what stands at its place.
-    Word { word: &'a [u8], kind: Kind },
+    Word { word: &'a [u8], kind: OperandKind },
     /// A machine is made already.
     Again,
     /// The trace does not begin with its machine.
@@ -180,7 +200,7 @@ pub fn why_bad(line: Option<&[u8]>, is_open: bool) -> Fault<'_> {
 }
 
 /// What is wrong with the words after a command's name: their number, or the first that does not fit.
-fn word_fault<'a>(name: &'a [u8], operands: &'a [u8], kinds: &[Kind]) -> Option<Fault<'a>> {
+fn word_fault<'a>(name: &'a [u8], operands: &'a [u8], kinds: &[OperandKind]) -> Option<Fault<'a>> {
     let wanted = kinds.len();
     let mut rest = operands;
     let mut misfit = None;

@@ -4,10 +4,10 @@ use Rattle.bq_parts.specs.Processors.{Processor}
 use Rattle.bq_parts.specs.World.{World, processor_at, count_in}
 use Rattle.bq_trace.specs.Machines.{Driven}
 use Rattle.bq_words.specs.declared.rule.Rule.TheVariants as rules
-use Rattle.bq_trace.specs.declared.any_core.Ruled.{Ruled}
-use Rattle.bq_trace.specs.declared.any_core.Ruled.TheVariants as ruled
+use Rattle.bq_trace.specs.declared.any_core.RuleCore.{RuleCore}
+use Rattle.bq_trace.specs.declared.any_core.RuleCore.TheVariants as ruled
 
-abbrev pub machine_of : Ruled → List ℕ → Driven
+abbrev pub machine_of : RuleCore → List ℕ → Driven
 machine_of (ruled.Cfs w) counters = record { rule = rules.Cfs; world = w; counters = counters }
 machine_of (ruled.Eevdf w) counters = record { rule = rules.Eevdf; world = w; counters = counters }
 

@@ -26,14 +26,14 @@ pub enum Seen<'a> {
 
 /// A core under each rule.
 #[derive(Drop)]
-enum Ruled {
+enum RuleCore {
     Cfs(DynamicCore<CfsQueue>),
     Eevdf(DynamicCore<EevdfQueue>),
 }
 
 /// A machine. Contracts see its rule, its world, and the counters that its policies share.
 pub struct AnyCore {
-    core: Ruled,
+    core: RuleCore,
     board: Plain,
 }
 
@@ -66,8 +66,8 @@ impl AnyCore {
     {
         let count = usize::from(size.processors());
         let core = match rule {
-            Rule::Cfs => Ruled::Cfs(DynamicCore::new(alloc, count)?),
-            Rule::Eevdf => Ruled::Eevdf(DynamicCore::new(alloc, count)?),
+            Rule::Cfs => RuleCore::Cfs(DynamicCore::new(alloc, count)?),
+            Rule::Eevdf => RuleCore::Eevdf(DynamicCore::new(alloc, count)?),
         };
         Ok(AnyCore {
             core,
@@ -80,8 +80,8 @@ impl AnyCore {
         ensures { result ≡ self.now.rule }
     {
         match &self.core {
-            Ruled::Cfs(_) => Rule::Cfs,
-            Ruled::Eevdf(_) => Rule::Eevdf,
+            RuleCore::Cfs(_) => Rule::Cfs,
+            RuleCore::Eevdf(_) => Rule::Eevdf,
         }
     }
 
@@ -91,8 +91,8 @@ impl AnyCore {
     {
         // Each arm returns by itself, since a reply is large and would else be moved once more.
         match &mut self.core {
-            Ruled::Cfs(core) => return core.step(alloc, event, &mut self.board),
-            Ruled::Eevdf(core) => return core.step(alloc, event, &mut self.board),
+            RuleCore::Cfs(core) => return core.step(alloc, event, &mut self.board),
+            RuleCore::Eevdf(core) => return core.step(alloc, event, &mut self.board),
         }
     }
 
@@ -109,11 +109,11 @@ impl AnyCore {
         ensures { option_map seen_of result ≡ seen_in self.now processor }
     {
         match &self.core {
-            Ruled::Cfs(core) => match cpu(core, processor) {
+            RuleCore::Cfs(core) => match cpu(core, processor) {
                 Some(cpu) => Some(Seen::Cfs(cpu)),
                 None => None,
             },
-            Ruled::Eevdf(core) => match cpu(core, processor) {
+            RuleCore::Eevdf(core) => match cpu(core, processor) {
                 Some(cpu) => Some(Seen::Eevdf(cpu)),
                 None => None,
             },
