@@ -25,7 +25,7 @@ static REFUSED: [(&str, &str); 6] = [
         ";@ hook pull\nmov64 r0, 0\nexit\n",
         "the policy is for another hook",
     ),
-    // the hook place
+    // mov64 r0, 0 and exit, for the hook place
     (
         "425150490100000002000000b7000000000000009500000000000000",
         "the policy is for another hook",
