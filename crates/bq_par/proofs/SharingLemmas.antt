@@ -28,7 +28,8 @@ use Rattle.bq_disc.proofs.node.Node.TheLaws.TheKnot as knot
 use Rattle.bq_parts.specs.contracts.inbox.Inbox as Inbox
 use Rattle.bq_recording.specs.contracts.closing_room.ClosingRoom as ClosingRoom
 use Rattle.bq_recording.proofs.SendLemmas.{room_send}
-use Rattle.bq_cells.proofs.SendLemmas.{cpu_send, numbered_send, inbox_send, lobby_send, record_send, kept_send}
+use Rattle.bq_parts.proofs.SendLemmas.{cpu_send}
+use Rattle.bq_cells.proofs.SendLemmas.{numbered_send, inbox_send, lobby_send, record_send, kept_send}
 use Rattle.bq_recording.specs.contracts.recorder.Recorder as Recorder
 use Rattle.bq_machine.specs.contracts.locks.Machine as Machine
 use Rattle.bq_machine.specs.declared.clock.Clock as Clock
