@@ -23,24 +23,29 @@ keyword_word keywords.Pull = codes "pull"
 keyword_word keywords.Show = codes "show"
 keyword_word keywords.Counter = codes "counter"
 
--- the keyword of that word
-abbrev pub keyword_of : List ℕ → Option Keyword
-keyword_of word =
+-- of the lines that set a machine up or show it, the keyword of that word
+abbrev pub setting_keyword_of : List ℕ → Option Keyword
+setting_keyword_of word =
     if bytes_eq word (keyword_word keywords.Install) then Some keywords.Install
     else if bytes_eq word (keyword_word keywords.Machine) then Some keywords.Machine
     else if bytes_eq word (keyword_word keywords.Admit) then Some keywords.Admit
     else if bytes_eq word (keyword_word keywords.Retire) then Some keywords.Retire
     else if bytes_eq word (keyword_word keywords.Draw) then Some keywords.Draw
-    else if bytes_eq word (keyword_word keywords.Begin) then Some keywords.Begin
+    else if bytes_eq word (keyword_word keywords.Show) then Some keywords.Show
+    else if bytes_eq word (keyword_word keywords.Counter) then Some keywords.Counter
+    else None
+
+-- the keyword of that word
+abbrev pub keyword_of : List ℕ → Option Keyword
+keyword_of word =
+    if bytes_eq word (keyword_word keywords.Begin) then Some keywords.Begin
     else if bytes_eq word (keyword_word keywords.End) then Some keywords.End
     else if bytes_eq word (keyword_word keywords.Wake) then Some keywords.Wake
     else if bytes_eq word (keyword_word keywords.Drain) then Some keywords.Drain
     else if bytes_eq word (keyword_word keywords.Tick) then Some keywords.Tick
     else if bytes_eq word (keyword_word keywords.Block) then Some keywords.Block
     else if bytes_eq word (keyword_word keywords.Pull) then Some keywords.Pull
-    else if bytes_eq word (keyword_word keywords.Show) then Some keywords.Show
-    else if bytes_eq word (keyword_word keywords.Counter) then Some keywords.Counter
-    else None
+    else setting_keyword_of word
 
 -- the keyword of a line that asks for an event
 abbrev pub keyword_of_event : Event → Keyword

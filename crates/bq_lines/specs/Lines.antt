@@ -23,22 +23,34 @@ use Rattle.bq_lines.specs.declared.command.LineReading.TheVariants.{Skipped, Bad
 abbrev pub size_of : List ℕ → Option ProcessorCount
 size_of word = option_and_then size_numbered (processor_of word)
 
+-- the words of a line that has just so many
+
+abbrev pub two_of : List (List ℕ) → Option (List ℕ × List ℕ)
+two_of (first ∷ second ∷ []) = Some (first, second)
+two_of other = None
+
+abbrev pub three_of : List (List ℕ) → Option (List ℕ × List ℕ × List ℕ)
+three_of (first ∷ second ∷ third ∷ []) = Some (first, second, third)
+three_of other = None
+
+abbrev pub four_of : List (List ℕ) → Option (List ℕ × List ℕ × List ℕ × List ℕ)
+four_of (first ∷ second ∷ third ∷ fourth ∷ []) = Some (first, second, third, fourth)
+four_of other = None
+
 -- the words after a command's name, as numbers
 
 abbrev pub machine_words : List (List ℕ) → Option (Rule × ProcessorCount)
-machine_words (rule ∷ size ∷ []) = option_and_then (λ r. option_map (λ s. (r, s)) (size_of size)) (rule_of rule)
-machine_words other = None
+machine_words operands = option_and_then (λ w. option_and_then (λ r. option_map (λ s. (r, s)) (size_of w.1)) (rule_of w.0)) (two_of operands)
 
 abbrev pub admit_words : List (List ℕ) → Option (ℕ × ℤ × ℕ × ℕ)
-admit_words (task ∷ nice ∷ mask ∷ slice ∷ []) =
-    option_and_then (λ t. option_and_then (λ n. option_and_then (λ m. option_map (λ s. (t, n, m, s)) (decimal_of slice)) (mask_of mask)) (nice_of nice)) (task_of task)
-admit_words other = None
+admit_words operands =
+    option_and_then (λ w. option_and_then (λ t. option_and_then (λ n. option_and_then (λ m. option_map (λ s. (t, n, m, s)) (decimal_of w.3)) (mask_of w.2)) (nice_of w.1)) (task_of w.0))
+    (four_of operands)
 
 -- the processor, the generation, the hook, and what spells an image
 abbrev pub install_words : List (List ℕ) → Option (ℕ × ℕ × Hook × List ℕ)
-install_words (processor ∷ generation ∷ hook ∷ image ∷ []) =
-    option_and_then (λ c. option_and_then (λ g. option_map (λ h. (c, g, h, image)) (hook_of hook)) (decimal_of generation)) (processor_of processor)
-install_words other = None
+install_words operands =
+    option_and_then (λ w. option_and_then (λ c. option_and_then (λ g. option_map (λ h. (c, g, h, w.3)) (hook_of w.2)) (decimal_of w.1)) (processor_of w.0)) (four_of operands)
 
 abbrev pub one_task : List (List ℕ) → Option ℕ
 one_task (task ∷ []) = task_of task
@@ -50,22 +62,18 @@ one_number (number ∷ []) = processor_of number
 one_number other = None
 
 abbrev pub processor_and_task : List (List ℕ) → Option (ℕ × ℕ)
-processor_and_task (processor ∷ task ∷ []) = option_and_then (λ c. option_map (λ i. (c, i)) (task_of task)) (processor_of processor)
-processor_and_task other = None
+processor_and_task operands = option_and_then (λ w. option_and_then (λ c. option_map (λ i. (c, i)) (task_of w.1)) (processor_of w.0)) (two_of operands)
 
 abbrev pub processor_and_time : List (List ℕ) → Option (ℕ × ℕ)
-processor_and_time (processor ∷ now ∷ []) = option_and_then (λ c. option_map (λ t. (c, t)) (decimal_of now)) (processor_of processor)
-processor_and_time other = None
+processor_and_time operands = option_and_then (λ w. option_and_then (λ c. option_map (λ t. (c, t)) (decimal_of w.1)) (processor_of w.0)) (two_of operands)
 
 abbrev pub wake_words : List (List ℕ) → Option (ℕ × ℕ × ℕ)
-wake_words (processor ∷ task ∷ now ∷ []) =
-    option_and_then (λ c. option_and_then (λ i. option_map (λ t. (c, i, t)) (decimal_of now)) (task_of task)) (processor_of processor)
-wake_words other = None
+wake_words operands =
+    option_and_then (λ w. option_and_then (λ c. option_and_then (λ i. option_map (λ t. (c, i, t)) (decimal_of w.2)) (task_of w.1)) (processor_of w.0)) (three_of operands)
 
 abbrev pub pull_words : List (List ℕ) → Option (ℕ × ℕ × ℕ)
-pull_words (processor ∷ from ∷ now ∷ []) =
-    option_and_then (λ c. option_and_then (λ s. option_map (λ t. (c, s, t)) (decimal_of now)) (processor_of from)) (processor_of processor)
-pull_words other = None
+pull_words operands =
+    option_and_then (λ w. option_and_then (λ c. option_and_then (λ s. option_map (λ t. (c, s, t)) (decimal_of w.2)) (processor_of w.1)) (processor_of w.0)) (three_of operands)
 
 -- what each command asks
 

@@ -1,6 +1,6 @@
 //! The words that lines begin with.
 ghost use Rattle.std.specs.Prelude.{◌≡◌};
-ghost use Rattle.bq_lines.specs.Keywords.{keyword_of, keyword_of_event, keyword_word};
+ghost use Rattle.bq_lines.specs.Keywords.{keyword_of, setting_keyword_of, keyword_of_event, keyword_word};
 
 use bq_core::Event;
 
@@ -65,17 +65,7 @@ impl Keyword {
     pub fn of_word(word: &[u8]) -> Option<Keyword>
         ensures { result ≡ keyword_of word.now }
     {
-        if word == b"install".as_slice() {
-            Some(Keyword::Install)
-        } else if word == b"machine".as_slice() {
-            Some(Keyword::Machine)
-        } else if word == b"admit".as_slice() {
-            Some(Keyword::Admit)
-        } else if word == b"retire".as_slice() {
-            Some(Keyword::Retire)
-        } else if word == b"draw".as_slice() {
-            Some(Keyword::Draw)
-        } else if word == b"begin".as_slice() {
+        if word == b"begin".as_slice() {
             Some(Keyword::Begin)
         } else if word == b"end".as_slice() {
             Some(Keyword::End)
@@ -89,6 +79,26 @@ impl Keyword {
             Some(Keyword::Block)
         } else if word == b"pull".as_slice() {
             Some(Keyword::Pull)
+        } else {
+            Keyword::of_setting_word(word)
+        }
+    }
+
+    /// The keyword of a line that sets a machine up or shows it, by its word.
+    #[inline(always)]
+    fn of_setting_word(word: &[u8]) -> Option<Keyword>
+        ensures { result ≡ setting_keyword_of word.now }
+    {
+        if word == b"install".as_slice() {
+            Some(Keyword::Install)
+        } else if word == b"machine".as_slice() {
+            Some(Keyword::Machine)
+        } else if word == b"admit".as_slice() {
+            Some(Keyword::Admit)
+        } else if word == b"retire".as_slice() {
+            Some(Keyword::Retire)
+        } else if word == b"draw".as_slice() {
+            Some(Keyword::Draw)
         } else if word == b"show".as_slice() {
             Some(Keyword::Show)
         } else if word == b"counter".as_slice() {

@@ -9,7 +9,7 @@ use crate::command::{Command, LineReading};
 use crate::image::HexWord;
 use crate::keyword::Keyword;
 use crate::numbers;
-use crate::words::{end_of_words, is_allowed_line};
+use crate::words::{end_of_words, four_words, is_allowed_line, three_words, two_words};
 use bq_core::{Event, Hook};
 use bq_words::{ProcessorCount, Rule, next_word};
 
@@ -78,9 +78,7 @@ fn command<'a>(name: &[u8], operands: &'a [u8]) -> LineReading<'a>
 fn machine_words(operands: &[u8]) -> Option<(Rule, ProcessorCount)>
     ensures { result ≡ machine_words (words operands.now) }
 {
-    let (first, rest) = next_word(operands)?;
-    let (second, rest) = next_word(rest)?;
-    end_of_words(rest)?;
+    let (first, second) = two_words(operands)?;
     let rule = Rule::of_word(first)?;
     let size = numbers::size(second)?;
     Some((rule, size))
@@ -90,11 +88,7 @@ fn machine_words(operands: &[u8]) -> Option<(Rule, ProcessorCount)>
 fn admit_words(operands: &[u8]) -> Option<(u16, i8, u64, u64)>
     ensures { result ≡ admit_words (words operands.now) }
 {
-    let (first, rest) = next_word(operands)?;
-    let (second, rest) = next_word(rest)?;
-    let (third, rest) = next_word(rest)?;
-    let (fourth, rest) = next_word(rest)?;
-    end_of_words(rest)?;
+    let (first, second, third, fourth) = four_words(operands)?;
     let task = numbers::task(first)?;
     let nice = numbers::nice(second)?;
     let mask = numbers::mask(third)?;
@@ -106,11 +100,7 @@ fn admit_words(operands: &[u8]) -> Option<(u16, i8, u64, u64)>
 fn install_words(operands: &[u8]) -> Option<(u8, u64, Hook, &[u8])>
     ensures { option_map (λ w. (w.0, w.1, w.2, w.3.now)) result ≡ install_words (words operands.now) }
 {
-    let (first, rest) = next_word(operands)?;
-    let (second, rest) = next_word(rest)?;
-    let (third, rest) = next_word(rest)?;
-    let (image, rest) = next_word(rest)?;
-    end_of_words(rest)?;
+    let (first, second, third, image) = four_words(operands)?;
     let processor = numbers::processor(first)?;
     let generation = numbers::decimal(second)?;
     let hook = Hook::of_word(third)?;
@@ -139,9 +129,7 @@ fn one_number(operands: &[u8]) -> Option<u8>
 fn processor_and_task(operands: &[u8]) -> Option<(u8, u16)>
     ensures { result ≡ processor_and_task (words operands.now) }
 {
-    let (first, rest) = next_word(operands)?;
-    let (second, rest) = next_word(rest)?;
-    end_of_words(rest)?;
+    let (first, second) = two_words(operands)?;
     let processor = numbers::processor(first)?;
     let task = numbers::task(second)?;
     Some((processor, task))
@@ -151,9 +139,7 @@ fn processor_and_task(operands: &[u8]) -> Option<(u8, u16)>
 fn processor_and_time(operands: &[u8]) -> Option<(u8, u64)>
     ensures { result ≡ processor_and_time (words operands.now) }
 {
-    let (first, rest) = next_word(operands)?;
-    let (second, rest) = next_word(rest)?;
-    end_of_words(rest)?;
+    let (first, second) = two_words(operands)?;
     let processor = numbers::processor(first)?;
     let now = numbers::decimal(second)?;
     Some((processor, now))
@@ -163,10 +149,7 @@ fn processor_and_time(operands: &[u8]) -> Option<(u8, u64)>
 fn wake_words(operands: &[u8]) -> Option<(u8, u16, u64)>
     ensures { result ≡ wake_words (words operands.now) }
 {
-    let (first, rest) = next_word(operands)?;
-    let (second, rest) = next_word(rest)?;
-    let (third, rest) = next_word(rest)?;
-    end_of_words(rest)?;
+    let (first, second, third) = three_words(operands)?;
     let processor = numbers::processor(first)?;
     let task = numbers::task(second)?;
     let now = numbers::decimal(third)?;
@@ -177,10 +160,7 @@ fn wake_words(operands: &[u8]) -> Option<(u8, u16, u64)>
 fn pull_words(operands: &[u8]) -> Option<(u8, u8, u64)>
     ensures { result ≡ pull_words (words operands.now) }
 {
-    let (first, rest) = next_word(operands)?;
-    let (second, rest) = next_word(rest)?;
-    let (third, rest) = next_word(rest)?;
-    end_of_words(rest)?;
+    let (first, second, third) = three_words(operands)?;
     let processor = numbers::processor(first)?;
     let from = numbers::processor(second)?;
     let now = numbers::decimal(third)?;

@@ -2,7 +2,9 @@
 ghost use Rattle.std.specs.Prelude.{◌≡◌, ◌∷◌, [], MatchOption};
 ghost use Rattle.std.specs.List.{list_all};
 ghost use Rattle.bq_words.specs.Words.{words};
+ghost use Rattle.std.specs.Option.{option_map};
 ghost use Rattle.bq_lines.specs.Bytes.{is_allowed};
+ghost use Rattle.bq_lines.specs.Lines.{two_of, three_of, four_of};
 
 use bq_words::next_word;
 
@@ -31,4 +33,37 @@ pub fn end_of_words(text: &[u8]) -> Option<()>
         None => Some(()),
         Some(_) => None,
     }
+}
+
+/// The two words of a text that has two.
+pub fn two_words(text: &[u8]) -> Option<(&[u8], &[u8])>
+    ensures { option_map (λ w. (w.0.now, w.1.now)) result ≡ two_of (words text.now) }
+{
+    let (first, rest) = next_word(text)?;
+    let (second, rest) = next_word(rest)?;
+    end_of_words(rest)?;
+    Some((first, second))
+}
+
+/// The three words of a text that has three.
+pub fn three_words(text: &[u8]) -> Option<(&[u8], &[u8], &[u8])>
+    ensures { option_map (λ w. (w.0.now, w.1.now, w.2.now)) result ≡ three_of (words text.now) }
+{
+    let (first, rest) = next_word(text)?;
+    let (second, rest) = next_word(rest)?;
+    let (third, rest) = next_word(rest)?;
+    end_of_words(rest)?;
+    Some((first, second, third))
+}
+
+/// The four words of a text that has four.
+pub fn four_words(text: &[u8]) -> Option<(&[u8], &[u8], &[u8], &[u8])>
+    ensures { option_map (λ w. (w.0.now, w.1.now, w.2.now, w.3.now)) result ≡ four_of (words text.now) }
+{
+    let (first, rest) = next_word(text)?;
+    let (second, rest) = next_word(rest)?;
+    let (third, rest) = next_word(rest)?;
+    let (fourth, rest) = next_word(rest)?;
+    end_of_words(rest)?;
+    Some((first, second, third, fourth))
 }
