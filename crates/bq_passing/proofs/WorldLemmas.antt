@@ -4,6 +4,7 @@ use Rattle.std.specs.Prelude.{◌^◌, max, All, Ok, Err}
 use Rattle.std.proofs.lemmas.List.{length-replicate}
 use Rattle.bq_weights.specs.VirtualTime.{IsWeight, vdelta_of, held_within}
 use Rattle.bq_disc.specs.Tasks.{Task}
+use Rattle.bq_disc.specs.Totals.{IsBounded}
 use Rattle.bq_disc.specs.Discipline.{Discipline, charged, woken, pulled}
 use Rattle.bq_disc.specs.OneProcessor.{present_at}
 use Rattle.bq_bpf.specs.declared.board.Call.{Call as Asked}
@@ -85,10 +86,7 @@ sound_at d P k w at o s =
 
 -- CFS
 
-abbrev InRange : Task → Type 0
-InRange t = IsWeight t.weight × (t.v ≤ 2 ^ 62)
-
-cfs_keeps : IsKept cfs InRange
+cfs_keeps : IsKept cfs IsBounded
 cfs_keeps = record {
   weight = λ t h. h.0;
   ends = λ t h. h.1;
@@ -103,10 +101,10 @@ apart_by m r av bv iv jv uv tv x e f h = omega arith
 -- under CFS two tasks that stay at a processor of the world are served in proportion
 pub cfs_world_serves : CfsWorldServes
 cfs_world_serves count at r i j w w' earlier es before calls given answers ss a b run l seen room within si sj f g =
-    let k = reached cfs InRange cfs_keeps count w earlier before given run in
+    let k = reached cfs IsBounded cfs_keeps count w earlier before given run in
     let p = running_at w at in
-    let sound = sound_at cfs InRange cfs_keeps w at k.orderly k.sound in
-    let new = history_new cfs InRange cfs_keeps count at w w' es calls answers ss k l seen in
+    let sound = sound_at cfs IsBounded cfs_keeps w at k.orderly k.sound in
+    let new = history_new cfs IsBounded cfs_keeps count at w w' es calls answers ss k l seen in
     let law = cfs_serves_throughout r p ss i j a b sound room new within f g si sj in
     let rooms = each_has_room p room in
     let x = got_by cfs p ss i a (well_formed p sound) new si (rooms i a f) f in
@@ -118,7 +116,7 @@ cfs_world_serves count at r i j w w' earlier es before calls given answers ss a 
 
 -- a task in its ranges, due no earlier than it stands and no later than one slice from there
 record IsTimed (t : Task) : Type 0 where
-  range : InRange t
+  range : IsBounded t
   due : IsDue t
 
 eevdf_keeps : IsKept eevdf IsTimed
