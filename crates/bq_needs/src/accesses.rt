@@ -1,11 +1,11 @@
 //! Whether what is known of its pointer shows an access to be good, and if not why, in words.
 ghost use Rattle.std.specs.Prelude.{◌≡◌, ◌⊎◌, ◌↔◌, ◌<◌, ◌≤◌, ◌+◌, IfOk, IfNone, IsTrue, MatchBool, MatchOption, Some, false, true, string_bytes};
-ghost use Rattle.bq_bpf.specs.Steps.{address_of};
 ghost use Rattle.bq_needs.specs.Accesses.{AreSet, Follows, GoesBeyond, IsMoved, IsShown, Lacks, ReachesLast, Stays, TellsBegin, TouchesUnset, Wraps, begin_of, lack_text, register_text};
 
 use crate::known::{kind_text, known_text};
 use crate::operands::Access;
 use bq_bpf::addresses::STACK_SIZE;
+use bq_bpf::words::address;
 use bq_bpf::{context_length, with_stack_size};
 use bq_program::PolicySource;
 use bq_ranges::Range;
@@ -149,8 +149,8 @@ fn touches_set(view: &AbstractState, access: Access, offsets: Range) -> bool
     requires inside { Stays access offsets STACK_SIZE }
     ensures { MatchBool result (AreSet view.now.set (begin_of access offsets.lo) (begin_of access offsets.hi + access.bytes)) (TouchesUnset view.now access offsets) }
 {
-    let first = word_at(offsets.lo, access.off) as usize;
-    let past = word_at(offsets.hi, access.off) as usize + access.bytes;
+    let first = address(offsets.lo, access.off) as usize;
+    let past = address(offsets.hi, access.off) as usize + access.bytes;
     for byte in first..past {
         if !view.set[byte] {
             return false;
@@ -164,20 +164,13 @@ fn moved(offsets: Range, off: i16) -> Option<Range>
     ensures range { MatchOption result (ReachesLast off offsets) (IsMoved off offsets) }
     ensures wraps { IfNone result (Wraps off offsets) }
 {
-    let lo = word_at(offsets.lo, off);
-    let hi = word_at(offsets.hi, off);
+    let lo = address(offsets.lo, off);
+    let hi = address(offsets.hi, off);
     if lo <= hi {
         Some(Range { lo, hi })
     } else {
         None
     }
-}
-
-/// The word that far on.
-fn word_at(word: u64, off: i16) -> u64
-    ensures { result ≡ address_of word off }
-{
-    word.wrapping_add(i64::from(off).cast_unsigned())
 }
 
 /// Where the access begins, by what is known of its pointer.
