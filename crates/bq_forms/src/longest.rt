@@ -6,9 +6,6 @@ use bq_disc::limits::TASKS;
 use bq_schedule::Slice;
 use std::alloc::{AllocError, Global};
 
-/// The places of a table by ids.
-const IDS: usize = TASKS as usize;
-
 /// The task that ran longest from one moment to another, of these runs; of equal ones the one of the least number. `None`
 /// where none ran.
 pub fn longest_in(
@@ -29,7 +26,7 @@ fn times_in(alloc: Global, runs: &[Slice], from: u64, to: u64) -> Result<Vec<u12
     ensures length { IfOk result (λ v. vec_len v ≡ 1024) }
     ensures times { IfOk result (λ v. (task : ℕ) → task < 1024 → slice_index v.items task ≡ time_of from to runs.now task) }
 {
-    let mut times = vec![in alloc; 0u128; IDS]?;
+    let mut times = vec![in alloc; 0u128; TASKS as usize]?;
     for run in runs {
         let time = run.to.min(to).saturating_sub(run.from.max(from));
         let task = usize::from(run.task);
