@@ -19,11 +19,11 @@ use Rattle.bq_schedule.specs.Moments.{Moment, History}
 use Rattle.bq_schedule.specs.Figures.{Figures, opening, unread, processor_of}
 use Rattle.bq_schedule.specs.Passing.{read_at, processor_read}
 use Rattle.bq_schedule.specs.Runnable.{leaves, comes}
-use Rattle.bq_schedule.specs.Running.{switched}
+use Rattle.bq_schedule.specs.Running.{running_task, switched}
 use Rattle.bq_schedule.specs.Slices.{Sight, sight, sight_of, clock_after, clock, runner_after, runner}
 use Rattle.bq_schedule.specs.Steps.{asked, taken, emptied, decided, placed, blocked, pulled, performed, time_at, is_there, after, figures}
 use Rattle.bq_schedule.specs.Laws.{IsWithin, IsOf}
-use Rattle.bq_schedule.proofs.FrameLemmas.{Works, who, KeepsWorks, KeepsRunning, RunsAs, works-then, works-id, works-with_task, works-with_processor, works-asked, works-leaves, works-comes, works-taken, works-switched, running-then, running-id, running-with_task, running-with_processor, running-asked, running-leaves, running-comes, running-taken, running-read_at, runs-after, runs-before, runs-switched, count-read_at, processors-read_at}
+use Rattle.bq_schedule.proofs.FrameLemmas.{Works, KeepsWorks, KeepsRunning, RunsAs, works-then, works-id, works-with_task, works-with_processor, works-asked, works-leaves, works-comes, works-taken, works-switched, running-then, running-id, running-with_task, running-with_processor, running-asked, running-leaves, running-comes, running-taken, running-read_at, runs-after, runs-before, runs-switched, count-read_at, processors-read_at}
 
 -- what a reply does: the clock is read that it shows, and nothing else of the works changes; and it runs who it says
 abbrev pub Shows : Figures → Figures → Option Sight → Type 0
@@ -182,27 +182,27 @@ last-shown s s' (Some x) j inside h =
     ∙ last-cond (eqb x.processor j) _ _
     ∙ last-same x.processor x.now j s (eqb x.processor j) (eqb_tells x.processor j)
 
-who-at : (o : Option (Option ℕ)) (s s' : Figures) (processor j : ℕ) (b : Bool) → ((b ≡ true) × (processor ≡ j)) ⊎ ((b ≡ false) × (processor ≢ j)) → RunsAs o processor s s' →
-    who (processor_of s' j) ≡ cond b (unwrap_or o (who (processor_of s j))) (who (processor_of s j))
-who-at None s s' processor j true t h = ap (option_map (λ (x : Start). x.task)) (h.at j)
-who-at None s s' processor j false t h = ap (option_map (λ (x : Start). x.task)) (h.at j)
-who-at (Some run) s s' processor j true (inl same) h = ap (λ k. who (processor_of s' k)) (sym same.1) ∙ h.0
-who-at (Some run) s s' processor j false (inl same) h = absurd (cc)
-who-at (Some run) s s' processor j true (inr other) h = absurd (cc)
-who-at (Some run) s s' processor j false (inr other) h = ap (option_map (λ (x : Start). x.task)) (h.1 j (λ e. other.1 (sym e)))
+running_task-at : (o : Option (Option ℕ)) (s s' : Figures) (processor j : ℕ) (b : Bool) → ((b ≡ true) × (processor ≡ j)) ⊎ ((b ≡ false) × (processor ≢ j)) → RunsAs o processor s s' →
+    running_task (processor_of s' j) ≡ cond b (unwrap_or o (running_task (processor_of s j))) (running_task (processor_of s j))
+running_task-at None s s' processor j true t h = ap (option_map (λ (x : Start). x.task)) (h.at j)
+running_task-at None s s' processor j false t h = ap (option_map (λ (x : Start). x.task)) (h.at j)
+running_task-at (Some run) s s' processor j true (inl same) h = ap (λ k. running_task (processor_of s' k)) (sym same.1) ∙ h.0
+running_task-at (Some run) s s' processor j false (inl same) h = absurd (cc)
+running_task-at (Some run) s s' processor j true (inr other) h = absurd (cc)
+running_task-at (Some run) s s' processor j false (inr other) h = ap (option_map (λ (x : Start). x.task)) (h.1 j (λ e. other.1 (sym e)))
 
 -- and who runs is who it says
-pub who-shown : (s s' : Figures) (o : Option Sight) (j : ℕ) → Shows s s' o → who (processor_of s' j) ≡ runner_after j (who (processor_of s j)) o
-who-shown s s' None j h = ap (option_map (λ (x : Start). x.task)) (h.1.at j)
-who-shown s s' (Some x) j h = who-at x.run s s' x.processor j (eqb x.processor j) (eqb_tells x.processor j) h.1
+pub running_task-shown : (s s' : Figures) (o : Option Sight) (j : ℕ) → Shows s s' o → running_task (processor_of s' j) ≡ runner_after j (running_task (processor_of s j)) o
+running_task-shown s s' None j h = ap (option_map (λ (x : Start). x.task)) (h.1.at j)
+running_task-shown s s' (Some x) j h = running_task-at x.run s s' x.processor j (eqb x.processor j) (eqb_tells x.processor j) h.1
 
 opening-at : (count processor : ℕ) → processor < count → processor_of (opening count) processor ≡ unread
 opening-at count processor inside = get_or-replicate count processor unread unread inside
 
 -- the figures' last reading of each processor, and who runs there, are those of the history
 pub figures-clocks : (count : ℕ) (past : History) (processor : ℕ) → IsOf count past → processor < count →
-    ((processor_of (figures count past) processor).last ≡ clock processor past) × (who (processor_of (figures count past) processor) ≡ runner processor past)
-figures-clocks count [] processor h inside = (ap (λ (p : ProcessorFigures). p.last) (opening-at count processor inside), ap who (opening-at count processor inside))
+    ((processor_of (figures count past) processor).last ≡ clock processor past) × (running_task (processor_of (figures count past) processor) ≡ runner processor past)
+figures-clocks count [] processor h inside = (ap (λ (p : ProcessorFigures). p.last) (opening-at count processor inside), ap running_task (opening-at count processor inside))
 figures-clocks count (m ∷ past) processor h inside =
     let s = figures count past in
     let o = sight_of m.event m.answer in
@@ -210,5 +210,5 @@ figures-clocks count (m ∷ past) processor h inside =
     let inside' : processor < length s.processors = omega (arith, count-figures count past h.1) in
     let shown : Shows s (after s m.event m.answer) o = shows-after s m.event m.answer (within-figures count past m h) in (
       last-shown s _ o processor inside' shown ∙ ap (λ n. clock_after processor n o) before.0,
-      who-shown s _ o processor shown ∙ ap (λ w. runner_after processor w o) before.1,
+      running_task-shown s _ o processor shown ∙ ap (λ w. runner_after processor w o) before.1,
     )

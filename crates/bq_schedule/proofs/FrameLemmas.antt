@@ -16,7 +16,7 @@ use Rattle.bq_schedule.specs.declared.figures.ProcessorFigures.{ProcessorFigures
 use Rattle.bq_schedule.specs.Figures.{Figures, unread, unknown, processor_of, task_of, with_processor, with_task}
 use Rattle.bq_schedule.specs.Passing.{with_charged, read_at, processor_read}
 use Rattle.bq_schedule.specs.Runnable.{left_from, leaves, joins, comes}
-use Rattle.bq_schedule.specs.Running.{stopped, started, begun_if, starts_as, processor_runs, switched, is_run_by, with_latency}
+use Rattle.bq_schedule.specs.Running.{running_task, stopped, started, begun_if, starts_as, processor_runs, switched, is_run_by, with_latency}
 use Rattle.bq_schedule.specs.Steps.{processor_asked, asked, waited_there, taken}
 
 -- a place of a list is set to what f cannot tell from what was there
@@ -201,14 +201,10 @@ works-switched_if false left processor now run s =
 pub works-switched : (left : Left) (processor now : ℕ) (run : Option ℕ) (s : Figures) → KeepsWorks s (switched left processor now run s)
 works-switched left processor now run s = works-switched_if (is_run_by (processor_of s processor).running run) left processor now run s
 
--- who runs
-abbrev pub who : ProcessorFigures → Option ℕ
-who p = option_map (λ (s : Start). s.task) p.running
-
 -- what is told of who runs at a processor holds afterwards, and at the others it is as it was
 abbrev pub RunsAs : Option (Option ℕ) → ℕ → Figures → Figures → Type 0
 RunsAs None processor s s' = KeepsRunning s s'
-RunsAs (Some run) processor s s' = (who (processor_of s' processor) ≡ run) × ((j : ℕ) → j ≢ processor → (processor_of s' j).running ≡ (processor_of s j).running)
+RunsAs (Some run) processor s s' = (running_task (processor_of s' processor) ≡ run) × ((j : ℕ) → j ≢ processor → (processor_of s' j).running ≡ (processor_of s j).running)
 
 -- what is told of who runs holds too where a step stands before it that keeps who runs
 pub runs-after : (o : Option (Option ℕ)) (processor : ℕ) (s t u : Figures) → KeepsRunning s t → RunsAs o processor t u → RunsAs o processor s u
@@ -220,15 +216,15 @@ pub runs-before : (o : Option (Option ℕ)) (processor : ℕ) (s t u : Figures) 
 runs-before None processor s t u a b = running-then s t u a b
 runs-before (Some run) processor s t u a b = (ap (option_map (λ (x : Start). x.task)) (b.at processor) ∙ a.0, λ j ne. b.at j ∙ a.1 j ne)
 
-who-processor_runs : (p : ProcessorFigures) (processor now : ℕ) (run : Option ℕ) (s : Figures) → who (processor_runs p (starts_as processor now run s)) ≡ run
-who-processor_runs p processor now None s = refl
-who-processor_runs p processor now (Some id) s = refl
+running_task-processor_runs : (p : ProcessorFigures) (processor now : ℕ) (run : Option ℕ) (s : Figures) → running_task (processor_runs p (starts_as processor now run s)) ≡ run
+running_task-processor_runs p processor now None s = refl
+running_task-processor_runs p processor now (Some id) s = refl
 
 runs-started : (processor now : ℕ) (run : Option ℕ) (s : Figures) → processor < length s.processors → RunsAs (Some run) processor s (started processor now run s)
 runs-started processor now run s inside =
     let e : (begun_if processor now run s).processors ≡ s.processors = processors-begun_if processor now run s in
     let q = processor_runs (processor_of s processor) (starts_as processor now run s) in (
-      ap (λ l. who (get_or (slice_set l processor q) processor unread)) e ∙ ap who (get_or-set_same s.processors processor q unread inside) ∙ who-processor_runs (processor_of s processor) processor now run s,
+      ap (λ l. running_task (get_or (slice_set l processor q) processor unread)) e ∙ ap running_task (get_or-set_same s.processors processor q unread inside) ∙ running_task-processor_runs (processor_of s processor) processor now run s,
       λ j ne. ap (λ l. (get_or (slice_set l processor q) j unread).running) e ∙ ap (λ (p : ProcessorFigures). p.running) (get_or-set_other s.processors processor j q unread ne),
     )
 

@@ -14,10 +14,10 @@ use Rattle.bq_schedule.specs.declared.change.Start.{Start}
 use Rattle.bq_schedule.specs.Moments.{Moment, History}
 use Rattle.bq_schedule.specs.Figures.{Figures, processor_of}
 use Rattle.bq_schedule.specs.Passing.{slice_between, slice_at}
+use Rattle.bq_schedule.specs.Running.{running_task}
 use Rattle.bq_schedule.specs.Slices.{Sight, sight, sight_of, clock, stretch, slice_shown, slices}
 use Rattle.bq_schedule.specs.Steps.{performed_told, change, nothing, is_there, figures}
 use Rattle.bq_schedule.specs.Laws.{IsWithin, IsOf}
-use Rattle.bq_schedule.proofs.FrameLemmas.{who}
 use Rattle.bq_schedule.proofs.ClockLemmas.{figures-clocks, within-figures}
 
 -- the slice that figures show
@@ -65,7 +65,7 @@ shown-seen count past (Some x) h w =
     let c = figures-clocks count past x.processor h w in
     let p = processor_of (figures count past) x.processor in
     stretch_is x.processor p.last (reading p.last x.now) p.running
-    ∙ ap (λ n. stretch x.processor (who p) n (reading n x.now)) c.0
+    ∙ ap (λ n. stretch x.processor (running_task p) n (reading n x.now)) c.0
     ∙ ap (λ y. stretch x.processor y (clock x.processor past) (reading (clock x.processor past) x.now)) c.1
 
 -- the slice that is told of a moment is the one that it ends

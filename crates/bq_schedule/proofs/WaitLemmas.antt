@@ -25,12 +25,12 @@ use Rattle.bq_schedule.specs.Moments.{Moment, History}
 use Rattle.bq_schedule.specs.Figures.{Figures, unknown, processor_of, task_of, with_processor, with_task}
 use Rattle.bq_schedule.specs.Passing.{read_at, with_charged, processor_read, slice_at}
 use Rattle.bq_schedule.specs.Runnable.{left_from, leaves, processor_joined, comes}
-use Rattle.bq_schedule.specs.Running.{stopped, started, starts_as, start_of, start_at, begun_if, switched, is_run_by, with_latency}
+use Rattle.bq_schedule.specs.Running.{running_task, stopped, started, starts_as, start_of, start_at, begun_if, switched, is_run_by, with_latency}
 use Rattle.bq_schedule.specs.Slices.{sight, sight_of, clock, is_this}
 use Rattle.bq_schedule.specs.Steps.{nothing, asked, waited_there, taken, move_of, moves_as, placed, pulled, performed, performed_told, time_at, is_there, after, change, figures}
 use Rattle.bq_schedule.specs.Waits.{gives_way, then_if, wait_begins, waits_since, wait_of_pull, wait_of_start, wait_told}
 use Rattle.bq_schedule.specs.Laws.{IsWithin, IsOf, TellsWaits, AddsUpWaits}
-use Rattle.bq_schedule.proofs.FrameLemmas.{who, task_kept, who_is}
+use Rattle.bq_schedule.proofs.FrameLemmas.{task_kept, who_is}
 use Rattle.bq_schedule.proofs.SliceTimeLemmas.{not_below}
 use Rattle.bq_schedule.proofs.ClockLemmas.{figures-clocks, within-figures}
 use Rattle.bq_schedule.proofs.SumLemmas.{tasks-figures}
@@ -188,19 +188,19 @@ none-preempted Preempted = refl
 none-preempted Blocked = refl
 
 since-switched_if : (b : Bool) (left : Left) (processor at : ℕ) (run : Option ℕ) (s : Figures) (j : ℕ) → is_run_by (processor_of s processor).running run ≡ b → j < length s.tasks →
-    (task_of (cond b s (started processor at run (stopped left at (processor_of s processor).running s))) j).since ≡ cond (if_preempted left (gives_way j (who (processor_of s processor)) run)) at (task_of s j).since
+    (task_of (cond b s (started processor at run (stopped left at (processor_of s processor).running s))) j).since ≡ cond (if_preempted left (gives_way j (running_task (processor_of s processor)) run)) at (task_of s j).since
 since-switched_if true left processor at run s j e inside =
     let running = (processor_of s processor).running in
-    let same : who (processor_of s processor) ≡ run = who_is running run e in
+    let same : running_task (processor_of s processor) ≡ run = who_is running run e in
     sym (ap (λ b. cond (if_preempted left b) at (task_of s j).since) (ap (λ w. is_this j w && not (is_this j run)) same ∙ gives_way-same (is_this j run)) ∙ ap (λ b. cond b at (task_of s j).since) (none-preempted left))
 since-switched_if false left processor at run s j e inside =
     let running = (processor_of s processor).running in
     since-begun_if processor at run (stopped left at running s) j ∙ since-stopped left at running s j inside
-    ∙ ap (λ b. cond (if_preempted left b) at (task_of s j).since) (sym (gives_way-new j (who (processor_of s processor)) run (is_this j (who (processor_of s processor))) (is_this j run) refl refl (not_who running run e)))
+    ∙ ap (λ b. cond (if_preempted left b) at (task_of s j).since) (sym (gives_way-new j (running_task (processor_of s processor)) run (is_this j (running_task (processor_of s processor))) (is_this j run) refl refl (not_who running run e)))
 
 -- after a switch the task that gave way waits, where it is preempted
 since-switched : (left : Left) (processor at : ℕ) (run : Option ℕ) (s : Figures) (j : ℕ) → j < length s.tasks →
-    (task_of (switched left processor at run s) j).since ≡ cond (if_preempted left (gives_way j (who (processor_of s processor)) run)) at (task_of s j).since
+    (task_of (switched left processor at run s) j).since ≡ cond (if_preempted left (gives_way j (running_task (processor_of s processor)) run)) at (task_of s j).since
 since-switched left processor at run s j inside = since-switched_if (is_run_by (processor_of s processor).running run) left processor at run s j refl inside
 
 waited-switched_if : (b : Bool) (left : Left) (processor at : ℕ) (run : Option ℕ) (s : Figures) (j : ℕ) → j < length s.tasks → (task_of s j).waited ≤ 18446744073709551615 →
@@ -243,9 +243,9 @@ pull-waited from processor at (Some id) s p e =
 -- when an answer has a task wait, by who ran in the figures
 abbrev pub wait_seen : ℕ → Figures → Event → Result Reply Refusal → Option ℕ
 wait_seen j s (EndWake processor now) (Ok (Placed task to by steps)) = then_if (eqb task j) (time_at processor now s)
-wait_seen j s (Drain processor now) (Ok (Drained count run by steps)) = then_if (gives_way j (who (processor_of s processor)) run) (time_at processor now s)
-wait_seen j s (Tick processor now) (Ok (Ticked run by steps)) = then_if (gives_way j (who (processor_of s processor)) run) (time_at processor now s)
-wait_seen j s (Pull processor from now) (Ok (Pulled task run by steps)) = then_if (is_this j task || gives_way j (who (processor_of s processor)) run) (time_at processor now s)
+wait_seen j s (Drain processor now) (Ok (Drained count run by steps)) = then_if (gives_way j (running_task (processor_of s processor)) run) (time_at processor now s)
+wait_seen j s (Tick processor now) (Ok (Ticked run by steps)) = then_if (gives_way j (running_task (processor_of s processor)) run) (time_at processor now s)
+wait_seen j s (Pull processor from now) (Ok (Pulled task run by steps)) = then_if (is_this j task || gives_way j (running_task (processor_of s processor)) run) (time_at processor now s)
 wait_seen j s e a = None
 
 -- since when a task waits, and how long it has, after an answer; and what that tells
@@ -273,14 +273,14 @@ placed-tells processor now d id to s j c inside p st =
 
 switch-tells : (left : Left) (processor at : ℕ) (run : Option ℕ) (s t : Figures) (j : ℕ) (c : Change) → j < length s.tasks → KeepsWaits s t → (processor_of t processor).running ≡ (processor_of s processor).running →
     c.pull ≡ None → c.start ≡ start_at left processor at run t →
-    Tells s (switched left processor at run t) j (then_if (if_preempted left (gives_way j (who (processor_of s processor)) run)) at) c
+    Tells s (switched left processor at run t) j (then_if (if_preempted left (gives_way j (running_task (processor_of s processor)) run)) at) c
 switch-tells left processor at run s t j c inside k r p st =
     let inside' : j < length t.tasks = omega (arith, k.tasks) in
     record {
       since = since-switched left processor at run t j inside'
-          ∙ ap (λ n. cond (if_preempted left (gives_way j (who (processor_of t processor)) run)) at n) (k.since j)
+          ∙ ap (λ n. cond (if_preempted left (gives_way j (running_task (processor_of t processor)) run)) at n) (k.since j)
           ∙ ap (λ o. cond (if_preempted left (gives_way j (option_map (λ (x : Start). x.task) o) run)) at (task_of s j).since) r
-          ∙ then-is (if_preempted left (gives_way j (who (processor_of s processor)) run)) at (task_of s j).since;
+          ∙ then-is (if_preempted left (gives_way j (running_task (processor_of s processor)) run)) at (task_of s j).since;
       waited = λ h.
           waited-switched left processor at run t j inside' (omega (arith, k.waited j))
           ∙ ap (λ n. counted n (wait_of_start j (start_at left processor at run t))) (k.waited j)
@@ -307,7 +307,7 @@ counted-both n a b = omega arith
 pulled-tells : (processor from now : ℕ) (d : Decision) (task run : Option ℕ) (s : Figures) (j : ℕ) (c : Change) → j < length s.tasks →
     c.pull ≡ moves_as from processor (time_at processor now s) task (asked processor d (read_at processor now s)) →
     c.start ≡ start_at Preempted processor (time_at processor now s) run (taken processor (time_at processor now s) task (asked processor d (read_at processor now s))) →
-    Tells s (pulled processor now d task run s) j (then_if (is_this j task || gives_way j (who (processor_of s processor)) run) (time_at processor now s)) c
+    Tells s (pulled processor now d task run s) j (then_if (is_this j task || gives_way j (running_task (processor_of s processor)) run) (time_at processor now s)) c
 pulled-tells processor from now d task run s j c inside p st =
     let at = time_at processor now s in
     let a = asked processor d (read_at processor now s) in
@@ -317,10 +317,10 @@ pulled-tells processor from now d task run s j c inside p st =
     let inside'' : j < length t.tasks = omega (arith, inside', tasks-taken processor at task a) in
     record {
       since = since-switched Preempted processor at run t j inside''
-          ∙ ap (λ n. cond (gives_way j (who (processor_of t processor)) run) at n) (since-taken processor at task a j inside' ∙ ap (λ n. cond (is_this j task) at n) (k.since j))
+          ∙ ap (λ n. cond (gives_way j (running_task (processor_of t processor)) run) at n) (since-taken processor at task a j inside' ∙ ap (λ n. cond (is_this j task) at n) (k.since j))
           ∙ ap (λ o. cond (gives_way j (option_map (λ (x : Start). x.task) o) run) at (cond (is_this j task) at (task_of s j).since)) (runs-pull processor now d task s processor)
-          ∙ or-is (is_this j task) (gives_way j (who (processor_of s processor)) run) at (task_of s j).since
-          ∙ then-is (is_this j task || gives_way j (who (processor_of s processor)) run) at (task_of s j).since;
+          ∙ or-is (is_this j task) (gives_way j (running_task (processor_of s processor)) run) at (task_of s j).since
+          ∙ then-is (is_this j task || gives_way j (running_task (processor_of s processor)) run) at (task_of s j).since;
       waited = λ h.
           let w : (task_of t j).waited ≡ counted (task_of s j).waited (wait_of_pull j (moves_as from processor at task a)) =
           waited-taken processor from at task a j inside' (omega (arith, h, k.waited j)) ∙ ap (λ n. counted n (wait_of_pull j (moves_as from processor at task a))) (k.waited j) in
@@ -391,13 +391,13 @@ seen-wait : (count : ℕ) (past : History) (e : Event) (a : Result Reply Refusal
 seen-wait count past (EndWake processor now) (Ok (Placed task to by steps)) j h w = ap (λ n. then_if (eqb task j) (reading n now)) (figures-clocks count past processor h w).0
 seen-wait count past (Drain processor now) (Ok (Drained n run by steps)) j h w =
     let c = figures-clocks count past processor h w in
-    ap (λ n. then_if (gives_way j (who (processor_of (figures count past) processor)) run) (reading n now)) c.0 ∙ ap (λ y. then_if (gives_way j y run) (reading (clock processor past) now)) c.1
+    ap (λ n. then_if (gives_way j (running_task (processor_of (figures count past) processor)) run) (reading n now)) c.0 ∙ ap (λ y. then_if (gives_way j y run) (reading (clock processor past) now)) c.1
 seen-wait count past (Tick processor now) (Ok (Ticked run by steps)) j h w =
     let c = figures-clocks count past processor h w in
-    ap (λ n. then_if (gives_way j (who (processor_of (figures count past) processor)) run) (reading n now)) c.0 ∙ ap (λ y. then_if (gives_way j y run) (reading (clock processor past) now)) c.1
+    ap (λ n. then_if (gives_way j (running_task (processor_of (figures count past) processor)) run) (reading n now)) c.0 ∙ ap (λ y. then_if (gives_way j y run) (reading (clock processor past) now)) c.1
 seen-wait count past (Pull processor from now) (Ok (Pulled task run by steps)) j h w =
     let c = figures-clocks count past processor h w in
-    ap (λ n. then_if (is_this j task || gives_way j (who (processor_of (figures count past) processor)) run) (reading n now)) c.0
+    ap (λ n. then_if (is_this j task || gives_way j (running_task (processor_of (figures count past) processor)) run) (reading n now)) c.0
     ∙ ap (λ y. then_if (is_this j task || gives_way j y run) (reading (clock processor past) now)) c.1
 seen-wait count past e a j h w = refl
 

@@ -22,12 +22,12 @@ use Rattle.bq_schedule.specs.Moments.{History}
 use Rattle.bq_schedule.specs.Figures.{Figures, unknown, processor_of, task_of, with_processor, with_task}
 use Rattle.bq_schedule.specs.Passing.{read_at, with_charged, processor_read, slice_at}
 use Rattle.bq_schedule.specs.Runnable.{left_from, leaves, comes}
-use Rattle.bq_schedule.specs.Running.{stopped, started, starts_as, start_of, start_at, begun_if, switched, is_run_by}
+use Rattle.bq_schedule.specs.Running.{running_task, stopped, started, starts_as, start_of, start_at, begun_if, switched, is_run_by}
 use Rattle.bq_schedule.specs.Slices.{Sight, sight, sight_of, clock, clock_after, runner, is_this}
 use Rattle.bq_schedule.specs.Wakes.{begins_as, begins, wake_end, awaited_after, awaited}
 use Rattle.bq_schedule.specs.Steps.{nothing, asked, waited_there, taken, placed, decided, blocked, pulled, performed, performed_told, time_at, is_there, after, change, figures}
 use Rattle.bq_schedule.specs.Laws.{IsWithin, IsOf, TellsLatencies}
-use Rattle.bq_schedule.proofs.FrameLemmas.{who, task_kept, running-asked, running-leaves, running-taken, running-read_at}
+use Rattle.bq_schedule.proofs.FrameLemmas.{task_kept, running-asked, running-leaves, running-taken, running-read_at}
 use Rattle.bq_schedule.proofs.ClockLemmas.{figures-clocks, within-figures}
 use Rattle.bq_schedule.proofs.SumLemmas.{tasks-figures}
 
@@ -125,7 +125,7 @@ begins-old j (Some start) None e = cc
 begins-old j (Some start) (Some id) e = old_at j start.task id (eqb id j) (eqb start.task j) (eqb_tells id j) (eqb_tells start.task j) (equals start.task id e)
 
 woken-switched_if : (b : Bool) (left : Left) (processor now : ℕ) (run : Option ℕ) (s : Figures) (j : ℕ) → is_run_by (processor_of s processor).running run ≡ b → j < length s.tasks →
-    (task_of (cond b s (started processor now run (stopped left now (processor_of s processor).running s))) j).woken ≡ cond (begins_as j (who (processor_of s processor)) (Some run)) None (task_of s j).woken
+    (task_of (cond b s (started processor now run (stopped left now (processor_of s processor).running s))) j).woken ≡ cond (begins_as j (running_task (processor_of s processor)) (Some run)) None (task_of s j).woken
 woken-switched_if true left processor now run s j e inside = rw (begins-old j (processor_of s processor).running run e) refl
 woken-switched_if false left processor now run s j e inside =
     let t = stopped left now (processor_of s processor).running s in
@@ -134,7 +134,7 @@ woken-switched_if false left processor now run s j e inside =
     ∙ ap (λ b. cond b None (task_of s j).woken) (sym (begins-new j (processor_of s processor).running run e))
 
 woken-switched : (left : Left) (processor now : ℕ) (run : Option ℕ) (s : Figures) (j : ℕ) → j < length s.tasks →
-    (task_of (switched left processor now run s) j).woken ≡ cond (begins_as j (who (processor_of s processor)) (Some run)) None (task_of s j).woken
+    (task_of (switched left processor now run s) j).woken ≡ cond (begins_as j (running_task (processor_of s processor)) (Some run)) None (task_of s j).woken
 woken-switched left processor now run s j inside = woken-switched_if (is_run_by (processor_of s processor).running run) left processor now run s j refl inside
 
 -- what becomes of the wake that a task has waited for
@@ -145,7 +145,7 @@ wake_seen j s e a = None
 -- a task begins to run with a sight, by who ran in the figures
 abbrev pub begins_seen : ℕ → Figures → Option Sight → Bool
 begins_seen j s None = false
-begins_seen j s (Some x) = begins_as j (who (processor_of s x.processor)) x.run
+begins_seen j s (Some x) = begins_as j (running_task (processor_of s x.processor)) x.run
 
 -- the wake that figures show after an event
 abbrev pub AwaitsAfter : ℕ → Figures → Figures → Event → Result Reply Refusal → Type 0
@@ -169,11 +169,11 @@ placed-awaits processor now d id to s j inside =
 
 -- after moves that keep wakes and who runs
 switched-awaits : (left : Left) (processor now : ℕ) (run : Option ℕ) (s t : Figures) (j : ℕ) → j < length s.tasks → KeepsWakes s t → (processor_of t processor).running ≡ (processor_of s processor).running →
-    (task_of (switched left processor now run t) j).woken ≡ cond (begins_as j (who (processor_of s processor)) (Some run)) None (task_of s j).woken
+    (task_of (switched left processor now run t) j).woken ≡ cond (begins_as j (running_task (processor_of s processor)) (Some run)) None (task_of s j).woken
 switched-awaits left processor now run s t j inside k r =
     woken-switched left processor now run t j (omega (arith, k.tasks))
     ∙ ap (λ o. cond (begins_as j (option_map (λ (x : Start). x.task) o) (Some run)) None (task_of t j).woken) r
-    ∙ ap (λ o. cond (begins_as j (who (processor_of s processor)) (Some run)) None o) (k.at j)
+    ∙ ap (λ o. cond (begins_as j (running_task (processor_of s processor)) (Some run)) None o) (k.at j)
 
 kept-ask : (processor now : ℕ) (d : Decision) (s : Figures) → KeepsWakes s (asked processor d (read_at processor now s))
 kept-ask processor now d s = both s (read_at processor now s) _ (kept-read_at processor now s) (of_processor (read_at processor now s) processor _)
@@ -183,7 +183,7 @@ pub runs-ask : (processor now : ℕ) (d : Decision) (s : Figures) (j : ℕ) → 
 runs-ask processor now d s j = (running-asked processor d (read_at processor now s)).at j ∙ (running-read_at processor now s).at j
 
 decided-awaits : (processor now : ℕ) (d : Decision) (run : Option ℕ) (s : Figures) (j : ℕ) → j < length s.tasks →
-    (task_of (decided processor now d run s) j).woken ≡ cond (begins_as j (who (processor_of s processor)) (Some run)) None (task_of s j).woken
+    (task_of (decided processor now d run s) j).woken ≡ cond (begins_as j (running_task (processor_of s processor)) (Some run)) None (task_of s j).woken
 decided-awaits processor now d run s j inside = switched-awaits Preempted processor (time_at processor now s) run s _ j inside (kept-ask processor now d s) (runs-ask processor now d s processor)
 
 kept-block : (processor now id : ℕ) (s : Figures) → KeepsWakes s (leaves id (read_at processor now s))
@@ -194,7 +194,7 @@ pub runs-block : (processor now id : ℕ) (s : Figures) (j : ℕ) → (processor
 runs-block processor now id s j = (running-leaves id (read_at processor now s)).at j ∙ (running-read_at processor now s).at j
 
 blocked-awaits : (processor now id : ℕ) (run : Option ℕ) (s : Figures) (j : ℕ) → j < length s.tasks →
-    (task_of (blocked processor now id run s) j).woken ≡ cond (begins_as j (who (processor_of s processor)) (Some run)) None (task_of s j).woken
+    (task_of (blocked processor now id run s) j).woken ≡ cond (begins_as j (running_task (processor_of s processor)) (Some run)) None (task_of s j).woken
 blocked-awaits processor now id run s j inside = switched-awaits Blocked processor (time_at processor now s) run s _ j inside (kept-block processor now id s) (runs-block processor now id s processor)
 
 kept-pull : (processor now : ℕ) (d : Decision) (task : Option ℕ) (s : Figures) → KeepsWakes s (taken processor (time_at processor now s) task (asked processor d (read_at processor now s)))
@@ -206,7 +206,7 @@ pub runs-pull : (processor now : ℕ) (d : Decision) (task : Option ℕ) (s : Fi
 runs-pull processor now d task s j = (running-taken processor (time_at processor now s) task (asked processor d (read_at processor now s))).at j ∙ runs-ask processor now d s j
 
 pulled-awaits : (processor now : ℕ) (d : Decision) (task run : Option ℕ) (s : Figures) (j : ℕ) → j < length s.tasks →
-    (task_of (pulled processor now d task run s) j).woken ≡ cond (begins_as j (who (processor_of s processor)) (Some run)) None (task_of s j).woken
+    (task_of (pulled processor now d task run s) j).woken ≡ cond (begins_as j (running_task (processor_of s processor)) (Some run)) None (task_of s j).woken
 pulled-awaits processor now d task run s j inside = switched-awaits Preempted processor (time_at processor now s) run s _ j inside (kept-pull processor now d task s) (runs-pull processor now d task s processor)
 
 performed-awaits : (s : Figures) (e : Event) (r : Reply) (j : ℕ) → j < length s.tasks → AwaitsAfter j s (performed s e r) e (Ok r)
@@ -261,7 +261,7 @@ awaits count (m ∷ past) j h inside =
 -- a start at a processor, at a reading of its clock
 pub record Starts (s : Figures) (processor now : ℕ) (run : Option ℕ) (start : Start) : Type 0 where
   pub here : start.processor ≡ processor
-  pub new : begins_as start.task (who (processor_of s processor)) (Some run) ≡ true
+  pub new : begins_as start.task (running_task (processor_of s processor)) (Some run) ≡ true
   pub reading : start.at ≡ time_at processor now s
   pub late : start.latency ≡ option_map (λ (woken : ℕ). start.at - woken) (task_of s start.task).woken
 

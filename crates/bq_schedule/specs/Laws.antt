@@ -15,6 +15,7 @@ use Rattle.bq_schedule.specs.declared.change.Start.{Start}
 use Rattle.bq_schedule.specs.declared.change.Stop.{Stop}
 use Rattle.bq_schedule.specs.Moments.{Moment, History}
 use Rattle.bq_schedule.specs.Figures.{processor_of, task_of}
+use Rattle.bq_schedule.specs.Running.{running_task}
 use Rattle.bq_schedule.specs.Counts.{parts}
 use Rattle.bq_schedule.specs.Passing.{idle_of, part_of}
 use Rattle.bq_schedule.specs.Runnable.{fair_of}
@@ -54,7 +55,7 @@ IsCharged = (d : Discipline) (count : ℕ) (es : List Event) (calls : List (List
 abbrev pub ShowsClocks : Type 0
 ShowsClocks = (count : ℕ) (past : History) (processor : ℕ) → IsOf count past → processor < count →
     ((processor_of (figures count past) processor).last ≡ clock processor past)
-    × (option_map (λ (s : Start). s.task) (processor_of (figures count past) processor).running ≡ runner processor past)
+    × (running_task (processor_of (figures count past) processor) ≡ runner processor past)
 
 -- what is told of each moment is the slice that it ends
 abbrev pub TellsSlices : Type 0

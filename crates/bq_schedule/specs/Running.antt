@@ -10,9 +10,9 @@ use Rattle.bq_schedule.specs.declared.figures.ProcessorFigures.{ProcessorFigures
 use Rattle.bq_schedule.specs.Counts.{counted}
 use Rattle.bq_schedule.specs.Figures.{Figures, processor_of, task_of, with_processor, with_task}
 
--- the task that runs
-abbrev pub runner : ProcessorFigures → Option ℕ
-runner p = option_map (λ (s : Start). s.task) p.running
+-- the task that runs at a processor
+abbrev pub running_task : ProcessorFigures → Option ℕ
+running_task p = option_map (λ (s : Start). s.task) p.running
 
 -- what runs is this task, or nothing where there is none
 abbrev pub is_run_by : Option Start → Option ℕ → Bool
