@@ -13,6 +13,25 @@ pub const ADD_COUNTER: i32 = 100;
 /// The number of `Helper::ReadCounter`.
 pub const READ_COUNTER: i32 = 101;
 
+/// A text that ends with the numbers of the helpers.
+#[macro_export]
+macro_rules! with_helper_numbers {
+    ($before:literal) => {
+        concat!($before, "1, 2, 5, 8, 100 and 101")
+    };
+}
+
+/// A text that ends with what the helpers do, by their numbers.
+#[macro_export]
+macro_rules! with_helpers {
+    ($before:literal) => {
+        concat!(
+            $before,
+            "1 looks an entry up, 2 writes one, 5 is the time, 8 the processor, 100 adds to a counter, 101 reads one"
+        )
+    };
+}
+
 /// What a call asks of the machine (RFC 9669 section 4.3.1): the arguments are in registers 1 to 5, the answer comes in
 /// register 0.
 #[derive(Clone, Copy)]

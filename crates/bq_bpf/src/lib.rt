@@ -13,6 +13,7 @@ pub mod hook;
 pub mod list;
 pub mod pack;
 pub mod shape;
+pub mod slots;
 pub mod words;
 
 pub use board::{Board, Call, Plain};

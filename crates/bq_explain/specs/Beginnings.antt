@@ -1,6 +1,7 @@
 -- How what is said of a policy begins.
 use Rattle.std.specs.Prelude.{◌≡◌, ℕ, List, [], ◌∷◌, ◌++◌, codes}
 use Rattle.std.specs.Fmt.{decimal}
+use Rattle.bq_insn.specs.declared.TheConstants.{SLOTS}
 use Rattle.bq_bpf.specs.declared.shape.MapShape.{MapShape}
 use Rattle.bq_bpf.specs.Hooks.{hook_word, version_number}
 use Rattle.bq_program.specs.declared.policy_source.PolicySource.{PolicySource}
@@ -20,7 +21,9 @@ maps_text (first ∷ rest) = decimal first.value_size ++ (codes ":" ++ (decimal 
 
 -- of a policy that is accepted: its hook, its budget, its version and its maps
 abbrev pub accepted_words : PolicySource → ℕ → List ℕ
-accepted_words p budget = codes "accepted " ++ (hook_word p.hook ++ (codes " budget " ++ (decimal budget ++ (codes " of 4096, version " ++ (decimal (version_number p.version) ++ (codes ", maps " ++ maps_text p.shapes.items))))))
+accepted_words p budget =
+    codes "accepted " ++ (hook_word p.hook ++ (codes " budget " ++ (decimal budget ++ (codes " of " ++ (decimal SLOTS ++ (codes ", version "
+    ++ (decimal (version_number p.version) ++ (codes ", maps " ++ maps_text p.shapes.items))))))))
 
 -- of a policy that is not, the whole line of the verdict
 abbrev pub first_words : PolicySource → Verdict → List ℕ

@@ -2,7 +2,7 @@
 use Rattle.std.specs.Prelude.{◌≡◌, ℕ, ◌+◌, ◌-◌, ◌*◌, ◌<◌, ◌≤◌, ◌⊎◌, List, [], ◌++◌, Some, codes}
 use Rattle.std.specs.Int.{byte_at}
 use Rattle.std.specs.Fmt.{decimal}
-use Rattle.bq_bpf.specs.Memory.{Setting, State}
+use Rattle.bq_bpf.specs.Memory.{Setting, State, stack_size}
 use Rattle.bq_explain.specs.Texts.{run_text}
 use Rattle.bq_needs.specs.Saying.{Says}
 
@@ -23,7 +23,7 @@ NamesUnset text = (text ≡ []) ⊎ ((names : List ℕ) × (text ≡ names ++ co
 -- runs of bytes of the stack that are set in the state
 pub data TellsRuns : State → List ℕ → Type 0 where
   no_run_told : (s : State) → TellsRuns s []
-  one_run_told : (s : State) (before : List ℕ) (first past : ℕ) → TellsRuns s before → first < past → past ≤ 512 → ((i : ℕ) → first ≤ i → i < past → (b : ℕ) × (s.stack i ≡ Some b)) → TellsRuns s (before ++ run_text first past)
+  one_run_told : (s : State) (before : List ℕ) (first past : ℕ) → TellsRuns s before → first < past → past ≤ stack_size → ((i : ℕ) → first ≤ i → i < past → (b : ℕ) × (s.stack i ≡ Some b)) → TellsRuns s (before ++ run_text first past)
 
 abbrev pub TellsStack : State → List ℕ → Type 0
 TellsStack s text =
@@ -32,7 +32,7 @@ TellsStack s text =
 -- lines, each of which tells the word in eight bytes of the state's stack
 pub data TellsKept : Setting → State → List ℕ → Type 0 where
   no_kept : (f : Setting) (s : State) → TellsKept f s []
-  one_kept : (f : Setting) (s : State) (before text : List ℕ) (slot word : ℕ) → TellsKept f s before → ((i : ℕ) → i < 8 → s.stack (8 * slot + i) ≡ Some (byte_at i word)) → Says f.shapes text word → TellsKept f s (before ++ (codes "  the 8 bytes at stack end - " ++ (decimal (512 - slot * 8) ++ (codes ": " ++ (text ++ codes "\n")))))
+  one_kept : (f : Setting) (s : State) (before text : List ℕ) (slot word : ℕ) → TellsKept f s before → ((i : ℕ) → i < 8 → s.stack (8 * slot + i) ≡ Some (byte_at i word)) → Says f.shapes text word → TellsKept f s (before ++ (codes "  the 8 bytes at stack end - " ++ (decimal (stack_size - slot * 8) ++ (codes ": " ++ (text ++ codes "\n")))))
 
 -- what is printed of a state holds of it: of each register whose word is told, of the bytes of the stack, and of the words in it; beside these
 -- registers are only named

@@ -1,6 +1,7 @@
 -- How what is known of registers and stack is printed.
 use Rattle.std.specs.Prelude.{◌≡◌, ℕ, zero, suc, ◌+◌, ◌-◌, ◌*◌, ◌<◌, ◌≤◌, ◌==◌, Bool, false, List, [], ◌∷◌, ◌++◌, ◌⊎◌, Option, Some, None, codes, slice_index_or, if◌then◌else◌}
 use Rattle.std.specs.Fmt.{decimal}
+use Rattle.bq_bpf.specs.Memory.{stack_size}
 use Rattle.bq_states.specs.declared.abstract_state.AbstractValue.{AbstractValue}
 use Rattle.bq_states.specs.declared.abstract_state.AbstractState.{AbstractState}
 use Rattle.bq_needs.specs.Accesses.{AreSet}
@@ -38,7 +39,7 @@ unset_text registers = called_unset (unset_below 11 registers)
 -- a word that is kept whole on the stack, by how far its first byte is below the end
 abbrev pub kept_text : ℕ → Option AbstractValue → List ℕ
 kept_text slot None = []
-kept_text slot (Some k) = codes "  the 8 bytes at stack end - " ++ (decimal (512 - slot * 8) ++ (codes ": " ++ (known_text k ++ codes "\n")))
+kept_text slot (Some k) = codes "  the 8 bytes at stack end - " ++ (decimal (stack_size - slot * 8) ++ (codes ": " ++ (known_text k ++ codes "\n")))
 
 abbrev pub kept_below : ℕ → List (Option AbstractValue) → List ℕ
 kept_below zero slots = []
@@ -47,17 +48,18 @@ kept_below (suc n) slots = kept_below n slots ++ kept_text n (slice_index_or slo
 -- bytes of the stack from the first up to the one past the last, by how far they are below the end
 abbrev pub run_text : ℕ → ℕ → List ℕ
 run_text first past =
-    if 512 - first == 513 - past then codes " -" ++ decimal (512 - first) else codes " -" ++ (decimal (512 - first) ++ (codes "..-" ++ decimal (513 - past)))
+    if stack_size - first == stack_size + 1 - past then codes " -" ++ decimal (stack_size - first)
+    else codes " -" ++ (decimal (stack_size - first) ++ (codes "..-" ++ decimal (stack_size + 1 - past)))
 
 -- a run of bytes that are set ends before that one: there is no byte, or it is not set
 abbrev pub EndsAt : List Bool → ℕ → Type 0
-EndsAt set past = (past ≡ 512) ⊎ (slice_index_or set past false ≡ false)
+EndsAt set past = (past ≡ stack_size) ⊎ (slice_index_or set past false ≡ false)
 
 -- the runs of bytes that are set, in order, as long as each is: all of them among the first bytes, so many
 pub data AreRuns : List Bool → ℕ → List ℕ → Type 0 where
   no_byte : (set : List Bool) → AreRuns set 0 []
   unset_byte : (set : List Bool) (before : List ℕ) (byte : ℕ) → AreRuns set byte before → slice_index_or set byte false ≡ false → AreRuns set (byte + 1) before
-  one_run : (set : List Bool) (before : List ℕ) (first past : ℕ) → AreRuns set first before → first < past → past ≤ 512 → AreSet set first past → EndsAt set past → AreRuns set past (before ++ run_text first past)
+  one_run : (set : List Bool) (before : List ℕ) (first past : ℕ) → AreRuns set first before → first < past → past ≤ stack_size → AreSet set first past → EndsAt set past → AreRuns set past (before ++ run_text first past)
 
 -- runs, or that there is none
 abbrev pub stack_text : List ℕ → List ℕ
@@ -66,7 +68,7 @@ stack_text (first ∷ rest) = codes " stack:" ++ ((first ∷ rest) ++ codes " wr
 
 -- the bytes of the stack that are set: all runs of them, or that none is
 abbrev pub IsStackText : List Bool → List ℕ → Type 0
-IsStackText set text = (runs : List ℕ) × AreRuns set 512 runs × (text ≡ stack_text runs)
+IsStackText set text = (runs : List ℕ) × AreRuns set stack_size runs × (text ≡ stack_text runs)
 
 -- what is known: each register that is known, those that are not, the stack's bytes that are set, and the words that are kept there
 pub record IsViewText (v : AbstractState) (text : List ℕ) : Type 0 where

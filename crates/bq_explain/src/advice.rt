@@ -1,6 +1,5 @@
 //! What helps against each cause, in one sentence.
-use crate::with_helpers;
-use bq_bpf::{Hook, Version, context_length, with_stack_size};
+use bq_bpf::{Hook, Version, context_length, with_helpers, with_stack_size};
 use bq_insn::{Insn, Size};
 use bq_needs::reads;
 use bq_program::PolicySource;

@@ -1,5 +1,5 @@
 //! How the operands of each kind of instruction look.
-use crate::with_helpers;
+use bq_bpf::with_helpers;
 
 /// An instruction of the kind that the word begins.
 pub(crate) fn form_of(word: &str) -> &'static str {

@@ -1,4 +1,5 @@
 //! What a program lacks in its control graph, in words.
+use bq_bpf::{with_helper_numbers, with_most_calls};
 use bq_verify::{Cause, GraphCause};
 
 /// What is wrong with the control graph at the slot, for this cause.
@@ -11,11 +12,14 @@ pub(crate) fn graph_words(cause: Cause) -> &'static str {
             "goes on past the end of the program, where an exit is needed",
         Cause::Graph(GraphCause::Unreached) => "is on no way from the first instruction",
         Cause::Graph(GraphCause::Helper) => {
-            "calls a helper that there is not; there are 1, 2, 5, 8, 100 and 101"
+            with_helper_numbers!("calls a helper that there is not; there are ")
         }
         Cause::Graph(GraphCause::Frame) => "writes r10, which is only read",
-        Cause::Graph(GraphCause::Counters) =>
-            "is at least the seventeenth call of a counter on some way; 16 are allowed",
+        Cause::Graph(GraphCause::Counters) => with_most_calls!(
+            "is at least the ",
+            " call of a counter on some way; ",
+            " are allowed"
+        ),
         Cause::State(_) => "is not shown to be safe",
     }
 }

@@ -5,7 +5,7 @@ ghost use Rattle.bq_explain.specs.Beginnings.{BeginsWith, accepted_words, maps_t
 use bq_bpf::MapShape;
 use bq_bpf::helper::{ADD_COUNTER, LOOKUP, NOW, PROCESSOR, READ_COUNTER, UPDATE};
 use bq_graph::single::is_counter_call;
-use bq_insn::Insn;
+use bq_insn::{Insn, SLOTS};
 use bq_program::{PolicySource, more_maps};
 use std::alloc::{AllocError, Global};
 
@@ -35,7 +35,7 @@ fn accepted_words(alloc: Global, policy: &PolicySource, budget: u32) -> Result<S
     let hook = policy.hook.word();
     let version = policy.version.number();
     let maps = maps_text(alloc, policy.shapes.as_slice())?;
-    format!(in alloc; "accepted {hook} budget {budget} of 4096, version {version}, maps {maps}")
+    format!(in alloc; "accepted {hook} budget {budget} of {SLOTS}, version {version}, maps {maps}")
 }
 
 /// How many slots the instructions take.

@@ -1,6 +1,6 @@
 //! What is known of registers and stack at a slot, as lines of text.
 ghost use Rattle.std.specs.Prelude.{◌≡◌, ◌<◌, ◌≤◌, true, false, slice_index_or, IfOk, string_bytes};
-ghost use Rattle.bq_bpf.specs.Memory.{Setting, State};
+ghost use Rattle.bq_bpf.specs.Memory.{Setting, State, stack_size};
 ghost use Rattle.bq_states.specs.AbstractStates.{Contains};
 ghost use Rattle.bq_explain.specs.Telling.{TellsState};
 ghost use Rattle.bq_needs.specs.Accesses.{AreSet};
@@ -119,7 +119,7 @@ fn stack_line(alloc: Global, view: &AbstractState) -> Result<String, AllocError>
 /// Each run of bytes that are set, by their distance from the stack's end.
 #[tactic(auto, using(crate::proofs::RunLemmas::none_yet, crate::proofs::RunLemmas::all_told, crate::proofs::RunLemmas::byte_in_last_run, crate::proofs::RunLemmas::byte_not_set, crate::proofs::RunLemmas::with_run))]
 fn runs_text(alloc: Global, view: &AbstractState) -> Result<String, AllocError>
-    ensures { IfOk result (λ text. AreRuns view.now.set 512 (string_bytes text)) }
+    ensures { IfOk result (λ text. AreRuns view.now.set stack_size (string_bytes text)) }
 {
     let mut text = String::new(alloc);
     let mut past = 0;
@@ -138,11 +138,11 @@ fn runs_text(alloc: Global, view: &AbstractState) -> Result<String, AllocError>
 }
 
 /// The byte past the last of the run that the byte begins.
-fn run_end(set: &[bool; 512], first: usize) -> usize
-    requires inside { first < 512 }
+fn run_end(set: &[bool; STACK], first: usize) -> usize
+    requires inside { first < stack_size }
     requires begun { slice_index_or set.now first false ≡ true }
     ensures some { first < result }
-    ensures most { result ≤ 512 }
+    ensures most { result ≤ stack_size }
     ensures all { AreSet set.now first result }
     ensures ends { EndsAt set.now result }
 {
@@ -157,7 +157,7 @@ fn run_end(set: &[bool; 512], first: usize) -> usize
 /// Bytes of the stack, from the first up to the one past the last.
 fn run_text(alloc: Global, first: usize, past: usize) -> Result<String, AllocError>
     requires some { first < past }
-    requires inside { past ≤ 512 }
+    requires inside { past ≤ stack_size }
     ensures { IfOk result (λ text. string_bytes text ≡ run_text first past) }
 {
     let far = STACK - first;

@@ -3,17 +3,6 @@ use bq_asm::{mnemonics, named};
 use bq_words::Near;
 use std::alloc::{AllocError, Global};
 
-/// A text that ends with what the helpers do, by their numbers.
-#[macro_export]
-macro_rules! with_helpers {
-    ($before:literal) => {
-        concat!(
-            $before,
-            "1 looks an entry up, 2 writes one, 5 is the time, 8 the processor, 100 adds to a counter, 101 reads one"
-        )
-    };
-}
-
 /// Whether an instruction begins with the word.
 pub(crate) fn is_word(word: &str) -> bool {
     named(word.as_bytes()).is_some()

@@ -6,6 +6,7 @@ use Rattle.bq_insn.specs.declared.Insn.TheVariants.{Alu, MovSx, Neg, End, Load, 
 use Rattle.bq_insn.specs.Slots.{slots_of}
 use Rattle.bq_bpf.specs.Steps.{LeadsTo, instruction_at}
 use Rattle.bq_bpf.specs.Helpers.{number_of_helper}
+use Rattle.bq_bpf.specs.Safe.{most_calls}
 use Rattle.bq_bpf.specs.declared.helper.Helper.TheVariants.{Lookup, Update, Now, Processor, AddCounter, ReadCounter}
 use Rattle.bq_graph.specs.Edges.{distance_of, goes_on, IsStart}
 use Rattle.bq_graph.specs.Paths.{Path, CallsOnWay, asks_counter}
@@ -56,14 +57,14 @@ pub record CallsUnknown (slots : List (Option Insn)) (slot : ℕ) : Type 0 where
   pub here : instruction_at slots slot ≡ Some (Call helper)
   pub unknown : is_helper helper ≡ false
 
--- a counter call before which sixteen or more come on some path
+-- a counter call before which as many come on some path as a run may make, or more
 pub record IsLateCall (slots : List (Option Insn)) (slot : ℕ) : Type 0 where
   pub insn : Insn
   pub here : instruction_at slots slot ≡ Some insn
   pub asks : asks_counter insn ≡ true
   pub count : ℕ
   pub way : CallsOnWay slots slot count
-  pub many : 16 ≤ count
+  pub many : most_calls ≤ count
 
 -- an instruction to which no path leads
 pub record IsUnreached (slots : List (Option Insn)) (slot : ℕ) : Type 0 where

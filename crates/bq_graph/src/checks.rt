@@ -9,6 +9,7 @@ use crate::cause::GraphCause;
 use crate::edges::instruction;
 use crate::passes::{count_at, count_calls};
 use crate::single::{calls_unknown, is_bad_jump, is_counter_call, runs_out, writes_frame};
+use bq_bpf::board::MOST_CALLS;
 use bq_insn::Insn;
 
 /// Where a program is at fault, and why.
@@ -41,7 +42,7 @@ fn is_late_call(slots: &[Option<Insn>], most: &[Option<u32>], slot: usize, insn:
     let Some(count) = count_at(most, slot) else {
         return false;
     };
-    is_counter_call(insn) && count >= 16
+    is_counter_call(insn) && count >= MOST_CALLS as u32
 }
 
 /// Whether the fault is at that slot. The list has the counter calls on the way to each slot, where the cause is one of the way.

@@ -13,6 +13,12 @@ pub const PLACE_LENGTH: usize = 104;
 /// How many bytes the place context of an image of version 2 has.
 pub const WIDE_PLACE_LENGTH: usize = 296;
 
+/// Where a place context has the task's mask.
+pub const MASK_AT: usize = 8;
+
+/// Where it has how many processors it shows.
+pub const PROCESSORS_AT: usize = 32;
+
 /// A woken task, the processor that wakes it, how many processors there are, the discipline's own choice, and their loads.
 #[derive(Drop)]
 pub struct Place<'a> {
@@ -71,11 +77,11 @@ fn put_header(facts: &Place, limit: usize, context: &mut [u8])
     let shown = facts.processors.min(limit);
     put_u32(context, 0, u32::from(task.id()));
     put_u32(context, 4, task.weight());
-    put_u64(context, 8, low_bits(task.mask(), shown));
+    put_u64(context, MASK_AT, low_bits(task.mask(), shown));
     put_u64(context, 16, task.slice());
     put_u32(context, 24, if_shown(limit, facts.waking));
     put_u32(context, 28, if_any_shown(limit, task.prev()));
-    put_u32(context, 32, shown as u32);
+    put_u32(context, PROCESSORS_AT, shown as u32);
     put_u32(context, 36, if_shown(limit, facts.own));
 }
 

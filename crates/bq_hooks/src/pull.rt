@@ -16,6 +16,18 @@ pub const PULL_LENGTH: usize = 160;
 /// How many movable tasks a pull context shows at most.
 pub const SHOWN: usize = 8;
 
+/// Where a pull context has how many tasks are movable.
+pub const MOVABLE_AT: usize = 16;
+
+/// Where it has how many of them it shows.
+pub const SHOWN_AT: usize = 20;
+
+/// Where the first of those begins.
+pub const TASKS_AT: usize = 32;
+
+/// How many bytes each of them has.
+pub const TASK_LENGTH: usize = 16;
+
 /// A processor that may take a task, the other from whose queue it would be taken, how many tasks run or wait at each, and
 /// the discipline's own choice.
 #[derive(Drop)]
@@ -46,13 +58,13 @@ pub fn pull_ctx<Q: RunQueue>(facts: &Pull<Q>, context: &mut [u8; PULL_LENGTH])
     put_u32(context, 4, u32::from(facts.source));
     put_u32(context, 8, facts.puller_size);
     put_u32(context, 12, facts.source_size);
-    put_u32(context, 16, movable.count);
-    put_u32(context, 20, movable.first.len() as u32);
+    put_u32(context, MOVABLE_AT, movable.count);
+    put_u32(context, SHOWN_AT, movable.first.len() as u32);
     put_u32(context, 24, or_nobody(facts.own));
     put_u32(context, 28, 0);
     for at in 0..SHOWN {
         let task = shown(facts.queue, movable.first.as_slice(), at);
-        put_task(context, 32 + 16 * at, 0, task);
+        put_task(context, TASKS_AT + TASK_LENGTH * at, 0, task);
     }
 }
 

@@ -2,6 +2,7 @@
 ghost use Rattle.std.specs.Prelude.{◌≡◌};
 ghost use Rattle.bq_import.specs.Reasons.{opcode_reason, reason_of, source_reason};
 
+use bq_bpf::with_program_bytes;
 use bq_insn::fault::Cause;
 use std::fmt;
 
@@ -67,7 +68,9 @@ impl Reason {
     /// What it is, in words.
     fn words(self) -> &'static str {
         match self {
-            Reason::Length => "the bytes are no program: 8 to 32768 of them, in eights",
+            Reason::Length => {
+                with_program_bytes!("the bytes are no program: ", " of them, in eights")
+            }
             Reason::Function => {
                 "a call of a function; put BQ_INLINE before it, so that it is copied in"
             }

@@ -37,6 +37,18 @@ pub enum Keyword {
     Counter,
 }
 
+/// A text with how a trace begins, and an example of that, in it.
+#[macro_export]
+macro_rules! with_first_line {
+    ($before:literal, $behind:literal) => {
+        concat!(
+            $before,
+            "it begins with a line such as machine cfs 2",
+            $behind
+        )
+    };
+}
+
 impl Keyword {
     /// The word itself, as `tick`.
     pub fn word(self) -> &'static str

@@ -9,6 +9,7 @@ pub mod image;
 pub mod keyword;
 pub mod lines;
 pub mod numbers;
+pub mod operands;
 pub mod processor_sets;
 pub mod words;
 

@@ -29,6 +29,14 @@ pub fn size(word: &[u8]) -> Option<ProcessorCount>
     ProcessorCount::of_number(processor(word)?)
 }
 
+/// A text with the numbers in it that a word may write for a task.
+#[macro_export]
+macro_rules! with_tasks {
+    ($before:literal, $behind:literal) => {
+        concat!($before, "0 to 65535", $behind)
+    };
+}
+
 /// A task: decimal, below 2^16.
 pub fn task(word: &[u8]) -> Option<u16>
     ensures { result ≡ task_of word.now }

@@ -4,6 +4,7 @@ use Rattle.std.specs.Str.{bytes_eq}
 use Rattle.std.specs.declared.alloc.Global.{Global}
 use Rattle.hex.specs.Hex.{decode_of}
 use Rattle.bq_maps.specs.Arrays.{Arrays, HasEntry, bytes_of, first_of, value_size_of, with_bytes}
+use Rattle.bq_bpf.specs.declared.board.TheConstants.{COUNTERS}
 use Rattle.bq_bpf.specs.declared.shape.MapShape.{MapShape}
 use Rattle.bq_bpf.specs.declared.hook.Hook.{Hook}
 use Rattle.bq_bpf.specs.declared.hook.Hook.TheVariants.{Place, Preempt, Pull}
@@ -87,7 +88,7 @@ pub record SetsCounter (text before after : List ℕ) : Type 0 where
   pub counter : ℕ
   pub word : ℕ
   pub names : NamesCounter text counter word
-  pub below : counter < 64
+  pub below : counter < COUNTERS
   pub fits : word < 2 ^ 64
   pub put : after ≡ slice_set before counter word
 

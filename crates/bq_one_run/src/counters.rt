@@ -76,7 +76,7 @@ fn flaw_of(text: &str) -> &'static str {
 
 /// Makes a counter that word, whatever it was.
 fn set(board: &mut Plain, counter: u8, word: u64)
-    requires { counter < 64 }
+    requires { counter < COUNTERS }
     ensures { board.new ≡ slice_set board.old counter word }
 {
     let before = board.value(counter);

@@ -3,6 +3,7 @@ ghost use Rattle.std.specs.Prelude.{◌≡◌, ◌≢◌, List, ℕ, IfErr, IfNo
 ghost use Rattle.std.specs.Result.{OnErr, OnOk};
 ghost use Rattle.hex.specs.Hex.{decode_of};
 ghost use Rattle.bq_bpf.specs.Hooks.{context_length_of};
+ghost use Rattle.bq_bpf.specs.declared.board.TheConstants.{COUNTERS};
 ghost use Rattle.bq_console.specs.Words.{SaysNone};
 ghost use Rattle.bq_one_run.specs.Naming.{BeginsWith, IsClean};
 
@@ -31,7 +32,7 @@ pub fn inputs_of(alloc: Global, verified: &Verified, env: Env) -> Result<Inputs,
     ensures context { IfOk result (λ i. i.context.items ≡ replicate (context_length_of verified.now.hook verified.now.version) 0) }
     ensures maps { IfOk result (λ i. IsClean verified.now.shapes i.maps) }
     ensures env { IfOk result (λ i. i.env ≡ env) }
-    ensures board { IfOk result (λ i. i.board ≡ replicate 64 0) }
+    ensures board { IfOk result (λ i. i.board ≡ replicate COUNTERS 0) }
 {
     let length = context_length(verified.hook(), verified.version());
     let context = vec![in alloc; 0; length]?;

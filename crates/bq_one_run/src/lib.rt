@@ -17,4 +17,4 @@ pub use changes::{copied, write_calls, write_changes};
 pub use fields::{Field, FieldWidth};
 pub use inputs::{Inputs, inputs_of};
 pub use one_run::{OneRun, run_often, run_once, trace_once};
-pub use permitted::{Word, word_on};
+pub use permitted::{PLACE_SHOWN, Word, place_shown, word_on};

@@ -3,6 +3,7 @@ use Rattle.std.specs.Prelude.{ℕ, ◌*◌, ◌≤◌, List, [], length, map, re
 use Rattle.bq_bpf.specs.declared.shape.MapShape.{MapShape}
 use Rattle.bq_bpf.specs.declared.board.Call.{Call as Asked}
 use Rattle.bq_bpf.specs.Runs.{RunFrom, start}
+use Rattle.bq_bpf.specs.Safe.{most_calls}
 use Rattle.bq_interp.specs.Progress.{setting_of}
 use Rattle.bq_verify.specs.Accepted.{Accepted}
 
@@ -20,6 +21,6 @@ fresh_maps (Some policy) = map zeros_of policy.shapes
 abbrev pub Answers : Accepted → List ℕ → List (List ℕ) → ℕ → ℕ → ℕ → List (List ℕ) → ℕ → List Asked → Type 0
 Answers policy context maps now processor r0 maps' steps calls = RunFrom (setting_of policy context now processor) (start maps) steps calls r0 maps'
 
--- it is within the policy's budget to take so many steps, with these calls of counters: there are sixteen at most
+-- it is within the policy's budget to take so many steps, with these calls of counters: there are no more than a run may make
 abbrev pub IsWithin : Accepted → ℕ → List Asked → Type 0
-IsWithin policy steps calls = (steps ≤ policy.budget) × (length calls ≤ 16)
+IsWithin policy steps calls = (steps ≤ policy.budget) × (length calls ≤ most_calls)

@@ -3,6 +3,7 @@ ghost use Rattle.std.specs.Prelude.{◌≡◌, ◌≤◌, [], length};
 
 use arrayvec::ArrayVec;
 use bq_bpf::Call;
+use bq_bpf::board::MOST_CALLS;
 use bq_interp::Stack;
 use std::marker::Model;
 
@@ -11,7 +12,7 @@ use std::marker::Model;
 #[derive(Drop)]
 pub struct Scratch {
     pub(crate) stack: Stack,
-    pub(crate) calls: ArrayVec<Call, 16>,
+    pub(crate) calls: ArrayVec<Call, MOST_CALLS>,
 }
 
 impl Model for Scratch {
@@ -44,7 +45,7 @@ impl Scratch {
     /// The calls of counters of the last run, in their order.
     pub fn calls(&self) -> &[Call]
         ensures value { result.now ≡ self.now }
-        ensures few { length result.now ≤ 16 }
+        ensures few { length result.now ≤ MOST_CALLS }
     {
         self.calls.as_slice()
     }

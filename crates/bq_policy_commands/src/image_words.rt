@@ -1,5 +1,5 @@
 //! What an image lacks, in words.
-use bq_bpf::{with_hooks, with_map_limits, with_versions};
+use bq_bpf::{with_hooks, with_map_limits, with_slots, with_versions};
 use bq_insn::fault::Cause as Spelling;
 use bq_load::LoadFault;
 
@@ -26,7 +26,7 @@ pub(crate) fn image_words(fault: LoadFault) -> &'static str {
 /// What is wrong with the bytes of an instruction.
 pub(crate) fn spelling_words(cause: Spelling) -> &'static str {
     match cause {
-        Spelling::Length => "a program has 1 to 4096 slots of 8 bytes",
+        Spelling::Length => with_slots!("a program has ", " slots of 8 bytes"),
         Spelling::Opcode => "the first byte names no instruction of the groups that there are",
         Spelling::Register => "a register is not one of r0 to r10",
         Spelling::Field => "a field that the instruction does not use is not 0",

@@ -9,7 +9,11 @@ use crate::numbers::{helper, small_number};
 use crate::words::CheckWords;
 use bq_console::{WordsFault, words_fault};
 use bq_explain::Limits;
+use bq_words::with_32_bits;
 use std::alloc::{AllocError, Global};
+
+/// What a limit of steps is.
+const STEPS: &str = with_32_bits!("a limit is a number of instructions below ", ", as 100");
 
 /// The limits that the words set. They are refused only where they set none.
 pub fn limits_of(alloc: Global, words: &CheckWords) -> Result<Limits, WordsFault>
@@ -31,9 +35,7 @@ fn steps_in(alloc: Global, word: &Option<String>) -> Result<Option<u32>, WordsFa
     };
     match small_number(word.as_str()) {
         Some(steps) => Ok(Some(steps)),
-        None => Err(words_fault(format!(in alloc;
-            "--max-steps {word}: a limit is a number of instructions below 4294967296, as 100"
-        ))),
+        None => Err(words_fault(format!(in alloc; "--max-steps {word}: {STEPS}"))),
     }
 }
 

@@ -4,6 +4,7 @@ use Rattle.std.specs.declared.alloc.Global.{Global}
 use Rattle.std.specs.Fmt.{decimal, digits}
 use Rattle.bq_insn.specs.Slots.{spread}
 use Rattle.bq_bpf.specs.declared.board.Call.{Call as Asked}
+use Rattle.bq_bpf.specs.declared.board.TheConstants.{COUNTERS}
 use Rattle.bq_explain.specs.declared.verdict.Verdict.{Verdict}
 use Rattle.bq_explain.specs.declared.verdict.Verdict.TheVariants as verdict
 use Rattle.bq_explain.specs.Verdicts.{IsRefusedPolicy, IsSafePolicy, verdict_line}
@@ -76,7 +77,7 @@ pub record HasInputs (w : RunWords) (program : Accepted) (inputs : Inputs) : Typ
   pub clock : HasClock w inputs.env
   pub context : HasContext w program inputs.context.items
   pub maps : HasMaps w program inputs.maps
-  pub counters : TextsInTurn SetsCounter w.counters.items (replicate 64 0) inputs.board
+  pub counters : TextsInTurn SetsCounter w.counters.items (replicate COUNTERS 0) inputs.board
 
 -- the line that tells an answer: in decimal and in hex, then what is said of it, and how many steps of the budget the run took
 abbrev pub answer_line : ℕ → List ℕ → ℕ → ℕ → List ℕ

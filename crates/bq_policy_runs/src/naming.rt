@@ -1,6 +1,7 @@
 //! The inputs that the words of `run` name.
 ghost use Rattle.std.specs.Prelude.{◌≡◌, ◌^◌, ℕ, IfErr, IfNone, IfOk, IfSome, OnOk, replicate};
 ghost use Rattle.bq_bpf.specs.Hooks.{context_length_of};
+ghost use Rattle.bq_bpf.specs.declared.board.TheConstants.{COUNTERS};
 ghost use Rattle.bq_one_run.specs.Naming.{BeginsWith, IsClean, SetsCounter, SetsEntry, SetsFields, TextsInTurn};
 ghost use Rattle.bq_policy_runs.specs.Running.{HasClock, HasInputs, IsNumberOrZero, IsTime, SetsParts, WritesTime};
 ghost use Rattle.bq_console.specs.Words.{SaysNone};
@@ -11,8 +12,18 @@ use bq_interp::Env;
 use bq_one_run::{Inputs, inputs_of};
 use bq_policy_commands::RunWords;
 use bq_verify::Verified;
+use bq_words::{with_32_bits, with_units};
 use bq_workload::duration;
 use std::alloc::Global;
+
+/// What a time is.
+const TIME: &str = with_units!(
+    "a time is a whole number of nanoseconds below 2^64, or one with ",
+    ", as 1500 or 5ms"
+);
+
+/// What a word that names no processor is said to be.
+const NO_PROCESSOR: &str = with_32_bits!("is no number below ", "");
 
 /// The inputs that the words name; all others are 0. Words are refused only where they name none.
 pub(crate) fn inputs_named(
@@ -60,7 +71,7 @@ fn first_inputs(
     ensures context { IfOk result (λ i. BeginsWith (option_bytes words.now.context) (context_length_of verified.now.hook verified.now.version) i.context.items) }
     ensures maps { IfOk result (λ i. IsClean verified.now.shapes i.maps) }
     ensures env { IfOk result (λ i. i.env ≡ env) }
-    ensures board { IfOk result (λ i. i.board ≡ replicate 64 0) }
+    ensures board { IfOk result (λ i. i.board ≡ replicate COUNTERS 0) }
     ensures refused { IfErr result (SaysNone (BeginsWith (option_bytes words.now.context) (context_length_of verified.now.hook verified.now.version))) }
 {
     let mut inputs = inputs_of(alloc, verified, env)?;
@@ -81,7 +92,7 @@ fn env_named(alloc: Global, words: &RunWords) -> Result<Env, WordsFault>
         Ok(processor) => Ok(Env { now, processor }),
         Err(_) => Err(words_fault(String::from_str(
             alloc,
-            "--processor is a number below 4294967296",
+            with_32_bits!("--processor is a number below ", ""),
         ))),
     }
 }
@@ -96,9 +107,7 @@ fn time(alloc: Global, word: &Option<String>) -> Result<u64, WordsFault>
     };
     match time_in(word.as_str()) {
         Some(time) => Ok(time),
-        None => Err(words_fault(format!(in alloc;
-            "--time {word}: a time is a whole number of nanoseconds below 2^64, or one with ns, us, ms or s, as 1500 or 5ms"
-        ))),
+        None => Err(words_fault(format!(in alloc; "--time {word}: {TIME}"))),
     }
 }
 
@@ -124,8 +133,6 @@ fn number(alloc: Global, word: &Option<String>) -> Result<u64, WordsFault>
     };
     match bq_words::number(word.as_bytes(), 10) {
         Some(number) => Ok(number),
-        None => Err(words_fault(format!(in alloc;
-            "--processor {word} is no number below 4294967296"
-        ))),
+        None => Err(words_fault(format!(in alloc; "--processor {word} {NO_PROCESSOR}"))),
     }
 }

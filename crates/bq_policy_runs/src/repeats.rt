@@ -8,6 +8,9 @@ use bq_console::{WordsFault, words_fault};
 use bq_policy_commands::small_number;
 use std::alloc::Global;
 
+/// How many runs there may be.
+const MOST: u32 = u32::MAX;
+
 /// Of so many runs as a word says, all but the last; none without a word.
 pub(crate) fn runs_before(alloc: Global, word: &Option<String>) -> Result<u32, WordsFault>
     ensures before { IfOk result (IsBefore (option_bytes word.now)) }
@@ -19,7 +22,7 @@ pub(crate) fn runs_before(alloc: Global, word: &Option<String>) -> Result<u32, W
     match small_number(word.as_str()) {
         Some(count) if count > 0 => Ok(count - 1),
         _ => Err(words_fault(format!(in alloc;
-            "--repeat {word}: a number of runs is wanted, from 1 to 4294967295"
+            "--repeat {word}: a number of runs is wanted, from 1 to {MOST}"
         ))),
     }
 }

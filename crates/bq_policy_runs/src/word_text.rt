@@ -7,8 +7,7 @@ ghost use Rattle.bq_bpf.specs.Hooks.{context_length_of};
 ghost use Rattle.bq_bpf.specs.declared.hook.Version.{Version};
 
 use bq_bpf::Hook;
-use bq_one_run::{Word, word_on};
-use byteorder::{ByteOrder, LittleEndian};
+use bq_one_run::{PLACE_SHOWN, Word, place_shown, word_on};
 use std::alloc::{AllocError, Global};
 
 /// What the rule says of the answer, where the context was this one, and why.
@@ -32,11 +31,10 @@ pub(crate) fn word_text(
 fn place_text(alloc: Global, context: &[u8], r0: u64, word: Word) -> Result<String, AllocError>
     ensures { IfOk result (λ text. 36 ≤ length context.now → word ≢ NotShown → TellsWord word (string_bytes text)) }
 {
-    if context.len() < 36 {
+    if context.len() < PLACE_SHOWN {
         return String::from_str(alloc, "not permitted: the context shows no processors");
     }
-    let count = LittleEndian::read_u32(&context[32..36]);
-    let mask = LittleEndian::read_u64(&context[8..16]);
+    let (count, mask) = place_shown(context);
     match word {
         Word::Permitted => in_mask_text(alloc, r0, mask),
         Word::NotPermitted | Word::NotShown => no_place_text(alloc, r0, count, mask),

@@ -2,12 +2,16 @@
 
 use crate::noticed::Noticed;
 use bq_console::{ended, say_unread, waiting_input};
+use bq_lines::with_first_line;
 use bq_streams::{Counted, Kept};
 use bq_trace::replay;
 use std::cell::Cell;
 use std::fs;
 use std::io::Read;
 use std::process::ExitCode;
+
+/// What is said of an empty trace.
+const EMPTY: &str = with_first_line!("bqsim: the trace is empty: ", "");
 
 /// Replays the trace in the file of that name, or on standard input. On a terminal it says that it waits. The exit status is
 /// that of `bq_console::exit_status`; where the file can't be opened it is 4. Of an empty input standard error says that it is.
@@ -32,9 +36,7 @@ fn replay_from<R: Read + Drop>(rt: &HostRuntime, name: Option<&str>, trace: R) -
     let outcome = replay(rt.alloc(), &mut input, &mut output);
     if let Ok(true) = outcome {
         if !has_given.get() {
-            let _ = eprintln!(rt;
-                "bqsim: the trace is empty: it begins with a line such as machine cfs 2"
-            );
+            let _ = eprintln!(rt; "{EMPTY}");
         }
     }
     ended(rt, name, &outcome, input, output)

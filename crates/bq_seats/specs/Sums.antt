@@ -3,6 +3,7 @@ use Rattle.std.specs.Prelude.{◌≡◌, ℕ, ◌+◌, ◌-◌, ◌<◌, ◌%◌
 use mathlib.Core.Option.{some}
 use lib.ListN.{get_elem?}
 use Rattle.bq_bpf.specs.declared.board.Call.{Call}
+use Rattle.bq_bpf.specs.declared.board.TheConstants.{COUNTERS}
 use Rattle.bq_bpf.specs.Counters.{sum_of}
 use Rattle.bq_tie.specs.Whole.{total}
 use Rattle.bq_seats.specs.declared.account.Account.{Account}
@@ -29,11 +30,11 @@ without_one a = record { seats = a.seats - 1; calls = a.calls }
 
 -- all seats have an account, an account of no seat has no calls, and each word is the sum of what all accounts add to its counter
 pub record AreSums (seats : ℕ) (words : List ℕ) (accounts : List Account) : Type 0 where
-  pub many : length words ≡ 64
+  pub many : length words ≡ COUNTERS
   pub whole : total (λ (a : Account). a.seats) accounts ≡ seats
   pub blank : (by : ℕ) (a : Account) → get_elem? accounts by ≡ some a → a.seats ≡ 0 → a.calls ≡ []
-  pub sums : (i : ℕ) → i < 64 → slice_index words i ≡ total (λ (a : Account). sum_of i a.calls) accounts % 2 ^ 64
+  pub sums : (i : ℕ) → i < COUNTERS → slice_index words i ≡ total (λ (a : Account). sum_of i a.calls) accounts % 2 ^ 64
 
 -- each word is the sum of what the calls add to its counter
 abbrev pub AreSumsOf : List Call → List ℕ → Type 0
-AreSumsOf calls words = (i : ℕ) → i < 64 → slice_index words i ≡ sum_of i calls % 2 ^ 64
+AreSumsOf calls words = (i : ℕ) → i < COUNTERS → slice_index words i ≡ sum_of i calls % 2 ^ 64

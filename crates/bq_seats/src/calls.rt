@@ -3,14 +3,15 @@ ghost use Rattle.std.specs.Prelude.{◌≡◌, ◌≤◌, [], length, true, is_s
 
 use arrayvec::ArrayVec;
 use bq_bpf::Call;
+use bq_bpf::board::MOST_CALLS;
 use std::alloc::{AllocError, Global};
 use std::marker::Model;
 
-/// The calls of counters of one event, at most 16. They stand apart, so that an event without calls takes no room for
+/// The calls of counters of one event, at most `MOST_CALLS`. They stand apart, so that an event without calls takes no room for
 /// them. Contracts see the list.
 #[derive(Drop)]
 pub struct Calls {
-    list: Option<Box<ArrayVec<Call, 16>>>,
+    list: Option<Box<ArrayVec<Call, MOST_CALLS>>>,
 }
 
 impl Model for Calls {
@@ -59,8 +60,8 @@ impl Calls {
 /// Room for the calls of one event, once for its record and once for its receipt. It is made before any lock is taken.
 #[derive(Drop)]
 pub struct CallRooms {
-    record: Box<ArrayVec<Call, 16>>,
-    receipt: Box<ArrayVec<Call, 16>>,
+    record: Box<ArrayVec<Call, MOST_CALLS>>,
+    receipt: Box<ArrayVec<Call, MOST_CALLS>>,
 }
 
 impl CallRooms {
@@ -77,7 +78,7 @@ impl CallRooms {
 /// These calls, for the record and for the receipt. Where there are none the rooms stay for another event.
 #[inline(always)]
 pub fn hold_calls(rooms: &mut Option<CallRooms>, calls: &[Call]) -> (Calls, Calls)
-    requires few { length calls.now ≤ 16 }
+    requires few { length calls.now ≤ MOST_CALLS }
     requires ready { is_some rooms.old ≡ true }
     ensures record { result.0 ≡ calls.now }
     ensures receipt { result.1 ≡ calls.now }
@@ -91,7 +92,7 @@ pub fn hold_calls(rooms: &mut Option<CallRooms>, calls: &[Call]) -> (Calls, Call
 /// The same of some calls. It stands apart, as most events have none.
 #[inline(never)]
 fn filled_twice(rooms: &mut Option<CallRooms>, calls: &[Call]) -> (Calls, Calls)
-    requires few { length calls.now ≤ 16 }
+    requires few { length calls.now ≤ MOST_CALLS }
     requires ready { is_some rooms.old ≡ true }
     ensures record { result.0 ≡ calls.now }
     ensures receipt { result.1 ≡ calls.now }
@@ -102,8 +103,8 @@ fn filled_twice(rooms: &mut Option<CallRooms>, calls: &[Call]) -> (Calls, Calls)
     (filled(record, calls), filled(receipt, calls))
 }
 
-fn filled(room: Box<ArrayVec<Call, 16>>, calls: &[Call]) -> Calls
-    requires { length calls.now ≤ 16 }
+fn filled(room: Box<ArrayVec<Call, MOST_CALLS>>, calls: &[Call]) -> Calls
+    requires { length calls.now ≤ MOST_CALLS }
     ensures { result ≡ calls.now }
 {
     let mut list = room;

@@ -22,13 +22,14 @@ pub struct UnnamedCounters {
 impl Model for UnnamedCounters {
     ghost use Rattle.std.specs.Prelude.{◌≡◌, ℕ, []};
     ghost use Rattle.atomic_table.specs.Seated.{TableId};
+    ghost use Rattle.bq_bpf.specs.declared.board.TheConstants.{COUNTERS};
     ghost use Rattle.bq_seats.specs.Sums.{opened};
 
     ghost Value = { TableId × ℕ };
 
     ghost view = { λ u. (u.table.shared.table_id, u.table.shared.key) };
 
-    ghost invariant = { λ u. (u.table.shared.table_id.words ≡ 64) × (u.table.shared.table_id.slots ≡ 0) × (u.seat.table_id ≡ u.table.shared.table_id) × (u.seat.me ≡ (opened u.table.shared.key, [])) };
+    ghost invariant = { λ u. (u.table.shared.table_id.words ≡ COUNTERS) × (u.table.shared.table_id.slots ≡ 0) × (u.seat.table_id ≡ u.table.shared.table_id) × (u.seat.me ≡ (opened u.table.shared.key, [])) };
 }
 
 /// The counters of a machine. Contracts see them as the number of seats.
@@ -40,12 +41,13 @@ pub struct Counters<N: Counting> {
 
 impl<N: Counting> Model for Counters<N> {
     ghost use Rattle.std.specs.Prelude.{◌≡◌, ℕ};
+    ghost use Rattle.bq_bpf.specs.declared.board.TheConstants.{COUNTERS};
 
     ghost Value = { ℕ };
 
     ghost view = { λ c. c.table.shared.key };
 
-    ghost invariant = { λ c. (c.table.shared.table_id ≡ N.counters) × (c.table.shared.table_id.words ≡ 64) × (c.table.shared.table_id.slots ≡ 0) };
+    ghost invariant = { λ c. (c.table.shared.table_id ≡ N.counters) × (c.table.shared.table_id.words ≡ COUNTERS) × (c.table.shared.table_id.slots ≡ 0) };
 }
 
 impl UnnamedCounters {
@@ -121,7 +123,7 @@ impl<N: Counting> Counters<N> {
 
     /// Adds to a counter, and answers what it was.
     pub fn add(&self, tally: &mut CounterTally<N>, counter: u8, amount: u64) -> u64
-        requires counter { counter < 64 }
+        requires counter { counter < COUNTERS }
         requires seat { 1 ≤ tally.old.seats }
         ensures { tally.new ≡ calling tally.old (Add counter amount result) }
     {
@@ -132,7 +134,7 @@ impl<N: Counting> Counters<N> {
 
     /// What a counter is, told to the account.
     pub fn read(&self, tally: &mut CounterTally<N>, counter: u8) -> u64
-        requires counter { counter < 64 }
+        requires counter { counter < COUNTERS }
         requires seat { 1 ≤ tally.old.seats }
         ensures { tally.new ≡ calling tally.old (Read counter result) }
     {
@@ -143,7 +145,7 @@ impl<N: Counting> Counters<N> {
 
     /// What a counter is.
     pub fn counter(&self, tally: &mut CounterTally<N>, counter: u8) -> u64
-        requires { counter < 64 }
+        requires { counter < COUNTERS }
         ensures { tally.new ≡ tally.old }
     {
         self.table

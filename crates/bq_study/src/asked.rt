@@ -10,7 +10,7 @@ use crate::command::StudyWords;
 use bq_actions::limits::LONGEST;
 use bq_lines::numbers::{decimal, size};
 use bq_timeline::{Settings, SettingsFault, with_forms};
-use bq_words::{ProcessorCount, Rule, with_rules, with_sizes};
+use bq_words::{ProcessorCount, Rule, with_rules, with_sizes, with_units};
 use bq_workload::{Changes, duration};
 use std::alloc::Global;
 use thiserror::Error;
@@ -33,6 +33,12 @@ const SIZES: &str = with_sizes!("--processors: a number of processors is ");
 /// What a word for the form has to be.
 const FORMS: &str = with_forms!("--as: a form is trace, report, ");
 
+/// What a word for the duration has to be, up to the number of the longest.
+const DURATION: &str = with_units!(
+    "--duration: a duration is a whole number and ",
+    ", as 500us or 2s, from 1ns to "
+);
+
 /// Why words ask for no simulation.
 #[derive(Clone, Copy, Debug, PartialEq, Eq, Error)]
 pub enum AskedFault {
@@ -40,7 +46,7 @@ pub enum AskedFault {
     Discipline,
     #[error("{words}", words = SIZES)]
     Processors,
-    #[error("--duration: a duration is a whole number and ns, us, ms or s, as 500us or 2s, from 1ns to {longest}ns", longest = LONGEST)]
+    #[error("{words}{longest}ns", words = DURATION, longest = LONGEST)]
     Duration,
     #[error("--seed: a seed is a whole number below 2^64")]
     Seed,

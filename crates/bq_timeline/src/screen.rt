@@ -12,6 +12,7 @@ use crate::shown::Shown;
 use bq_core::{Event, Refusal, Reply};
 use bq_disc::limits::{PROCESSORS, TASKS};
 use bq_forms::Names;
+use bq_lines::with_first_line;
 use bq_load::{FaultInWords, LoadFault};
 use bq_schedule::{Change, Schedule};
 use bq_trace::AnyCore;
@@ -282,9 +283,10 @@ fn note_unmade(notes: &mut String, troubles: u64) -> Result<(), AllocError>
     if troubles != 0 {
         return Ok(());
     }
-    notes.push_str(
-        "the trace makes no machine, so there is nothing to show: it begins with a line such as machine cfs 2\n",
-    )
+    notes.push_str(with_first_line!(
+        "the trace makes no machine, so there is nothing to show: ",
+        "\n"
+    ))
 }
 
 /// Notes each task that was placed on a processor which was never drained after.

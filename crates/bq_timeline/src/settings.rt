@@ -9,6 +9,8 @@ use crate::{numbers, with_forms};
 use bq_disc::limits::LAST_PROCESSOR;
 use bq_forms::Window;
 use bq_lines::processor_sets::processors;
+use bq_lines::with_tasks;
+use bq_words::with_units;
 use std::alloc::{AllocError, Global};
 use thiserror::Error;
 
@@ -47,6 +49,15 @@ pub struct Settings {
 /// What a word for the form has to be.
 const FORMS: &str = with_forms!("--as: a form is report, ");
 
+/// What a word for a moment has to be.
+const TIME: &str = with_units!("a time is a number with ", ", as 1500, 1.5ms or 2s");
+
+/// What a word for tasks has to be.
+const TASKS: &str = with_tasks!(
+    "--tasks: tasks are numbers from ",
+    " and ranges, as 1-3 or 1,4"
+);
+
 /// Why words are no settings.
 #[derive(Clone, Copy, Debug, PartialEq, Eq, Error)]
 pub enum SettingsFault {
@@ -54,10 +65,10 @@ pub enum SettingsFault {
     #[error("{words}", words = FORMS)]
     Form,
     /// That is no time.
-    #[error("--from: a time is a number with ns, us, ms or s, as 1500, 1.5ms or 2s")]
+    #[error("--from: {words}", words = TIME)]
     From,
     /// That is no time.
-    #[error("--to: a time is a number with ns, us, ms or s, as 1500, 1.5ms or 2s")]
+    #[error("--to: {words}", words = TIME)]
     To,
     /// The first moment is after the last.
     #[error("--from is after --to: nothing lies between them")]
@@ -66,7 +77,7 @@ pub enum SettingsFault {
     #[error("--cpus: processors are numbers from 0 to {last} and ranges, as 0-3 or 0,2", last = LAST_PROCESSOR)]
     Processors,
     /// These are no tasks.
-    #[error("--tasks: tasks are numbers from 0 to 65535 and ranges, as 1-3 or 1,4")]
+    #[error("{words}", words = TASKS)]
     Tasks,
     /// That is no width.
     #[error("--width: a width is a number from 20 to 10000")]

@@ -4,6 +4,7 @@ use Rattle.bq_disc.specs.Discipline.{Discipline}
 use Rattle.bq_cfs.specs.Cfs.{cfs}
 use Rattle.bq_eevdf.specs.Eevdf.{eevdf}
 use Rattle.bq_bpf.specs.declared.board.Call.{Call as Asked}
+use Rattle.bq_bpf.specs.declared.board.TheConstants.{COUNTERS}
 use Rattle.bq_bpf.specs.Counters.{Counts, Through}
 use Rattle.bq_parts.specs.World.{World, opening_world}
 use Rattle.bq_parts.specs.Choices.{Regime, policies}
@@ -33,7 +34,7 @@ regime_of rule = policies (discipline_of rule)
 
 -- a machine to which nothing has happened
 abbrev pub opening_machine : Rule → ProcessorCount → Driven
-opening_machine rule size = record { rule = rule; world = opening_world (processors_in size); counters = replicate 64 0 }
+opening_machine rule size = record { rule = rule; world = opening_world (processors_in size); counters = replicate COUNTERS 0 }
 
 -- One event is a step of a world, and what it asked of the counters leads from the ones to the others.
 pub record Advances (s : Regime) (w : World) (old : List ℕ) (event : Event) (answer : Result Reply Refusal) (v : World) (new : List ℕ) : Type 0 where

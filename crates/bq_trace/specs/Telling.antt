@@ -5,6 +5,7 @@ use Rattle.std.specs.Str.Lines.{strip_carriage_return}
 use Rattle.hex.specs.declared.error.FromHexError.{FromHexError}
 use Rattle.hex.specs.Hex.{decode_of}
 use Rattle.bq_verify.specs.Accepted.{Accepted}
+use Rattle.bq_bpf.specs.declared.board.TheConstants.{COUNTERS}
 use Rattle.bq_bpf.specs.declared.hook.Hook.{Hook}
 use Rattle.bq_load.specs.Answers.{Loads, IsUnloaded}
 use Rattle.bq_load.specs.declared.fault.LoadFault.{LoadFault}
@@ -83,7 +84,7 @@ Tells (Running m) n line (says.Says (Wake c task now)) told after bad = (k : Dri
 Tells (Running m) n line (says.Says (Load c hook generation image)) told after bad =
     (k : Driven) × LoadHappens m n c hook generation image told k × (after ≡ Running k) × (bad ≡ false)
 Tells (Running m) n line (says.Says (Counter i)) told after bad =
-    (told ≡ (if nat_lt i 64 then (n, Counted i (slice_index m.counters i)) ∷ [] else (n, Bad line) ∷ [])) × (after ≡ Running m) × (bad ≡ not (nat_lt i 64))
+    (told ≡ (if nat_lt i COUNTERS then (n, Counted i (slice_index m.counters i)) ∷ [] else (n, Bad line) ∷ [])) × (after ≡ Running m) × (bad ≡ not (nat_lt i COUNTERS))
 Tells (Running m) n line (says.Says (Show c)) told after bad = (told ≡ (n, Shown c m) ∷ []) × (after ≡ Running m) × (bad ≡ false)
 Tells (Running m) n line (says.Says (Machine rule size)) told after bad = (told ≡ (n, Bad line) ∷ []) × (after ≡ Running m) × (bad ≡ true)
 Tells (Running m) n line says.Bad told after bad = (told ≡ (n, Bad line) ∷ []) × (after ≡ Running m) × (bad ≡ true)

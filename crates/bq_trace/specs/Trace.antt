@@ -1,6 +1,7 @@
 -- What a trace's lines are answered (this project's own trace format).
 use Rattle.std.specs.Prelude.{◌≡◌, ℕ, Bool, true, false, ◌&&◌, not, List, [], ◌∷◌, ◌++◌, Option, Result, Ok, Err, slice_index, nat_lt, if◌then◌else◌}
 use Rattle.std.specs.Str.Lines.{lines}
+use Rattle.bq_bpf.specs.declared.board.TheConstants.{COUNTERS}
 use Rattle.bq_parts.specs.declared.event.Event.TheVariants.{BeginWake, EndWake}
 use Rattle.bq_parts.specs.declared.reply.Reply.{Reply}
 use Rattle.bq_parts.specs.declared.refusal.Refusal.{Refusal}
@@ -45,7 +46,7 @@ Answers (Running m) (Says (Does event)) n text after bad =
 Answers (Running m) (Says (Wake c task now)) n text after bad = (k : Driven) × Wakes m c task now text k × (after ≡ Running k) × (bad ≡ false)
 Answers (Running m) (Says (Load c hook generation image)) n text after bad = (k : Driven) × LoadsAndAnswers m c hook generation image text k × (after ≡ Running k) × (bad ≡ false)
 Answers (Running m) (Says (Counter i)) n text after bad =
-    (text ≡ (if nat_lt i 64 then counter_line i (slice_index m.counters i) else bad_line n)) × (after ≡ Running m) × (bad ≡ not (nat_lt i 64))
+    (text ≡ (if nat_lt i COUNTERS then counter_line i (slice_index m.counters i) else bad_line n)) × (after ≡ Running m) × (bad ≡ not (nat_lt i COUNTERS))
 Answers (Running m) (Says (Show c)) n text after bad = (text ≡ show_line m.world c) × (after ≡ Running m) × (bad ≡ false)
 Answers (Running m) (Says (Machine rule size)) n text after bad = (text ≡ bad_line n) × (after ≡ Running m) × (bad ≡ true)
 Answers (Running m) Bad n text after bad = (text ≡ bad_line n) × (after ≡ Running m) × (bad ≡ true)

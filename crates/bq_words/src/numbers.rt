@@ -3,6 +3,14 @@ ghost use Rattle.std.specs.Prelude.{◌≡◌, ◌≤◌, MatchOption, codes, dr
 ghost use Rattle.std.specs.List.{starts_with};
 ghost use Rattle.bq_words.specs.Numbers.{number_of, value_of};
 
+/// A text with what numbers of 32 bits are below in it.
+#[macro_export]
+macro_rules! with_32_bits {
+    ($before:literal, $behind:literal) => {
+        concat!($before, "4294967296", $behind)
+    };
+}
+
 /// The number that the word writes in this base, or `None` where it has no digit, has another byte, or does not fit 64 bits.
 pub fn number(word: &[u8], base: u32) -> Option<u64>
     requires low { 2 ≤ base }

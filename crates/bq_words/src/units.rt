@@ -2,6 +2,14 @@
 ghost use Rattle.std.specs.Prelude.{◌≡◌};
 ghost use Rattle.bq_words.specs.Units.{unit_of};
 
+/// A text with the units of time in it.
+#[macro_export]
+macro_rules! with_units {
+    ($before:literal, $behind:literal) => {
+        concat!($before, "ns, us, ms or s", $behind)
+    };
+}
+
 /// How many nanoseconds a unit has: `ns`, `us`, `ms` or `s`.
 pub fn nanoseconds(unit: &[u8]) -> Option<u64>
     ensures { result ≡ unit_of unit.now }

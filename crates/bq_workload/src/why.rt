@@ -8,7 +8,7 @@ use bq_disc::limits::TASKS;
 use bq_disc::with_processors;
 use bq_lines::numbers::NO_SIZE;
 use bq_weights::with_nice_values;
-use bq_words::with_rules;
+use bq_words::{with_rules, with_units};
 use std::fmt;
 use toml::{Table, Value};
 
@@ -223,7 +223,7 @@ fn no_time<W: fmt::Write>(f: &mut fmt::Formatter<W>, value: &Value, range: &Rang
             " is not from {} ns to {} ns",
             range.least, range.greatest
         ),
-        None => f.write_str(" is no duration (a whole number and ns, us, ms or s)"),
+        None => f.write_str(with_units!(" is no duration (a whole number and ", ")")),
     }
 }
 

@@ -1,0 +1,158 @@
+//! The words that follow each keyword: what they are to be, and what one that is not is said to be.
+ghost use Rattle.std.specs.Prelude.{◌≡◌, ◌&&◌, length, nat_lt};
+ghost use Rattle.std.specs.Char.{is_ascii_digit};
+ghost use Rattle.std.specs.List.{list_all};
+
+use crate::keyword::Keyword;
+use crate::{numbers, with_tasks};
+use bq_bpf::board::COUNTERS;
+use bq_bpf::hook::NO_HOOK;
+use bq_bpf::{Hook, with_counters};
+use bq_words::numbers::hex_digits;
+use bq_words::{Rule, with_rules};
+use std::fmt;
+
+/// What a word of a line is to be.
+#[derive(Clone, Copy)]
+pub enum OperandKind {
+    Rule,
+    ProcessorCount,
+    Processor,
+    Task,
+    Nice,
+    Mask,
+    Time,
+    Generation,
+    Slice,
+    Hook,
+    Image,
+    Counter,
+}
+
+impl OperandKind {
+    /// Whether a word is that.
+    pub fn fits(self, word: &[u8]) -> bool {
+        match self {
+            OperandKind::Rule => Rule::of_word(word).is_some(),
+            OperandKind::ProcessorCount => numbers::size(word).is_some(),
+            OperandKind::Processor => numbers::processor(word).is_some(),
+            OperandKind::Task => numbers::task(word).is_some(),
+            OperandKind::Nice => numbers::nice(word).is_some(),
+            OperandKind::Mask => numbers::mask(word).is_some(),
+            OperandKind::Time | OperandKind::Generation | OperandKind::Slice => numbers::decimal(
+                word,
+            ).is_some(),
+            OperandKind::Hook => Hook::of_word(word).is_some(),
+            OperandKind::Image => true,
+            OperandKind::Counter => numbers::processor(word).is_some_and(|counter| usize::from(
+                counter,
+            ) < COUNTERS),
+        }
+    }
+
+    /// Whether a word is written as such words are, where they are numbers: in digits, behind `-` for a nice value, or in digits of hex
+    /// behind `0x` for a mask.
+    pub fn has_form(self, word: &[u8]) -> bool {
+        match self {
+            OperandKind::Rule
+            | OperandKind::ProcessorCount
+            | OperandKind::Hook
+            | OperandKind::Image => true,
+            OperandKind::Nice => match word.strip_prefix(b"-") {
+                Some(digits) => are_digits(digits),
+                None => are_digits(word),
+            },
+            OperandKind::Mask => match hex_digits(word) {
+                Some(digits) => {
+                    !digits.is_empty() && digits.iter().all(|byte| byte.is_ascii_hexdigit())
+                }
+                None => are_digits(word),
+            },
+            OperandKind::Processor
+            | OperandKind::Task
+            | OperandKind::Time
+            | OperandKind::Generation
+            | OperandKind::Slice
+            | OperandKind::Counter => are_digits(word),
+        }
+    }
+
+    /// What a word without the form is said to be.
+    pub fn formless(self) -> &'static str {
+        match self {
+            OperandKind::Mask => "is no mask (decimal, or hex after 0x)",
+            _ => "is no number",
+        }
+    }
+
+    /// What a word that is not that is said to be, or not to fit.
+    fn words(self) -> &'static str {
+        match self {
+            OperandKind::Rule => with_rules!("is no rule (", ")"),
+            OperandKind::ProcessorCount => numbers::NO_SIZE,
+            OperandKind::Processor => "does not fit a processor's number (0 to 255)",
+            OperandKind::Task => with_tasks!("does not fit a task's number (", ")"),
+            OperandKind::Nice => "does not fit a nice value (-128 to 127)",
+            OperandKind::Mask => "does not fit a mask (64 bits, decimal or hex after 0x)",
+            OperandKind::Time => "does not fit a clock reading (0 to 2^64 - 1)",
+            OperandKind::Generation => "does not fit a generation (0 to 2^64 - 1)",
+            OperandKind::Slice => "does not fit a slice (0 to 2^64 - 1)",
+            OperandKind::Hook => NO_HOOK,
+            OperandKind::Image => "is no image",
+            OperandKind::Counter => with_counters!("does not fit a counter's number (", ")"),
+        }
+    }
+}
+
+impl fmt::Display for OperandKind {
+    fn fmt<W: fmt::Write>(&self, f: &mut fmt::Formatter<W>) -> fmt::Result {
+        f.write_str(self.words())
+    }
+}
+
+/// Whether a word is digits alone, one or more.
+fn are_digits(word: &[u8]) -> bool
+    ensures { result ≡ (nat_lt 0 (length word.now) && list_all is_ascii_digit word.now) }
+{
+    !word.is_empty() && all_digits(word)
+}
+
+/// Whether a word has no other bytes than digits.
+fn all_digits(word: &[u8]) -> bool
+    ensures { result ≡ list_all is_ascii_digit word.now }
+{
+    word.iter().all(|byte| byte.is_ascii_digit())
+}
+
+/// The words that follow a keyword.
+pub fn operands_of(keyword: Keyword) -> &'static [OperandKind] {
+    match keyword {
+        Keyword::Machine => &[OperandKind::Rule, OperandKind::ProcessorCount],
+        Keyword::Admit => &[
+            OperandKind::Task,
+            OperandKind::Nice,
+            OperandKind::Mask,
+            OperandKind::Slice,
+        ],
+        Keyword::Retire => &[OperandKind::Task],
+        Keyword::Draw => &[],
+        Keyword::Install => &[
+            OperandKind::Processor,
+            OperandKind::Generation,
+            OperandKind::Hook,
+            OperandKind::Image,
+        ],
+        Keyword::Begin => &[OperandKind::Processor, OperandKind::Task],
+        Keyword::Wake => &[OperandKind::Processor, OperandKind::Task, OperandKind::Time],
+        Keyword::End | Keyword::Drain | Keyword::Tick | Keyword::Block => {
+            &[OperandKind::Processor, OperandKind::Time]
+        }
+        Keyword::Pull => &[
+            OperandKind::Processor,
+            OperandKind::Processor,
+            OperandKind::Time,
+        ],
+        Keyword::Show => &[OperandKind::Processor],
+        Keyword::Counter => &[OperandKind::Counter],
+    }
+}
