@@ -98,8 +98,8 @@ changed-leaf xs leaf n high m k low small but =
     rw (here, left, right) (m k low small)
 
 -- where a node gets the less of its two, only the node above it may have another than the less of its two
-pub settled-node : (xs : List ℕ) (h n : ℕ) → 1 ≤ h → h < length xs → n ≡ min (get_or xs (2 * h) 0) (get_or xs (2 * h + 1) 0) → HasOtherMinima h xs → HasOtherMinima (h / 2) (set xs h n)
-settled-node xs h n positive inside is others k low small but =
+pub recomputed-node : (xs : List ℕ) (h n : ℕ) → 1 ≤ h → h < length xs → n ≡ min (get_or xs (2 * h) 0) (get_or xs (2 * h + 1) 0) → HasOtherMinima h xs → HasOtherMinima (h / 2) (set xs h n)
+recomputed-node xs h n positive inside is others k low small but =
     let left : get_or (set xs h n) (2 * k) 0 ≡ get_or xs (2 * k) 0 = get_or-set_other xs h (2 * k) n 0 (omega arith) in
     let right : get_or (set xs h n) (2 * k + 1) 0 ≡ get_or xs (2 * k + 1) 0 = get_or-set_other xs h (2 * k + 1) n 0 (omega arith) in
     let here : get_or (set xs h n) k 0 ≡ min (get_or xs (2 * k) 0) (get_or xs (2 * k + 1) 0) = elim (cases_eq k h) [

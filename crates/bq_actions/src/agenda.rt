@@ -54,7 +54,7 @@ impl Agenda {
             return;
         }
         self.numbers[leaf] = number;
-        settle(&mut self.numbers, leaf);
+        recompute(&mut self.numbers, leaf);
     }
 
     /// The time at which something is due first, and its place: the least place, where several are due then.
@@ -83,7 +83,7 @@ fn number_of(place: u16, time: Option<u64>) -> u64
 }
 
 /// Above a leaf that has changed each node gets the less of the two below it again.
-fn settle(numbers: &mut [u64], leaf: usize)
+fn recompute(numbers: &mut [u64], leaf: usize)
     requires all { length numbers.old ≡ 4096 }
     requires low { 2048 ≤ leaf }
     requires high { leaf < 4096 }

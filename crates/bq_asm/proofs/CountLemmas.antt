@@ -4,7 +4,7 @@ use Rattle.std.specs.Prelude.{Option, Result, Ok, Err, ℤ}
 use Rattle.bq_asm.specs.declared.fault.Cause.{Cause}
 use Rattle.bq_asm.specs.declared.fault.Cause.TheVariants as cause
 use Rattle.bq_asm.specs.declared.operand.Operand.{Operand}
-use Rattle.bq_asm.specs.declared.place.Kind.{Kind}
+use Rattle.bq_asm.specs.declared.place.OperandKind.{OperandKind}
 use Rattle.bq_asm.specs.Operands.{operand_of, each_operand, with_next, lesser}
 
 lesser_word : (c : Cause) → lesser c cause.Word ≡ cause.Word
@@ -19,7 +19,7 @@ word_wins (Ok o) = refl
 word_wins (Err c) = ap (λ (x : Cause). Err x) (lesser_word c)
 
 -- more words or fewer than there are operands are refused for a word, whatever they write
-pub count_wrong : (ks : List Kind) (ws : List (List ℕ)) (d : Option ℤ) → (length ws ≡ length ks → ⊥) → each_operand ks ws d ≡ Err cause.Word
+pub count_wrong : (ks : List OperandKind) (ws : List (List ℕ)) (d : Option ℤ) → (length ws ≡ length ks → ⊥) → each_operand ks ws d ≡ Err cause.Word
 count_wrong [] [] d h = absurd (h refl)
 count_wrong [] (w ∷ ws) d h = refl
 count_wrong (k ∷ ks) [] d h = refl

@@ -20,8 +20,8 @@ use Rattle.bq_insn.specs.Laws.{Fits, SourceFits}
 use Rattle.bq_asm.specs.declared.fault.Cause.TheVariants as cause
 use Rattle.bq_asm.specs.declared.operand.Operand.{Operand}
 use Rattle.bq_asm.specs.declared.operand.Operand.TheVariants as operand
-use Rattle.bq_asm.specs.declared.place.Kind.{Kind}
-use Rattle.bq_asm.specs.declared.place.Kind.TheVariants as kind
+use Rattle.bq_asm.specs.declared.place.OperandKind.{OperandKind}
+use Rattle.bq_asm.specs.declared.place.OperandKind.TheVariants as kind
 use Rattle.bq_asm.specs.Names.{name_of}
 use Rattle.bq_asm.specs.Operands.{operand_of, each_operand, with_next, kind_list, kinds_of, made, instruction_of, instruction_from}
 use Rattle.bq_asm.specs.Text.{operand_text, source_operand, mnemonic_of, operands_of}
@@ -30,7 +30,7 @@ use Rattle.bq_asm.proofs.WellFormedLemmas.{IsInRange}
 use Rattle.bq_asm.proofs.RoundTripLemmas.{insn_from-parts, named-again}
 
 -- which operands stand in which places
-has_kind : Kind → Operand → Bool
+has_kind : OperandKind → Operand → Bool
 has_kind kind.Register (operand.Register r) = true
 has_kind kind.Source (operand.Register r) = true
 has_kind kind.Source (operand.Number z) = true
@@ -41,7 +41,7 @@ has_kind kind.Near (operand.Near z) = true
 has_kind kind.Far (operand.Far z) = true
 has_kind k o = false
 
-have_kinds : List Kind → List Operand → Bool
+have_kinds : List OperandKind → List Operand → Bool
 have_kinds [] [] = true
 have_kinds (k ∷ ks) (o ∷ os) = has_kind k o && have_kinds ks os
 have_kinds ks os = false
@@ -50,7 +50,7 @@ no : {P : Type 0} → false ≡ true → P
 no h = absurd (let e : false ≡ true = h in cc)
 
 -- an operand's text is read as that operand
-again : (k : Kind) (o : Operand) (d : Option ℤ) → has_kind k o ≡ true → IsInRange o → operand_of k (operand_text o) d ≡ Ok o
+again : (k : OperandKind) (o : Operand) (d : Option ℤ) → has_kind k o ≡ true → IsInRange o → operand_of k (operand_text o) d ≡ Ok o
 unfolding has_kind
 again kind.Register (operand.Register r) d h g = register_again r d g
 again kind.Source (operand.Register r) d h g = source_register_again r d g
@@ -62,7 +62,7 @@ again kind.Near (operand.Near z) d h g = near_again z d g
 again kind.Far (operand.Far z) d h g = far_again z d g
 again k o d h g = no h
 
-each_again : (ks : List Kind) (os : List Operand) (d : Option ℤ) → have_kinds ks os ≡ true → AllByRecursion IsInRange os → each_operand ks (map operand_text os) d ≡ Ok os
+each_again : (ks : List OperandKind) (os : List Operand) (d : Option ℤ) → have_kinds ks os ≡ true → AllByRecursion IsInRange os → each_operand ks (map operand_text os) d ≡ Ok os
 unfolding have_kinds
 each_again [] [] d h g = refl
 each_again [] (o ∷ os) d h g = no h

@@ -14,8 +14,8 @@ use Rattle.bq_asm.specs.declared.mnemonic.Mnemonic.{Mnemonic}
 use Rattle.bq_asm.specs.declared.mnemonic.Mnemonic.TheVariants as name
 use Rattle.bq_asm.specs.declared.operand.Operand.{Operand}
 use Rattle.bq_asm.specs.declared.operand.Operand.TheVariants as operand
-use Rattle.bq_asm.specs.declared.place.Kind.{Kind}
-use Rattle.bq_asm.specs.declared.place.Kind.TheVariants as kind
+use Rattle.bq_asm.specs.declared.place.OperandKind.{OperandKind}
+use Rattle.bq_asm.specs.declared.place.OperandKind.TheVariants as kind
 use Rattle.bq_asm.specs.Named.{named}
 use Rattle.bq_asm.specs.Lines.{last_word}
 use Rattle.bq_asm.specs.Operands.{is_label, operand_of, number_place, label_place, each_operand, with_next, kind_list, kinds_of, insn_from, made, lesser, register_place, source_place, instruction_of, instruction_from}
@@ -87,7 +87,7 @@ made_shape m r i h = let from = made_from m r i h in shaped_by m from.0 i from.2
 abbrev pub read : Mnemonic → List (List ℕ) → Option ℤ → Result Insn Cause
 read m operands d = made m (each_operand (kind_list (kinds_of m)) operands d)
 
-is_steady : Kind → Bool
+is_steady : OperandKind → Bool
 is_steady kind.Near = false
 is_steady kind.Far = false
 is_steady k = true
@@ -95,7 +95,7 @@ is_steady k = true
 not_false : {P : Type 0} → false ≡ true → P
 not_false h = absurd (let e : false ≡ true = h in cc)
 
-steady_operands : (ks : List Kind) (ws : List (List ℕ)) (d e : Option ℤ) → list_all is_steady ks ≡ true → each_operand ks ws d ≡ each_operand ks ws e
+steady_operands : (ks : List OperandKind) (ws : List (List ℕ)) (d e : Option ℤ) → list_all is_steady ks ≡ true → each_operand ks ws d ≡ each_operand ks ws e
 unfolding is_steady
 steady_operands [] [] d e h = refl
 steady_operands [] (w ∷ ws) d e h = refl

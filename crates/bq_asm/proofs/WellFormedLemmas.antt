@@ -18,8 +18,8 @@ use Rattle.bq_asm.specs.declared.mnemonic.Mnemonic.{Mnemonic}
 use Rattle.bq_asm.specs.declared.mnemonic.Mnemonic.TheVariants as name
 use Rattle.bq_asm.specs.declared.operand.Operand.{Operand}
 use Rattle.bq_asm.specs.declared.operand.Operand.TheVariants as operand
-use Rattle.bq_asm.specs.declared.place.Kind.{Kind}
-use Rattle.bq_asm.specs.declared.place.Kind.TheVariants as kind
+use Rattle.bq_asm.specs.declared.place.OperandKind.{OperandKind}
+use Rattle.bq_asm.specs.declared.place.OperandKind.TheVariants as kind
 use Rattle.bq_asm.specs.Named.{named, entry_with, table}
 use Rattle.bq_asm.specs.Numbers.{imm_of, offset_of, distance_of, wide_of, register_of, begins_number}
 use Rattle.bq_asm.specs.Operands.{number_place, register_place, source_place, is_sign, inside, based, cut_at, memory_place, is_label, label_place, operand_of, each_operand, with_next, kind_list, kinds_of, insn_from, made, instruction_of, instruction_from}
@@ -106,7 +106,7 @@ far_good w d h = by (is_label w)
     by true = label_good (option_map (λ z. operand.Far z) d) (mapped (FitsSigned w16) (λ z. operand.Far z) (λ z k. wider z k) d h)
     by false = number_good (option_map (λ z. operand.Far z) (distance_of w)) w (mapped (FitsSigned w32) (λ z. operand.Far z) (λ z k. k) (distance_of w) (distance_fits w))
 
-operand_good : (k : Kind) (w : List ℕ) (d : Option ℤ) → DistanceFits d → IfOk (operand_of k w d) IsInRange
+operand_good : (k : OperandKind) (w : List ℕ) (d : Option ℤ) → DistanceFits d → IfOk (operand_of k w d) IsInRange
 operand_good kind.Register w d h = register_good (register_of w) (register_fits w)
 operand_good kind.Source w d h = source_good (register_of w) w (register_fits w)
 operand_good kind.Number w d h = number_good (option_map (λ z. operand.Number z) (imm_of w)) w (imm_good w)
@@ -121,7 +121,7 @@ next_good (Ok o) (Err c) h k = tt
 next_good (Err c) (Ok os) h k = tt
 next_good (Err c) (Err d) h k = tt
 
-operands_good : (ks : List Kind) (ws : List (List ℕ)) (d : Option ℤ) → DistanceFits d → IfOk (each_operand ks ws d) (AllByRecursion IsInRange)
+operands_good : (ks : List OperandKind) (ws : List (List ℕ)) (d : Option ℤ) → DistanceFits d → IfOk (each_operand ks ws d) (AllByRecursion IsInRange)
 operands_good [] [] d h = tt
 operands_good [] (w ∷ ws) d h = tt
 operands_good (k ∷ ks) [] d h = tt

@@ -13,8 +13,8 @@ use Rattle.bq_asm.specs.declared.operand.Operand.{Operand}
 use Rattle.bq_asm.specs.declared.operand.Operand.TheVariants as operand
 use Rattle.bq_asm.specs.declared.operand.Operands.{Operands}
 use Rattle.bq_asm.specs.declared.operand.Operands.TheVariants.{Zero, One, Two, Three}
-use Rattle.bq_asm.specs.declared.place.Kind.{Kind}
-use Rattle.bq_asm.specs.declared.place.Kind.TheVariants as kind
+use Rattle.bq_asm.specs.declared.place.OperandKind.{OperandKind}
+use Rattle.bq_asm.specs.declared.place.OperandKind.TheVariants as kind
 use Rattle.bq_asm.specs.declared.instruction.Kinds.{Kinds}
 use Rattle.bq_asm.specs.declared.instruction.Kinds.TheVariants as kinds
 use Rattle.bq_asm.specs.Named.{named}
@@ -73,7 +73,7 @@ label_place None = Err cause.LabelMissing
 label_place (Some o) = Ok o
 
 -- the operand of this kind that a word writes; a label in a target's place stands for the distance
-abbrev pub operand_of : Kind → List ℕ → Option ℤ → Result Operand Cause
+abbrev pub operand_of : OperandKind → List ℕ → Option ℤ → Result Operand Cause
 operand_of kind.Register word distance = register_place (register_of word)
 operand_of kind.Source word distance = source_place (register_of word) word
 operand_of kind.Number word distance = number_place (option_map (λ z. operand.Number z) (imm_of word)) word
@@ -122,12 +122,12 @@ both (Err c) = Err c
 both (Ok p) = Ok (p.0 ∷ p.1 ∷ [])
 
 -- the operands that words write, or the least cause among them
-abbrev pub each_operand : List Kind → List (List ℕ) → Option ℤ → Result (List Operand) Cause
+abbrev pub each_operand : List OperandKind → List (List ℕ) → Option ℤ → Result (List Operand) Cause
 each_operand [] [] distance = Ok []
 each_operand (k ∷ ks) (w ∷ ws) distance = with_next (operand_of k w distance) (each_operand ks ws distance)
 each_operand ks ws distance = Err cause.Word
 
-abbrev pub kind_list : Kinds → List Kind
+abbrev pub kind_list : Kinds → List OperandKind
 kind_list kinds.Zero = []
 kind_list (kinds.One a) = a ∷ []
 kind_list (kinds.Two a b) = a ∷ b ∷ []

@@ -6,7 +6,7 @@ ghost use Rattle.bq_asm.specs.Text.{list_of};
 use crate::fault::Cause;
 use crate::mnemonic::Mnemonic;
 use crate::operand::{Operand, Operands};
-use crate::place::{Kind, operand_of};
+use crate::place::{OperandKind, operand_of};
 use crate::table::named;
 use bq_insn::{Insn, Source};
 
@@ -14,9 +14,9 @@ use bq_insn::{Insn, Source};
 #[derive(Clone, Copy)]
 pub enum Kinds {
     Zero,
-    One(Kind),
-    Two(Kind, Kind),
-    Three(Kind, Kind, Kind),
+    One(OperandKind),
+    Two(OperandKind, OperandKind),
+    Three(OperandKind, OperandKind, OperandKind),
 }
 
 /// What a first word and its operands say, or the least cause why they say nothing. A label in the target's
@@ -42,18 +42,18 @@ pub fn kinds_of(mnemonic: Mnemonic) -> Kinds
     ensures { result ≡ kinds_of mnemonic }
 {
     match mnemonic {
-        Mnemonic::Alu(_, _) => Kinds::Two(Kind::Register, Kind::Source),
-        Mnemonic::MovSx(_, _) => Kinds::Two(Kind::Register, Kind::Register),
-        Mnemonic::Neg(_) | Mnemonic::End(_, _) => Kinds::One(Kind::Register),
-        Mnemonic::Load(_) | Mnemonic::LoadSigned(_) => Kinds::Two(Kind::Register, Kind::Memory),
-        Mnemonic::StoreImm(_) => Kinds::Two(Kind::Memory, Kind::Number),
-        Mnemonic::StoreReg(_) => Kinds::Two(Kind::Memory, Kind::Register),
-        Mnemonic::Imm64 => Kinds::Two(Kind::Register, Kind::Wide),
-        Mnemonic::MapRef => Kinds::Two(Kind::Register, Kind::Number),
-        Mnemonic::Goto => Kinds::One(Kind::Near),
-        Mnemonic::Goto32 => Kinds::One(Kind::Far),
-        Mnemonic::Branch(_, _) => Kinds::Three(Kind::Register, Kind::Source, Kind::Near),
-        Mnemonic::Call => Kinds::One(Kind::Number),
+        Mnemonic::Alu(_, _) => Kinds::Two(OperandKind::Register, OperandKind::Source),
+        Mnemonic::MovSx(_, _) => Kinds::Two(OperandKind::Register, OperandKind::Register),
+        Mnemonic::Neg(_) | Mnemonic::End(_, _) => Kinds::One(OperandKind::Register),
+        Mnemonic::Load(_) | Mnemonic::LoadSigned(_) => Kinds::Two(OperandKind::Register, OperandKind::Memory),
+        Mnemonic::StoreImm(_) => Kinds::Two(OperandKind::Memory, OperandKind::Number),
+        Mnemonic::StoreReg(_) => Kinds::Two(OperandKind::Memory, OperandKind::Register),
+        Mnemonic::Imm64 => Kinds::Two(OperandKind::Register, OperandKind::Wide),
+        Mnemonic::MapRef => Kinds::Two(OperandKind::Register, OperandKind::Number),
+        Mnemonic::Goto => Kinds::One(OperandKind::Near),
+        Mnemonic::Goto32 => Kinds::One(OperandKind::Far),
+        Mnemonic::Branch(_, _) => Kinds::Three(OperandKind::Register, OperandKind::Source, OperandKind::Near),
+        Mnemonic::Call => Kinds::One(OperandKind::Number),
         Mnemonic::Exit => Kinds::Zero,
     }
 }
@@ -110,7 +110,7 @@ fn two_of(pair: Result<(Operand, Operand), Cause>) -> Result<Operands, Cause>
 }
 
 /// Two operands, or the lesser of their causes.
-fn pair_of(first: Kind, second: Kind, words: &[&[u8]]) -> Result<(Operand, Operand), Cause>
+fn pair_of(first: OperandKind, second: OperandKind, words: &[&[u8]]) -> Result<(Operand, Operand), Cause>
     requires { length words.now ≡ 2 }
     ensures { both result ≡ each_operand (first ∷ second ∷ []) (texts words.now) (Some (pos 0)) }
 {

@@ -9,7 +9,7 @@ use crate::operand::Operand;
 
 /// What an operand is to be.
 #[derive(Clone, Copy)]
-pub enum Kind {
+pub enum OperandKind {
     /// A register.
     Register,
     /// A register, or a number of 32 bits.
@@ -27,22 +27,22 @@ pub enum Kind {
 }
 
 /// The operand of this kind that a word writes. A label stands for the distance 0 until all labels are known.
-pub fn operand_of(kind: Kind, word: &[u8]) -> Result<Operand, Cause>
+pub fn operand_of(kind: OperandKind, word: &[u8]) -> Result<Operand, Cause>
     ensures { result ≡ operand_of kind word.now (Some (pos 0)) }
 {
     match kind {
-        Kind::Register => register_place(word),
-        Kind::Source => source_place(word),
-        Kind::Number => number_place(imm_of(word).map(Operand::Number), word),
-        Kind::Wide => number_place(wide_of(word).map(Operand::Wide), word),
-        Kind::Memory => memory_place(word),
-        Kind::Near => {
+        OperandKind::Register => register_place(word),
+        OperandKind::Source => source_place(word),
+        OperandKind::Number => number_place(imm_of(word).map(Operand::Number), word),
+        OperandKind::Wide => number_place(wide_of(word).map(Operand::Wide), word),
+        OperandKind::Memory => memory_place(word),
+        OperandKind::Near => {
             if is_label(word) {
                 return Ok(Operand::Near(0));
             }
             number_place(offset_of(word).map(Operand::Near), word)
         }
-        Kind::Far => {
+        OperandKind::Far => {
             if is_label(word) {
                 return Ok(Operand::Far(0));
             }
@@ -66,7 +66,7 @@ fn number_place(value: Option<Operand>, word: &[u8]) -> Result<Operand, Cause>
 }
 
 fn register_place(word: &[u8]) -> Result<Operand, Cause>
-    ensures { result ≡ operand_of Kind.Register word.now (Some (pos 0)) }
+    ensures { result ≡ operand_of OperandKind.Register word.now (Some (pos 0)) }
 {
     match register_of(word) {
         Some(register) => Ok(Operand::Register(register)),
@@ -75,7 +75,7 @@ fn register_place(word: &[u8]) -> Result<Operand, Cause>
 }
 
 fn source_place(word: &[u8]) -> Result<Operand, Cause>
-    ensures { result ≡ operand_of Kind.Source word.now (Some (pos 0)) }
+    ensures { result ≡ operand_of OperandKind.Source word.now (Some (pos 0)) }
 {
     match register_of(word) {
         Some(register) => Ok(Operand::Register(register)),
@@ -84,7 +84,7 @@ fn source_place(word: &[u8]) -> Result<Operand, Cause>
 }
 
 fn memory_place(word: &[u8]) -> Result<Operand, Cause>
-    ensures { result ≡ operand_of Kind.Memory word.now (Some (pos 0)) }
+    ensures { result ≡ operand_of OperandKind.Memory word.now (Some (pos 0)) }
 {
     let Some(inner) = inside(word) else {
         return Err(Cause::Word);

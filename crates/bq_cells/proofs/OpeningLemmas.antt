@@ -11,8 +11,8 @@ use Rattle.bq_core.proofs.OnTheWayLemmas.{same_everywhere}
 use Rattle.bq_parts.specs.World.{opening_world}
 use Rattle.bq_cells.specs.Parts.{same_part, HasPart, first_parts, cpus_from, inboxes_from}
 use Rattle.bq_cells.specs.Opened.{ItemOf, cpu_items, inbox_items}
-use Rattle.bq_cells.specs.declared.law.Part.{Part}
-use Rattle.bq_cells.specs.declared.law.Part.TheVariants as part
+use Rattle.bq_cells.specs.declared.law.WorldPart.{WorldPart}
+use Rattle.bq_cells.specs.declared.law.WorldPart.TheVariants as part
 
 -- what is counted at the numbers from c on, n of them, where each adds one just at its own number
 abbrev tally : ℕ → ℕ → ℕ → ℕ
@@ -60,7 +60,7 @@ no_lobby l c zero = refl
 no_lobby l c (suc n) = let h = no_lobby l (c + 1) n in omega arith
 
 -- each part stands at most once among the first ones
-pub each_part_once : (n : ℕ) (x : Part) → count (same_part x) (first_parts n) ≤ 1
+pub each_part_once : (n : ℕ) (x : WorldPart) → count (same_part x) (first_parts n) ≤ 1
 each_part_once n (part.Cpu d r) =
     let a = count-append (same_part (part.Cpu d r)) (cpus_from 0 n) (inboxes_from 0 n) in
     let b = in_cpus d 0 n r in
@@ -103,7 +103,7 @@ pub inbox_turn : (i n : ℕ) (rest : List ItemOf) → i < n → inbox_items i (n
 inbox_turn i n rest b = ap (λ (k : ℕ). inbox_items i k ++ rest) (more i n b)
 
 -- the items of the parts, given out in this order
-cpus_first : (c n : ℕ) (ps : List Part) (rest : List ItemOf) → map part_item (cpus_from c n ++ ps) ++ rest ≡ cpu_items c n ++ (map part_item ps ++ rest)
+cpus_first : (c n : ℕ) (ps : List WorldPart) (rest : List ItemOf) → map part_item (cpus_from c n ++ ps) ++ rest ≡ cpu_items c n ++ (map part_item ps ++ rest)
 cpus_first c zero ps rest = refl
 cpus_first c (suc n) ps rest = ap (λ ys. part_item (part.Cpu c opening) ∷ ys) (cpus_first (c + 1) n ps rest)
 

@@ -28,7 +28,7 @@ use Rattle.std.proofs.lemmas.Bool.Decides.{nat_tests}
 use Rattle.bq_core.proofs.StepLemmas.{in_range_not_refused}
 use Rattle.bq_core.proofs.MoveLemmas.{tally-pulled, tally-without_task}
 use Rattle.bq_core.proofs.ShareStepLemmas.{pulls_step}
-use Rattle.bq_cells.specs.declared.law.Kept.{Kept}
+use Rattle.bq_cells.specs.declared.law.JournalState.{JournalState}
 use Rattle.bq_cells.specs.Parts.{cpu_part, kept_of, one_less, kept_by_pull}
 use Rattle.bq_cells.proofs.ReachedLemmas.{IsSound}
 use Rattle.bq_cells.proofs.ShapeLemmas.{MovesHere, moves_two_cpus}
@@ -93,7 +93,7 @@ differ : (a b : ℕ) → a ≢ b → eqb a b ≡ false
 differ a b h = grind (arith, nat_tests)
 
 module _ (d : Discipline) (n : ℕ) where
-  kept_by_task : (w : World) (c b : ℕ) (p q o r : Processor) (k : Kept) (task run : Option ℕ) (by : By) (steps t : ℕ) → IsSound n w → kept_of w ≡ k → c < count_in w → processor_at w c ≡ p → b < count_in w → processor_at w b ≡ o → c ≢ b →
+  kept_by_task : (w : World) (c b : ℕ) (p q o r : Processor) (k : JournalState) (task run : Option ℕ) (by : By) (steps t : ℕ) → IsSound n w → kept_of w ≡ k → c < count_in w → processor_at w c ≡ p → b < count_in w → processor_at w b ≡ o → c ≢ b →
       size_of q ≡ size_of p + t → size_of r + t ≡ size_of o → ((id : ℕ) → task ≡ Some id → t ≡ 1) → (task ≡ None → t ≡ 0) →
       kept_of (with_processor (with_processor w c q) b r) ≡ kept_by_pull c b (Pulled task run by steps) k
   kept_by_task w c b p q o r k None run by steps t s kw here at there at' apart more less some none =
@@ -112,7 +112,7 @@ module _ (d : Discipline) (n : ℕ) where
   none_taken s None e = refl
   none_taken s (Some id) e = absurd (let no : ⊥ = cc in no)
 
-  pub pull_kept : (w : World) (c b now : ℕ) (p q o r : Processor) (calls : List Asked) (k : Kept) (x : Reply) → IsSound n w → kept_of w ≡ k → c < count_in w → processor_at w c ≡ p → b < count_in w → processor_at w b ≡ o → c ≢ b →
+  pub pull_kept : (w : World) (c b now : ℕ) (p q o r : Processor) (calls : List Asked) (k : JournalState) (x : Reply) → IsSound n w → kept_of w ≡ k → c < count_in w → processor_at w c ≡ p → b < count_in w → processor_at w b ≡ o → c ≢ b →
       Pulls (policies d) c b now p o calls x q r → kept_of (with_processor (with_processor w c q) b r) ≡ kept_by_pull c b x k
   pull_kept w c b now p q o r calls k x s kw here at there at' apart u =
       let source = remarked d o in
@@ -129,7 +129,7 @@ module _ (d : Discipline) (n : ℕ) where
       (λ e. none_taken source.running task e)
       )
 
-  pub pull_moves : (c b now : ℕ) (p q o r : Processor) (calls : List Asked) (k : Kept) (x : Reply) → c ≢ b → Pulls (policies d) c b now p o calls x q r →
+  pub pull_moves : (c b now : ℕ) (p q o r : Processor) (calls : List Asked) (k : JournalState) (x : Reply) → c ≢ b → Pulls (policies d) c b now p o calls x q r →
       MovesHere d n k (cpu_part c p ∷ cpu_part b o ∷ []) (record { event = Pull c b now; reply = Ok x; calls = calls }) (kept_by_pull c b x k) (cpu_part c q ∷ cpu_part b r ∷ [])
   pull_moves c b now p q o r calls k x apart u =
       moves_two_cpus d n c b p q o r k (kept_by_pull c b x k) (record { event = Pull c b now; reply = Ok x; calls = calls }) apart

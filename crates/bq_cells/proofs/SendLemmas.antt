@@ -18,7 +18,7 @@ use Rattle.bq_cells.specs.contracts.cells.NumberedInbox as NumberedInbox
 use Rattle.bq_cells.specs.contracts.cells.OneLobby as OneLobby
 use Rattle.bq_cells.specs.contracts.record.Record as Record
 use Rattle.bq_seats.specs.contracts.calls.Calls as Calls
-use Rattle.bq_cells.specs.contracts.law.Kept as Kept
+use Rattle.bq_cells.specs.contracts.law.JournalState as JournalState
 
 -- a processor with its number
 pub numbered_send : (Q R : RattleType) (g : Queue.Ghosts Q.Denot R.Denot) (h : Discipline.Ghosts R.Denot) → IsSend Q → IsSend (Numbered.the_row Q R g h)
@@ -40,5 +40,5 @@ pub record_send : IsSend Record.the_row
 record_send = declared_send Record.the_type (event.the_send, (answer.the_send, (calls_send, tt)))
 
 -- what the journal keeps
-pub kept_send : IsSend Kept.the_row
+pub kept_send : IsSend JournalState.the_row
 kept_send = search (loads.the_send, sendable) depth 20

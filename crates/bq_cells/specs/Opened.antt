@@ -3,14 +3,14 @@ use Rattle.std.specs.Prelude.{ℕ, zero, suc, ◌+◌, List, [], ◌∷◌}
 use Rattle.bq_history.specs.declared.law.Item.{Item}
 use Rattle.bq_history.specs.Items.{part_item}
 use Rattle.bq_parts.specs.Processors.{opening}
-use Rattle.bq_cells.specs.declared.law.Kept.{Kept}
-use Rattle.bq_cells.specs.declared.law.Part.{Part}
-use Rattle.bq_cells.specs.declared.law.Part.TheVariants as part
+use Rattle.bq_cells.specs.declared.law.JournalState.{JournalState}
+use Rattle.bq_cells.specs.declared.law.WorldPart.{WorldPart}
+use Rattle.bq_cells.specs.declared.law.WorldPart.TheVariants as part
 use Rattle.bq_cells.specs.declared.record.Record.{Record}
 
 -- what a holder has
 abbrev pub ItemOf : Type 0
-ItemOf = Item Record Part Kept
+ItemOf = Item Record WorldPart JournalState
 
 -- the items of processors from number c on, n of them
 abbrev pub cpu_items : ℕ → ℕ → List ItemOf

@@ -1,6 +1,6 @@
 //! What lies under each lock.
 
-use crate::law::{Kept, Part};
+use crate::law::{JournalState, WorldPart};
 use crate::record::Record;
 use bq_disc::RunQueue;
 use bq_history::{AsPart, Locked};
@@ -8,7 +8,7 @@ use bq_parts::{Cpu, Inbox, Lobby, Scratch};
 use bq_tie::{Holds, Placed};
 
 /// What lies under a lock: content with the holder of its part.
-pub type UnderLock<A, N> = Locked<A, Record, Part, Kept, N>;
+pub type UnderLock<A, N> = Locked<A, Record, WorldPart, JournalState, N>;
 
 /// A processor and its number, with the space in which its policies run.
 #[derive(Drop)]
@@ -31,7 +31,7 @@ pub struct OneLobby {
     pub state: Lobby,
 }
 
-impl<Q: RunQueue> AsPart<Part> for NumberedCpu<Q> {
+impl<Q: RunQueue> AsPart<WorldPart> for NumberedCpu<Q> {
     ghost use Rattle.std.specs.Prelude.{◌≡◌, None};
     ghost use Rattle.bq_cells.specs.Parts.{cpu_part};
 
@@ -41,13 +41,13 @@ impl<Q: RunQueue> AsPart<Part> for NumberedCpu<Q> {
     ghost rests = { λ c. c.state.hand ≡ None };
 }
 
-impl AsPart<Part> for NumberedInbox {
+impl AsPart<WorldPart> for NumberedInbox {
     ghost use Rattle.bq_cells.specs.Parts.{inbox_part};
 
     ghost part = { λ c. inbox_part c.number c.state };
 }
 
-impl AsPart<Part> for OneLobby {
+impl AsPart<WorldPart> for OneLobby {
     ghost use Rattle.bq_cells.specs.Parts.{lobby_part};
 
     ghost part = { λ c. lobby_part c.state };

@@ -32,7 +32,7 @@ impl Model for WorldState {
 }
 
 /// A part of the world. No value of it is made.
-pub enum Part {
+pub enum WorldPart {
     Cpu(u8, CpuState),
     Inbox(u8, Inbox),
     Lobby(Lobby),
@@ -40,17 +40,17 @@ pub enum Part {
 
 /// What the journal keeps of the world: the number drawn last, and the load of each processor.
 #[derive(Drop)]
-pub struct Kept {
+pub struct JournalState {
     pub drawn: u64,
     pub loads: Loads,
 }
 
-impl Kept {
+impl JournalState {
     /// The same once more.
-    pub fn again(&self) -> Kept
+    pub fn again(&self) -> JournalState
         ensures { result ≡ self.now }
     {
-        Kept {
+        JournalState {
             drawn: self.drawn,
             loads: self.loads.copy(),
         }
@@ -76,7 +76,7 @@ impl Kept {
 
     /// What is kept once a processor has answered a block, or nothing where that is the same: its task has left, unless that
     /// was refused.
-    pub fn after_block(&self, processor: u8, answer: &Result<Reply, Refusal>) -> Option<Kept>
+    pub fn after_block(&self, processor: u8, answer: &Result<Reply, Refusal>) -> Option<JournalState>
         ensures { kept_after self.now result ≡ kept_by_block processor answer.now self.now }
     {
         if answer.is_err() {
@@ -89,7 +89,7 @@ impl Kept {
 
     /// What is kept once a processor has answered a pull from another, or nothing where that is the same: a task has gone from
     /// the one to the other, or none has.
-    pub fn after_pull(&self, processor: u8, from: u8, reply: &Reply) -> Option<Kept>
+    pub fn after_pull(&self, processor: u8, from: u8, reply: &Reply) -> Option<JournalState>
         ensures { kept_after self.now result ≡ kept_by_pull processor from reply.now self.now }
     {
         let Reply::Pulled { task: Some(_), .. } = reply else {
@@ -108,9 +108,9 @@ pub struct Sched<Q> {
 }
 
 /// The history, as all callers share it.
-pub type Shared<Q, N> = History<Record, WorldState, Part, Kept, u64, Sched<Q>, N>;
+pub type Shared<Q, N> = History<Record, WorldState, WorldPart, JournalState, u64, Sched<Q>, N>;
 
-impl<Q: RunQueue> World<Record, WorldState, Part, Kept, u64> for Sched<Q> {
+impl<Q: RunQueue> World<Record, WorldState, WorldPart, JournalState, u64> for Sched<Q> {
     ghost use Rattle.bq_parts.specs.World.{opening_world};
     ghost use Rattle.bq_cells.specs.Parts.{RecordStep, kept_of, same_part, HasPart, first_parts};
 

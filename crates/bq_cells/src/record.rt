@@ -5,7 +5,7 @@ ghost use Rattle.bq_parts.specs.declared.refusal.Refusal.TheVariants as no;
 use crate::{PackedAnswer, is_same_event};
 use bq_history::{Compared, Room};
 use bq_parts::{Event, Loads, Refusal};
-use bq_seats::{CallRooms, Calls, Told};
+use bq_seats::{CallRooms, Calls, TellsCalls};
 use std::alloc::Global;
 
 /// An event, what it was answered, and its calls of counters in their order.
@@ -16,7 +16,7 @@ pub struct Record {
     pub calls: Calls,
 }
 
-impl Told for Record {
+impl TellsCalls for Record {
     ghost use Rattle.bq_cells.specs.Parts.{told_calls};
 
     ghost calls = { told_calls };

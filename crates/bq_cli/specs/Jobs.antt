@@ -5,7 +5,7 @@ use Rattle.bq_words.specs.Sizes.{rule_of}
 use Rattle.bq_words.specs.Numbers.{below}
 use Rattle.bq_lines.specs.Lines.{size_of}
 use Rattle.bq_lines.specs.Numbers.{decimal_of}
-use Rattle.bq_cli.specs.Program.{program}
+use Rattle.bq_cli.specs.BqsimApp.{bqsim_app}
 use Rattle.bq_cli.specs.declared.asked.Parallel.{Parallel}
 use Rattle.bq_cli.specs.declared.asked.Job.{Job}
 use Rattle.bq_cli.specs.declared.asked.Job.TheVariants.{Filter, Par, Replay}
@@ -41,4 +41,4 @@ IsJobIn found job = (name : Text) × (rows : List Row) × (found ≡ Some (name,
 
 -- the command and its options are those that clap finds in the words
 abbrev pub IsJob : List Text → Job → Type 0
-IsJob words job = IsJobIn (subcommand_of program words) job
+IsJob words job = IsJobIn (subcommand_of bqsim_app words) job

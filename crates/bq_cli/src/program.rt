@@ -1,7 +1,7 @@
 //! The program and its commands, as clap takes them.
 ghost use Rattle.std.specs.Prelude.{◌≡◌, IfOk};
 ghost use Rattle.clap.specs.Words.{app_of};
-ghost use Rattle.bq_cli.specs.Program.{program};
+ghost use Rattle.bq_cli.specs.BqsimApp.{bqsim_app};
 
 use crate::with_ticks;
 use bq_filters::ASM;
@@ -88,7 +88,7 @@ static COMMANDS: [CommandText<'static>; 9] = [
 
 /// The program with its commands. The words come without its name.
 pub fn program<'a>(alloc: Global) -> Result<Command<'a>, AllocError>
-    ensures { IfOk result (λ c. app_of c ≡ program) }
+    ensures { IfOk result (λ c. app_of c ≡ bqsim_app) }
 {
     let program = bq_options::program(
         alloc,

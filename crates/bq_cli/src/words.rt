@@ -1,7 +1,7 @@
 //! The words after the program's name.
 ghost use Rattle.std.specs.Prelude.{◌≡◌, IfOk, IfErr, map, true};
 ghost use Rattle.clap.specs.Words.{takes, subcommand_of, subcommand_rows_of};
-ghost use Rattle.bq_cli.specs.Program.{program};
+ghost use Rattle.bq_cli.specs.BqsimApp.{bqsim_app};
 ghost use Rattle.bq_cli.specs.Jobs.{IsJob, IsJobIn};
 
 use crate::asked::Job;
@@ -19,7 +19,7 @@ pub fn job<'a>(alloc: Global, words: &'a [&'a str]) -> Result<Job, WordsFault>
     ensures ok { IfOk result (IsJob (map (λ w. w.now) words.entry.now)) }
 
     // Where clap takes the words and finds a command in them, the only fault is want of memory.
-    ensures taken { IfErr result (λ e. takes program (map (λ w. w.now) words.entry.now) ≡ true
+    ensures taken { IfErr result (λ e. takes bqsim_app (map (λ w. w.now) words.entry.now) ≡ true
         → (job : Job) → IsJob (map (λ w. w.now) words.entry.now) job → e ≡ WordsFault.OutOfMemory) }
 {
     let matches = found(alloc, words)?;
@@ -51,8 +51,8 @@ fn job_in(alloc: Global, matches: &ArgMatches<'_>) -> Result<Job, WordsFault>
 
 /// What clap finds in the words.
 fn found<'a>(alloc: Global, words: &'a [&'a str]) -> Result<ArgMatches<'a>, WordsFault>
-    ensures ok { IfOk result (λ m. subcommand_rows_of m ≡ subcommand_of program (map (λ w. w.now) words.entry.now)) }
-    ensures taken { IfErr result (λ e. takes program (map (λ w. w.now) words.entry.now) ≡ true → e ≡ WordsFault.OutOfMemory) }
+    ensures ok { IfOk result (λ m. subcommand_rows_of m ≡ subcommand_of bqsim_app (map (λ w. w.now) words.entry.now)) }
+    ensures taken { IfErr result (λ e. takes bqsim_app (map (λ w. w.now) words.entry.now) ≡ true → e ≡ WordsFault.OutOfMemory) }
 {
     let command = program(alloc)?;
     found_in(alloc, command, words)

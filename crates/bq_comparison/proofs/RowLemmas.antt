@@ -1,12 +1,12 @@
 -- Rows, one more at the end.
 use Rattle.std.proofs.Common.{ℕ, ◌+◌, List, [], ◌∷◌, ◌++◌, length, subst, arith}
 use Rattle.bq_comparison.specs.declared.naming.Figure.{Figure}
-use Rattle.bq_comparison.specs.declared.runs.Run.{Run}
-use Rattle.bq_comparison.specs.declared.summing.Row.{Row}
+use Rattle.bq_comparison.specs.declared.runs.RunFigures.{RunFigures}
+use Rattle.bq_comparison.specs.declared.summing.FigureRow.{FigureRow}
 use Rattle.bq_comparison.specs.Rows.{AreRowsFrom, IsRow, numbers_at}
 
 -- rows of some figures and the row of one figure more are the rows of all
-pub AreRowsFrom-push : (place : ℕ) (runs : List Run) (figures : List Figure) (rows : List Row) (f : Figure) (row : Row)
+pub AreRowsFrom-push : (place : ℕ) (runs : List RunFigures) (figures : List Figure) (rows : List FigureRow) (f : Figure) (row : FigureRow)
     → AreRowsFrom place runs figures rows → IsRow f (numbers_at (place + length figures) runs) row → AreRowsFrom place runs (figures ++ f ∷ []) (rows ++ row ∷ [])
 AreRowsFrom-push place runs [] [] f row h more =
     let P : ℕ → Type 0 = λ n. IsRow f (numbers_at n runs) row in

@@ -3,7 +3,7 @@ use Rattle.std.proofs.Common.{◌≡◌, ℕ, ◌+◌, List, [], ◌∷◌, ◌+
 use Rattle.std.proofs.lemmas.List.{length-append, length-map}
 use Rattle.bq_actions.specs.declared.workload.Workload.{Workload}
 use Rattle.bq_comparison.specs.declared.naming.Figure.{Figure}
-use Rattle.bq_comparison.specs.declared.runs.Run.{Run}
+use Rattle.bq_comparison.specs.declared.runs.RunFigures.{RunFigures}
 use Rattle.bq_comparison.specs.declared.fault.SeedsFault.{SeedsFault}
 use Rattle.bq_comparison.specs.declared.fault.SeedsFault.TheVariants as fault
 use Rattle.bq_comparison.specs.Faults.{HasFault, IsNoRun, IsNoSummary, fault_of_run}
@@ -15,7 +15,7 @@ use Rattle.bq_simulate.specs.Simulations.{Accepted, with_seed}
 use Rattle.bq_comparison.specs.Seeds.{AreResults, AreRuns, Comes, IsRun}
 
 -- what came of runs that all came to their end
-ran : (policies : List Accepted) (w : Workload) (figures : List Figure) (seed : ℕ) (runs : List Run) → AreResults policies w figures seed (map Ok runs) → AreRuns policies w figures seed runs
+ran : (policies : List Accepted) (w : Workload) (figures : List Figure) (seed : ℕ) (runs : List RunFigures) → AreResults policies w figures seed (map Ok runs) → AreRuns policies w figures seed runs
 ran policies w figures seed [] h = tt
 ran policies w figures seed (x ∷ xs) h =
     let P : ℕ → Type 0 = λ s. IsRun policies (with_seed w s) figures x in
@@ -26,7 +26,7 @@ ran policies w figures seed (x ∷ xs) h =
     (subst P (omega arith) first.0, ran policies w figures (seed + 1) xs rest)
 
 -- runs with some seeds, and results with the seeds after them that are runs, are runs together
-pub AreRuns-append : (policies : List Accepted) (w : Workload) (figures : List Figure) (seed : ℕ) (runs more : List Run)
+pub AreRuns-append : (policies : List Accepted) (w : Workload) (figures : List Figure) (seed : ℕ) (runs more : List RunFigures)
     → AreRuns policies w figures seed runs → AreResults policies w figures (seed + length runs) (map Ok more) → AreRuns policies w figures seed (runs ++ more)
 AreRuns-append policies w figures seed [] more h k =
     let P : ℕ → Type 0 = λ s. AreResults policies w figures s (map Ok more) in
@@ -35,21 +35,21 @@ AreRuns-append policies w figures seed (x ∷ xs) more h k =
     let P : ℕ → Type 0 = λ s. AreResults policies w figures s (map Ok more) in
     (h.0, AreRuns-append policies w figures (seed + 1) xs more h.1 (subst P (omega arith) k))
 
-abbrev ended : Run → Result Run SeedsFault
+abbrev ended : RunFigures → Result RunFigures SeedsFault
 ended = Ok
 
 -- as many as came to their end
-pub Comes-count : (before after : List Run) (results : List (Result Run SeedsFault)) → Comes before results after → length after ≡ length before + length results
+pub Comes-count : (before after : List RunFigures) (results : List (Result RunFigures SeedsFault)) → Comes before results after → length after ≡ length before + length results
 Comes-count before after results (more, ok, is) =
     ap length is ∙ length-append before more ∙ ap (λ n. length before + n) (sym (length-map more ended) ∙ ap length (sym ok))
 
 -- those with the next seeds stand behind those before
-pub AreRuns-come : (policies : List Accepted) (w : Workload) (figures : List Figure) (seed next : ℕ) (before after : List Run) (results : List (Result Run SeedsFault))
+pub AreRuns-come : (policies : List Accepted) (w : Workload) (figures : List Figure) (seed next : ℕ) (before after : List RunFigures) (results : List (Result RunFigures SeedsFault))
     → next ≡ seed + length before → AreRuns policies w figures seed before → AreResults policies w figures next results → Comes before results after → AreRuns policies w figures seed after
 AreRuns-come policies w figures seed next before after results at h k (more, ok, is) =
-    let P : List Run → Type 0 = λ l. AreRuns policies w figures seed l in
+    let P : List RunFigures → Type 0 = λ l. AreRuns policies w figures seed l in
     let Q : ℕ → Type 0 = λ s. AreResults policies w figures s results in
-    let R : List (Result Run SeedsFault) → Type 0 = λ l. AreResults policies w figures (seed + length before) l in
+    let R : List (Result RunFigures SeedsFault) → Type 0 = λ l. AreResults policies w figures (seed + length before) l in
     subst P (sym is) (AreRuns-append policies w figures seed before more h (subst R ok (subst Q at k)))
 
 -- the fault of a run, in the words of a summary, says as much
@@ -67,7 +67,7 @@ refused_all w count fault.Last h = absurd h
 refused_all w count fault.OutOfMemory h = tt
 
 -- and where one of the results is a fault, or memory runs out
-pub none_comes : (policies : List Accepted) (w : Workload) (figures : List Figure) (seed count : ℕ) (results : List (Result Run SeedsFault)) (why : SeedsFault)
+pub none_comes : (policies : List Accepted) (w : Workload) (figures : List Figure) (seed count : ℕ) (results : List (Result RunFigures SeedsFault)) (why : SeedsFault)
     → AreResults policies w figures seed results → (why ≡ fault.OutOfMemory) ⊎ HasFault results why → IsNoSummary w count why
 none_comes policies w figures seed count results why are (inl out) = subst (λ e. IsNoSummary w count e) (sym out) tt
 none_comes policies w figures seed count results why are (inr (i, there)) = let one = are i (Err why) there in refused_all w count why one.1

@@ -7,7 +7,7 @@ use Rattle.bq_simulate.specs.declared.fault.SimulateFault.{SimulateFault}
 use Rattle.bq_simulate.specs.declared.fault.SimulateFault.TheVariants as run_fault
 use Rattle.bq_comparison.specs.declared.fault.SeedsFault.{SeedsFault}
 use Rattle.bq_comparison.specs.declared.fault.SeedsFault.TheVariants as fault
-use Rattle.bq_comparison.specs.declared.runs.Run.{Run}
+use Rattle.bq_comparison.specs.declared.runs.RunFigures.{RunFigures}
 
 -- the fault of a run, in the words of a summary
 abbrev pub fault_of_run : SimulateFault → SeedsFault
@@ -27,5 +27,5 @@ IsNoSummary w count fault.Last = 2 ^ 64 < w.machine.seed + count
 IsNoSummary w count fault.OutOfMemory = ⊤
 
 -- one of them ended in that fault
-abbrev pub HasFault : List (Result Run SeedsFault) → SeedsFault → Type 0
+abbrev pub HasFault : List (Result RunFigures SeedsFault) → SeedsFault → Type 0
 HasFault results why = (i : ℕ) × (slice_get results i ≡ Some (Err why))

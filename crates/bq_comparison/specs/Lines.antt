@@ -4,16 +4,16 @@ use Rattle.std.specs.declared.vec.Vec.{Vec}
 use Rattle.std.proofs.Common.{Global}
 use Rattle.bq_comparison.specs.declared.naming.Figure.{Figure}
 use Rattle.bq_comparison.specs.declared.naming.Figure.TheVariants.{Task, Latency, Processor, Hook}
-use Rattle.bq_comparison.specs.declared.summing.Row.{Row}
+use Rattle.bq_comparison.specs.declared.summing.FigureRow.{FigureRow}
 use Rattle.bq_forms.specs.declared.window.Window.{Window}
 use Rattle.bq_forms.specs.Windows.{ShowsProcessor, ShowsTask}
-use Rattle.bq_comparison.specs.declared.line.Line.{Line}
+use Rattle.bq_comparison.specs.declared.line.FigureLine.{FigureLine}
 
-abbrev pub row_at : Option (Vec Row Global) → ℕ → Option Row
+abbrev pub row_at : Option (Vec FigureRow Global) → ℕ → Option FigureRow
 row_at theirs place = option_and_then (λ rows. slice_get rows.items place) theirs
 
 -- each row beside the one at its place; the first has this place
-abbrev pub beside : ℕ → List Row → Option (Vec Row Global) → List Line
+abbrev pub beside : ℕ → List FigureRow → Option (Vec FigureRow Global) → List FigureLine
 beside place [] theirs = []
 beside place (row ∷ rows) theirs = record { ours = row; theirs = row_at theirs place } ∷ beside (place + 1) rows theirs
 
@@ -22,25 +22,25 @@ abbrev pub is_nothing : Option ℕ → Bool
 is_nothing None = false
 is_nothing (Some mean) = mean == 0
 
-abbrev pub nothing_beside : Option Row → Bool → Bool
+abbrev pub nothing_beside : Option FigureRow → Bool → Bool
 nothing_beside None ours = ours
 nothing_beside (Some theirs) ours = ours && is_nothing theirs.mean
 
 -- the means are 0 on both sides
-abbrev pub says_nothing : Line → Bool
+abbrev pub says_nothing : FigureLine → Bool
 says_nothing line = nothing_beside line.theirs (is_nothing line.ours.mean)
 
-abbrev pub IsShownAs : Window → Line → Figure → Type 0
+abbrev pub IsShownAs : Window → FigureLine → Figure → Type 0
 IsShownAs w line (Task id f) = ShowsTask w id
 IsShownAs w line (Latency id percent) = ShowsTask w id
 IsShownAs w line (Processor processor f) = ShowsProcessor w processor
 IsShownAs w line (Hook processor at f) = ShowsProcessor w processor × (says_nothing line ≡ false)
 
 -- it tells of a task or a processor in the window, and of a hook only what is not 0 on both sides
-abbrev pub IsShown : Window → Line → Type 0
+abbrev pub IsShown : Window → FigureLine → Type 0
 IsShown w line = IsShownAs w line line.ours.figure
 
 -- those of some lines for which P holds, in their order
-abbrev pub Selects : (Line → Type 0) → List Line → List Line → Type 0
+abbrev pub Selects : (FigureLine → Type 0) → List FigureLine → List FigureLine → Type 0
 Selects P [] chosen = chosen ≡ []
-Selects P (x ∷ xs) chosen = (P x × ((rest : List Line) × (chosen ≡ x ∷ rest) × Selects P xs rest)) ⊎ ((¬ P x) × Selects P xs chosen)
+Selects P (x ∷ xs) chosen = (P x × ((rest : List FigureLine) × (chosen ≡ x ∷ rest) × Selects P xs rest)) ⊎ ((¬ P x) × Selects P xs chosen)

@@ -3,26 +3,26 @@ use Rattle.std.specs.Prelude.{◌≡◌, ℕ, ◌+◌, ◌<◌, ◌⊎◌, List,
 use Rattle.std.specs.List.{filter_map}
 use Rattle.bq_comparison.specs.Means.{IsDeviation, IsMean, IsTooGreat}
 use Rattle.bq_comparison.specs.declared.naming.Figure.{Figure}
-use Rattle.bq_comparison.specs.declared.summing.Row.{Row}
-use Rattle.bq_comparison.specs.declared.runs.Run.{Run}
+use Rattle.bq_comparison.specs.declared.summing.FigureRow.{FigureRow}
+use Rattle.bq_comparison.specs.declared.runs.RunFigures.{RunFigures}
 use Rattle.bq_comparison.specs.Runs.{number_at}
 
 -- the numbers at a place, of the runs that have one there
-abbrev pub numbers_at : ℕ → List Run → List ℕ
+abbrev pub numbers_at : ℕ → List RunFigures → List ℕ
 numbers_at place runs = filter_map (number_at place) runs
 
 -- what the numbers say of a figure
-pub record IsRow (figure : Figure) (xs : List ℕ) (row : Row) : Type 0 where
+pub record IsRow (figure : Figure) (xs : List ℕ) (row : FigureRow) : Type 0 where
   pub of : row.figure ≡ figure
   pub runs : row.runs ≡ length xs
   pub mean : MatchOption row.mean (xs ≡ []) (IsMean xs)
   pub deviation : MatchOption row.deviation ((length xs < 2) ⊎ IsTooGreat xs) (IsDeviation xs)
 
 -- a row for each figure, of the numbers at its place; the first has this place
-abbrev pub AreRowsFrom : ℕ → List Run → List Figure → List Row → Type 0
+abbrev pub AreRowsFrom : ℕ → List RunFigures → List Figure → List FigureRow → Type 0
 AreRowsFrom place runs [] [] = Unit {0}
 AreRowsFrom place runs (f ∷ figures) (row ∷ rows) = IsRow f (numbers_at place runs) row × AreRowsFrom (place + 1) runs figures rows
 AreRowsFrom place runs figures rows = ⊥
 
-abbrev pub AreRows : List Run → List Figure → List Row → Type 0
+abbrev pub AreRows : List RunFigures → List Figure → List FigureRow → Type 0
 AreRows runs figures rows = AreRowsFrom 0 runs figures rows

@@ -3,8 +3,8 @@ use Rattle.std.specs.Prelude.{◌≡◌, ℕ, ◌+◌, List, [], ◌∷◌, ◌+
 use Rattle.bq_actions.specs.declared.workload.Workload.{Workload}
 use Rattle.bq_schedule.specs.Figures.{Figures}
 use Rattle.bq_comparison.specs.declared.naming.Figure.{Figure}
-use Rattle.bq_comparison.specs.declared.summing.Row.{Row}
-use Rattle.bq_comparison.specs.declared.runs.Run.{Run}
+use Rattle.bq_comparison.specs.declared.summing.FigureRow.{FigureRow}
+use Rattle.bq_comparison.specs.declared.runs.RunFigures.{RunFigures}
 use Rattle.bq_comparison.specs.declared.values.Delay.{Delay}
 use Rattle.bq_comparison.specs.Rows.{AreRows}
 use Rattle.bq_comparison.specs.Runs.{IsRunOf}
@@ -14,28 +14,28 @@ use Rattle.bq_comparison.specs.declared.fault.SeedsFault.{SeedsFault}
 use Rattle.bq_comparison.specs.Faults.{IsNoRun}
 
 -- the figures of a simulation of that workload with these policies
-pub record IsRun (policies : List Accepted) (w : Workload) (figures : List Figure) (run : Run) : Type 0 where
+pub record IsRun (policies : List Accepted) (w : Workload) (figures : List Figure) (run : RunFigures) : Type 0 where
   pub schedule : Figures
   pub delays : List Delay
   pub gathered : IsGathered policies w (Some schedule) delays
   pub told : IsRunOf schedule delays figures run
 
 -- a run with each seed in turn, from that one on
-abbrev pub AreRuns : List Accepted → Workload → List Figure → ℕ → List Run → Type 0
+abbrev pub AreRuns : List Accepted → Workload → List Figure → ℕ → List RunFigures → Type 0
 AreRuns policies w figures seed [] = Unit {0}
 AreRuns policies w figures seed (run ∷ runs) = IsRun policies (with_seed w seed) figures run × AreRuns policies w figures (seed + 1) runs
 
 -- what the runs with so many seeds, from the workload's own on, say of each figure
-pub record IsSummary (policies : List Accepted) (w : Workload) (count : ℕ) (figures : List Figure) (rows : List Row) : Type 0 where
-  pub runs : List Run
+pub record IsSummary (policies : List Accepted) (w : Workload) (count : ℕ) (figures : List Figure) (rows : List FigureRow) : Type 0 where
+  pub runs : List RunFigures
   pub number : length runs ≡ count
   pub runs_are : AreRuns policies w figures w.machine.seed runs
   pub rows_are : AreRows runs figures rows
 
 -- what came of a run with each seed from that one on: its figures, where it came to its end, and else why it did not
-abbrev pub AreResults : List Accepted → Workload → List Figure → ℕ → List (Result Run SeedsFault) → Type 0
-AreResults policies w figures seed results = (i : ℕ) (result : Result Run SeedsFault) → slice_get results i ≡ Some result → IfOk result (IsRun policies (with_seed w (seed + i)) figures) × IfErr result (IsNoRun w)
+abbrev pub AreResults : List Accepted → Workload → List Figure → ℕ → List (Result RunFigures SeedsFault) → Type 0
+AreResults policies w figures seed results = (i : ℕ) (result : Result RunFigures SeedsFault) → slice_get results i ≡ Some result → IfOk result (IsRun policies (with_seed w (seed + i)) figures) × IfErr result (IsNoRun w)
 
 -- each of them came to its end, and they stand behind those before
-abbrev pub Comes : List Run → List (Result Run SeedsFault) → List Run → Type 0
-Comes before results after = (more : List Run) × (results ≡ map Ok more) × (after ≡ before ++ more)
+abbrev pub Comes : List RunFigures → List (Result RunFigures SeedsFault) → List RunFigures → Type 0
+Comes before results after = (more : List RunFigures) × (results ≡ map Ok more) × (after ≡ before ++ more)

@@ -6,7 +6,7 @@ use Rattle.bq_actions.specs.declared.workload.Workload.{Workload}
 use Rattle.bq_comparison.specs.declared.all.MachineSize.{MachineSize}
 use Rattle.bq_comparison.specs.Report.{figures_of_report}
 use Rattle.bq_simulate.specs.Simulations.{Accepted}
-use Rattle.bq_comparison.specs.declared.summing.Row.{Row}
+use Rattle.bq_comparison.specs.declared.summing.FigureRow.{FigureRow}
 use Rattle.bq_comparison.specs.Seeds.{IsSummary}
 use Rattle.bq_comparison.specs.declared.sides.Sides.{Sides}
 
@@ -15,7 +15,7 @@ abbrev pub size_of_machine : Workload → MachineSize
 size_of_machine w = record { tasks = min (sum_by (λ kind. kind.count) w.tasks.items) 65535; processors = processors_in w.machine.size }
 
 -- there is another side just where there are other policies, and it tells of so many runs with these
-abbrev pub AreTheirs : Option (List Accepted) → Workload → ℕ → Option (List Row) → Type 0
+abbrev pub AreTheirs : Option (List Accepted) → Workload → ℕ → Option (List FigureRow) → Type 0
 AreTheirs None w seeds rows = rows ≡ None
 AreTheirs (Some others) w seeds rows = IsSomeAnd rows (IsSummary others w seeds (figures_of_report (size_of_machine w)))
 

@@ -1,6 +1,6 @@
 //! Means, deviations and differences as text.
 
-use crate::Row;
+use crate::FigureRow;
 use crate::difference::Difference;
 use std::alloc::{AllocError, Global};
 
@@ -39,11 +39,11 @@ pub(crate) fn signed(
 }
 
 /// The mean of a row, if there is a row and it has one.
-pub(crate) fn mean_of(row: Option<Row>) -> Option<u128> {
+pub(crate) fn mean_of(row: Option<FigureRow>) -> Option<u128> {
     row?.mean
 }
 
 /// The deviation of a row, if there is a row and it has one.
-pub(crate) fn deviation_of(row: Option<Row>) -> Option<u128> {
+pub(crate) fn deviation_of(row: Option<FigureRow>) -> Option<u128> {
     row?.deviation
 }

@@ -3,8 +3,8 @@
 use crate::cells::{cell, deviation_of, mean_of, signed};
 use crate::difference::Difference;
 use crate::labels::{name, subject, unit, word};
-use crate::line::Line;
-use crate::{Figure, Row};
+use crate::line::FigureLine;
+use crate::{Figure, FigureRow};
 use csv::{Error, Writer, WriterBuilder};
 use std::alloc::{AllocError, Global};
 use std::str;
@@ -16,7 +16,7 @@ const HEAD: &str =
 /// A row a figure. Times are in nanoseconds, and what is not there is left empty.
 pub(crate) fn csv_text(
     alloc: Global,
-    lines: &[Line],
+    lines: &[FigureLine],
     names: &[String],
 ) -> Result<String, AllocError> {
     let mut text = String::from_str(alloc, HEAD)?;
@@ -30,7 +30,7 @@ pub(crate) fn csv_text(
 fn write_line(
     alloc: Global,
     text: &mut String,
-    line: &Line,
+    line: &FigureLine,
     names: &[String],
 ) -> Result<(), AllocError> {
     let bytes = row(alloc, line, names)?;
@@ -41,7 +41,7 @@ fn write_line(
 }
 
 /// The row of a figure, with its line end.
-fn row(alloc: Global, line: &Line, names: &[String]) -> Result<Vec<u8>, AllocError> {
+fn row(alloc: Global, line: &FigureLine, names: &[String]) -> Result<Vec<u8>, AllocError> {
     let mut writer = WriterBuilder::new().from_writer(Vec::new(alloc));
     write_label(alloc, &mut writer, line.ours.figure, names)?;
     write_side(alloc, &mut writer, Some(line.ours))?;
@@ -71,7 +71,7 @@ fn write_label(
 fn write_side(
     alloc: Global,
     writer: &mut Writer<Vec<u8>>,
-    side: Option<Row>,
+    side: Option<FigureRow>,
 ) -> Result<(), AllocError> {
     match side {
         Some(side) => write_field(writer, side.runs.to_string(alloc)?.as_str())?,

@@ -4,7 +4,7 @@ use crate::Figure;
 use crate::cells::{deviation_of, mean_of};
 use crate::difference::Difference;
 use crate::labels::{name, subject, unit, word};
-use crate::line::Line;
+use crate::line::FigureLine;
 use serde_json::{Map, Value, put};
 use std::alloc::{AllocError, Global};
 
@@ -12,7 +12,7 @@ use std::alloc::{AllocError, Global};
 /// are not there.
 pub(crate) fn json_text(
     alloc: Global,
-    lines: &[Line],
+    lines: &[FigureLine],
     names: &[String],
 ) -> Result<String, AllocError> {
     let mut text = String::from_str(alloc, "[")?;
@@ -28,7 +28,7 @@ pub(crate) fn json_text(
 }
 
 /// The object of a figure.
-fn object(alloc: Global, line: &Line, names: &[String]) -> Result<Value, AllocError> {
+fn object(alloc: Global, line: &FigureLine, names: &[String]) -> Result<Value, AllocError> {
     let mut object = Map::new(alloc);
     put_words(alloc, &mut object, line.ours.figure, names)?;
     put_numbers(alloc, &mut object, line)?;
@@ -62,7 +62,7 @@ fn put_word(
 fn put_numbers(
     alloc: Global,
     object: &mut Map<String, Value>,
-    line: &Line,
+    line: &FigureLine,
 ) -> Result<(), AllocError> {
     let their_mean = mean_of(line.theirs);
     let sizes = [

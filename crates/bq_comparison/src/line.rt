@@ -3,18 +3,18 @@ ghost use Rattle.std.specs.Prelude.{◌≡◌, ◌↔◌, IsTrue, IfOk};
 ghost use Rattle.bq_comparison.specs.Lines.{IsShown, Selects, beside, is_nothing, row_at, says_nothing};
 
 use crate::sides::Sides;
-use crate::{Figure, Row};
+use crate::{Figure, FigureRow};
 use bq_forms::Window;
 use std::alloc::{AllocError, Global};
 
 /// What the runs say of a figure, and what those under the other policies say, if there are any.
 #[derive(Clone, Copy)]
-pub struct Line {
-    pub ours: Row,
-    pub theirs: Option<Row>,
+pub struct FigureLine {
+    pub ours: FigureRow,
+    pub theirs: Option<FigureRow>,
 }
 
-impl Line {
+impl FigureLine {
     /// Whether it tells of a task or a processor in the window, and of a hook only what is not 0 on both sides.
     fn is_shown(&self, window: &Window) -> bool
         ensures { IsTrue result ↔ IsShown window.now self.now }
@@ -48,7 +48,7 @@ fn is_nothing(mean: Option<u128>) -> bool
 
 impl Sides {
     /// The row of the others at a place.
-    fn their(&self, place: usize) -> Option<Row>
+    fn their(&self, place: usize) -> Option<FigureRow>
         ensures { result ≡ row_at self.now.theirs place }
     {
         match &self.theirs {
@@ -59,12 +59,12 @@ impl Sides {
 }
 
 /// The rows side by side, of those that are shown.
-pub fn lines(alloc: Global, sides: &Sides, window: &Window) -> Result<Vec<Line>, AllocError>
+pub fn lines(alloc: Global, sides: &Sides, window: &Window) -> Result<Vec<FigureLine>, AllocError>
     ensures { IfOk result (λ v. Selects (IsShown window.now) (beside 0 sides.now.ours.items sides.now.theirs) v.items) }
 {
     let mut lines = Vec::new(alloc);
     'rows: for (place, row) in sides.ours.iter().enumerate() {
-        let line = Line {
+        let line = FigureLine {
             ours: *row,
             theirs: sides.their(place),
         };

@@ -16,7 +16,7 @@ pub struct FigureValue {
 
 /// The figures of one run, each with its value.
 #[derive(Drop)]
-pub struct Run {
+pub struct RunFigures {
     pub values: Vec<FigureValue>,
 }
 
@@ -26,7 +26,7 @@ pub fn run_of(
     schedule: &Schedule,
     delays: &[Delay],
     figures: &[Figure],
-) -> Result<Run, AllocError>
+) -> Result<RunFigures, AllocError>
     ensures { IfOk result (IsRunOf schedule.now delays.now figures.now) }
 {
     let mut values = Vec::new(alloc);
@@ -35,10 +35,10 @@ pub fn run_of(
         let value = value_of(alloc, schedule, delays, figure)?;
         values.push(FigureValue { figure, value })?;
     }
-    Ok(Run { values })
+    Ok(RunFigures { values })
 }
 
-impl Run {
+impl RunFigures {
     /// The number at a place among the figures, if there is one.
     pub(crate) fn number_at(&self, place: usize) -> Option<u64>
         ensures { result ≡ number_at place self.now }

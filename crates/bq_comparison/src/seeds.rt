@@ -7,7 +7,7 @@ ghost use Rattle.bq_simulate.specs.Simulations.{with_seed};
 
 use crate::fault::SeedsFault;
 use crate::gathering::gather;
-use crate::{Figure, Row, Run, rows, run_of};
+use crate::{Figure, FigureRow, RunFigures, rows, run_of};
 use bq_actions::Workload;
 use bq_core::Policy;
 use bq_simulate::SimulateFault;
@@ -15,10 +15,10 @@ use std::alloc::{AllocError, Global};
 use std::thread::{Threads, available_parallelism, map_indices};
 
 /// What the runs say of each figure, a row a figure.
-pub type Rows = Vec<Row>;
+pub type Rows = Vec<FigureRow>;
 
 /// What comes of some runs.
-type Results = Vec<Result<Run, SeedsFault>>;
+type Results = Vec<Result<RunFigures, SeedsFault>>;
 
 /// What runs share that differ by their seeds alone.
 #[derive(Clone, Copy)]
@@ -63,7 +63,7 @@ fn runs<T: Threads + Sync>(
     alloc: Global,
     experiment: &Experiment<'_>,
     count: u16,
-) -> Result<Vec<Run>, SeedsFault>
+) -> Result<Vec<RunFigures>, SeedsFault>
     ensures runs { IfOk result (λ runs. AreRuns experiment.now.policies.now experiment.now.workload.now experiment.now.figures.now experiment.now.workload.now.machine.seed runs.items) }
     ensures count { IfOk result (λ runs. vec_len runs ≡ count) }
     ensures fault { IfErr result (IsNoSummary experiment.now.workload.now count) }
@@ -121,7 +121,7 @@ fn nth_run(
     experiment: &Experiment<'_>,
     first: u64,
     number: usize,
-) -> Result<Run, SeedsFault>
+) -> Result<RunFigures, SeedsFault>
     ensures run { IfOk result (IsRun experiment.now.policies.now (with_seed experiment.now.workload.now (first + number)) experiment.now.figures.now) }
     ensures fault { first + number < 2 ^ 64 → IfErr result (IsNoRun experiment.now.workload.now) }
 {
@@ -132,7 +132,7 @@ fn nth_run(
 }
 
 /// Adds what came of some runs; where one did not come to its end, the first such fault.
-fn add_all(runs: &mut Vec<Run>, results: Results) -> Result<(), SeedsFault>
+fn add_all(runs: &mut Vec<RunFigures>, results: Results) -> Result<(), SeedsFault>
     ensures comes { OnOk result (Comes runs.old.items results.items runs.new.items) }
     ensures fault { IfErr result (λ why. (why ≡ OutOfMemory) ⊎ HasFault results.items why) }
 {
@@ -143,7 +143,7 @@ fn add_all(runs: &mut Vec<Run>, results: Results) -> Result<(), SeedsFault>
 }
 
 /// One run, with this seed in place of the workload's own.
-fn run(alloc: Global, experiment: &Experiment<'_>, seed: u64) -> Result<Run, SeedsFault>
+fn run(alloc: Global, experiment: &Experiment<'_>, seed: u64) -> Result<RunFigures, SeedsFault>
     ensures run { IfOk result (IsRun experiment.now.policies.now (with_seed experiment.now.workload.now seed) experiment.now.figures.now) }
     ensures fault { IfErr result (IsNoRun experiment.now.workload.now) }
 {

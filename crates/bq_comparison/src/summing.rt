@@ -3,13 +3,13 @@ ghost use Rattle.std.specs.Prelude.{◌≡◌, ◌≤◌, IfOk, length};
 ghost use Rattle.bq_comparison.specs.Rows.{AreRows, IsRow, numbers_at};
 
 use crate::naming::Figure;
-use crate::runs::Run;
+use crate::runs::RunFigures;
 use crate::{deviation, mean};
 use std::alloc::{AllocError, Global};
 
 /// What several runs say of a figure, in thousandths of its unit, rounded down.
 #[derive(Clone, Copy)]
-pub struct Row {
+pub struct FigureRow {
     pub figure: Figure,
     /// How many runs have a value.
     pub runs: usize,
@@ -21,7 +21,7 @@ pub struct Row {
 }
 
 /// What some runs of the same figures say of each.
-pub fn rows(alloc: Global, figures: &[Figure], runs: &[Run]) -> Result<Vec<Row>, AllocError>
+pub fn rows(alloc: Global, figures: &[Figure], runs: &[RunFigures]) -> Result<Vec<FigureRow>, AllocError>
     requires { length runs.now ≤ 65536 }
     ensures { IfOk result (λ v. AreRows runs.now figures.now v.items) }
 {
@@ -34,14 +34,14 @@ pub fn rows(alloc: Global, figures: &[Figure], runs: &[Run]) -> Result<Vec<Row>,
 }
 
 /// What the numbers say of a figure.
-fn row_of(figure: Figure, numbers: &[u64]) -> Row
+fn row_of(figure: Figure, numbers: &[u64]) -> FigureRow
     requires { length numbers.now ≤ 65536 }
     ensures { IsRow figure numbers.now result }
 {
     let runs = numbers.len();
     let mean = if runs == 0 { None } else { Some(mean(numbers)) };
     let deviation = if runs < 2 { None } else { deviation(numbers) };
-    Row {
+    FigureRow {
         figure,
         runs,
         mean,
@@ -50,7 +50,7 @@ fn row_of(figure: Figure, numbers: &[u64]) -> Row
 }
 
 /// The numbers at a place in the runs that have one there.
-fn numbers_at(alloc: Global, runs: &[Run], place: usize) -> Result<Vec<u64>, AllocError>
+fn numbers_at(alloc: Global, runs: &[RunFigures], place: usize) -> Result<Vec<u64>, AllocError>
     ensures value { IfOk result (λ v. v.items ≡ numbers_at place runs.now) }
     ensures few { IfOk result (λ v. length v.items ≤ length runs.now) }
 {

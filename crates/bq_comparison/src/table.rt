@@ -3,7 +3,7 @@
 use crate::cells::{cell, deviation_of, mean_of, signed};
 use crate::difference::Difference;
 use crate::labels::{is_time, name, subject, word};
-use crate::line::Line;
+use crate::line::FigureLine;
 use std::alloc::{AllocError, Global};
 
 /// The head of a table without others.
@@ -16,7 +16,7 @@ const WIDE_HEAD: &str =
 /// A line a figure. Times are in microseconds.
 pub(crate) fn table_text(
     alloc: Global,
-    lines: &[Line],
+    lines: &[FigureLine],
     names: &[String],
 ) -> Result<String, AllocError> {
     let mut text = String::from_str(alloc, head(lines))?;
@@ -28,7 +28,7 @@ pub(crate) fn table_text(
     Ok(text)
 }
 
-fn head(lines: &[Line]) -> &'static str {
+fn head(lines: &[FigureLine]) -> &'static str {
     match lines.first() {
         Some(line) if line.theirs.is_some() => WIDE_HEAD,
         _ => HEAD,
@@ -39,7 +39,7 @@ fn head(lines: &[Line]) -> &'static str {
 fn write_label(
     alloc: Global,
     text: &mut String,
-    line: &Line,
+    line: &FigureLine,
     names: &[String],
 ) -> Result<(), AllocError> {
     let figure = line.ours.figure;
@@ -51,7 +51,7 @@ fn write_label(
 }
 
 /// Its means and deviations.
-fn write_cells(alloc: Global, text: &mut String, line: &Line) -> Result<(), AllocError> {
+fn write_cells(alloc: Global, text: &mut String, line: &FigureLine) -> Result<(), AllocError> {
     let is_time = is_time(line.ours.figure);
     write_cell(alloc, text, is_time, line.ours.mean)?;
     write_cell(alloc, text, is_time, line.ours.deviation)?;

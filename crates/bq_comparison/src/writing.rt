@@ -3,7 +3,7 @@
 use crate::asked::TableForm;
 use crate::csv_text::csv_text;
 use crate::json_text::json_text;
-use crate::line::Line;
+use crate::line::FigureLine;
 use crate::table::table_text;
 use bq_actions::Workload;
 use bq_study::{plain, task_names};
@@ -13,7 +13,7 @@ use std::alloc::{AllocError, Global};
 pub fn written(
     alloc: Global,
     workload: &Workload,
-    lines: &[Line],
+    lines: &[FigureLine],
     form: TableForm,
 ) -> Result<String, AllocError> {
     let names = plain_names(alloc, workload)?;

@@ -14,7 +14,7 @@ use Rattle.bq_program.specs.declared.policy_source.PolicySource.{PolicySource}
 use Rattle.bq_explain.specs.Explained.{IsKnown, IsNeedAt}
 use Rattle.bq_needs.specs.Needs.{IsNeed}
 use Rattle.bq_explain.specs.Telling.{TellsState}
-use Rattle.bq_explain.specs.Texts.{IsViewText}
+use Rattle.bq_explain.specs.Texts.{IsStateText}
 
 -- the lines on the state stand between the others, and hold
 pub is_known : (p : PolicySource) (slot : ℕ) (v : AbstractState) (before known after text : List ℕ) → ContainsRuns (spread p.insns.items) p.shapes.items (context_length_of p.hook p.version) slot v → ((f : Setting) (s : State) → Contains f v s → TellsState f s known) → text ≡ before ++ (known ++ after) → IsKnown p slot text known
@@ -26,12 +26,12 @@ pub known_behind : (head need known after text : List ℕ) → text ≡ head ++ 
 known_behind head need known after text is = is ∙ sym (simp append_assoc)
 
 -- the need stands on the line before them
-pub need_at : (p : PolicySource) (slot : ℕ) (cause : Cause) (insn : Insn) (v : AbstractState) (before need known after text : List ℕ) → ContainsRuns (spread p.insns.items) p.shapes.items (context_length_of p.hook p.version) slot v → IsViewText v known → instruction_at (spread p.insns.items) slot ≡ Some insn → IsNeed p v insn cause need → text ≡ before ++ (codes "\n  " ++ (need ++ (codes "\n" ++ (known ++ after)))) → IsNeedAt p slot cause text known
+pub need_at : (p : PolicySource) (slot : ℕ) (cause : Cause) (insn : Insn) (v : AbstractState) (before need known after text : List ℕ) → ContainsRuns (spread p.insns.items) p.shapes.items (context_length_of p.hook p.version) slot v → IsStateText v known → instruction_at (spread p.insns.items) slot ≡ Some insn → IsNeed p v insn cause need → text ≡ before ++ (codes "\n  " ++ (need ++ (codes "\n" ++ (known ++ after)))) → IsNeedAt p slot cause text known
 need_at p slot cause insn v before need known after text contains told here is_need is =
     record {
-      view = v;
+      state = v;
       contains = contains;
-      view_told = told;
+      state_told = told;
       insn = insn;
       here = here;
       need = need;

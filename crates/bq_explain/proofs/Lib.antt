@@ -5,4 +5,4 @@ pub mod KnownLemmas
 pub mod RunLemmas
 pub mod SlotLemmas
 pub mod UnsetLemmas
-pub mod ViewLemmas
+pub mod StateTextLemmas

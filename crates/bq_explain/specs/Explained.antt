@@ -19,7 +19,7 @@ use Rattle.bq_explain.specs.declared.verdict.Verdict.TheVariants.{Refused}
 use Rattle.bq_needs.specs.Needs.{IsNeed}
 use Rattle.bq_explain.specs.Telling.{TellsState}
 use Rattle.bq_explain.specs.Beginnings.{BeginsWith, first_words}
-use Rattle.bq_explain.specs.Texts.{IsViewText}
+use Rattle.bq_explain.specs.Texts.{IsStateText}
 use Rattle.bq_explain.specs.Verdicts.{IsVerdict, is_accepted}
 
 -- in every run of the policy's program that comes to the slot, whatever the context, the maps, the clock, the processor and the answers of the
@@ -43,13 +43,13 @@ HasKnown p slot e = IfSome e.known (λ known. IsKnown p slot (string_bytes e.tex
 -- the lines on the state tell of an abstract state that every run which comes to the slot is within; the line before them tells, by the cause, a need of the
 -- instruction there that this abstract state does not give
 pub record IsNeedAt (p : PolicySource) (slot : ℕ) (cause : Cause) (text known : List ℕ) : Type 0 where
-  pub view : AbstractState
-  pub contains : ContainsRuns (spread p.insns.items) p.shapes.items (context_length_of p.hook p.version) slot view
-  pub view_told : IsViewText view known
+  pub state : AbstractState
+  pub contains : ContainsRuns (spread p.insns.items) p.shapes.items (context_length_of p.hook p.version) slot state
+  pub state_told : IsStateText state known
   pub insn : Insn
   pub here : instruction_at (spread p.insns.items) slot ≡ Some insn
   pub need : List ℕ
-  pub is_need : IsNeed p view insn cause need
+  pub is_need : IsNeed p state insn cause need
   pub before : List ℕ
   pub after : List ℕ
   pub text_is : text ≡ before ++ (codes "\n  " ++ (need ++ (codes "\n" ++ (known ++ after))))

@@ -71,7 +71,7 @@ abbrev pub IsStackText : List Bool → List ℕ → Type 0
 IsStackText set text = (runs : List ℕ) × AreRuns set stack_size runs × (text ≡ stack_text runs)
 
 -- what is known: each register that is known, those that are not, the stack's bytes that are set, and the words that are kept there
-pub record IsViewText (v : AbstractState) (text : List ℕ) : Type 0 where
+pub record IsStateText (v : AbstractState) (text : List ℕ) : Type 0 where
   pub stack : List ℕ
   pub text_is : text ≡ codes " " ++ (registers_below 11 v.registers ++ (unset_text v.registers ++ (stack ++ kept_below 64 v.kept)))
   pub is_stack : IsStackText v.set stack

@@ -3,7 +3,7 @@ use bq_bpf::{Hook, Version, context_length, with_helpers, with_stack_size};
 use bq_insn::{Insn, Size};
 use bq_needs::reads;
 use bq_program::PolicySource;
-use bq_states::abstract_state::{AbstractState, AbstractValue, Kind};
+use bq_states::abstract_state::{AbstractState, AbstractValue, ValueKind};
 use bq_states::registers::known;
 use bq_verify::{Cause, Doubt, GraphCause};
 
@@ -27,13 +27,13 @@ pub(crate) fn graph_advice(cause: Cause) -> &'static str {
 /// What helps where something is not shown of the states.
 pub(crate) fn state_advice(
     policy: &PolicySource,
-    view: &AbstractState,
+    state: &AbstractState,
     insn: Insn,
     cause: Cause,
 ) -> &'static str {
     match cause {
-        Cause::State(Doubt::Unset) => unset_advice(view, insn),
-        Cause::State(Doubt::Access) => access_advice(policy, view, insn),
+        Cause::State(Doubt::Unset) => unset_advice(state, insn),
+        Cause::State(Doubt::Access) => access_advice(policy, state, insn),
         Cause::State(Doubt::PointerUse) => match insn {
             Insn::StoreReg { .. } => "store it by stxdw at r10 - 8, r10 - 16 or so on",
             Insn::Branch { .. } => {
@@ -58,9 +58,9 @@ pub(crate) fn state_advice(
 }
 
 /// A call leaves r1 to r5 unset, which is the usual slip.
-fn unset_advice(view: &AbstractState, insn: Insn) -> &'static str {
+fn unset_advice(state: &AbstractState, insn: Insn) -> &'static str {
     for register in 1..6u8 {
-        if reads(insn, register) && known(view, register).is_none() {
+        if reads(insn, register) && known(state, register).is_none() {
             return "set it on each way before; a call leaves r1 to r5 unset, so keep what is needed later in r6 to r9, as by mov64 r6, r1 at the begin";
         }
     }
@@ -68,29 +68,29 @@ fn unset_advice(view: &AbstractState, insn: Insn) -> &'static str {
 }
 
 /// What helps where an access is not shown to be within what its pointer points to.
-fn access_advice(policy: &PolicySource, view: &AbstractState, insn: Insn) -> &'static str {
+fn access_advice(policy: &PolicySource, state: &AbstractState, insn: Insn) -> &'static str {
     let register = match insn {
         Insn::Load { src, .. } => src,
         Insn::StoreImm { dst, .. } | Insn::StoreReg { dst, .. } => dst,
         _ => 0,
     };
-    let Some(pointer) = known(view, register) else {
+    let Some(pointer) = known(state, register) else {
         return "set the register on each way that leads here";
     };
     match pointer.kind {
-        Kind::Context => context_advice(policy, pointer, insn),
-        Kind::Stack => {
+        ValueKind::Context => context_advice(policy, pointer, insn),
+        ValueKind::Stack => {
             with_stack_size!(
                 "write the bytes first on each way, at the same distance from r10; the stack is the ",
                 " bytes below r10"
             )
         }
-        Kind::Entry(_) => "a smaller offset or mask, or a map of larger values",
-        Kind::EntryOrNull(_) => {
+        ValueKind::Entry(_) => "a smaller offset or mask, or a map of larger values",
+        ValueKind::EntryOrNull(_) => {
             "test it first: jeq64 r0, 0, label, and use it on the other side"
         }
-        Kind::Number => "use a pointer: r1 at the begin is the context, r10 the stack's end",
-        Kind::Map(_) => "look an entry up first, by helper 1",
+        ValueKind::Number => "use a pointer: r1 at the begin is the context, r10 the stack's end",
+        ValueKind::Map(_) => "look an entry up first, by helper 1",
     }
 }
 

@@ -16,7 +16,7 @@ use crate::registers::read;
 use crate::summary::summary;
 use crate::trail::trail_text;
 use crate::verdict::{Verdict, judge, program_of, verdict_line};
-use crate::view_words::view_text;
+use crate::state_words::state_text;
 use bq_insn::Insn;
 use bq_needs::need_text;
 use bq_program::{PolicySource, instruction_text};
@@ -132,7 +132,7 @@ fn reasons(
 {
     let program = program_of(alloc, policy)?;
     match state_at(alloc, &program, fault.slot)? {
-        Some(view) => state_reasons(alloc, head, policy, &program, &view, fault),
+        Some(state) => state_reasons(alloc, head, policy, &program, &state, fault),
         None => {
             let need = graph_words(fault.cause);
             let help = graph_advice(fault.cause);
@@ -148,21 +148,21 @@ fn state_reasons(
     head: &str,
     policy: &PolicySource,
     program: &Program,
-    view: &AbstractState,
+    state: &AbstractState,
     fault: Fault,
 ) -> Result<Explained, AllocError>
     requires whole { is_well_formed program.now.insns.items ≡ true }
     requires few { length program.now.shapes.items ≤ 8 }
     requires here { instruction_at (spread policy.now.insns.items) fault.slot ≡ Some fault.insn }
-    requires contains { ContainsRuns (spread policy.now.insns.items) policy.now.shapes.items (context_length_of policy.now.hook policy.now.version) fault.slot view.now }
+    requires contains { ContainsRuns (spread policy.now.insns.items) policy.now.shapes.items (context_length_of policy.now.hook policy.now.version) fault.slot state.now }
     ensures accepted { IfOk result (λ e. e.accepted ≡ false) }
     ensures begins { IfOk result (λ e. BeginsWith (string_bytes e.text) head.now) }
     ensures known { IfOk result (HasKnown policy.now fault.slot) }
     ensures need { IfOk result (HasNeed policy.now fault.slot fault.cause) }
 {
-    let need = need_text(alloc, policy, view, fault.insn, fault.cause)?;
-    let known = view_text(alloc, view)?;
-    let after = what_helps(alloc, policy, program, view, fault)?;
+    let need = need_text(alloc, policy, state, fault.insn, fault.cause)?;
+    let known = state_text(alloc, state)?;
+    let after = what_helps(alloc, policy, program, state, fault)?;
     let text = format!(in alloc; "{head}\n  {need}\n{known}{after}")?;
     Ok(Explained {
         text,
@@ -176,7 +176,7 @@ fn what_helps(
     alloc: Global,
     policy: &PolicySource,
     program: &Program,
-    view: &AbstractState,
+    state: &AbstractState,
     fault: Fault,
 ) -> Result<String, AllocError>
     requires whole { is_well_formed program.now.insns.items ≡ true }
@@ -184,6 +184,6 @@ fn what_helps(
 {
     let lines = policy.lines.as_slice();
     let trail = trail_text(alloc, program, lines, fault.index, read(fault.insn))?;
-    let help = state_advice(policy, view, fault.insn, fault.cause);
+    let help = state_advice(policy, state, fault.insn, fault.cause);
     format!(in alloc; "{trail}  helps: {help}\n")
 }

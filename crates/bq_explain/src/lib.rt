@@ -17,7 +17,7 @@ mod registers;
 mod summary;
 mod trail;
 mod verdict;
-mod view_words;
+mod state_words;
 mod vocabulary;
 
 pub use bq_needs::range_text;

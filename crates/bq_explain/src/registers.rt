@@ -4,10 +4,10 @@ use bq_insn::Insn;
 use bq_needs::reads;
 
 /// Registers by their numbers, a bit for each.
-pub(crate) type Registers = u16;
+pub(crate) type RegisterSet = u16;
 
 /// The bit of a register.
-pub(crate) fn bit(register: u8) -> Registers {
+pub(crate) fn bit(register: u8) -> RegisterSet {
     1u16.checked_shl(u32::from(register)).unwrap_or(0)
 }
 
@@ -20,7 +20,7 @@ pub(crate) fn written(insn: Insn) -> Option<u8> {
 }
 
 /// The registers that the instruction reads as operands.
-pub(crate) fn read(insn: Insn) -> Registers {
+pub(crate) fn read(insn: Insn) -> RegisterSet {
     let mut registers = 0;
     for register in 0..11u8 {
         if reads(insn, register) {

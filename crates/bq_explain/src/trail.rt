@@ -3,7 +3,7 @@ ghost use Rattle.std.specs.Prelude.{◌≡◌, ◌≤◌, length, true};
 ghost use Rattle.bq_insn.specs.Spelling.{is_well_formed};
 
 use crate::program_words::place_of;
-use crate::registers::{Registers, bit, read, written};
+use crate::registers::{RegisterSet, bit, read, written};
 use bq_insn::Insn;
 use bq_needs::known_text;
 use bq_program::instruction_text;
@@ -27,7 +27,7 @@ fn trail(
     alloc: Global,
     insns: &[Insn],
     until: usize,
-    registers: Registers,
+    registers: RegisterSet,
 ) -> Result<Vec<Made>, AllocError> {
     let before = placed(alloc, insns, until)?;
     let mut wanted = registers;
@@ -66,7 +66,7 @@ pub(crate) fn trail_text(
     program: &Program,
     lines: &[usize],
     until: usize,
-    registers: Registers,
+    registers: RegisterSet,
 ) -> Result<String, AllocError>
     requires whole { is_well_formed program.now.insns.items ≡ true }
     requires few { length program.now.shapes.items ≤ 8 }
@@ -94,10 +94,10 @@ fn write_outcome(
     requires few { length program.now.shapes.items ≤ 8 }
 {
     let next = made.slot.saturating_add(made.insn.slots());
-    let (Some(register), Some(view)) = (written(made.insn), state_at(alloc, program, next)?) else {
+    let (Some(register), Some(state)) = (written(made.insn), state_at(alloc, program, next)?) else {
         return Ok(());
     };
-    if let Some(word) = known(&view, register) {
+    if let Some(word) = known(&state, register) {
         let told = known_text(alloc, &word)?;
         write!(text, "    r{register} then is {told}")?;
     }

@@ -5,7 +5,7 @@ use Rattle.std.specs.Map.{lookup}
 use Rattle.std.specs.Option.{option_map}
 use Rattle.std.specs.Ordering.{nat_cmp}
 use Rattle.std.proofs.lemmas.Bool.Decides.{nat_tests}
-use Rattle.bq_forms.specs.Names.{Naming, IsNaming, Learns, name_of}
+use Rattle.bq_forms.specs.Names.{NamedTasks, IsNaming, Learns, name_of}
 use Rattle.bq_forms.proofs.NamingLemmas.{one_naming}
 
 here : (a b : ℕ) → a ≡ b → is_at (nat_cmp a) b ≡ true
@@ -21,7 +21,7 @@ where_err (Err e) P p = p
 
 module _ {A : Type 0} where
   -- the names of a map
-  abbrev pub names_in : BTreeMap ℕ (String A) → Naming
+  abbrev pub names_in : BTreeMap ℕ (String A) → NamedTasks
   names_in m = map (λ e. (e.0, string_bytes e.1)) m.entries
 
   first : (e : ℕ × String A) (told : Option (List ℕ)) (rest : Option (String A)) → told ≡ option_map string_bytes rest → (b : Bool)
@@ -63,5 +63,5 @@ module _ {A : Type 0} where
           ∙ ap (cond (is_at (nat_cmp task) q) (Some (string_bytes s))) (sym (name_in old q))
 
 -- a comment that names no task teaches nothing
-pub learns_nothing : (comment : List ℕ) (names : Naming) → ((task : ℕ) (name : List ℕ) → IsNaming comment task name → ⊥) → Learns comment names names
+pub learns_nothing : (comment : List ℕ) (names : NamedTasks) → ((task : ℕ) (name : List ℕ) → IsNaming comment task name → ⊥) → Learns comment names names
 learns_nothing comment names none = record { named = λ t a n. absurd (none t a n); others = λ t same. refl }

@@ -7,11 +7,11 @@ use Rattle.std.specs.Str.{IsTrimAscii, IsUtf8, trim}
 use Rattle.bq_words.specs.Numbers.{below, number_of}
 
 -- tasks by their numbers, each with its name
-abbrev pub Naming : Type 0
-Naming = List (ℕ × List ℕ)
+abbrev pub NamedTasks : Type 0
+NamedTasks = List (ℕ × List ℕ)
 
 -- the name of a task, if it has one
-abbrev pub name_of : Naming → ℕ → Option (List ℕ)
+abbrev pub name_of : NamedTasks → ℕ → Option (List ℕ)
 name_of names task = lookup (is_at (nat_cmp task)) names
 
 -- the number of a task, of 16 bits, in decimal
@@ -34,6 +34,6 @@ pub record IsNaming (comment : List ℕ) (task : ℕ) (name : List ℕ) : Type 0
   pub is_name : name ≡ trim text
 
 -- the task that a comment names, if it names one, has that name, and every other task has the name that it had
-pub record Learns (comment : List ℕ) (old new : Naming) : Type 0 where
+pub record Learns (comment : List ℕ) (old new : NamedTasks) : Type 0 where
   pub named : (task : ℕ) (name : List ℕ) → IsNaming comment task name → name_of new task ≡ Some name
   pub others : (task : ℕ) → ((name : List ℕ) → ¬ (IsNaming comment task name)) → name_of new task ≡ name_of old task

@@ -15,7 +15,7 @@ use std::alloc::AllocError;
 /// // once the trace is over:
 /// form.end(&schedule, &names, &mut text)?;
 /// ```
-pub trait Form: Drop {
+pub trait ScheduleForm: Drop {
     /// Begins, at a schedule to which nothing has happened.
     fn begin(
         &mut self,

@@ -20,7 +20,7 @@ pub mod window;
 
 pub use amounts::{Micros, Millis, MomentText, Unit};
 pub use extent::Extent;
-pub use form::Form;
+pub use form::ScheduleForm;
 pub use map::Map;
 pub use names::{Label, Names};
 pub use report::Report;

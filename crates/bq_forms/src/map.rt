@@ -2,7 +2,7 @@
 
 use crate::amounts::{MomentText, Unit};
 use crate::extent::Extent;
-use crate::form::Form;
+use crate::form::ScheduleForm;
 use crate::longest::longest_in;
 use crate::names::Names;
 use crate::steps::round_step;
@@ -176,7 +176,7 @@ fn write_ruler(
     text.push_str("\n")
 }
 
-impl Form for Map {
+impl ScheduleForm for Map {
     fn begin(
         &mut self,
         schedule: &Schedule,

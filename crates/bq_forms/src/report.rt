@@ -1,6 +1,6 @@
 //! The report: a table of the tasks, of their latencies, of the processors and of the policies.
 
-use crate::form::Form;
+use crate::form::ScheduleForm;
 use crate::names::Names;
 use crate::tables::{
     HOOK_HEAD, LATENCY_HEAD, PROCESSOR_HEAD, TASK_HEAD, nanoseconds, write_hook_lines,
@@ -97,7 +97,7 @@ fn was_asked(figures: &ProcessorFigures) -> bool {
     figures.place.asked > 0 || figures.preempt.asked > 0 || figures.pull.asked > 0
 }
 
-impl Form for Report {
+impl ScheduleForm for Report {
     fn begin(
         &mut self,
         _schedule: &Schedule,

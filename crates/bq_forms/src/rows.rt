@@ -6,7 +6,7 @@ ghost use Rattle.bq_schedule.specs.declared.slice.Slice.{Slice};
 ghost use Rattle.bq_forms.specs.Rows.{head_row, slice_row, row_of};
 ghost use Rattle.bq_forms.specs.Windows.{IsShownPart};
 
-use crate::form::Form;
+use crate::form::ScheduleForm;
 use crate::names::Names;
 use crate::window::Window;
 use bq_schedule::{Change, Schedule, Slice};
@@ -83,7 +83,7 @@ fn row(alloc: Global, fields: &[&[u8]]) -> Result<Vec<u8>, Error>
     }
 }
 
-impl Form for Csv {
+impl ScheduleForm for Csv {
     fn begin(
         &mut self,
         _schedule: &Schedule,

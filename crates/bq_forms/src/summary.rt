@@ -3,7 +3,7 @@ ghost use Rattle.std.specs.Prelude.{◌≡◌, IfOk};
 ghost use Rattle.serde_json.specs.View.{view};
 ghost use Rattle.bq_forms.specs.Objects.{hook_object, latency_object, number_or_null};
 
-use crate::form::Form;
+use crate::form::ScheduleForm;
 use crate::names::Names;
 use crate::tables::nanoseconds;
 use crate::window::Window;
@@ -187,7 +187,7 @@ fn number(value: Option<u64>) -> Value
     }
 }
 
-impl Form for Json {
+impl ScheduleForm for Json {
     fn begin(
         &mut self,
         _schedule: &Schedule,

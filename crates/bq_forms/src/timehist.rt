@@ -3,7 +3,7 @@ ghost use Rattle.std.specs.Prelude.{◌≡◌, ◌++◌, ◌/◌, OnOk, string_b
 ghost use Rattle.bq_forms.specs.Columns.{moment_columns, run_columns, thousandths_cell};
 
 use crate::amounts::Decimals;
-use crate::form::Form;
+use crate::form::ScheduleForm;
 use crate::names::Names;
 use crate::tables::write_task;
 use crate::window::Window;
@@ -118,7 +118,7 @@ fn write_short_millis(text: &mut String, time: u64) -> Result<(), AllocError>
     write!(text, " {whole:>6}.{decimals}")
 }
 
-impl Form for Timehist {
+impl ScheduleForm for Timehist {
     fn begin(
         &mut self,
         _schedule: &Schedule,

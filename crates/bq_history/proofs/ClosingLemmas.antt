@@ -4,7 +4,7 @@ use Rattle.bq_tie.specs.Whole.{count, Each, Has}
 use Rattle.bq_history.specs.History.{Leaves, SharesOut, SharesOutAmong}
 use Rattle.bq_history.specs.Items.{part_item, journal_item, caller_of, parts_of, callers_of, IsGood, fits_item, same_item}
 use Rattle.bq_history.specs.declared.law.Receipt.{Receipt}
-use Rattle.bq_history.specs.declared.law.Whole.{Whole}
+use Rattle.bq_history.specs.declared.law.SharedState.{SharedState}
 use Rattle.bq_history.specs.declared.law.Item.{Item}
 use Rattle.bq_history.specs.declared.law.Item.TheVariants.{Part}
 use Rattle.bq_tie.proofs.MoveLemmas.{count-append}
@@ -57,11 +57,11 @@ module _ {R P D : Type 0} where
   joined v ps cs is = rw (parts_joined v ps cs is, callers_joined v ps cs is) is
 
 module _ {R P D W : Type 0} (step : W → R → W → Type 0) (kept : W → D) (same : P → P → Bool) (fits : W → P → Type 0) where
-  parts_of_world : (t : Whole R W) (ps : List P) → Each (fits_item {R = R} kept fits t) (map part_item ps) → Each (fits t.world) ps
+  parts_of_world : (t : SharedState R W) (ps : List P) → Each (fits_item {R = R} kept fits t) (map part_item ps) → Each (fits t.world) ps
   parts_of_world t [] h = tt
   parts_of_world t (p ∷ ps) h = (h.0, parts_of_world t ps h.1)
 
-  lists_of_callers : (t : Whole R W) (cs : List (ℕ × List (Receipt R))) → Each (fits_item {P = P} kept fits t) (map caller_of cs) → Each (λ (c : ℕ × List (Receipt R)). get_elem? t.lists c.0 ≡ some c.1) cs
+  lists_of_callers : (t : SharedState R W) (cs : List (ℕ × List (Receipt R))) → Each (fits_item {P = P} kept fits t) (map caller_of cs) → Each (λ (c : ℕ × List (Receipt R)). get_elem? t.lists c.0 ≡ some c.1) cs
   lists_of_callers t [] h = tt
   lists_of_callers t (c ∷ cs) h = (h.0, lists_of_callers t cs h.1)
 

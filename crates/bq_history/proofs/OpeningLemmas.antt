@@ -9,7 +9,7 @@ use Rattle.bq_tie.proofs.MoveLemmas.{count-append, each-append}
 use Rattle.bq_history.specs.History.{IsRising, Stands, SharesOut}
 use Rattle.bq_history.specs.Items.{part_item, same_item, callers_from, first_items, IsGood, fits_item}
 use Rattle.bq_history.specs.declared.law.Receipt.{Receipt}
-use Rattle.bq_history.specs.declared.law.Whole.{Whole}
+use Rattle.bq_history.specs.declared.law.SharedState.{SharedState}
 use Rattle.bq_history.specs.declared.law.Item.{Item}
 use Rattle.bq_history.specs.declared.law.Item.TheVariants.{Journal, Caller, Part}
 use Rattle.bq_history.proofs.RecordingLemmas.{count_parts, no_journal, no_caller}
@@ -79,7 +79,7 @@ module _ {A : Type 0} where
   length_replicate (suc n) x = let h = length_replicate n x in omega arith
 
 module _ {R P D W : Type 0} (step : W → R → W → Type 0) (kept : W → D) (same : P → P → Bool) (fits : W → P → Type 0) where
-  abbrev start : W → ℕ → Whole R W
+  abbrev start : W → ℕ → SharedState R W
   start opening n = record { log = []; lists = replicate n []; world = opening }
 
   nothing_shared : (n : ℕ) → SharesOut {R = R} [] (replicate n [])
@@ -95,7 +95,7 @@ module _ {R P D W : Type 0} (step : W → R → W → Type 0) (kept : W → D) (
   callers_fit opening all s zero e = tt
   callers_fit opening all s (suc n) e = (replicate_at all s [] (omega arith), callers_fit opening all (s + 1) n (omega arith))
 
-  parts_fit : (t : Whole R W) (ps : List P) → Each (fits t.world) ps → Each (fits_item {R = R} kept fits t) (map part_item ps)
+  parts_fit : (t : SharedState R W) (ps : List P) → Each (fits t.world) ps → Each (fits_item {R = R} kept fits t) (map part_item ps)
   parts_fit t [] h = tt
   parts_fit t (p ∷ ps) h = (h.0, parts_fit t ps h.1)
 

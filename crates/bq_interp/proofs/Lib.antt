@@ -10,4 +10,4 @@ pub mod OneRunLemmas
 pub mod PassLemmas
 pub mod PerformLemmas
 pub mod RunningLemmas
-pub mod MomentLemmas
+pub mod SnapshotLemmas

@@ -3,4 +3,4 @@ pub mod Steps
 pub mod Progress
 pub mod Laws
 pub mod Positions
-pub mod Moments
+pub mod Snapshots

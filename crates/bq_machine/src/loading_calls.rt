@@ -197,7 +197,7 @@ impl<Q: RunQueue + Drop, K: Clock + Drop, N: Naming + Counting, const P: usize> 
     {
         spare.installed.set_generation(generation);
         let mut guard = self.lock_processor(rt, processor);
-        let place = &mut *guard;
-        self.recorder.install(rt, working, place, hook, spare)
+        let cpu = &mut *guard;
+        self.recorder.install(rt, working, cpu, hook, spare)
     }
 }

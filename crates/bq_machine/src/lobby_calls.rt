@@ -70,12 +70,12 @@ impl<Q: RunQueue + Drop, K: Clock + Drop, N: Naming + Counting, const P: usize> 
         let count = self.cpus.len();
         let new = new_task_with_room(alloc, &mut seat.first, count, admission)?;
         let mut guard = self.lobby.lock(rt);
-        let place = &mut *guard;
+        let lobby = &mut *guard;
         Ok(
             self.recorder.admit(
                 rt,
                 &mut seat.working,
-                place,
+                lobby,
                 admission,
                 new,
                 &mut seat.first,
@@ -106,10 +106,10 @@ impl<Q: RunQueue + Drop, K: Clock + Drop, N: Naming + Counting, const P: usize> 
         }
         record_room(alloc, &mut seat.first)?;
         let mut guard = self.lobby.lock(rt);
-        let place = &mut *guard;
+        let lobby = &mut *guard;
         Ok(
             self.recorder
-                .retire(rt, &mut seat.working, place, task, &mut seat.first),
+                .retire(rt, &mut seat.working, lobby, task, &mut seat.first),
         )
     }
 }

@@ -45,7 +45,7 @@ impl<Q: RunQueue + Drop, K: Clock + Drop, N: Naming + Counting, const P: usize> 
         rooms_of_event(alloc, &mut seat.first, &mut seat.rooms)?;
         let now = self.clock.now(processor);
         let (mut guard, mut source_guard) = self.lock_both(rt, processor, from);
-        let place = &mut *guard;
+        let cpu = &mut *guard;
         let source = &mut *source_guard;
         let rooms = EventRooms {
             record: &mut seat.first,
@@ -53,7 +53,7 @@ impl<Q: RunQueue + Drop, K: Clock + Drop, N: Naming + Counting, const P: usize> 
         };
         Ok(
             self.recorder
-                .pull(rt, &mut seat.working, place, source, now, rooms),
+                .pull(rt, &mut seat.working, cpu, source, now, rooms),
         )
     }
 

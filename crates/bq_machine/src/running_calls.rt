@@ -39,13 +39,13 @@ impl<Q: RunQueue + Drop, K: Clock + Drop, N: Naming + Counting, const P: usize> 
     {
         self.begin_call(alloc, &mut seat.first, &mut seat.rooms, processor)?;
         let mut guard = self.lock_processor(rt, processor);
-        let place = &mut *guard;
+        let cpu = &mut *guard;
         let now = self.clock.now(processor);
         let rooms = EventRooms {
             record: &mut seat.first,
             calls: &mut seat.rooms,
         };
-        Ok(self.recorder.tick(rt, &mut seat.working, place, now, rooms))
+        Ok(self.recorder.tick(rt, &mut seat.working, cpu, now, rooms))
     }
 
     /// All tasks of a processor's inbox enter, and it is decided who runs. It takes memory for the record.
@@ -66,7 +66,7 @@ impl<Q: RunQueue + Drop, K: Clock + Drop, N: Naming + Counting, const P: usize> 
     {
         self.begin_call(alloc, &mut seat.first, &mut seat.rooms, processor)?;
         let mut guard = self.lock_processor(rt, processor);
-        let place = &mut *guard;
+        let cpu = &mut *guard;
         let now = self.clock.now(processor);
         let mut inbox_guard = self.lock_inbox(rt, processor);
         let inbox = &mut *inbox_guard;
@@ -76,7 +76,7 @@ impl<Q: RunQueue + Drop, K: Clock + Drop, N: Naming + Counting, const P: usize> 
         };
         Ok(
             self.recorder
-                .drain(rt, &mut seat.working, place, inbox, now, rooms),
+                .drain(rt, &mut seat.working, cpu, inbox, now, rooms),
         )
     }
 
@@ -100,13 +100,13 @@ impl<Q: RunQueue + Drop, K: Clock + Drop, N: Naming + Counting, const P: usize> 
         self.need_processor(processor)?;
         record_room(alloc, &mut seat.first)?;
         let mut guard = self.lock_processor(rt, processor);
-        let place = &mut *guard;
+        let cpu = &mut *guard;
         let now = self.clock.now(processor);
         let mut lobby_guard = self.lobby.lock(rt);
         let lobby = &mut *lobby_guard;
         Ok(
             self.recorder
-                .block(rt, &mut seat.working, place, lobby, now, &mut seat.first),
+                .block(rt, &mut seat.working, cpu, lobby, now, &mut seat.first),
         )
     }
 }

@@ -113,8 +113,8 @@ impl<Q: RunQueue + Drop, K: Clock + Drop, N: Naming + Counting, const P: usize> 
         ensures wake { IsWake (K.gives processor) processor task result }
     {
         let mut guard = self.lock_processor(rt, processor);
-        let place = &mut *guard;
-        let begin = self.begin_in_lobby(rt, working, &mut place.cell, task, begin_rooms);
+        let cpu = &mut *guard;
+        let begin = self.begin_in_lobby(rt, working, &mut cpu.cell, task, begin_rooms);
         if begin.entry.reply.is_err() {
             return WakeReceipts { begin, end: None };
         }
@@ -123,7 +123,7 @@ impl<Q: RunQueue + Drop, K: Clock + Drop, N: Naming + Counting, const P: usize> 
         let end = self.recorder.end_wake(
             rt,
             working,
-            &mut place.cell,
+            &mut cpu.cell,
             &self.inboxes,
             placing,
             end_rooms,
@@ -139,27 +139,27 @@ impl<Q: RunQueue + Drop, K: Clock + Drop, N: Naming + Counting, const P: usize> 
         &self,
         rt: &R,
         working: &mut WorkingSeat<N>,
-        cell: &mut CpuCell<Q, N>,
+        cpu: &mut CpuCell<Q, N>,
         task: u16,
         rooms: BeginRooms<'_>,
     ) -> Receipt<Record>
         requires seat { task < 1024 }
         requires ready { rooms.record.now ≡ true }
         requires tally { working.old.tally ≡ account_of told_calls working.old.caller.1 }
-        requires says { cell.old.holder ≡ part_item (cpu_part cell.old.content.number cell.old.content.state) ∷ [] }
-        requires rests { cell.old.content.state.hand ≡ None }
+        requires says { cpu.old.holder ≡ part_item (cpu_part cpu.old.content.number cpu.old.content.state) ∷ [] }
+        requires rests { cpu.old.content.state.hand ≡ None }
         ensures caller { working.new.caller ≡ (working.old.caller.0, working.old.caller.1 ++ result ∷ []) }
         ensures tally { working.new.tally ≡ account_of told_calls working.new.caller.1 }
-        ensures event { result.entry.event ≡ Event.BeginWake cell.old.content.number task }
-        ensures says { cell.new.holder ≡ part_item (cpu_part cell.new.content.number cell.new.content.state) ∷ [] }
-        ensures number { cell.new.content.number ≡ cell.old.content.number }
-        ensures hand { OnOk result.entry.reply (option_map (λ c. c.task.id) cell.new.content.state.hand ≡ Some task) }
-        ensures rests { OnErr result.entry.reply (cell.new.content.state.hand ≡ None) }
+        ensures event { result.entry.event ≡ Event.BeginWake cpu.old.content.number task }
+        ensures says { cpu.new.holder ≡ part_item (cpu_part cpu.new.content.number cpu.new.content.state) ∷ [] }
+        ensures number { cpu.new.content.number ≡ cpu.old.content.number }
+        ensures hand { OnOk result.entry.reply (option_map (λ c. c.task.id) cpu.new.content.state.hand ≡ Some task) }
+        ensures rests { OnErr result.entry.reply (cpu.new.content.state.hand ≡ None) }
         ensures begun { IfErr result.entry.reply (λ e. (e ≡ no.NoTask) ⊎ (e ≡ no.NotBlocked)) }
     {
         let mut guard = self.lobby.lock(rt);
         let lobby = &mut *guard;
         self.recorder
-            .begin_wake(rt, working, cell, lobby, task, rooms)
+            .begin_wake(rt, working, cpu, lobby, task, rooms)
     }
 }

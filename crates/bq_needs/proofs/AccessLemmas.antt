@@ -8,7 +8,7 @@ use Rattle.bq_bpf.specs.Steps.{address_of}
 use Rattle.bq_ranges.specs.Within.{Within}
 use Rattle.bq_ranges.specs.declared.range.Range.{Range}
 use Rattle.bq_states.specs.AbstractStates.{size_of_shape}
-use Rattle.bq_states.specs.declared.abstract_state.Kind.TheVariants as kind
+use Rattle.bq_states.specs.declared.abstract_state.ValueKind.TheVariants as kind
 use Rattle.bq_states.specs.declared.abstract_state.AbstractValue.{AbstractValue}
 use Rattle.bq_states.specs.declared.abstract_state.AbstractState.{AbstractState}
 use Rattle.bq_program.specs.declared.policy_source.PolicySource.{PolicySource}
@@ -68,8 +68,8 @@ pub tells_register : (a : Access) (k : AbstractValue) (text : List ℕ) → (Fol
 tells_register a k text not is = subst (λ (t : List ℕ). TellsBegin a k t) (sym is) (by_register not)
 
 -- a read of the context within its length
-pub shown_in_context : (p : PolicySource) (view : AbstractState) (a : Access) (k : AbstractValue) → k.kind ≡ kind.Context → a.writes ≡ false → Stays a k.offset (context_of p) → IsShown p view a k
-shown_in_context p view a k of read stays =
+pub shown_in_context : (p : PolicySource) (state : AbstractState) (a : Access) (k : AbstractValue) → k.kind ≡ kind.Context → a.writes ≡ false → Stays a k.offset (context_of p) → IsShown p state a k
+shown_in_context p state a k of read stays =
     record {
       bound = context_of p;
       bound_is = rw of refl;
@@ -79,8 +79,8 @@ shown_in_context p view a k of read stays =
     }
 
 -- a write of the stack within its bytes
-pub written_on_stack : (p : PolicySource) (view : AbstractState) (a : Access) (k : AbstractValue) → k.kind ≡ kind.Stack → a.writes ≡ true → Stays a k.offset 512 → IsShown p view a k
-written_on_stack p view a k of written stays =
+pub written_on_stack : (p : PolicySource) (state : AbstractState) (a : Access) (k : AbstractValue) → k.kind ≡ kind.Stack → a.writes ≡ true → Stays a k.offset 512 → IsShown p state a k
+written_on_stack p state a k of written stays =
     record {
       bound = 512;
       bound_is = rw of refl;
@@ -90,8 +90,8 @@ written_on_stack p view a k of written stays =
     }
 
 -- a read of bytes of it that are set
-pub read_from_stack : (p : PolicySource) (view : AbstractState) (a : Access) (k : AbstractValue) → k.kind ≡ kind.Stack → a.writes ≡ false → Stays a k.offset 512 → AreSet view.set (begin_of a k.offset.lo) (begin_of a k.offset.hi + a.bytes) → IsShown p view a k
-read_from_stack p view a k of read stays set =
+pub read_from_stack : (p : PolicySource) (state : AbstractState) (a : Access) (k : AbstractValue) → k.kind ≡ kind.Stack → a.writes ≡ false → Stays a k.offset 512 → AreSet state.set (begin_of a k.offset.lo) (begin_of a k.offset.hi + a.bytes) → IsShown p state a k
+read_from_stack p state a k of read stays set =
     record {
       bound = 512;
       bound_is = rw of refl;
@@ -101,8 +101,8 @@ read_from_stack p view a k of read stays set =
     }
 
 -- an access within a value of the map
-pub shown_in_value : (p : PolicySource) (view : AbstractState) (a : Access) (k : AbstractValue) (map size : ℕ) → k.kind ≡ kind.Entry map → size_of_shape (slice_get p.shapes.items map) ≡ Some size → Stays a k.offset size → IsShown p view a k
-shown_in_value p view a k map size of is stays =
+pub shown_in_value : (p : PolicySource) (state : AbstractState) (a : Access) (k : AbstractValue) (map size : ℕ) → k.kind ≡ kind.Entry map → size_of_shape (slice_get p.shapes.items map) ≡ Some size → Stays a k.offset size → IsShown p state a k
+shown_in_value p state a k map size of is stays =
     record {
       bound = size;
       bound_is = rw of is;

@@ -7,8 +7,8 @@ use Rattle.bq_bpf.specs.Memory.{reference, context_base, stack_base}
 use Rattle.bq_ranges.specs.Within.{Within}
 use Rattle.bq_ranges.specs.declared.range.Range.{Range}
 use Rattle.bq_states.specs.AbstractStates.{Describes, IsBase}
-use Rattle.bq_states.specs.declared.abstract_state.Kind.{Kind}
-use Rattle.bq_states.specs.declared.abstract_state.Kind.TheVariants.{Number, Context, Stack, Entry, EntryOrNull, Map}
+use Rattle.bq_states.specs.declared.abstract_state.ValueKind.{ValueKind}
+use Rattle.bq_states.specs.declared.abstract_state.ValueKind.TheVariants.{Number, Context, Stack, Entry, EntryOrNull, Map}
 use Rattle.bq_states.specs.declared.abstract_state.AbstractValue.{AbstractValue}
 use Rattle.bq_needs.specs.Saying.{Says, any_number, number, context, stack_begin, stack_end, entry, entry_or_null, map_reference, TellsPlace, there, above, under}
 use Rattle.bq_needs.specs.Texts.{between, range_text, number_text, offset_text, stack_text, kind_text, known_text}
@@ -72,7 +72,7 @@ tells_number shapes r word within =
     ]
 
 -- a word of each kind is told
-pub tells_kind : (shapes : List MapShape) (kind : Kind) (r : Range) (base o word : ℕ) → IsBase shapes kind base → Within r o → word ≡ (base + o) % 2 ^ 64 → Says shapes (kind_text kind r) word
+pub tells_kind : (shapes : List MapShape) (kind : ValueKind) (r : Range) (base o word : ℕ) → IsBase shapes kind base → Within r o → word ≡ (base + o) % 2 ^ 64 → Says shapes (kind_text kind r) word
 tells_kind shapes Number r base o word from within is =
     let fits = r.fits in
     let same : word ≡ o = omega (arith, from, within, is, fits) in

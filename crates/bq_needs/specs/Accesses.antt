@@ -7,8 +7,8 @@ use Rattle.bq_ranges.specs.declared.range.Range.{Range}
 use Rattle.bq_bpf.specs.Hooks.{context_length_of, hook_word, version_number}
 use Rattle.bq_bpf.specs.Memory.{stack_size}
 use Rattle.bq_states.specs.AbstractStates.{bound_of, size_of_shape}
-use Rattle.bq_states.specs.declared.abstract_state.Kind.{Kind}
-use Rattle.bq_states.specs.declared.abstract_state.Kind.TheVariants as kind
+use Rattle.bq_states.specs.declared.abstract_state.ValueKind.{ValueKind}
+use Rattle.bq_states.specs.declared.abstract_state.ValueKind.TheVariants as kind
 use Rattle.bq_states.specs.declared.abstract_state.AbstractValue.{AbstractValue}
 use Rattle.bq_states.specs.declared.abstract_state.AbstractState.{AbstractState}
 use Rattle.bq_program.specs.declared.policy_source.PolicySource.{PolicySource}
@@ -35,7 +35,7 @@ GoesBeyond a offsets bound = (o : ℕ) × Within offsets o × (bound < begin_of 
 
 -- one of the bytes that the access may touch is not known to be set
 abbrev pub TouchesUnset : AbstractState → Access → Range → Type 0
-TouchesUnset view a offsets = (i : ℕ) × (begin_of a offsets.lo ≤ i) × (i < begin_of a offsets.hi + a.bytes) × (slice_index_or view.set i false ≡ false)
+TouchesUnset state a offsets = (i : ℕ) × (begin_of a offsets.lo ≤ i) × (i < begin_of a offsets.hi + a.bytes) × (slice_index_or state.set i false ≡ false)
 
 -- each word of the range, so far on, is in the other one, and so are its ends
 pub record IsMoved (off : ℤ) (old new : Range) : Type 0 where
@@ -52,7 +52,7 @@ abbrev pub Wraps : ℤ → Range → Type 0
 Wraps off old = (new : Range) → IsMoved off old new → ⊥
 
 -- a pointer of the kind may be followed: into the context, the stack or a value of a map
-abbrev pub Follows : Kind → Type 0
+abbrev pub Follows : ValueKind → Type 0
 Follows kind.Context = Unit {0}
 Follows kind.Stack = Unit {0}
 Follows (kind.Entry map) = Unit {0}
@@ -62,24 +62,24 @@ abbrev pub context_of : PolicySource → ℕ
 context_of p = context_length_of p.hook p.version
 
 -- by what is known of its pointer the access is good: it stays in what the pointer points to, it does not write the context, and what it reads of the stack is set
-pub record IsShown (p : PolicySource) (view : AbstractState) (a : Access) (k : AbstractValue) : Type 0 where
+pub record IsShown (p : PolicySource) (state : AbstractState) (a : Access) (k : AbstractValue) : Type 0 where
   pub bound : ℕ
   pub bound_is : bound_of p.shapes.items (context_of p) k.kind ≡ Some bound
   pub stays : Stays a k.offset bound
   pub writable : a.writes ≡ true → k.kind ≢ kind.Context
-  pub set : a.writes ≡ false → k.kind ≡ kind.Stack → AreSet view.set (begin_of a k.offset.lo) (begin_of a k.offset.hi + a.bytes)
+  pub set : a.writes ≡ false → k.kind ≡ kind.Stack → AreSet state.set (begin_of a k.offset.lo) (begin_of a k.offset.hi + a.bytes)
 
 -- what is not so of the access
 abbrev pub Lacks : PolicySource → AbstractState → Access → AbstractValue → Lack → Type 0
-Lacks p view a k lack.Number = k.kind ≡ kind.Number
-Lacks p view a k lack.Answer = (map : ℕ) × (k.kind ≡ kind.EntryOrNull map)
-Lacks p view a k lack.Reference = (map : ℕ) × (k.kind ≡ kind.Map map)
-Lacks p view a k lack.WritesContext = (k.kind ≡ kind.Context) × (a.writes ≡ true)
-Lacks p view a k lack.BeyondContext = (k.kind ≡ kind.Context) × (a.writes ≡ false) × GoesBeyond a k.offset (context_of p)
-Lacks p view a k lack.BeyondStack = (k.kind ≡ kind.Stack) × GoesBeyond a k.offset stack_size
-Lacks p view a k lack.ReadsUnset = (k.kind ≡ kind.Stack) × (a.writes ≡ false) × Stays a k.offset stack_size × TouchesUnset view a k.offset
-Lacks p view a k (lack.BeyondValue map size) = (k.kind ≡ kind.Entry map) × (size_of_shape (slice_get p.shapes.items map) ≡ Some size) × GoesBeyond a k.offset size
-Lacks p view a k lack.InNoMap = (map : ℕ) × (k.kind ≡ kind.Entry map) × (size_of_shape (slice_get p.shapes.items map) ≡ None)
+Lacks p state a k lack.Number = k.kind ≡ kind.Number
+Lacks p state a k lack.Answer = (map : ℕ) × (k.kind ≡ kind.EntryOrNull map)
+Lacks p state a k lack.Reference = (map : ℕ) × (k.kind ≡ kind.Map map)
+Lacks p state a k lack.WritesContext = (k.kind ≡ kind.Context) × (a.writes ≡ true)
+Lacks p state a k lack.BeyondContext = (k.kind ≡ kind.Context) × (a.writes ≡ false) × GoesBeyond a k.offset (context_of p)
+Lacks p state a k lack.BeyondStack = (k.kind ≡ kind.Stack) × GoesBeyond a k.offset stack_size
+Lacks p state a k lack.ReadsUnset = (k.kind ≡ kind.Stack) × (a.writes ≡ false) × Stays a k.offset stack_size × TouchesUnset state a k.offset
+Lacks p state a k (lack.BeyondValue map size) = (k.kind ≡ kind.Entry map) × (size_of_shape (slice_get p.shapes.items map) ≡ Some size) × GoesBeyond a k.offset size
+Lacks p state a k lack.InNoMap = (map : ℕ) × (k.kind ≡ kind.Entry map) × (size_of_shape (slice_get p.shapes.items map) ≡ None)
 
 abbrev pub lack_text : PolicySource → Lack → List ℕ
 lack_text p lack.Number = codes "a number is no address"
@@ -108,7 +108,7 @@ verb false = codes "reads"
 
 -- how many bytes are read or written, by an unset register, or from where and why they may not be
 abbrev pub TellsAccess : PolicySource → AbstractState → Access → Option AbstractValue → List ℕ → Type 0
-TellsAccess p view a None text =
+TellsAccess p state a None text =
     text ≡ verb a.writes ++ (codes " " ++ (decimal a.bytes ++ (codes " bytes by r" ++ (decimal a.register ++ codes ", which is not set on each way that leads here"))))
-TellsAccess p view a (Some k) text =
-    (begin : List ℕ) × (why : Lack) × TellsBegin a k begin × Lacks p view a k why × (text ≡ verb a.writes ++ (codes " " ++ (decimal a.bytes ++ (codes " bytes at " ++ (begin ++ (codes "; " ++ lack_text p why))))))
+TellsAccess p state a (Some k) text =
+    (begin : List ℕ) × (why : Lack) × TellsBegin a k begin × Lacks p state a k why × (text ≡ verb a.writes ++ (codes " " ++ (decimal a.bytes ++ (codes " bytes at " ++ (begin ++ (codes "; " ++ lack_text p why))))))

@@ -11,7 +11,7 @@ use Rattle.bq_bpf.specs.declared.shape.MapShape.{MapShape}
 use Rattle.bq_bpf.specs.Helpers.{number_of_helper}
 use Rattle.bq_bpf.specs.declared.helper.Helper.TheVariants.{Lookup, Update, AddCounter, ReadCounter}
 use Rattle.bq_states.specs.Certainty.{Exact, Pointer, Scalar, StandsAt}
-use Rattle.bq_states.specs.declared.abstract_state.Kind.TheVariants.{Number, Map}
+use Rattle.bq_states.specs.declared.abstract_state.ValueKind.TheVariants.{Number, Map}
 use Rattle.bq_states.specs.declared.abstract_state.AbstractValue.{AbstractValue}
 use Rattle.bq_states.specs.declared.abstract_state.AbstractState.{AbstractState}
 use Rattle.bq_program.specs.declared.policy_source.PolicySource.{PolicySource}
@@ -24,19 +24,19 @@ use Rattle.bq_needs.specs.Texts.{known_text}
 
 -- each register that the instruction reads is known to be set
 abbrev pub AreKnown : AbstractState → Insn → Type 0
-AreKnown view insn = (r : ℕ) → r < 11 → reads insn r ≡ true → known_in view r ≢ None
+AreKnown state insn = (r : ℕ) → r < 11 → reads insn r ≡ true → known_in state r ≢ None
 
 -- each register below this one that the instruction works on, and of which something is known, is a number
 abbrev pub AreNumbersBelow : ℕ → AbstractState → Insn → Type 0
-AreNumbersBelow n view insn = (r : ℕ) (k : AbstractValue) → r < n → works_on insn r ≡ true → known_in view r ≡ Some k → k.kind ≡ Number
+AreNumbersBelow n state insn = (r : ℕ) (k : AbstractValue) → r < n → works_on insn r ≡ true → known_in state r ≡ Some k → k.kind ≡ Number
 
 -- so is each of all eleven
 abbrev pub AreNumbers : AbstractState → Insn → Type 0
-AreNumbers view insn = AreNumbersBelow 11 view insn
+AreNumbers state insn = AreNumbersBelow 11 state insn
 
 -- a load or a store is known to be good
 abbrev pub IsGoodAccess : PolicySource → AbstractState → Insn → Type 0
-IsGoodAccess p view insn = (a : Accessed) → access_of insn ≡ Some a → (k : AbstractValue) × (known_in view a.register ≡ Some k) × IsShown p view a k
+IsGoodAccess p state insn = (a : Accessed) → access_of insn ≡ Some a → (k : AbstractValue) × (known_in state a.register ≡ Some k) × IsShown p state a k
 
 -- there is a map of that number
 abbrev pub IsMap : PolicySource → ℤ → Type 0
@@ -44,15 +44,15 @@ IsMap p index = (m : ℕ) × (index ≡ pos m) × (m < length p.shapes.items)
 
 -- the register points to so many bytes that may be read
 abbrev pub PointsTo : PolicySource → AbstractState → ℕ → ℕ → Type 0
-PointsTo p view r bytes = (k : AbstractValue) × (known_in view r ≡ Some k) × IsShown p view (record { writes = false; bytes = bytes; register = r; off = pos 0 }) k
+PointsTo p state r bytes = (k : AbstractValue) × (known_in state r ≡ Some k) × IsShown p state (record { writes = false; bytes = bytes; register = r; off = pos 0 }) k
 
 -- register 1 is the reference of that map, and register 2 points to the number of an entry
 abbrev pub NamesEntry : PolicySource → AbstractState → ℕ → Type 0
-NamesEntry p view m = StandsAt (Pointer (Map m) 0) view 1 × PointsTo p view 2 4
+NamesEntry p state m = StandsAt (Pointer (Map m) 0) state 1 × PointsTo p state 2 4
 
 -- and register 3 points to a value for it, and register 4 is 0
 abbrev pub GivesValue : PolicySource → AbstractState → ℕ → Type 0
-GivesValue p view m = NamesEntry p view m × (shape : MapShape) × (slice_get p.shapes.items m ≡ Some shape) × PointsTo p view 3 shape.value_size × StandsAt (Exact 0) view 4
+GivesValue p state m = NamesEntry p state m × (shape : MapShape) × (slice_get p.shapes.items m ≡ Some shape) × PointsTo p state 3 shape.value_size × StandsAt (Exact 0) state 4
 
 -- a number of a counter
 abbrev pub IsCounter : Option AbstractValue → Type 0
@@ -68,43 +68,43 @@ helper_of wanted.Read = number_of_helper ReadCounter
 
 -- the arguments are what the helper wants
 abbrev pub AreGiven : PolicySource → AbstractState → Wanted → Type 0
-AreGiven p view wanted.LookUp = (m : ℕ) × NamesEntry p view m
-AreGiven p view wanted.Update = (m : ℕ) × GivesValue p view m
-AreGiven p view wanted.Add = IsCounter (known_in view 1) × StandsAt Scalar view 2
-AreGiven p view wanted.Read = IsCounter (known_in view 1)
+AreGiven p state wanted.LookUp = (m : ℕ) × NamesEntry p state m
+AreGiven p state wanted.Update = (m : ℕ) × GivesValue p state m
+AreGiven p state wanted.Add = IsCounter (known_in state 1) × StandsAt Scalar state 2
+AreGiven p state wanted.Read = IsCounter (known_in state 1)
 
 abbrev pub GivesHelper : PolicySource → AbstractState → ℤ → Type 0
-GivesHelper p view helper = (w : Wanted) → helper ≡ helper_of w → AreGiven p view w
+GivesHelper p state helper = (w : Wanted) → helper ≡ helper_of w → AreGiven p state w
 
 -- there is a map of that number; of a call, the arguments are what its helper wants
 abbrev pub AreGoodArguments : PolicySource → AbstractState → Insn → Type 0
-AreGoodArguments p view (MapRef dst index) = IsMap p index
-AreGoodArguments p view (Call helper) = GivesHelper p view helper
-AreGoodArguments p view insn = Unit {0}
+AreGoodArguments p state (MapRef dst index) = IsMap p index
+AreGoodArguments p state (Call helper) = GivesHelper p state helper
+AreGoodArguments p state insn = Unit {0}
 
 -- the abstract state gives the instruction what the cause says that it lacks
 abbrev pub IsMet : PolicySource → AbstractState → Insn → Cause → Type 0
-IsMet p view insn (State Unset) = AreKnown view insn
-IsMet p view insn (State Access) = IsGoodAccess p view insn
-IsMet p view insn (State PointerUse) = AreNumbers view insn
-IsMet p view insn (State Argument) = AreGoodArguments p view insn
-IsMet p view insn (State Answer) = StandsAt Scalar view 0
-IsMet p view insn other = Unit {0}
+IsMet p state insn (State Unset) = AreKnown state insn
+IsMet p state insn (State Access) = IsGoodAccess p state insn
+IsMet p state insn (State PointerUse) = AreNumbers state insn
+IsMet p state insn (State Argument) = AreGoodArguments p state insn
+IsMet p state insn (State Answer) = StandsAt Scalar state 0
+IsMet p state insn other = Unit {0}
 
 -- the registers that the instruction reads and of which nothing is known
 abbrev pub unset_text : AbstractState → Insn → ℕ → List ℕ
-unset_text view insn r = if reads insn r && is_none (known_in view r) then codes " r" ++ decimal r else []
+unset_text state insn r = if reads insn r && is_none (known_in state r) then codes " r" ++ decimal r else []
 
 abbrev pub unset_below : ℕ → AbstractState → Insn → List ℕ
-unset_below zero view insn = []
-unset_below (suc n) view insn = unset_below n view insn ++ unset_text view insn n
+unset_below zero state insn = []
+unset_below (suc n) state insn = unset_below n state insn ++ unset_text state insn n
 
 abbrev pub unset_need : AbstractState → Insn → List ℕ
-unset_need view insn = codes "reads" ++ (unset_below 11 view insn ++ codes ", which is not set here, or not on each way that leads here")
+unset_need state insn = codes "reads" ++ (unset_below 11 state insn ++ codes ", which is not set here, or not on each way that leads here")
 
 -- the access, and why it is not shown to be good
 abbrev pub TellsAccessOf : PolicySource → AbstractState → Insn → List ℕ → Type 0
-TellsAccessOf p view insn text = (a : Accessed) × (access_of insn ≡ Some a) × TellsAccess p view a (known_in view a.register) text
+TellsAccessOf p state insn text = (a : Accessed) × (access_of insn ≡ Some a) × TellsAccess p state a (known_in state a.register) text
 
 -- what may be done with a pointer, where the instruction does another thing
 abbrev pub pointer_rule : Insn → List ℕ
@@ -113,21 +113,21 @@ pointer_rule (Branch w c dst src off) = codes "of pointers only the answer of a 
 pointer_rule insn = codes "a pointer may be copied by mov64, and a number be added to it or taken from it by add64 and sub64"
 
 -- the instruction works on the register, of which that is known, and it is no number
-pub record IsPointerWorkedOn (view : AbstractState) (insn : Insn) (r : ℕ) (k : AbstractValue) : Type 0 where
+pub record IsPointerWorkedOn (state : AbstractState) (insn : Insn) (r : ℕ) (k : AbstractValue) : Type 0 where
   pub below : r < 11
   pub is_worked_on : works_on insn r ≡ true
-  pub is_known : known_in view r ≡ Some k
+  pub is_known : known_in state r ≡ Some k
   pub no_number : k.kind ≢ Number
 
 -- it is the first such register
-pub record IsFirstPointer (view : AbstractState) (insn : Insn) (r : ℕ) (k : AbstractValue) : Type 0 where
-  pub pointer : IsPointerWorkedOn view insn r k
-  pub least : AreNumbersBelow r view insn
+pub record IsFirstPointer (state : AbstractState) (insn : Insn) (r : ℕ) (k : AbstractValue) : Type 0 where
+  pub pointer : IsPointerWorkedOn state insn r k
+  pub least : AreNumbersBelow r state insn
 
 -- the first such register, what is known of it, and what may be done with it
 abbrev pub TellsPointer : AbstractState → Insn → List ℕ → Type 0
-TellsPointer view insn text =
-    (r : ℕ) × (k : AbstractValue) × IsFirstPointer view insn r k × (text ≡ codes "works on r" ++ (decimal r ++ (codes ", which is " ++ (known_text k ++ (codes "; " ++ pointer_rule insn)))))
+TellsPointer state insn text =
+    (r : ℕ) × (k : AbstractValue) × IsFirstPointer state insn r k × (text ≡ codes "works on r" ++ (decimal r ++ (codes ", which is " ++ (known_text k ++ (codes "; " ++ pointer_rule insn)))))
 
 -- what a helper wants of its arguments
 abbrev pub wanted_text : Wanted → List ℕ
@@ -142,8 +142,8 @@ argument_text r None = codes " r" ++ (decimal r ++ codes " is unset,")
 argument_text r (Some k) = codes " r" ++ (decimal r ++ (codes " is " ++ (known_text k ++ codes ",")))
 
 abbrev pub arguments_below : ℕ → AbstractState → List ℕ
-arguments_below zero view = []
-arguments_below (suc n) view = arguments_below n view ++ argument_text (n + 1) (known_in view (n + 1))
+arguments_below zero state = []
+arguments_below (suc n) state = arguments_below n state ++ argument_text (n + 1) (known_in state (n + 1))
 
 -- a number that is no map's, and how many maps there are
 abbrev pub map_text : ℤ → ℕ → List ℕ
@@ -151,16 +151,16 @@ map_text index count = codes "names map " ++ (signed_decimal index ++ (codes "; 
 
 -- what the helper wants, and what is known of its arguments
 abbrev pub call_text : AbstractState → Wanted → List ℕ
-call_text view w = wanted_text w ++ (codes "; here" ++ (arguments_below 4 view ++ codes " and of the stack what stands below"))
+call_text state w = wanted_text w ++ (codes "; here" ++ (arguments_below 4 state ++ codes " and of the stack what stands below"))
 
 abbrev pub TellsCall : AbstractState → ℤ → List ℕ → Type 0
-TellsCall view helper text = (w : Wanted) × (helper ≡ helper_of w) × (text ≡ call_text view w)
+TellsCall state helper text = (w : Wanted) × (helper ≡ helper_of w) × (text ≡ call_text state w)
 
 -- the number that is no map's, or the call
 abbrev pub TellsArgument : PolicySource → AbstractState → Insn → List ℕ → Type 0
-TellsArgument p view (MapRef dst index) text = text ≡ map_text index (length p.shapes.items)
-TellsArgument p view (Call helper) text = TellsCall view helper text
-TellsArgument p view insn text = ⊥
+TellsArgument p state (MapRef dst index) text = text ≡ map_text index (length p.shapes.items)
+TellsArgument p state (Call helper) text = TellsCall state helper text
+TellsArgument p state insn text = ⊥
 
 -- what is known of register 0 at an EXIT
 abbrev pub answer_text : Option AbstractValue → List ℕ
@@ -169,14 +169,14 @@ answer_text (Some k) = codes "ends, and r0, the answer, is " ++ (known_text k ++
 
 -- the text tells a need by its cause
 abbrev pub TellsNeed : PolicySource → AbstractState → Insn → Cause → List ℕ → Type 0
-TellsNeed p view insn (State Unset) text = text ≡ unset_need view insn
-TellsNeed p view insn (State Access) text = TellsAccessOf p view insn text
-TellsNeed p view insn (State PointerUse) text = TellsPointer view insn text
-TellsNeed p view insn (State Argument) text = TellsArgument p view insn text
-TellsNeed p view insn (State Answer) text = text ≡ answer_text (known_in view 0)
-TellsNeed p view insn other text = ⊥
+TellsNeed p state insn (State Unset) text = text ≡ unset_need state insn
+TellsNeed p state insn (State Access) text = TellsAccessOf p state insn text
+TellsNeed p state insn (State PointerUse) text = TellsPointer state insn text
+TellsNeed p state insn (State Argument) text = TellsArgument p state insn text
+TellsNeed p state insn (State Answer) text = text ≡ answer_text (known_in state 0)
+TellsNeed p state insn other text = ⊥
 
 -- the text tells a need that the abstract state does not give; where it gives what the cause says, no need is told
 abbrev pub IsNeed : PolicySource → AbstractState → Insn → Cause → List ℕ → Type 0
-IsNeed p view insn cause text =
-    (TellsNeed p view insn cause text × ¬ (IsMet p view insn cause)) ⊎ ((text ≡ codes "is not shown to be safe") × IsMet p view insn cause)
+IsNeed p state insn cause text =
+    (TellsNeed p state insn cause text × ¬ (IsMet p state insn cause)) ⊎ ((text ≡ codes "is not shown to be safe") × IsMet p state insn cause)

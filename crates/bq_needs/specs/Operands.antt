@@ -46,7 +46,7 @@ NeedsSet insn r = (f : Setting) (s t : State) → Does f insn s t → (n : ℕ) 
 
 -- what is known of a register
 abbrev pub known_in : AbstractState → ℕ → Option AbstractValue
-known_in view r = slice_index_or view.registers r None
+known_in state r = slice_index_or state.registers r None
 
 -- the access of a load or a store
 abbrev pub access_of : Insn → Option Access

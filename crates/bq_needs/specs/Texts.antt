@@ -3,8 +3,8 @@ use Rattle.std.specs.Prelude.{ℕ, ◌-◌, ◌^◌, ◌==◌, ◌&&◌, nat_lt,
 use Rattle.std.specs.Fmt.{decimal}
 use Rattle.bq_bpf.specs.Memory.{stack_size}
 use Rattle.bq_ranges.specs.declared.range.Range.{Range}
-use Rattle.bq_states.specs.declared.abstract_state.Kind.{Kind}
-use Rattle.bq_states.specs.declared.abstract_state.Kind.TheVariants.{Number, Context, Stack, Entry, EntryOrNull, Map}
+use Rattle.bq_states.specs.declared.abstract_state.ValueKind.{ValueKind}
+use Rattle.bq_states.specs.declared.abstract_state.ValueKind.TheVariants.{Number, Context, Stack, Entry, EntryOrNull, Map}
 use Rattle.bq_states.specs.declared.abstract_state.AbstractValue.{AbstractValue}
 
 -- one number by itself, else both
@@ -31,7 +31,7 @@ stack_text r =
     else if r.lo == stack_size then codes "stack end" else codes "stack end - " ++ between (stack_size - r.lo) (stack_size - r.hi)
 
 -- a word of a kind, by the range of its offset
-abbrev pub kind_text : Kind → Range → List ℕ
+abbrev pub kind_text : ValueKind → Range → List ℕ
 kind_text Number r = number_text r
 kind_text Context r = codes "context" ++ offset_text r
 kind_text Stack r = stack_text r

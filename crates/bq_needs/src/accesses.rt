@@ -9,7 +9,7 @@ use bq_bpf::words::address;
 use bq_bpf::{context_length, with_stack_size};
 use bq_program::PolicySource;
 use bq_ranges::Range;
-use bq_states::abstract_state::{AbstractState, AbstractValue, Kind};
+use bq_states::abstract_state::{AbstractState, AbstractValue, ValueKind};
 use bq_states::places::shape_of;
 use std::alloc::{AllocError, Global};
 
@@ -39,20 +39,20 @@ pub(crate) enum Lack {
 /// Why what is known of its pointer does not show the access to be good, unless it does.
 pub(crate) fn lack_of(
     policy: &PolicySource,
-    view: &AbstractState,
+    state: &AbstractState,
     access: Access,
     pointer: AbstractValue,
 ) -> Option<Lack>
     requires { access.bytes ≤ 256 }
-    ensures { MatchOption result (IsShown policy.now view.now access pointer) (Lacks policy.now view.now access pointer) }
+    ensures { MatchOption result (IsShown policy.now state.now access pointer) (Lacks policy.now state.now access pointer) }
 {
     match pointer.kind {
-        Kind::Number => Some(Lack::Number),
-        Kind::EntryOrNull(_) => Some(Lack::Answer),
-        Kind::Map(_) => Some(Lack::Reference),
-        Kind::Context => context_lack(policy, view, access, pointer),
-        Kind::Stack => stack_lack(policy, view, access, pointer),
-        Kind::Entry(map) => value_lack(policy, view, access, pointer, map),
+        ValueKind::Number => Some(Lack::Number),
+        ValueKind::EntryOrNull(_) => Some(Lack::Answer),
+        ValueKind::Map(_) => Some(Lack::Reference),
+        ValueKind::Context => context_lack(policy, state, access, pointer),
+        ValueKind::Stack => stack_lack(policy, state, access, pointer),
+        ValueKind::Entry(map) => value_lack(policy, state, access, pointer, map),
     }
 }
 
@@ -60,13 +60,13 @@ pub(crate) fn lack_of(
 #[tactic(auto, using(crate::proofs::AccessLemmas::shown_in_context))]
 fn context_lack(
     policy: &PolicySource,
-    view: &AbstractState,
+    state: &AbstractState,
     access: Access,
     pointer: AbstractValue,
 ) -> Option<Lack>
     requires few { access.bytes ≤ 256 }
-    requires kind { pointer.kind ≡ Kind.Context }
-    ensures { MatchOption result (IsShown policy.now view.now access pointer) (Lacks policy.now view.now access pointer) }
+    requires kind { pointer.kind ≡ ValueKind.Context }
+    ensures { MatchOption result (IsShown policy.now state.now access pointer) (Lacks policy.now state.now access pointer) }
 {
     if access.writes {
         return Some(Lack::WritesContext);
@@ -83,13 +83,13 @@ fn context_lack(
 #[tactic(auto, using(crate::proofs::AccessLemmas::written_on_stack, crate::proofs::AccessLemmas::read_from_stack))]
 fn stack_lack(
     policy: &PolicySource,
-    view: &AbstractState,
+    state: &AbstractState,
     access: Access,
     pointer: AbstractValue,
 ) -> Option<Lack>
     requires few { access.bytes ≤ 256 }
-    requires kind { pointer.kind ≡ Kind.Stack }
-    ensures { MatchOption result (IsShown policy.now view.now access pointer) (Lacks policy.now view.now access pointer) }
+    requires kind { pointer.kind ≡ ValueKind.Stack }
+    ensures { MatchOption result (IsShown policy.now state.now access pointer) (Lacks policy.now state.now access pointer) }
 {
     if !stays(access, pointer.offset, STACK_SIZE as usize) {
         return Some(Lack::BeyondStack);
@@ -97,7 +97,7 @@ fn stack_lack(
     if access.writes {
         return None;
     }
-    if touches_set(view, access, pointer.offset) {
+    if touches_set(state, access, pointer.offset) {
         None
     } else {
         Some(Lack::ReadsUnset)
@@ -108,14 +108,14 @@ fn stack_lack(
 #[tactic(auto, using(crate::proofs::AccessLemmas::shown_in_value))]
 fn value_lack(
     policy: &PolicySource,
-    view: &AbstractState,
+    state: &AbstractState,
     access: Access,
     pointer: AbstractValue,
     map: u8,
 ) -> Option<Lack>
     requires few { access.bytes ≤ 256 }
-    requires kind { pointer.kind ≡ Kind.Entry map }
-    ensures { MatchOption result (IsShown policy.now view.now access pointer) (Lacks policy.now view.now access pointer) }
+    requires kind { pointer.kind ≡ ValueKind.Entry map }
+    ensures { MatchOption result (IsShown policy.now state.now access pointer) (Lacks policy.now state.now access pointer) }
 {
     let Some(shape) = shape_of(policy.shapes.as_slice(), map) else {
         return Some(Lack::InNoMap);
@@ -144,15 +144,15 @@ fn stays(access: Access, offsets: Range, bound: usize) -> bool
 }
 
 /// Whether all bytes of the stack that the access may touch are known to be set.
-fn touches_set(view: &AbstractState, access: Access, offsets: Range) -> bool
+fn touches_set(state: &AbstractState, access: Access, offsets: Range) -> bool
     requires few { access.bytes ≤ 256 }
     requires inside { Stays access offsets STACK_SIZE }
-    ensures { MatchBool result (AreSet view.now.set (begin_of access offsets.lo) (begin_of access offsets.hi + access.bytes)) (TouchesUnset view.now access offsets) }
+    ensures { MatchBool result (AreSet state.now.set (begin_of access offsets.lo) (begin_of access offsets.hi + access.bytes)) (TouchesUnset state.now access offsets) }
 {
     let first = address(offsets.lo, access.off) as usize;
     let past = address(offsets.hi, access.off) as usize + access.bytes;
     for byte in first..past {
-        if !view.set[byte] {
+        if !state.set[byte] {
             return false;
         }
     }
@@ -208,10 +208,10 @@ fn register_text(alloc: Global, register: u8, known: AbstractValue) -> Result<St
 }
 
 /// Whether a pointer of the kind may be followed.
-fn is_followed(kind: Kind) -> bool
+fn is_followed(kind: ValueKind) -> bool
     ensures { IsTrue result ↔ Follows kind }
 {
-    matches!(kind, Kind::Context | Kind::Stack | Kind::Entry(_))
+    matches!(kind, ValueKind::Context | ValueKind::Stack | ValueKind::Entry(_))
 }
 
 /// Why an access is not good, in words.

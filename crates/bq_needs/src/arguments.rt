@@ -13,7 +13,7 @@ use bq_bpf::helper::{ADD_COUNTER, LOOKUP, READ_COUNTER, UPDATE};
 use bq_bpf::with_counters;
 use bq_insn::Insn;
 use bq_program::PolicySource;
-use bq_states::abstract_state::{AbstractState, Kind};
+use bq_states::abstract_state::{AbstractState, ValueKind};
 use bq_states::places::shape_of;
 use bq_states::registers::known;
 use std::alloc::{AllocError, Global};
@@ -35,14 +35,14 @@ enum Wanted {
 pub(crate) fn argument_need(
     alloc: Global,
     policy: &PolicySource,
-    view: &AbstractState,
+    state: &AbstractState,
     insn: Insn,
 ) -> Result<Option<String>, AllocError>
-    ensures { IfOk result (λ told. MatchOption told (AreGoodArguments policy.now view.now insn) (λ text. TellsArgument policy.now view.now insn (string_bytes text) × ¬ (AreGoodArguments policy.now view.now insn))) }
+    ensures { IfOk result (λ told. MatchOption told (AreGoodArguments policy.now state.now insn) (λ text. TellsArgument policy.now state.now insn (string_bytes text) × ¬ (AreGoodArguments policy.now state.now insn))) }
 {
     match insn {
         Insn::MapRef { index, .. } => map_need(alloc, policy, index),
-        Insn::Call { helper } => call_need(alloc, policy, view, helper),
+        Insn::Call { helper } => call_need(alloc, policy, state, helper),
         _ => Ok(None),
     }
 }
@@ -76,27 +76,27 @@ fn is_map(policy: &PolicySource, index: i32) -> bool
 fn call_need(
     alloc: Global,
     policy: &PolicySource,
-    view: &AbstractState,
+    state: &AbstractState,
     helper: i32,
 ) -> Result<Option<String>, AllocError>
-    ensures { IfOk result (λ told. MatchOption told (GivesHelper policy.now view.now helper) (λ text. TellsCall view.now helper (string_bytes text) × ¬ (GivesHelper policy.now view.now helper))) }
+    ensures { IfOk result (λ told. MatchOption told (GivesHelper policy.now state.now helper) (λ text. TellsCall state.now helper (string_bytes text) × ¬ (GivesHelper policy.now state.now helper))) }
 {
     let Some(wanted) = wanted_by(helper) else {
         return Ok(None);
     };
-    if are_given(policy, view, wanted) {
+    if are_given(policy, state, wanted) {
         return Ok(None);
     }
-    let text = call_text(alloc, view, wanted)?;
+    let text = call_text(alloc, state, wanted)?;
     Ok(Some(text))
 }
 
 /// The words for it.
-fn call_text(alloc: Global, view: &AbstractState, wanted: Wanted) -> Result<String, AllocError>
-    ensures { IfOk result (λ text. string_bytes text ≡ call_text view.now wanted) }
+fn call_text(alloc: Global, state: &AbstractState, wanted: Wanted) -> Result<String, AllocError>
+    ensures { IfOk result (λ text. string_bytes text ≡ call_text state.now wanted) }
 {
     let words = wanted_text(wanted);
-    let here = arguments_text(alloc, view)?;
+    let here = arguments_text(alloc, state)?;
     format!(in alloc; "{words}; here{here} and of the stack what stands below")
 }
 
@@ -120,14 +120,14 @@ fn wanted_by(helper: i32) -> Option<Wanted>
 }
 
 /// Whether the arguments are that.
-fn are_given(policy: &PolicySource, view: &AbstractState, wanted: Wanted) -> bool
-    ensures { IsTrue result ↔ AreGiven policy.now view.now wanted }
+fn are_given(policy: &PolicySource, state: &AbstractState, wanted: Wanted) -> bool
+    ensures { IsTrue result ↔ AreGiven policy.now state.now wanted }
 {
     match wanted {
-        Wanted::LookUp => names_entry(policy, view),
-        Wanted::Update => gives_value(policy, view),
-        Wanted::Add => gives_amount(view),
-        Wanted::Read => names_counter(view),
+        Wanted::LookUp => names_entry(policy, state),
+        Wanted::Update => gives_value(policy, state),
+        Wanted::Add => gives_amount(state),
+        Wanted::Read => names_counter(state),
     }
 }
 
@@ -151,23 +151,23 @@ fn wanted_text(wanted: Wanted) -> &'static str
 }
 
 /// Whether register 1 names a map, and register 2 points to the number of an entry.
-fn names_entry(policy: &PolicySource, view: &AbstractState) -> bool
-    ensures { IsTrue result ↔ ((m : ℕ) × NamesEntry policy.now view.now m) }
+fn names_entry(policy: &PolicySource, state: &AbstractState) -> bool
+    ensures { IsTrue result ↔ ((m : ℕ) × NamesEntry policy.now state.now m) }
 {
-    match named_entry(policy, view) {
+    match named_entry(policy, state) {
         Some(_) => true,
         None => false,
     }
 }
 
 /// The map that register 1 names, if it names one and register 2 points to an entry's number.
-fn named_entry(policy: &PolicySource, view: &AbstractState) -> Option<u8>
-    ensures { MatchOption result (¬ ((m : ℕ) × NamesEntry policy.now view.now m)) (NamesEntry policy.now view.now) }
+fn named_entry(policy: &PolicySource, state: &AbstractState) -> Option<u8>
+    ensures { MatchOption result (¬ ((m : ℕ) × NamesEntry policy.now state.now m)) (NamesEntry policy.now state.now) }
 {
-    let Some(map) = named_map(view) else {
+    let Some(map) = named_map(state) else {
         return None;
     };
-    if points_to(policy, view, 2, 4) {
+    if points_to(policy, state, 2, 4) {
         Some(map)
     } else {
         None
@@ -175,23 +175,23 @@ fn named_entry(policy: &PolicySource, view: &AbstractState) -> Option<u8>
 }
 
 /// The map that register 1 names.
-fn named_map(view: &AbstractState) -> Option<u8>
-    ensures { MatchOption result (¬ ((m : ℕ) × StandsAt (Pointer (Kind.Map m) 0) view.now 1)) (λ m. StandsAt (Pointer (Kind.Map m) 0) view.now 1) }
+fn named_map(state: &AbstractState) -> Option<u8>
+    ensures { MatchOption result (¬ ((m : ℕ) × StandsAt (Pointer (ValueKind.Map m) 0) state.now 1)) (λ m. StandsAt (Pointer (ValueKind.Map m) 0) state.now 1) }
 {
-    let Some(word) = known(view, 1) else {
+    let Some(word) = known(state, 1) else {
         return None;
     };
     match word.kind {
-        Kind::Map(map) => { if word.offset.hi == 0 { Some(map) } else { None } }
+        ValueKind::Map(map) => { if word.offset.hi == 0 { Some(map) } else { None } }
         _ => None,
     }
 }
 
 /// Whether the register points to so many bytes that may be read.
 #[tactic(auto, using(crate::proofs::NeedLemmas::lacking_not_pointing))]
-fn points_to(policy: &PolicySource, view: &AbstractState, register: u8, bytes: usize) -> bool
+fn points_to(policy: &PolicySource, state: &AbstractState, register: u8, bytes: usize) -> bool
     requires { bytes ≤ 256 }
-    ensures { IsTrue result ↔ PointsTo policy.now view.now register bytes }
+    ensures { IsTrue result ↔ PointsTo policy.now state.now register bytes }
 {
     let access = Access {
         writes: false,
@@ -199,78 +199,78 @@ fn points_to(policy: &PolicySource, view: &AbstractState, register: u8, bytes: u
         register,
         off: 0,
     };
-    let Some(pointer) = known(view, register) else {
+    let Some(pointer) = known(state, register) else {
         return false;
     };
-    match lack_of(policy, view, access, pointer) {
+    match lack_of(policy, state, access, pointer) {
         Some(_) => false,
         None => true,
     }
 }
 
 /// Whether an entry and its new value are named.
-fn gives_value(policy: &PolicySource, view: &AbstractState) -> bool
-    ensures { IsTrue result ↔ ((m : ℕ) × GivesValue policy.now view.now m) }
+fn gives_value(policy: &PolicySource, state: &AbstractState) -> bool
+    ensures { IsTrue result ↔ ((m : ℕ) × GivesValue policy.now state.now m) }
 {
-    let Some(map) = named_entry(policy, view) else {
+    let Some(map) = named_entry(policy, state) else {
         return false;
     };
     let Some(shape) = shape_of(policy.shapes.as_slice(), map) else {
         return false;
     };
-    if !points_to(policy, view, 3, usize::from(shape.value_size)) {
+    if !points_to(policy, state, 3, usize::from(shape.value_size)) {
         return false;
     }
-    is_zero(view, 4)
+    is_zero(state, 4)
 }
 
 /// Whether the register is the number 0.
-fn is_zero(view: &AbstractState, register: u8) -> bool
-    ensures { IsTrue result ↔ StandsAt (Exact 0) view.now register }
+fn is_zero(state: &AbstractState, register: u8) -> bool
+    ensures { IsTrue result ↔ StandsAt (Exact 0) state.now register }
 {
-    match known(view, register) {
-        Some(word) => matches!(word.kind, Kind::Number) && word.offset.hi == 0,
+    match known(state, register) {
+        Some(word) => matches!(word.kind, ValueKind::Number) && word.offset.hi == 0,
         None => false,
     }
 }
 
 /// Whether register 1 is the number of a counter.
-fn names_counter(view: &AbstractState) -> bool
-    ensures { IsTrue result ↔ IsCounter (known_in view.now 1) }
+fn names_counter(state: &AbstractState) -> bool
+    ensures { IsTrue result ↔ IsCounter (known_in state.now 1) }
 {
-    match known(view, 1) {
-        Some(word) => matches!(word.kind, Kind::Number) && word.offset.hi < COUNTERS as u64,
+    match known(state, 1) {
+        Some(word) => matches!(word.kind, ValueKind::Number) && word.offset.hi < COUNTERS as u64,
         None => false,
     }
 }
 
 /// Whether it is, and register 2 a number.
-fn gives_amount(view: &AbstractState) -> bool
-    ensures { IsTrue result ↔ (IsCounter (known_in view.now 1) × StandsAt Scalar view.now 2) }
+fn gives_amount(state: &AbstractState) -> bool
+    ensures { IsTrue result ↔ (IsCounter (known_in state.now 1) × StandsAt Scalar state.now 2) }
 {
-    match known(view, 2) {
-        Some(word) => names_counter(view) && matches!(word.kind, Kind::Number),
+    match known(state, 2) {
+        Some(word) => names_counter(state) && matches!(word.kind, ValueKind::Number),
         None => false,
     }
 }
 
 /// What is known of the four arguments of a helper.
-fn arguments_text(alloc: Global, view: &AbstractState) -> Result<String, AllocError>
-    ensures { IfOk result (λ text. string_bytes text ≡ arguments_below 4 view.now) }
+fn arguments_text(alloc: Global, state: &AbstractState) -> Result<String, AllocError>
+    ensures { IfOk result (λ text. string_bytes text ≡ arguments_below 4 state.now) }
 {
     let mut text = String::new(alloc);
     for number in 0..4u8 {
-        let told = argument_text(alloc, view, number + 1)?;
+        let told = argument_text(alloc, state, number + 1)?;
         text.push_str(told.as_str())?;
     }
     Ok(text)
 }
 
 /// What is known of an argument.
-fn argument_text(alloc: Global, view: &AbstractState, register: u8) -> Result<String, AllocError>
-    ensures { IfOk result (λ text. string_bytes text ≡ argument_text register (known_in view.now register)) }
+fn argument_text(alloc: Global, state: &AbstractState, register: u8) -> Result<String, AllocError>
+    ensures { IfOk result (λ text. string_bytes text ≡ argument_text register (known_in state.now register)) }
 {
-    match known(view, register) {
+    match known(state, register) {
         Some(word) => {
             let told = known_text(alloc, &word)?;
             format!(in alloc; " r{register} is {told},")

@@ -8,7 +8,7 @@ ghost use Rattle.bq_needs.specs.Texts.{between, kind_text, known_text, number_te
 
 use bq_bpf::addresses::STACK_SIZE;
 use bq_ranges::Range;
-use bq_states::abstract_state::{AbstractValue, Kind};
+use bq_states::abstract_state::{AbstractValue, ValueKind};
 use std::alloc::{AllocError, Global};
 
 /// Words from here on are printed as what is taken away.
@@ -43,22 +43,22 @@ pub fn known_text(alloc: Global, known: &AbstractValue) -> Result<String, AllocE
 }
 
 /// A word of a kind, by the range of its offset.
-pub(crate) fn kind_text(alloc: Global, kind: Kind, range: Range) -> Result<String, AllocError>
+pub(crate) fn kind_text(alloc: Global, kind: ValueKind, range: Range) -> Result<String, AllocError>
     ensures { IfOk result (λ text. string_bytes text ≡ kind_text kind range) }
 {
     match kind {
-        Kind::Number => number_text(alloc, range),
-        Kind::Context => pointer_text(alloc, "context", range),
-        Kind::Stack => stack_text(alloc, range),
-        Kind::Entry(map) => {
+        ValueKind::Number => number_text(alloc, range),
+        ValueKind::Context => pointer_text(alloc, "context", range),
+        ValueKind::Stack => stack_text(alloc, range),
+        ValueKind::Entry(map) => {
             let offset = offset_text(alloc, range)?;
             format!(in alloc; "entry of map {map}{offset}")
         }
-        Kind::EntryOrNull(map) => {
+        ValueKind::EntryOrNull(map) => {
             let offset = offset_text(alloc, range)?;
             format!(in alloc; "entry of map {map} or 0{offset}, not compared")
         }
-        Kind::Map(map) => {
+        ValueKind::Map(map) => {
             let offset = offset_text(alloc, range)?;
             format!(in alloc; "map {map}{offset}")
         }

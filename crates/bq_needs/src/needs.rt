@@ -12,7 +12,7 @@ use crate::known::known_text;
 use crate::operands::{access_of, reads, works_on};
 use bq_insn::Insn;
 use bq_program::PolicySource;
-use bq_states::abstract_state::{AbstractState, AbstractValue, Kind};
+use bq_states::abstract_state::{AbstractState, AbstractValue, ValueKind};
 use bq_states::registers::known;
 use bq_verify::{Cause, Doubt};
 use std::alloc::{AllocError, Global};
@@ -21,13 +21,13 @@ use std::alloc::{AllocError, Global};
 pub fn need_text(
     alloc: Global,
     policy: &PolicySource,
-    view: &AbstractState,
+    state: &AbstractState,
     insn: Insn,
     cause: Cause,
 ) -> Result<String, AllocError>
-    ensures { IfOk result (λ text. IsNeed policy.now view.now insn cause (string_bytes text)) }
+    ensures { IfOk result (λ text. IsNeed policy.now state.now insn cause (string_bytes text)) }
 {
-    match told(alloc, policy, view, insn, cause)? {
+    match told(alloc, policy, state, insn, cause)? {
         Some(text) => Ok(text),
         None => String::from_str(alloc, "is not shown to be safe"),
     }
@@ -37,27 +37,27 @@ pub fn need_text(
 fn told(
     alloc: Global,
     policy: &PolicySource,
-    view: &AbstractState,
+    state: &AbstractState,
     insn: Insn,
     cause: Cause,
 ) -> Result<Option<String>, AllocError>
-    ensures { IfOk result (λ told. MatchOption told (IsMet policy.now view.now insn cause) (λ text. TellsNeed policy.now view.now insn cause (string_bytes text) × ¬ (IsMet policy.now view.now insn cause))) }
+    ensures { IfOk result (λ told. MatchOption told (IsMet policy.now state.now insn cause) (λ text. TellsNeed policy.now state.now insn cause (string_bytes text) × ¬ (IsMet policy.now state.now insn cause))) }
 {
     match cause {
-        Cause::State(Doubt::Unset) => unset_need(alloc, view, insn),
-        Cause::State(Doubt::Access) => access_need(alloc, policy, view, insn),
-        Cause::State(Doubt::PointerUse) => pointer_need(alloc, view, insn),
-        Cause::State(Doubt::Argument) => argument_need(alloc, policy, view, insn),
-        Cause::State(Doubt::Answer) => answer_need(alloc, view),
+        Cause::State(Doubt::Unset) => unset_need(alloc, state, insn),
+        Cause::State(Doubt::Access) => access_need(alloc, policy, state, insn),
+        Cause::State(Doubt::PointerUse) => pointer_need(alloc, state, insn),
+        Cause::State(Doubt::Argument) => argument_need(alloc, policy, state, insn),
+        Cause::State(Doubt::Answer) => answer_need(alloc, state),
         Cause::Graph(_) => Ok(None),
     }
 }
 
 /// The registers that the instruction reads and that may be unset, if there are any.
-fn unset_need(alloc: Global, view: &AbstractState, insn: Insn) -> Result<Option<String>, AllocError>
-    ensures { IfOk result (λ told. MatchOption told (AreKnown view.now insn) (λ text. (string_bytes text ≡ unset_need view.now insn) × ¬ (AreKnown view.now insn))) }
+fn unset_need(alloc: Global, state: &AbstractState, insn: Insn) -> Result<Option<String>, AllocError>
+    ensures { IfOk result (λ told. MatchOption told (AreKnown state.now insn) (λ text. (string_bytes text ≡ unset_need state.now insn) × ¬ (AreKnown state.now insn))) }
 {
-    let registers = unset_registers(alloc, view, insn)?;
+    let registers = unset_registers(alloc, state, insn)?;
     if registers.is_empty() {
         return Ok(None);
     }
@@ -68,12 +68,12 @@ fn unset_need(alloc: Global, view: &AbstractState, insn: Insn) -> Result<Option<
 }
 
 /// Each register that the instruction reads and of which nothing is known.
-fn unset_registers(alloc: Global, view: &AbstractState, insn: Insn) -> Result<String, AllocError>
-    ensures { IfOk result (λ text. string_bytes text ≡ unset_below 11 view.now insn) }
+fn unset_registers(alloc: Global, state: &AbstractState, insn: Insn) -> Result<String, AllocError>
+    ensures { IfOk result (λ text. string_bytes text ≡ unset_below 11 state.now insn) }
 {
     let mut text = String::new(alloc);
     for register in 0..11u8 {
-        let told = unset_register(alloc, view, insn, register)?;
+        let told = unset_register(alloc, state, insn, register)?;
         text.push_str(told.as_str())?;
     }
     Ok(text)
@@ -82,13 +82,13 @@ fn unset_registers(alloc: Global, view: &AbstractState, insn: Insn) -> Result<St
 /// The register, if it is one of those.
 fn unset_register(
     alloc: Global,
-    view: &AbstractState,
+    state: &AbstractState,
     insn: Insn,
     register: u8,
 ) -> Result<String, AllocError>
-    ensures { IfOk result (λ text. string_bytes text ≡ unset_text view.now insn register) }
+    ensures { IfOk result (λ text. string_bytes text ≡ unset_text state.now insn register) }
 {
-    if reads(insn, register) && known(view, register).is_none() {
+    if reads(insn, register) && known(state, register).is_none() {
         format!(in alloc; " r{register}")
     } else {
         Ok(String::new(alloc))
@@ -99,24 +99,24 @@ fn unset_register(
 fn access_need(
     alloc: Global,
     policy: &PolicySource,
-    view: &AbstractState,
+    state: &AbstractState,
     insn: Insn,
 ) -> Result<Option<String>, AllocError>
-    ensures { IfOk result (λ told. MatchOption told (IsGoodAccess policy.now view.now insn) (λ text. TellsAccessOf policy.now view.now insn (string_bytes text) × ¬ (IsGoodAccess policy.now view.now insn))) }
+    ensures { IfOk result (λ told. MatchOption told (IsGoodAccess policy.now state.now insn) (λ text. TellsAccessOf policy.now state.now insn (string_bytes text) × ¬ (IsGoodAccess policy.now state.now insn))) }
 {
     let Some(access) = access_of(insn) else {
         return Ok(None);
     };
     let verb = verb(access.writes);
     let bytes = access.bytes;
-    let Some(pointer) = known(view, access.register) else {
+    let Some(pointer) = known(state, access.register) else {
         let register = access.register;
         let text = format!(in alloc;
             "{verb} {bytes} bytes by r{register}, which is not set on each way that leads here"
         )?;
         return Ok(Some(text));
     };
-    let Some(lack) = lack_of(policy, view, access, pointer) else {
+    let Some(lack) = lack_of(policy, state, access, pointer) else {
         return Ok(None);
     };
     let begin = begin_text(alloc, access, pointer)?;
@@ -135,12 +135,12 @@ fn verb(writes: bool) -> &'static str
 /// A pointer that the instruction works on, and what may be done with it, if it works on one.
 fn pointer_need(
     alloc: Global,
-    view: &AbstractState,
+    state: &AbstractState,
     insn: Insn,
 ) -> Result<Option<String>, AllocError>
-    ensures { IfOk result (λ told. MatchOption told (AreNumbers view.now insn) (λ text. TellsPointer view.now insn (string_bytes text) × ¬ (AreNumbers view.now insn))) }
+    ensures { IfOk result (λ told. MatchOption told (AreNumbers state.now insn) (λ text. TellsPointer state.now insn (string_bytes text) × ¬ (AreNumbers state.now insn))) }
 {
-    let Some(pointer) = pointer_worked_on(view, insn) else {
+    let Some(pointer) = pointer_worked_on(state, insn) else {
         return Ok(None);
     };
     let register = pointer.register;
@@ -158,11 +158,11 @@ struct Pointer {
 }
 
 /// The first of the registers that the instruction works on which is known to be no number.
-fn pointer_worked_on(view: &AbstractState, insn: Insn) -> Option<Pointer>
-    ensures { MatchOption result (AreNumbers view.now insn) (λ pointer. IsFirstPointer view.now insn pointer.register pointer.known) }
+fn pointer_worked_on(state: &AbstractState, insn: Insn) -> Option<Pointer>
+    ensures { MatchOption result (AreNumbers state.now insn) (λ pointer. IsFirstPointer state.now insn pointer.register pointer.known) }
 {
     for register in 0..11u8 {
-        if let Some(pointer) = as_pointer(view, insn, register) {
+        if let Some(pointer) = as_pointer(state, insn, register) {
             return Some(pointer);
         }
     }
@@ -170,15 +170,15 @@ fn pointer_worked_on(view: &AbstractState, insn: Insn) -> Option<Pointer>
 }
 
 /// The register, if the instruction works on it and it is known to be no number.
-fn as_pointer(view: &AbstractState, insn: Insn, register: u8) -> Option<Pointer>
+fn as_pointer(state: &AbstractState, insn: Insn, register: u8) -> Option<Pointer>
     requires { register < 11 }
     ensures register { IfSome result (λ pointer. pointer.register ≡ register) }
-    ensures pointer { MatchOption result ((k : Shown) → works_on insn register ≡ true → known_in view.now register ≡ Some k → k.kind ≡ Kind.Number) (λ pointer. IsPointerWorkedOn view.now insn pointer.register pointer.known) }
+    ensures pointer { MatchOption result ((k : Shown) → works_on insn register ≡ true → known_in state.now register ≡ Some k → k.kind ≡ ValueKind.Number) (λ pointer. IsPointerWorkedOn state.now insn pointer.register pointer.known) }
 {
     if !works_on(insn, register) {
         return None;
     }
-    let Some(known) = known(view, register) else {
+    let Some(known) = known(state, register) else {
         return None;
     };
     if is_number(known.kind) {
@@ -189,10 +189,10 @@ fn as_pointer(view: &AbstractState, insn: Insn, register: u8) -> Option<Pointer>
 }
 
 /// Whether words of the kind are numbers.
-fn is_number(kind: Kind) -> bool
-    ensures { IsTrue result ↔ (kind ≡ Kind.Number) }
+fn is_number(kind: ValueKind) -> bool
+    ensures { IsTrue result ↔ (kind ≡ ValueKind.Number) }
 {
-    matches!(kind, Kind::Number)
+    matches!(kind, ValueKind::Number)
 }
 
 /// What may be done with a pointer, where the instruction does another thing.
@@ -213,10 +213,10 @@ fn pointer_rule(insn: Insn) -> &'static str
 }
 
 /// What the answer is, if it is not shown to be a number.
-fn answer_need(alloc: Global, view: &AbstractState) -> Result<Option<String>, AllocError>
-    ensures { IfOk result (λ told. MatchOption told (StandsAt Scalar view.now 0) (λ text. (string_bytes text ≡ answer_text (known_in view.now 0)) × ¬ (StandsAt Scalar view.now 0))) }
+fn answer_need(alloc: Global, state: &AbstractState) -> Result<Option<String>, AllocError>
+    ensures { IfOk result (λ told. MatchOption told (StandsAt Scalar state.now 0) (λ text. (string_bytes text ≡ answer_text (known_in state.now 0)) × ¬ (StandsAt Scalar state.now 0))) }
 {
-    let Some(answer) = known(view, 0) else {
+    let Some(answer) = known(state, 0) else {
         let text = String::from_str(
             alloc,
             "ends, and r0, the answer, is not set on each way that leads here",

@@ -16,30 +16,30 @@ use Rattle.bq_console.specs.Words.{IsCut, IsFreeOf, IsNumber}
 use Rattle.bq_console.proofs.WordLemmas.{cut_once, free_cut, number_once}
 
 -- a row as the code's table has it
-abbrev pub Row : Type 0
-Row = Bor (List ℕ) × ℕ × FieldWidth × ℕ × ℕ
+abbrev pub FieldRow : Type 0
+FieldRow = Bor (List ℕ) × ℕ × FieldWidth × ℕ × ℕ
 
 -- the first row of a name is the same in the code's table and in the definition's
-pub same_row : (rows : List Row) (name : List ℕ) → row_named (map row_of rows) name ≡ option_map row_of (find (λ (r : Row). bytes_eq r.0.now name) rows)
+pub same_row : (rows : List FieldRow) (name : List ℕ) → row_named (map row_of rows) name ≡ option_map row_of (find (λ (r : FieldRow). bytes_eq r.0.now name) rows)
 same_row [] name = refl
 same_row (row ∷ rows) name = go (bytes_eq row.0.now name) (same_row rows name)
   where
-    go : (b : Bool) → row_named (map row_of rows) name ≡ option_map row_of (find (λ (r : Row). bytes_eq r.0.now name) rows)
-        → cond b (Some (row_of row)) (row_named (map row_of rows) name) ≡ option_map row_of (cond b (Some row) (find (λ (r : Row). bytes_eq r.0.now name) rows))
+    go : (b : Bool) → row_named (map row_of rows) name ≡ option_map row_of (find (λ (r : FieldRow). bytes_eq r.0.now name) rows)
+        → cond b (Some (row_of row)) (row_named (map row_of rows) name) ≡ option_map row_of (cond b (Some row) (find (λ (r : FieldRow). bytes_eq r.0.now name) rows))
     go true more = refl
     go false more = more
 
 -- where no row is found there is none of the definition
-pub none_row : (rows : List Row) (name : List ℕ) (found : Option Row) (fields : List NamedField) → map row_of rows ≡ fields → found ≡ find (λ (r : Row). bytes_eq r.0.now name) rows → IfNone found (row_named fields name ≡ None)
+pub none_row : (rows : List FieldRow) (name : List ℕ) (found : Option FieldRow) (fields : List NamedField) → map row_of rows ≡ fields → found ≡ find (λ (r : FieldRow). bytes_eq r.0.now name) rows → IfNone found (row_named fields name ≡ None)
 none_row rows name (Some row) fields table is = tt
 none_row rows name None fields table is =
-    ap (λ (fs : List NamedField). row_named fs name) (sym table) ∙ same_row rows name ∙ ap (λ (o : Option Row). option_map row_of o) (sym is)
+    ap (λ (fs : List NamedField). row_named fs name) (sym table) ∙ same_row rows name ∙ ap (λ (o : Option FieldRow). option_map row_of o) (sym is)
 
 -- the row that is found stands for the one of the definition
-pub some_row : (rows : List Row) (name : List ℕ) (found : Option Row) (fields : List NamedField) → map row_of rows ≡ fields → found ≡ find (λ (r : Row). bytes_eq r.0.now name) rows → IfSome found (λ (r : Row). row_named fields name ≡ Some (row_of r))
+pub some_row : (rows : List FieldRow) (name : List ℕ) (found : Option FieldRow) (fields : List NamedField) → map row_of rows ≡ fields → found ≡ find (λ (r : FieldRow). bytes_eq r.0.now name) rows → IfSome found (λ (r : FieldRow). row_named fields name ≡ Some (row_of r))
 some_row rows name None fields table is = tt
 some_row rows name (Some row) fields table is =
-    ap (λ (fs : List NamedField). row_named fs name) (sym table) ∙ same_row rows name ∙ ap (λ (o : Option Row). option_map row_of o) (sym is)
+    ap (λ (fs : List NamedField). row_named fs name) (sym table) ∙ same_row rows name ∙ ap (λ (o : Option FieldRow). option_map row_of o) (sym is)
 
 -- whether the mark does not stand in the text
 lacks : ℕ → List ℕ → Bool

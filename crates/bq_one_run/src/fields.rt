@@ -36,9 +36,9 @@ pub struct Field {
 }
 
 /// A row of the table: the name, the first byte, the width, and for a field that stands several times how far apart and how often.
-type Row = (&'static str, usize, FieldWidth, usize, usize);
+type FieldRow = (&'static str, usize, FieldWidth, usize, usize);
 
-const PLACE: [Row; 9] = [
+const PLACE: [FieldRow; 9] = [
     ("task", 0, FieldWidth::Four, 0, 1),
     ("weight", 4, FieldWidth::Four, 0, 1),
     ("mask", 8, FieldWidth::Eight, 0, 1),
@@ -50,7 +50,7 @@ const PLACE: [Row; 9] = [
     ("load", 40, FieldWidth::Four, 4, 64),
 ];
 
-const PREEMPT: [Row; 10] = [
+const PREEMPT: [FieldRow; 10] = [
     ("processor", 0, FieldWidth::Four, 0, 1),
     ("queued", 4, FieldWidth::Four, 0, 1),
     ("task", 8, FieldWidth::Four, 0, 1),
@@ -63,7 +63,7 @@ const PREEMPT: [Row; 10] = [
     ("own", 48, FieldWidth::Four, 0, 1),
 ];
 
-const PULL: [Row; 10] = [
+const PULL: [FieldRow; 10] = [
     ("puller", 0, FieldWidth::Four, 0, 1),
     ("other", 4, FieldWidth::Four, 0, 1),
     ("size", 8, FieldWidth::Four, 0, 1),
@@ -120,7 +120,7 @@ fn by_number(hook: Hook, stem: &str, digits: &str) -> Option<Field>
 }
 
 /// The table of a hook.
-fn rows(hook: Hook) -> &'static [Row]
+fn rows(hook: Hook) -> &'static [FieldRow]
     ensures { map row_of result.now ≡ fields_of hook }
 {
     match hook {
@@ -131,7 +131,7 @@ fn rows(hook: Hook) -> &'static [Row]
 }
 
 /// The row of that name of a hook, if there is one.
-fn row_named(hook: Hook, name: &str) -> Option<Row>
+fn row_named(hook: Hook, name: &str) -> Option<FieldRow>
     ensures some { IfSome result (λ row. row_named (fields_of hook) name.now ≡ Some (row_of row)) }
     ensures none { IfNone result (row_named (fields_of hook) name.now ≡ None) }
 {
@@ -139,14 +139,14 @@ fn row_named(hook: Hook, name: &str) -> Option<Row>
 }
 
 /// The first row of that name, if there is one.
-fn first_named(rows: &[Row], name: &str) -> Option<Row>
+fn first_named(rows: &[FieldRow], name: &str) -> Option<FieldRow>
     ensures { result ≡ find (λ row. bytes_eq row.0.now name.now) rows.now }
 {
     rows.iter().copied().find(|row| row.0 == name)
 }
 
 /// The field of a row, if it stands once.
-fn single(row: Row) -> Option<Field>
+fn single(row: FieldRow) -> Option<Field>
     ensures some { IfSome result (IsSingle (row_of row.entry)) }
     ensures none { IfNone result ((field : OfField) → ¬ IsSingle (row_of row.entry) field) }
 {
@@ -160,7 +160,7 @@ fn single(row: Row) -> Option<Field>
 }
 
 /// The field of that number of a row, if it stands several times.
-fn numbered(row: Row, number: usize) -> Option<Field>
+fn numbered(row: FieldRow, number: usize) -> Option<Field>
     ensures some { IfSome result (IsNumbered (row_of row.entry) number) }
     ensures none { IfNone result ((field : OfField) → field.at < 2 ^ 64 → ¬ IsNumbered (row_of row.entry) number field) }
 {

@@ -12,9 +12,9 @@ mod one_run;
 mod permitted;
 mod settings;
 
-pub use bq_interp::Moment;
+pub use bq_interp::Snapshot;
 pub use changes::{copied, write_calls, write_changes};
 pub use fields::{Field, FieldWidth};
 pub use inputs::{Inputs, inputs_of};
-pub use one_run::{OneRun, run_often, run_once, trace_once};
+pub use one_run::{RunOutcome, run_often, run_once, trace_once};
 pub use permitted::{PLACE_SHOWN, Word, place_shown, word_on};

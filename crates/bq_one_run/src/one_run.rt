@@ -2,18 +2,18 @@
 ghost use Rattle.std.specs.Prelude.{◌≡◌, ◌<◌, ◌↔◌, [], length, IfNone, IfOk, IfSome, IsTrue};
 ghost use Rattle.bq_interp.specs.Progress.{setting_of};
 ghost use Rattle.bq_bpf.specs.Hooks.{context_length_of};
-ghost use Rattle.bq_interp.specs.Moments.{AreMoments};
+ghost use Rattle.bq_interp.specs.Snapshots.{AreSnapshots};
 ghost use Rattle.bq_bpf.specs.Runs.{start};
 ghost use Rattle.bq_one_run.specs.Runs.{AreRuns, Fits, IsRun, kept_in};
 
 use crate::inputs::Inputs;
 use bq_bpf::{context_length, same_shapes};
-use bq_interp::{Moment, Ran, Stack, run, run_traced};
+use bq_interp::{Snapshot, Ran, Stack, run, run_traced};
 use bq_verify::Verified;
 use std::alloc::AllocError;
 
 /// What a run answered and took.
-pub type OneRun = Ran;
+pub type RunOutcome = Ran;
 
 /// Whether the context has the length of the program's hook and version, and the maps have its shapes.
 fn fits(verified: &Verified, inputs: &Inputs) -> bool
@@ -25,7 +25,7 @@ fn fits(verified: &Verified, inputs: &Inputs) -> bool
 
 /// The one run of the program on the inputs, whose maps and counters it leaves as the run does. None where the context has
 /// not the length of the program's hook and version, or the maps are of other shapes: then all is left as it was.
-pub fn run_once(verified: &Verified, inputs: &mut Inputs) -> Option<OneRun>
+pub fn run_once(verified: &Verified, inputs: &mut Inputs) -> Option<RunOutcome>
     ensures run { IfSome result (λ r. IsRun verified.now inputs.old.context.items inputs.old.env.now inputs.old.env.processor (kept_in inputs.old) r.steps r.calls.items r.r0 (kept_in inputs.new)) }
     ensures fits { IfSome result (λ _. Fits verified.now inputs.old) }
     ensures none { IfNone result (¬ Fits verified.now inputs.old) }
@@ -73,17 +73,17 @@ pub fn run_often(verified: &Verified, inputs: &mut Inputs, count: u32) -> Option
 pub fn trace_once(
     verified: &Verified,
     inputs: &mut Inputs,
-    moments: &mut Vec<Moment>,
-) -> Result<Option<OneRun>, AllocError>
-    requires { moments.old.items ≡ [] }
+    snapshots: &mut Vec<Snapshot>,
+) -> Result<Option<RunOutcome>, AllocError>
+    requires { snapshots.old.items ≡ [] }
     ensures run { IfOk result (λ o. IfSome o (λ r. IsRun verified.now inputs.old.context.items inputs.old.env.now inputs.old.env.processor (kept_in inputs.old) r.steps r.calls.items r.r0 (kept_in inputs.new))) }
-    ensures moments { IfOk result (λ o. IfSome o (λ r. AreMoments (setting_of verified.now inputs.old.context.items inputs.old.env.now inputs.old.env.processor) (start inputs.old.maps.bytes) r.calls.items 0 moments.new.items)) }
-    ensures each { IfOk result (λ o. IfSome o (λ r. length moments.new.items ≡ r.steps)) }
+    ensures snapshots { IfOk result (λ o. IfSome o (λ r. AreSnapshots (setting_of verified.now inputs.old.context.items inputs.old.env.now inputs.old.env.processor) (start inputs.old.maps.bytes) r.calls.items 0 snapshots.new.items)) }
+    ensures each { IfOk result (λ o. IfSome o (λ r. length snapshots.new.items ≡ r.steps)) }
     ensures whole { IfOk result (λ o. IfSome o (λ _. length inputs.old.context.items ≡ context_length_of verified.now.hook verified.now.version)) }
     ensures none { IfOk result (λ o. IfNone o (¬ Fits verified.now inputs.old)) }
     ensures left { IfOk result (λ o. IfNone o (inputs.new ≡ inputs.old)) }
     ensures shapes { IfOk result (λ _. inputs.new.maps.shapes ≡ inputs.old.maps.shapes) }
-    ensures kept { IfOk result (λ o. IfNone o (moments.new ≡ moments.old)) }
+    ensures kept { IfOk result (λ o. IfNone o (snapshots.new ≡ snapshots.old)) }
     ensures context { inputs.new.context ≡ inputs.old.context }
     ensures env { inputs.new.env ≡ inputs.old.env }
 {
@@ -99,7 +99,7 @@ pub fn trace_once(
         &mut stack,
         env,
         &mut inputs.board,
-        moments,
+        snapshots,
     )?;
     Ok(Some(ran))
 }

@@ -24,9 +24,9 @@ use Rattle.bq_seats.specs.contracts.seat.Seat.TheInside as seat
 use Rattle.bq_seats.specs.contracts.working.Working as Working
 use Rattle.bq_seats.proofs.working.Working.TheSendSync as working
 use Rattle.bq_cells.specs.contracts.record.Record as Record
-use Rattle.bq_cells.specs.contracts.record.RecordTold.TheImpl as told
-use Rattle.bq_cells.specs.contracts.law.Kept as Kept
-use Rattle.bq_cells.specs.contracts.law.Part as Part
+use Rattle.bq_cells.specs.contracts.record.RecordTellsCalls.TheImpl as told
+use Rattle.bq_cells.specs.contracts.law.JournalState as JournalState
+use Rattle.bq_cells.specs.contracts.law.WorldPart as WorldPart
 use Rattle.bq_cells.proofs.SendLemmas.{record_send}
 use Rattle.bq_par.specs.contracts.shift.ReturnedSeat as ReturnedSeat
 
@@ -47,10 +47,10 @@ calls_send : IsSend (Option.the_row CallRooms.the_row)
 calls_send = search (crosses, list.the_send, call.the_send, sendable) depth 40
 
 -- a seat
-pub seat_send : (N : RattleType) (n : Naming.Ghosts N.Denot) (m : Counting.Ghosts N.Denot) → IsSend (Seat.the_row Record.the_row Part.the_row Kept.the_row N told.ghosts n m)
+pub seat_send : (N : RattleType) (n : Naming.Ghosts N.Denot) (m : Counting.Ghosts N.Denot) → IsSend (Seat.the_row Record.the_row WorldPart.the_row JournalState.the_row N told.ghosts n m)
 seat_send N n m =
     let spare = room_send Record.the_row record_send in
-    view_send (seat.the_row Record.the_row Part.the_row Kept.the_row N told.ghosts n m) _ _ _ _ (declared_send (seat.the_type Record.the_row Part.the_row Kept.the_row N told.ghosts n m)
+    view_send (seat.the_row Record.the_row WorldPart.the_row JournalState.the_row N told.ghosts n m) _ _ _ _ (declared_send (seat.the_type Record.the_row WorldPart.the_row JournalState.the_row N told.ghosts n m)
     (search (working.the_send, crosses, sendable) depth 20, (spare, (spare, (calls_send, tt)))))
 
 receipt_send : IsSend (Receipt.the_row Record.the_row)

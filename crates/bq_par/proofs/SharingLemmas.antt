@@ -18,12 +18,12 @@ use Rattle.bq_history.proofs.SendLemmas.{journal_send}
 use Rattle.bq_cells.specs.contracts.cells.NumberedCpu as Numbered
 use Rattle.bq_cells.specs.contracts.cells.NumberedInbox as NumberedInbox
 use Rattle.bq_cells.specs.contracts.cells.OneLobby as OneLobby
-use Rattle.bq_cells.specs.contracts.cells.NumberedCpuAsPartPart.TheImpl as cpu_part
-use Rattle.bq_cells.specs.contracts.cells.NumberedInboxAsPartPart.TheImpl as inbox_part
-use Rattle.bq_cells.specs.contracts.cells.OneLobbyAsPartPart.TheImpl as lobby_part
+use Rattle.bq_cells.specs.contracts.cells.NumberedCpuAsPartWorldPart.TheImpl as cpu_part
+use Rattle.bq_cells.specs.contracts.cells.NumberedInboxAsPartWorldPart.TheImpl as inbox_part
+use Rattle.bq_cells.specs.contracts.cells.OneLobbyAsPartWorldPart.TheImpl as lobby_part
 use Rattle.bq_cells.specs.contracts.record.Record as Record
-use Rattle.bq_cells.specs.contracts.law.Kept as Kept
-use Rattle.bq_cells.specs.contracts.law.Part as Part
+use Rattle.bq_cells.specs.contracts.law.JournalState as JournalState
+use Rattle.bq_cells.specs.contracts.law.WorldPart as WorldPart
 use Rattle.bq_disc.proofs.node.Node.TheLaws.TheKnot as knot
 use Rattle.bq_parts.specs.contracts.inbox.Inbox as Inbox
 use Rattle.bq_recording.specs.contracts.closing_room.ClosingRoom as ClosingRoom
@@ -43,12 +43,12 @@ tasks_send = search (crosses, knot.crosses, sendable) depth 60 fits 20000
 -- what all callers share beside the locks of the parts
 recorder_sync : (Q N R : RattleType) (n : Naming.Ghosts N.Denot) (m : Counting.Ghosts N.Denot) (g : Queue.Ghosts Q.Denot R.Denot) (h : Discipline.Ghosts R.Denot) → IsSync (Recorder.the_row Q N R n m g h)
 recorder_sync Q N R n m g h =
-    let journals = Journal.the_row Record.the_row Part.the_row Kept.the_row N n in
+    let journals = Journal.the_row Record.the_row WorldPart.the_row JournalState.the_row N n in
     declared_sync (Recorder.the_type Q N R n m g h) (
       search (owner.the_sync, sendable),
       (
         search (counters.the_sync, sendable),
-        (mutex_sync journals (journal_send Record.the_row Part.the_row Kept.the_row N n record_send kept_send), tt),
+        (mutex_sync journals (journal_send Record.the_row WorldPart.the_row JournalState.the_row N n record_send kept_send), tt),
       ),
     )
 
@@ -57,20 +57,20 @@ pub machine_sync : (Q K N P R : RattleType) (k : Clock.Ghosts K.Denot) (n : Nami
 machine_sync Q K N P R k n m g h s y =
     let cpu = Numbered.the_row Q R g h in
     let a = cpu_part.ghosts Q R g cpu_part.no_dict h cpu_part.no_dict in
-    let place = Locked.the_row cpu Record.the_row Part.the_row Kept.the_row N a n in
-    let inbox = Locked.the_row NumberedInbox.the_row Record.the_row Part.the_row Kept.the_row N inbox_part.ghosts n in
-    let lobby = Locked.the_row OneLobby.the_row Record.the_row Part.the_row Kept.the_row N lobby_part.ghosts n in
+    let place = Locked.the_row cpu Record.the_row WorldPart.the_row JournalState.the_row N a n in
+    let inbox = Locked.the_row NumberedInbox.the_row Record.the_row WorldPart.the_row JournalState.the_row N inbox_part.ghosts n in
+    let lobby = Locked.the_row OneLobby.the_row Record.the_row WorldPart.the_row JournalState.the_row N lobby_part.ghosts n in
     let room = ClosingRoom.the_row Q P R g h in
     declared_sync (Machine.the_type Q K N P R g h k n m) (
       as_row_sync (row_field K) y,
       (
         recorder_sync Q N R n m g h,
         (
-          Vec-sync (Mutex.the_row place) (mutex_sync place (locked.the_send cpu Record.the_row Part.the_row Kept.the_row N a n (numbered_send Q R g h s))),
+          Vec-sync (Mutex.the_row place) (mutex_sync place (locked.the_send cpu Record.the_row WorldPart.the_row JournalState.the_row N a n (numbered_send Q R g h s))),
           (
-            Vec-sync (Mutex.the_row inbox) (mutex_sync inbox (locked.the_send NumberedInbox.the_row Record.the_row Part.the_row Kept.the_row N inbox_part.ghosts n inbox_send)),
+            Vec-sync (Mutex.the_row inbox) (mutex_sync inbox (locked.the_send NumberedInbox.the_row Record.the_row WorldPart.the_row JournalState.the_row N inbox_part.ghosts n inbox_send)),
             (
-              mutex_sync lobby (locked.the_send OneLobby.the_row Record.the_row Part.the_row Kept.the_row N lobby_part.ghosts n lobby_send),
+              mutex_sync lobby (locked.the_send OneLobby.the_row Record.the_row WorldPart.the_row JournalState.the_row N lobby_part.ghosts n lobby_send),
               (
                 mutex_sync room (room_send Q P R g h (numbered_send Q R g h s) inbox_send (cpu_send Q R g h s) tasks_send),
                 (search sendable, tt),

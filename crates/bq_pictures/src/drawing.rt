@@ -3,7 +3,7 @@
 use crate::lanes::{Lanes, Wait};
 use crate::scale::Scale;
 use crate::shapes::{
-    LANE, Run, Shades, write_axis, write_end, write_head, write_legend, write_row_name, write_run,
+    LANE, DrawnRun, Shades, write_axis, write_end, write_head, write_legend, write_row_name, write_run,
     write_tick, write_wait,
 };
 use bq_forms::{Extent, Names, Window};
@@ -22,8 +22,8 @@ const GAP: usize = 26;
 
 /// What is drawn of a processor.
 #[derive(Drop)]
-pub struct Row {
-    runs: Vec<Run>,
+pub struct ProcessorRow {
+    runs: Vec<DrawnRun>,
     waits: Vec<Wait>,
     wakes: Vec<(u64, u16)>,
 }
@@ -32,7 +32,7 @@ pub struct Row {
 #[derive(Drop)]
 pub struct Drawing {
     alloc: Global,
-    rows: Vec<Row>,
+    rows: Vec<ProcessorRow>,
     tasks: BTreeSet<u16>,
 }
 
@@ -48,7 +48,7 @@ impl Drawing {
 
     /// One processor more.
     pub fn push_row(&mut self) -> Result<(), AllocError> {
-        self.rows.push(Row {
+        self.rows.push(ProcessorRow {
             runs: Vec::new(self.alloc),
             waits: Vec::new(self.alloc),
             wakes: Vec::new(self.alloc),
@@ -60,7 +60,7 @@ impl Drawing {
     pub fn push_run(&mut self, run: &Slice, start: &Start) -> Result<(), AllocError> {
         if let Some(row) = self.rows.get_mut(usize::from(run.processor)) {
             self.tasks.insert(run.task)?;
-            row.runs.push(Run {
+            row.runs.push(DrawnRun {
                 task: run.task,
                 from: run.from,
                 to: run.to,
@@ -146,7 +146,7 @@ fn write_all(
     write_end(text)
 }
 
-impl Row {
+impl ProcessorRow {
     /// Draws the row from this height on, and tells how many lanes of waits it has.
     fn write(
         &self,

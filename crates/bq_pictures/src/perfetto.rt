@@ -3,8 +3,8 @@ ghost use Rattle.std.specs.Prelude.{◌≡◌, IfOk, string_bytes};
 ghost use Rattle.bq_pictures.specs.Events.{run_event};
 
 use bq_disc::limits::PROCESSORS;
-use bq_forms::{Form, Label, Micros, Names, Window};
-use bq_schedule::{Change, Decision, Reading, Schedule, Slice, Start, Wake};
+use bq_forms::{ScheduleForm, Label, Micros, Names, Window};
+use bq_schedule::{Change, Decision, ClockReading, Schedule, Slice, Start, Wake};
 use serde_json::{Value, json};
 use std::alloc::{AllocError, Global};
 use std::collections::BTreeMap;
@@ -191,7 +191,7 @@ impl Perfetto {
     fn write_decision(
         &mut self,
         decision: &Decision,
-        reading: &Reading,
+        reading: &ClockReading,
         is_held: bool,
         text: &mut String,
     ) -> Result<(), AllocError> {
@@ -205,7 +205,7 @@ impl Perfetto {
     /// How many tasks are runnable at a processor, where that has changed.
     fn write_count(
         &mut self,
-        reading: &Reading,
+        reading: &ClockReading,
         schedule: &Schedule,
         text: &mut String,
     ) -> Result<(), AllocError> {
@@ -252,7 +252,7 @@ impl Perfetto {
         }
     }
 
-    fn shows_moment(&self, reading: &Reading) -> bool {
+    fn shows_moment(&self, reading: &ClockReading) -> bool {
         self.window.from <= reading.to
             && reading.to <= self.window.to
             && self.window.shows_processor(reading.processor)
@@ -288,7 +288,7 @@ fn wake_text(alloc: Global, wake: &Wake, id: u64) -> Result<String, AllocError> 
 fn decision_text(
     alloc: Global,
     decision: &Decision,
-    reading: &Reading,
+    reading: &ClockReading,
 ) -> Result<String, AllocError> {
     let hook = decision.hook.word();
     let steps = decision.steps;
@@ -300,7 +300,7 @@ fn decision_text(
 }
 
 /// So many runnable tasks at a processor.
-fn write_counter(reading: &Reading, count: u64, text: &mut String) -> Result<(), AllocError> {
+fn write_counter(reading: &ClockReading, count: u64, text: &mut String) -> Result<(), AllocError> {
     let processor = reading.processor;
     let at = Micros(reading.to);
     write!(
@@ -321,7 +321,7 @@ fn event_text(alloc: Global, run: &Slice, name: &str, args: &str) -> Result<Stri
     )
 }
 
-impl Form for Perfetto {
+impl ScheduleForm for Perfetto {
     fn begin(
         &mut self,
         schedule: &Schedule,

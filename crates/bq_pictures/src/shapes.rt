@@ -22,7 +22,7 @@ const SHORT: usize = 18;
 
 /// A run, and how it began.
 #[derive(Clone, Copy)]
-pub struct Run {
+pub struct DrawnRun {
     pub task: u16,
     pub from: u64,
     pub to: u64,
@@ -169,7 +169,7 @@ pub fn write_row_name(number: usize, top: usize, text: &mut String) -> Result<()
 
 /// A run, with its task's name where there is room, and all of it in a tooltip.
 pub fn write_run(
-    run: &Run,
+    run: &DrawnRun,
     top: usize,
     scale: &Scale,
     shades: &Shades<'_>,
@@ -213,7 +213,7 @@ fn write_run_name(
 }
 
 /// The tooltip of a run.
-fn write_run_title(run: &Run, shades: &Shades<'_>, text: &mut String) -> Result<(), AllocError> {
+fn write_run_title(run: &DrawnRun, shades: &Shades<'_>, text: &mut String) -> Result<(), AllocError> {
     text.push_str("<title>")?;
     shades.write_name(run.task, usize::MAX, text)?;
     write_run_times(run, text)?;
@@ -222,7 +222,7 @@ fn write_run_title(run: &Run, shades: &Shades<'_>, text: &mut String) -> Result<
 }
 
 /// When a run is.
-fn write_run_times(run: &Run, text: &mut String) -> Result<(), AllocError> {
+fn write_run_times(run: &DrawnRun, text: &mut String) -> Result<(), AllocError> {
     let task = run.task;
     let from = Millis(run.from);
     let to = Millis(run.to);
@@ -231,7 +231,7 @@ fn write_run_times(run: &Run, text: &mut String) -> Result<(), AllocError> {
 }
 
 /// How long its task waited for a run.
-fn write_run_waits(run: &Run, text: &mut String) -> Result<(), AllocError> {
+fn write_run_waits(run: &DrawnRun, text: &mut String) -> Result<(), AllocError> {
     let waited = Millis(run.waited);
     write!(text, ", after {waited} ms of waiting")?;
     match run.latency {

@@ -3,8 +3,8 @@
 use crate::drawing::Drawing;
 use crate::lanes::Wait;
 use bq_disc::limits::{PROCESSORS, TASKS};
-use bq_forms::{Extent, Form, Names, Window};
-use bq_schedule::{Change, Moved, Schedule, Slice, Start, Wake};
+use bq_forms::{Extent, ScheduleForm, Names, Window};
+use bq_schedule::{Change, PulledTask, Schedule, Slice, Start, Wake};
 use std::alloc::{AllocError, Global};
 
 /// A picture: a row a processor, the runs in the colours of their tasks, below them the waits, hatched, and the wakes as ticks,
@@ -73,7 +73,7 @@ impl Svg {
         self.hold_wait(start.processor, start.task, from, start.at)
     }
 
-    fn hold_move(&mut self, pull: &Moved) -> Result<(), AllocError> {
+    fn hold_move(&mut self, pull: &PulledTask) -> Result<(), AllocError> {
         let from = pull.at.saturating_sub(pull.waited);
         self.hold_wait(pull.from, pull.task, from, pull.at)
     }
@@ -107,7 +107,7 @@ fn runs(running: Option<Start>, task: u16) -> bool {
     }
 }
 
-impl Form for Svg {
+impl ScheduleForm for Svg {
     fn begin(
         &mut self,
         schedule: &Schedule,

@@ -4,7 +4,7 @@ use Rattle.bq_console.specs.Words.{SaysWord}
 use Rattle.bq_program.specs.declared.fault.PolicyFault.{PolicyFault}
 use Rattle.bq_program.specs.declared.fault.PolicyFault.TheVariants.{Disagrees}
 use Rattle.bq_program.specs.declared.head.Head.{Head}
-use Rattle.bq_program.specs.declared.kind.Kind.TheVariants.{Text}
+use Rattle.bq_program.specs.declared.kind.FileKind.TheVariants.{Text}
 use Rattle.bq_program.specs.declared.mark.Key.{Key}
 use Rattle.bq_program.specs.declared.options.Options.{Options}
 use Rattle.bq_program.specs.declared.policy_source.PolicySource.{PolicySource}

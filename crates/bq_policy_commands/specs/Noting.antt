@@ -5,7 +5,7 @@ use Rattle.bq_bpf.specs.declared.hook.Version.TheVariants.{First, Second}
 use Rattle.bq_program.specs.declared.fault.PolicyFault.{PolicyFault}
 use Rattle.bq_program.specs.declared.fault.PolicyFault.TheVariants as fault
 use Rattle.bq_program.specs.declared.head.Head.{Head}
-use Rattle.bq_program.specs.declared.kind.Kind.TheVariants.{Text}
+use Rattle.bq_program.specs.declared.kind.FileKind.TheVariants.{Text}
 use Rattle.bq_program.specs.declared.options.Options.{Options}
 use Rattle.bq_program.specs.declared.policy_source.PolicySource.{PolicySource}
 use Rattle.bq_program.specs.Files.{IsPolicy, IsPolicyFault, kind_of}

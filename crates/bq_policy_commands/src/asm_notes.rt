@@ -4,7 +4,7 @@ ghost use Rattle.bq_policy_commands.specs.Noting.{IsAsmNote, IsNoteBeside, Tells
 
 use crate::asm_head::head_of;
 use crate::fault_words::fault_reason;
-use bq_program::{Head, Kind, Options, PolicyFault, PolicySource, Version, kind_of, read_policy};
+use bq_program::{Head, FileKind, Options, PolicyFault, PolicySource, Version, kind_of, read_policy};
 use std::alloc::{AllocError, Global};
 
 /// Lines on what an image lacks that the marks of its text say, as the options leave it out, or on the first mark that is none. Nothing
@@ -27,8 +27,8 @@ fn note_beside(alloc: Global, given: &Head, text: &[u8]) -> Result<String, Alloc
     ensures { IfOk result (λ note. IsNoteBeside text.now given.now (string_bytes note)) }
 {
     match kind_of(text) {
-        Kind::Image | Kind::Hex => return Ok(String::new(alloc)),
-        Kind::Text => {}
+        FileKind::Image | FileKind::Hex => return Ok(String::new(alloc)),
+        FileKind::Text => {}
     }
     match read_policy(alloc, text, given) {
         Ok(policy) => left_text(alloc, given, &policy),

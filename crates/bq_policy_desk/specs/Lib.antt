@@ -1,5 +1,5 @@
 pub mod Asked
 pub mod Desk
-pub mod PolicyProgram
+pub mod PolicyApp
 pub mod Requests
 pub mod Status

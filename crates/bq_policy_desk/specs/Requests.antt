@@ -3,7 +3,7 @@ use Rattle.std.specs.Prelude.{◌≡◌, ◌||◌, ◌&&◌, Bool, true, false, 
 use Rattle.std.specs.Str.{bytes_eq}
 use Rattle.clap.specs.Words.{Row, Text, subcommand_of, takes}
 use Rattle.bq_policy_desk.specs.Asked.{AreCheckWords, AreListWords, AreRunWords}
-use Rattle.bq_policy_desk.specs.PolicyProgram.{program}
+use Rattle.bq_policy_desk.specs.PolicyApp.{policy_app}
 use Rattle.bq_policy_desk.specs.declared.asking.Asked.{Asked}
 use Rattle.bq_policy_desk.specs.declared.asking.Asked.TheVariants as asked
 use Rattle.bq_policy_desk.specs.declared.request.PolicyRequest.{PolicyRequest}
@@ -37,8 +37,8 @@ IsAskedIn found asked = (name : Text) × (rows : List Row) × (found ≡ Some (n
 
 -- the command and its words are those that clap finds; a text is there where clap does not take the words, or finds no command
 abbrev pub IsAsked : List Text → Asked → Type 0
-IsAsked words (asked.Text text) = takes program words ≡ true → NamesNoCommand (subcommand_of program words)
-IsAsked words asked = IsAskedIn (subcommand_of program words) asked
+IsAsked words (asked.Text text) = takes policy_app words ≡ true → NamesNoCommand (subcommand_of policy_app words)
+IsAsked words asked = IsAskedIn (subcommand_of policy_app words) asked
 
 -- what a request asks for
 abbrev pub asked_of : PolicyRequest → Asked

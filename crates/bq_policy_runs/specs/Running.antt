@@ -12,13 +12,13 @@ use Rattle.bq_one_run.specs.declared.inputs.Inputs.{Inputs}
 use Rattle.bq_maps.specs.Arrays.{Arrays}
 use Rattle.bq_bpf.specs.Runs.{start}
 use Rattle.bq_interp.specs.declared.env.Env.{Env}
-use Rattle.bq_interp.specs.declared.traced.Moment.{Moment}
+use Rattle.bq_interp.specs.declared.traced.Snapshot.{Snapshot}
 use Rattle.bq_interp.specs.Progress.{setting_of}
-use Rattle.bq_interp.specs.Moments.{AreMoments}
+use Rattle.bq_interp.specs.Snapshots.{AreSnapshots}
 use Rattle.bq_one_run.specs.Changes.{calls_text, changes_text, with_all}
 use Rattle.bq_one_run.specs.Naming.{BeginsWith, IsClean, SetsCounter, SetsEntry, SetsFields, TextsInTurn}
 use Rattle.bq_one_run.specs.Permitting.{word_of}
-use Rattle.bq_one_run.specs.Runs.{AreRuns, IsRun, Kept, kept_in}
+use Rattle.bq_one_run.specs.Runs.{AreRuns, IsRun, PersistentState, kept_in}
 use Rattle.bq_verify.specs.declared.cause.Cause.{Cause}
 use Rattle.bq_verify.specs.Accepted.{Accepted}
 use Rattle.bq_bpf.specs.Hooks.{context_length_of}
@@ -102,23 +102,23 @@ IsBefore None n = n ≡ 0
 IsBefore (Some word) n = IsNumberBelow (2 ^ 32) word (n + 1)
 
 -- so many runs of the program on those inputs, one after another, lead to maps and counters from which there is a run more, whose steps, with its
--- own calls of counters, begin from these moments of the machine: its answer is told, its steps where that is asked for, each entry of
+-- own calls of counters, begin from these snapshots of the machine: its answer is told, its steps where that is asked for, each entry of
 -- the maps that all these runs changed, and its calls; and nothing of how long runs take where no number of them is asked for
 pub record HasRun (traced timed : Bool) (others : ℕ) (program : Accepted) (inputs : Inputs) (told_as : Answered) : Type 0 where
   pub steps : ℕ
   pub calls : List Asked
   pub answer : ℕ
-  pub before : Kept
-  pub after : Kept
-  pub moments : List Moment
+  pub before : PersistentState
+  pub after : PersistentState
+  pub snapshots : List Snapshot
   pub runs : AreRuns program inputs.context.items inputs.env.now inputs.env.processor others (kept_in inputs) before
   pub run : IsRun program inputs.context.items inputs.env.now inputs.env.processor before steps calls answer after
-  pub are : AreMoments (setting_of program inputs.context.items inputs.env.now inputs.env.processor) (start before.maps) calls 0 moments
-  pub each : length moments ≡ steps
+  pub are : AreSnapshots (setting_of program inputs.context.items inputs.env.now inputs.env.processor) (start before.maps) calls 0 snapshots
+  pub each : length snapshots ≡ steps
   pub text : String Global
   pub is : told_as ≡ Done text
   pub executed : List ℕ
-  pub steps_told : TellsSteps traced program moments executed
+  pub steps_told : TellsSteps traced program snapshots executed
   pub timing : List ℕ
   pub untimed : timed ≡ false → timing ≡ []
   pub told : TellsRun program inputs.context.items answer steps executed (changed_text inputs.maps after.maps calls) timing (string_bytes text)

@@ -5,7 +5,7 @@ use Rattle.bq_insn.specs.declared.Insn.{Insn}
 use Rattle.bq_asm.specs.Text.{listing_text}
 use Rattle.bq_bpf.specs.Steps.{instruction_at}
 use Rattle.bq_verify.specs.Accepted.{Accepted}
-use Rattle.bq_interp.specs.declared.traced.Moment.{Moment}
+use Rattle.bq_interp.specs.declared.traced.Snapshot.{Snapshot}
 
 -- a register with the word that it has now, in decimal and in hex
 abbrev pub register_text : ℕ → ℕ → List ℕ
@@ -18,7 +18,7 @@ changes_below (suc n) before now =
     changes_below n before now ++ (if slice_index before n == slice_index now n then [] else register_text n (slice_index now n))
 
 -- the registers that differ where the next instruction begins; the last instruction has none after it
-abbrev pub changes_to : Moment → List Moment → List ℕ
+abbrev pub changes_to : Snapshot → List Snapshot → List ℕ
 changes_to m [] = []
 changes_to m (next ∷ rest) = changes_below 11 m.registers next.registers
 
@@ -28,16 +28,16 @@ slot_text None = codes "\n"
 slot_text (Some insn) = listing_text (insn ∷ [])
 
 -- the slot of a step, its instruction, and what that changed
-abbrev pub step_text : Accepted → Moment → List Moment → List ℕ
+abbrev pub step_text : Accepted → Snapshot → List Snapshot → List ℕ
 step_text program m after = codes "slot " ++ (decimal m.slot ++ (codes ": " ++ (slot_text (instruction_at program.slots m.slot) ++ changes_to m after)))
 
 -- each step in its turn; before it the place in the policy's text may stand
-abbrev pub AreSteps : Accepted → List Moment → List ℕ → Type 0
+abbrev pub AreSteps : Accepted → List Snapshot → List ℕ → Type 0
 AreSteps program [] text = text ≡ []
 AreSteps program (m ∷ after) text =
     (place rest : List ℕ) × (text ≡ place ++ (step_text program m after ++ rest)) × AreSteps program after rest
 
 -- the steps are told where that is asked for, and nothing is told of them where it is not
-abbrev pub TellsSteps : Bool → Accepted → List Moment → List ℕ → Type 0
-TellsSteps false program moments text = text ≡ []
-TellsSteps true program moments text = AreSteps program moments text
+abbrev pub TellsSteps : Bool → Accepted → List Snapshot → List ℕ → Type 0
+TellsSteps false program snapshots text = text ≡ []
+TellsSteps true program snapshots text = AreSteps program snapshots text

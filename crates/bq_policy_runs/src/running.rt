@@ -12,7 +12,7 @@ use crate::traces::executed_text;
 use crate::word_text::word_text;
 use bq_console::WordsFault;
 use bq_explain::{Verdict, verdict_line};
-use bq_one_run::{Inputs, OneRun, copied, run_often, trace_once, write_calls, write_changes};
+use bq_one_run::{Inputs, RunOutcome, copied, run_often, trace_once, write_calls, write_changes};
 use bq_policy_commands::{Answered, RunWords, refused_file, said_by};
 use bq_program::{Head, PolicySource, read_policy};
 use bq_verify::{Program, Refused, Verified, verify};
@@ -138,10 +138,10 @@ fn run_on(
     requires untimed { IsNone words.now.telling.repeat → string_bytes line.now ≡ [] }
     ensures { IfOk result (HasRun words.now.telling.is_traced (is_some words.now.telling.repeat) series.old.before verified.now series.old.inputs) }
 {
-    let mut moments = Vec::new(alloc);
+    let mut snapshots = Vec::new(alloc);
     let first = copied(alloc, &series.inputs.maps)?;
     let others = run_often(verified, &mut series.inputs, series.before);
-    let last = trace_once(verified, &mut series.inputs, &mut moments)?;
+    let last = trace_once(verified, &mut series.inputs, &mut snapshots)?;
     let (Some(()), Some(ran)) = (others, last) else {
         return Ok(Answered::Words(String::from_str(
             alloc,
@@ -150,7 +150,7 @@ fn run_on(
     };
     let inputs = &series.inputs;
     let is_traced = words.telling.is_traced;
-    let executed = executed_text(alloc, is_traced, policy, verified, moments.as_slice())?;
+    let executed = executed_text(alloc, is_traced, policy, verified, snapshots.as_slice())?;
     let changes = changed_text(alloc, first.as_slice(), inputs, &ran)?;
     let behind = Behind {
         executed: &executed,
@@ -166,7 +166,7 @@ fn changed_text(
     alloc: Global,
     first: &[Vec<u8>],
     inputs: &Inputs,
-    ran: &OneRun,
+    ran: &RunOutcome,
 ) -> Result<String, AllocError>
     ensures { IfOk result (λ text. string_bytes text ≡ changes_text (with_all inputs.now.maps (map (λ v. v.items) first.now)) inputs.now.maps ++ calls_text ran.now.calls.items) }
 {
@@ -192,7 +192,7 @@ fn told(
     alloc: Global,
     verified: &Verified,
     inputs: &Inputs,
-    ran: &OneRun,
+    ran: &RunOutcome,
     behind: &Behind,
 ) -> Result<String, AllocError>
     requires { length inputs.now.context.items ≡ context_length_of verified.now.hook verified.now.version }

@@ -5,7 +5,7 @@ ghost use Rattle.bq_policy_runs.specs.Tracing.{AreSteps, TellsSteps, changes_bel
 use bq_asm::listing;
 use bq_explain::index_at;
 use bq_insn::Insn;
-use bq_one_run::Moment;
+use bq_one_run::Snapshot;
 use bq_program::PolicySource;
 use bq_verify::Verified;
 use std::alloc::{AllocError, Global};
@@ -16,12 +16,12 @@ pub(crate) fn executed_text(
     is_traced: bool,
     policy: &PolicySource,
     verified: &Verified,
-    moments: &[Moment],
+    snapshots: &[Snapshot],
 ) -> Result<String, AllocError>
-    ensures { IfOk result (λ text. TellsSteps is_traced verified.now moments.now (string_bytes text)) }
+    ensures { IfOk result (λ text. TellsSteps is_traced verified.now snapshots.now (string_bytes text)) }
 {
     if is_traced {
-        steps_text(alloc, policy, verified, moments)
+        steps_text(alloc, policy, verified, snapshots)
     } else {
         Ok(String::new(alloc))
     }
@@ -32,15 +32,15 @@ fn steps_text(
     alloc: Global,
     policy: &PolicySource,
     verified: &Verified,
-    moments: &[Moment],
+    snapshots: &[Snapshot],
 ) -> Result<String, AllocError>
-    ensures { IfOk result (λ text. AreSteps verified.now moments.now (string_bytes text)) }
+    ensures { IfOk result (λ text. AreSteps verified.now snapshots.now (string_bytes text)) }
 {
     let mut text = String::new(alloc);
-    let mut rest = moments;
-    while let [moment, after @ ..] = rest {
-        let place = place_of(alloc, policy, moment.slot)?;
-        let step = step_text(alloc, verified, moment, after)?;
+    let mut rest = snapshots;
+    while let [snapshot, after @ ..] = rest {
+        let place = place_of(alloc, policy, snapshot.slot)?;
+        let step = step_text(alloc, verified, snapshot, after)?;
         write!(text, "{place}{step}")?;
         rest = after;
     }
@@ -51,14 +51,14 @@ fn steps_text(
 fn step_text(
     alloc: Global,
     verified: &Verified,
-    moment: &Moment,
-    after: &[Moment],
+    snapshot: &Snapshot,
+    after: &[Snapshot],
 ) -> Result<String, AllocError>
-    ensures { IfOk result (λ text. string_bytes text ≡ step_text verified.now moment.now after.now) }
+    ensures { IfOk result (λ text. string_bytes text ≡ step_text verified.now snapshot.now after.now) }
 {
-    let slot = moment.slot;
+    let slot = snapshot.slot;
     let said = slot_text(alloc, verified.at(slot).copied())?;
-    let changes = changes_to(alloc, moment, after)?;
+    let changes = changes_to(alloc, snapshot, after)?;
     format!(in alloc; "slot {slot}: {said}{changes}")
 }
 
@@ -73,17 +73,17 @@ fn slot_text(alloc: Global, insn: Option<Insn>) -> Result<String, AllocError>
 }
 
 /// The registers that differ where the next instruction begins.
-fn changes_to(alloc: Global, moment: &Moment, after: &[Moment]) -> Result<String, AllocError>
-    ensures { IfOk result (λ text. string_bytes text ≡ changes_to moment.now after.now) }
+fn changes_to(alloc: Global, snapshot: &Snapshot, after: &[Snapshot]) -> Result<String, AllocError>
+    ensures { IfOk result (λ text. string_bytes text ≡ changes_to snapshot.now after.now) }
 {
     match after {
         [] => Ok(String::new(alloc)),
-        [next, ..] => changes_text(alloc, moment, next),
+        [next, ..] => changes_text(alloc, snapshot, next),
     }
 }
 
 /// The registers whose words differ, with the words that they have now.
-fn changes_text(alloc: Global, before: &Moment, now: &Moment) -> Result<String, AllocError>
+fn changes_text(alloc: Global, before: &Snapshot, now: &Snapshot) -> Result<String, AllocError>
     ensures { IfOk result (λ text. string_bytes text ≡ changes_below 11 before.now.registers now.now.registers) }
 {
     let mut text = String::new(alloc);

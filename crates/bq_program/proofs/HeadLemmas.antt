@@ -22,7 +22,7 @@ use Rattle.bq_program.specs.Files.{HasHead, IsFaultOfKind, IsHexFault, IsImageFa
 use Rattle.bq_program.specs.Combining.{IsUncombinable}
 use Rattle.bq_program.specs.declared.fault.PolicyFault.{PolicyFault}
 use Rattle.bq_program.specs.declared.fault.PolicyFault.TheVariants as fault
-use Rattle.bq_program.specs.declared.kind.Kind.TheVariants as kind
+use Rattle.bq_program.specs.declared.kind.FileKind.TheVariants as kind
 use Rattle.bq_program.specs.declared.policy_source.PolicySource.{PolicySource}
 use Rattle.bq_program.specs.HexText.{SpellsBytes}
 use Rattle.bq_program.specs.Heads.{IsHeadFault, IsSaid, Names, SaysHead}

@@ -27,8 +27,8 @@ use Rattle.bq_program.specs.declared.fault.HeadCause.{HeadCause}
 use Rattle.bq_program.specs.declared.fault.PolicyFault.{PolicyFault}
 use Rattle.bq_program.specs.declared.fault.PolicyFault.TheVariants as fault
 use Rattle.bq_program.specs.declared.head.Head.{Head}
-use Rattle.bq_program.specs.declared.kind.Kind.{Kind}
-use Rattle.bq_program.specs.declared.kind.Kind.TheVariants as kind
+use Rattle.bq_program.specs.declared.kind.FileKind.{FileKind}
+use Rattle.bq_program.specs.declared.kind.FileKind.TheVariants as kind
 use Rattle.bq_program.specs.declared.mark.Key.{Key}
 use Rattle.bq_program.specs.declared.mark.Key.TheVariants as key
 use Rattle.bq_program.specs.declared.policy_source.PolicySource.{PolicySource}
@@ -262,12 +262,12 @@ no_hex_fault bytes given p a fit x h f =
           no_image_fault h.0 given p a (spelled_bytes bytes h.0 h.1) fit x h.2 (subst (λ i. IsImageFault i given a) same image.2)
     ]
 
-of_kind : (k : Kind) (bytes : List ℕ) (given : Head) (a b : PolicyFault) → AreBytes bytes → a ≢ fault.OutOfMemory → b ≢ fault.OutOfMemory → IsFaultOfKind k bytes given a → IsFaultOfKind k bytes given b → a ≡ b
+of_kind : (k : FileKind) (bytes : List ℕ) (given : Head) (a b : PolicyFault) → AreBytes bytes → a ≢ fault.OutOfMemory → b ≢ fault.OutOfMemory → IsFaultOfKind k bytes given a → IsFaultOfKind k bytes given b → a ≡ b
 of_kind kind.Image bytes given a b fits x y f g = one_image_fault bytes given a b fits x y f g
 of_kind kind.Hex bytes given a b fits x y f g = one_hex_fault bytes given a b x y f g
 of_kind kind.Text bytes given a b fits x y f g = one_text_fault bytes given a b x y f g
 
-no_fault : (k : Kind) (bytes : List ℕ) (given : Head) (p : PolicySource) (a : PolicyFault) → AreBytes bytes → AllFit p.insns.items → a ≢ fault.OutOfMemory → IsOfKind k bytes given p → IsFaultOfKind k bytes given a → ⊥
+no_fault : (k : FileKind) (bytes : List ℕ) (given : Head) (p : PolicySource) (a : PolicyFault) → AreBytes bytes → AllFit p.insns.items → a ≢ fault.OutOfMemory → IsOfKind k bytes given p → IsFaultOfKind k bytes given a → ⊥
 no_fault kind.Image bytes given p a fits fit x h f = no_image_fault bytes given p a fits fit x h f
 no_fault kind.Hex bytes given p a fits fit x h f = no_hex_fault bytes given p a fit x h f
 no_fault kind.Text bytes given p a fits fit x h f = no_text_fault bytes given p a x h f

@@ -18,7 +18,7 @@ use Rattle.bq_asm.proofs.ListingLemmas.{listing_assembles}
 use Rattle.bq_program.specs.declared.fault.PolicyFault.{PolicyFault}
 use Rattle.bq_program.specs.declared.fault.PolicyFault.TheVariants as fault
 use Rattle.bq_program.specs.declared.head.Head.{Head}
-use Rattle.bq_program.specs.declared.kind.Kind.TheVariants as kind
+use Rattle.bq_program.specs.declared.kind.FileKind.TheVariants as kind
 use Rattle.bq_program.specs.declared.policy_source.PolicySource.{PolicySource}
 use Rattle.bq_program.specs.Files.{Agrees, IsFaultOfKind, IsOfKind, IsOfText, IsTextFault, CombineTo, either, kind_of, maps_in}
 use Rattle.bq_program.specs.Heads.{SaysHead}
@@ -77,7 +77,7 @@ assembles_again p ls fit h =
 says_again : (p : PolicySource) (ls : List (List ℕ)) → AreLines p.insns.items ls → SaysHead (lines (text_of p ls)) (said_of p)
 says_again p ls h = subst (λ l. SaysHead l (said_of p)) (sym (text_lines p ls h.clean)) (says_policy p ls h.no_marks)
 
--- what the head settles, where nothing is asked for
+-- what the head decides, where nothing is asked for
 shapes_said : (p : PolicySource) (items : List MapShape) → p.shapes.items ≡ items → p.shapes.items ≡ unwrap_or (option_map (λ s. s.items) (maps_said p.shapes items)) []
 shapes_said p [] e = e
 shapes_said p (first ∷ rest) e = refl

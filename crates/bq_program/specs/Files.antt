@@ -23,8 +23,8 @@ use Rattle.bq_program.specs.HexText.{IsNoHex, SpellsBytes, is_blank}
 use Rattle.bq_program.specs.declared.fault.PolicyFault.{PolicyFault}
 use Rattle.bq_program.specs.declared.fault.PolicyFault.TheVariants as fault
 use Rattle.bq_program.specs.declared.head.Head.{Head}
-use Rattle.bq_program.specs.declared.kind.Kind.{Kind}
-use Rattle.bq_program.specs.declared.kind.Kind.TheVariants as kind
+use Rattle.bq_program.specs.declared.kind.FileKind.{FileKind}
+use Rattle.bq_program.specs.declared.kind.FileKind.TheVariants as kind
 use Rattle.bq_program.specs.declared.mark.Key.{Key}
 use Rattle.bq_program.specs.declared.mark.Key.TheVariants as key
 use Rattle.bq_program.specs.declared.policy_source.PolicySource.{PolicySource}
@@ -36,12 +36,12 @@ first_dark [] = None
 first_dark (b ∷ bs) = if is_blank b then first_dark bs else Some b
 
 -- hex begins with a digit, as no line of an assembler text does
-abbrev pub kind_at : Option ℕ → Kind
+abbrev pub kind_at : Option ℕ → FileKind
 kind_at (Some b) = if nat_le 48 b && nat_le b 57 then kind.Hex else kind.Text
 kind_at None = kind.Text
 
 -- an image begins with its letters; else the first byte that is no blank tells
-abbrev pub kind_of : List ℕ → Kind
+abbrev pub kind_of : List ℕ → FileKind
 kind_of bytes = if starts_with nat_eq bytes magic then kind.Image else kind_at (first_dark bytes)
 
 -- the one, or else the other
@@ -109,7 +109,7 @@ pub record IsOfText (bytes : List ℕ) (given : Head) (p : PolicySource) : Type 
   pub assembles : Assembles bytes p.insns.items
   pub lines : p.lines.items ≡ instruction_lines 1 (lines bytes)
 
-abbrev pub IsOfKind : Kind → List ℕ → Head → PolicySource → Type 0
+abbrev pub IsOfKind : FileKind → List ℕ → Head → PolicySource → Type 0
 IsOfKind kind.Image bytes given p = IsOfImage bytes given p
 IsOfKind kind.Hex bytes given p = (image : List ℕ) × SpellsBytes bytes image × IsOfImage image given p
 IsOfKind kind.Text bytes given p = IsOfText bytes given p
@@ -154,7 +154,7 @@ IsHexFault bytes given fault.Hex = IsNoHex bytes
 IsHexFault bytes given fault.OutOfMemory = Unit {0}
 IsHexFault bytes given other = (image : List ℕ) × SpellsBytes bytes image × IsImageFault image given other
 
-abbrev pub IsFaultOfKind : Kind → List ℕ → Head → PolicyFault → Type 0
+abbrev pub IsFaultOfKind : FileKind → List ℕ → Head → PolicyFault → Type 0
 IsFaultOfKind kind.Image bytes given named = IsImageFault bytes given named
 IsFaultOfKind kind.Hex bytes given named = IsHexFault bytes given named
 IsFaultOfKind kind.Text bytes given named = IsTextFault bytes given named

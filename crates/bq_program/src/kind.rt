@@ -6,7 +6,7 @@ use crate::hex_text::is_blank;
 
 /// What a file holds.
 #[derive(Clone, Copy, PartialEq, Eq)]
-pub enum Kind {
+pub enum FileKind {
     /// An image, which begins with its letters.
     Image,
     /// Hex, which begins with a digit, as no assembler text does.
@@ -16,28 +16,28 @@ pub enum Kind {
 }
 
 /// What the bytes are to be read as.
-pub fn kind_of(bytes: &[u8]) -> Kind
+pub fn kind_of(bytes: &[u8]) -> FileKind
     ensures { result ≡ kind_of bytes.now }
 {
     if bytes.starts_with(b"BQPI") {
-        return Kind::Image;
+        return FileKind::Image;
     }
     kind_at(first_dark(bytes))
 }
 
 /// The same, where no image begins, by the first byte that is no blank.
-fn kind_at(first: Option<u8>) -> Kind
+fn kind_at(first: Option<u8>) -> FileKind
     ensures { result ≡ kind_at first }
 {
     match first {
         Some(byte) => {
             if b'0' <= byte && byte <= b'9' {
-                Kind::Hex
+                FileKind::Hex
             } else {
-                Kind::Text
+                FileKind::Text
             }
         }
-        None => Kind::Text,
+        None => FileKind::Text,
     }
 }
 

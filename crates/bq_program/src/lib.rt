@@ -35,7 +35,7 @@ pub use form::ProgramForm;
 pub use head::Head;
 pub use hex_text::{bytes_of, is_blank};
 pub use image_form::ImageForm;
-pub use kind::{Kind, kind_of};
+pub use kind::{FileKind, kind_of};
 pub use listing::disassembled;
 pub use mark::Key;
 pub use options::{Options, OptionsFault, refused_options};

@@ -9,7 +9,7 @@ use crate::bytes_of;
 use crate::combined::{combine, difference};
 use crate::fault::{HeadFault, PolicyFault};
 use crate::head::Head;
-use crate::kind::{Kind, kind_of};
+use crate::kind::{FileKind, kind_of};
 use crate::policy_source::PolicySource;
 use bq_asm::{assemble, says_instruction};
 use bq_insn::decode::decode;
@@ -24,12 +24,12 @@ pub fn read_policy(alloc: Global, bytes: &[u8], given: &Head) -> Result<PolicySo
     ensures fault { IfErr result (IsPolicyFault bytes.now given.now) }
 {
     match kind_of(bytes) {
-        Kind::Image => from_image(alloc, bytes, given),
-        Kind::Hex => match bytes_of(alloc, bytes)? {
+        FileKind::Image => from_image(alloc, bytes, given),
+        FileKind::Hex => match bytes_of(alloc, bytes)? {
             None => Err(PolicyFault::Hex),
             Some(image) => from_image(alloc, image.as_slice(), given),
         },
-        Kind::Text => from_text(alloc, bytes, given),
+        FileKind::Text => from_text(alloc, bytes, given),
     }
 }
 

@@ -14,18 +14,18 @@ use Rattle.bq_parts.specs.declared.lobby_entry.LobbyEntry.{LobbyEntry}
 use Rattle.bq_cells.specs.Opened.{ItemOf}
 use Rattle.bq_recording.specs.AllParts.{all_parts}
 use Rattle.bq_cells.specs.Parts.{cpu_part, inbox_part, lobby_part, same_part, HasPart, RecordStep, kept_of}
-use Rattle.bq_cells.specs.declared.law.Part.{Part}
-use Rattle.bq_cells.specs.declared.law.Kept.{Kept}
+use Rattle.bq_cells.specs.declared.law.WorldPart.{WorldPart}
+use Rattle.bq_cells.specs.declared.law.JournalState.{JournalState}
 use Rattle.bq_cells.specs.declared.record.Record.{Record}
 use Rattle.bq_cells.proofs.ReachedLemmas.{IsSound, reached_sound}
-use Rattle.bq_cells.specs.declared.law.Part.TheVariants as part
+use Rattle.bq_cells.specs.declared.law.WorldPart.TheVariants as part
 
 -- the parts of the items of some parts
-pub parts_back : (ps : List Part) → let l : List ItemOf = map part_item ps in parts_of l ≡ ps
+pub parts_back : (ps : List WorldPart) → let l : List ItemOf = map part_item ps in parts_of l ≡ ps
 parts_back [] = refl
 parts_back (p ∷ ps) = ap (λ xs. p ∷ xs) (parts_back ps)
 
-module _ {A B : Type 0} (f : A → Part) (h : B → Part) where
+module _ {A B : Type 0} (f : A → WorldPart) (h : B → WorldPart) where
   items_two : (xs : List A) (ys : List B) → let l : List ItemOf = map (λ x. part_item (f x)) xs in let m : List ItemOf = map (λ y. part_item (h y)) ys in l ++ m ≡ map part_item (map f xs ++ map h ys)
   items_two [] [] = refl
   items_two [] (y ∷ ys) = ap (λ (zs : List ItemOf). part_item (h y) ∷ zs) (items_two [] ys)
@@ -37,12 +37,12 @@ module _ {A B : Type 0} (f : A → Part) (h : B → Part) where
       third ∙ (ap (λ (zs : List ItemOf). zs ++ map (λ y. part_item (h y)) ys) (second ∙ ap (λ (zs : List ItemOf). zs ++ map (λ x. part_item (f x)) xs) first)
       ∙ ap (λ (zs : List ItemOf). part_item (lobby_part s) ∷ zs) (items_two xs ys))
 
-module _ {A : Type 0} (P : Part → Type 0) (f : A → Part) where
-  each_first : (xs : List A) (ps : List Part) → Each P (map f xs ++ ps) → Each (λ (x : A). P (f x)) xs
+module _ {A : Type 0} (P : WorldPart → Type 0) (f : A → WorldPart) where
+  each_first : (xs : List A) (ps : List WorldPart) → Each P (map f xs ++ ps) → Each (λ (x : A). P (f x)) xs
   each_first [] ps h = tt
   each_first (x ∷ xs) ps h = (h.0, each_first xs ps h.1)
 
-  each_rest : (xs : List A) (ps : List Part) → Each P (map f xs ++ ps) → Each P ps
+  each_rest : (xs : List A) (ps : List WorldPart) → Each P (map f xs ++ ps) → Each P ps
   each_rest [] ps h = h
   each_rest (x ∷ xs) ps h = each_rest xs ps h.1
 
@@ -60,13 +60,13 @@ module _ {A : Type 0} (number : A → ℕ) where
   inboxes_counted s i tasks (x ∷ xs) = ap (λ (n : ℕ). cond {A = ℕ} (eqb s (number x)) 1 0 + n) (inboxes_counted s i tasks xs)
 
 module _ {A B : Type 0} (s : List LobbyEntry) (xs : List A) (ys : List B) (at : A → ℕ) (state : A → Processor) (place : B → ℕ) (tasks : B → List Task) where
-  abbrev as_cpu : A → Part
+  abbrev as_cpu : A → WorldPart
   as_cpu x = cpu_part (at x) (state x)
 
-  abbrev as_inbox : B → Part
+  abbrev as_inbox : B → WorldPart
   as_inbox y = inbox_part (place y) (tasks y)
 
-  abbrev pub parts : List Part
+  abbrev pub parts : List WorldPart
   parts = all_parts s xs ys as_cpu as_inbox
 
   -- the world has each processor at its number
@@ -78,7 +78,7 @@ module _ {A B : Type 0} (s : List LobbyEntry) (xs : List A) (ys : List B) (at : 
   inboxes_there w h = each_only (HasPart w) as_inbox ys (each_rest (HasPart w) as_cpu xs (map as_inbox ys) h.1)
 
   -- no number is that of two processors
-  pub cpus_few : ((p : Part) → count (same_part p) parts ≤ 1) → (n : ℕ) → times at n xs ≤ 1
+  pub cpus_few : ((p : WorldPart) → count (same_part p) parts ≤ 1) → (n : ℕ) → times at n xs ≤ 1
   cpus_few once n =
       let o = once (part.Cpu n opening) in
       let a = count-append (same_part (part.Cpu n opening)) (map as_cpu xs) (map as_inbox ys) in
@@ -87,7 +87,7 @@ module _ {A B : Type 0} (s : List LobbyEntry) (xs : List A) (ys : List B) (at : 
       omega (arith, o, a, b, c)
 
   -- nor of two inboxes
-  pub inboxes_few : ((p : Part) → count (same_part p) parts ≤ 1) → (n : ℕ) → times place n ys ≤ 1
+  pub inboxes_few : ((p : WorldPart) → count (same_part p) parts ≤ 1) → (n : ℕ) → times place n ys ≤ 1
   inboxes_few once n =
       let o = once (part.Inbox n []) in
       let a = count-append (same_part (part.Inbox n [])) (map as_cpu xs) (map as_inbox ys) in
@@ -100,19 +100,19 @@ module _ {A B : Type 0} (s : List LobbyEntry) (xs : List A) (ys : List B) (at : 
   is_world w cs is drawn h processors inboxes last = λ i. record { processors = processors i; inboxes = inboxes i; lobby = sym h.0 i; drawn = sym last i }
 
 -- a holder of the items of some parts has no other items
-pub parts_are : (v : List ItemOf) (ps : List Part) → v ≡ map part_item ps → parts_of v ≡ ps
+pub parts_are : (v : List ItemOf) (ps : List WorldPart) → v ≡ map part_item ps → parts_of v ≡ ps
 parts_are v ps is = ap (λ (l : List ItemOf). parts_of l) is ∙ parts_back ps
 
 -- where all items are those of parts, they are the items of the parts that they hold
-pub only_parts : (v : List ItemOf) (ps : List Part) → v ≡ map part_item ps → v ≡ map part_item (parts_of v)
-only_parts v ps is = is ∙ ap (λ (l : List Part). map part_item l) (sym (parts_are v ps is))
+pub only_parts : (v : List ItemOf) (ps : List WorldPart) → v ≡ map part_item ps → v ≡ map part_item (parts_of v)
+only_parts v ps is = is ∙ ap (λ (l : List WorldPart). map part_item l) (sym (parts_are v ps is))
 
 -- no place is that of two of them
-pub once_known : (v : List ItemOf) (ps : List Part) → v ≡ map part_item ps → ((p : Part) → count (same_part p) (parts_of v) ≤ 1) → (p : Part) → count (same_part p) ps ≤ 1
-once_known v ps is once p = subst (λ (l : List Part). count (same_part p) l ≤ 1) (parts_are v ps is) (once p)
+pub once_known : (v : List ItemOf) (ps : List WorldPart) → v ≡ map part_item ps → ((p : WorldPart) → count (same_part p) (parts_of v) ≤ 1) → (p : WorldPart) → count (same_part p) ps ≤ 1
+once_known v ps is once p = subst (λ (l : List WorldPart). count (same_part p) l ≤ 1) (parts_are v ps is) (once p)
 
 -- the world that a history leaves is in order, and has the parts
-pub world_has_parts : (d : Discipline) (n about : ℕ) (log : List Record) (v : List ItemOf) (ps : List Part) (kept : Kept) → about ≡ n → v ≡ map part_item ps
+pub world_has_parts : (d : Discipline) (n about : ℕ) (log : List Record) (v : List ItemOf) (ps : List WorldPart) (kept : JournalState) → about ≡ n → v ≡ map part_item ps
     → ((w : World) × Leaves (RecordStep d) (opening_world about) log w × (kept_of w ≡ kept) × Each (HasPart w) (parts_of v))
     → (w : World) × Leaves (RecordStep d) (opening_world n) log w × IsSound n w × (w.drawn ≡ kept.drawn) × Each (HasPart w) ps
 world_has_parts d n about log v ps kept same is k =
@@ -120,6 +120,6 @@ world_has_parts d n about log v ps kept same is k =
       k.0,
       leads,
       reached_sound d n k.0 (log, leads),
-      ap (λ (x : Kept). x.drawn) k.2,
-      subst (λ (l : List Part). Each (HasPart k.0) l) (parts_are v ps is) k.3,
+      ap (λ (x : JournalState). x.drawn) k.2,
+      subst (λ (l : List WorldPart). Each (HasPart k.0) l) (parts_are v ps is) k.3,
     )

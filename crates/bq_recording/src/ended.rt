@@ -8,12 +8,12 @@ ghost use Rattle.bq_seats.specs.Calls.{calls_in};
 ghost use Rattle.bq_parts.specs.World.{World, opening_world, count_in};
 ghost use Rattle.bq_parts.specs.StandsOnce.{IsOrderly};
 ghost use Rattle.bq_cells.specs.Parts.{RecordStep, told_calls, cpu_part, inbox_part, same_part, HasPart};
-ghost use Rattle.bq_cells.specs.declared.law.Part.{Part as PartOf};
+ghost use Rattle.bq_cells.specs.declared.law.WorldPart.{WorldPart as PartOf};
 ghost use Rattle.bq_recording.specs.AllParts.{all_parts};
 
 use crate::closed::Closed;
 use crate::closing_room::ClosingRoom;
-use bq_cells::{Kept, NumberedCpu, NumberedInbox, OneLobby, Part, Record, Shared, UnderLock};
+use bq_cells::{JournalState, NumberedCpu, NumberedInbox, OneLobby, WorldPart, Record, Shared, UnderLock};
 use bq_core::Core;
 use bq_disc::RunQueue;
 use bq_history::{Item, Journal, gather};
@@ -30,7 +30,7 @@ pub struct Locks<Q: RunQueue + Drop, N: Naming + Counting, const P: usize> {
     pub cpus: Vec<Mutex<UnderLock<NumberedCpu<Q>, N>>>,
     pub inboxes: Vec<Mutex<UnderLock<NumberedInbox, N>>>,
     pub lobby: Mutex<UnderLock<OneLobby, N>>,
-    pub journal: Mutex<Journal<Record, Part, Kept, N>>,
+    pub journal: Mutex<Journal<Record, WorldPart, JournalState, N>>,
     pub room: Mutex<ClosingRoom<Q, P>>,
     pub ghost about: { history.about ≡ P },
     pub ghost counted: { vec_len cpus ≡ P },
@@ -44,7 +44,7 @@ pub struct Locks<Q: RunQueue + Drop, N: Naming + Counting, const P: usize> {
 /// the seats share the history out, and each counter is the sum of the adds that it tells. No memory is taken.
 pub fn close<Q: RunQueue + Drop, N: Naming + Counting, const P: usize>(
     locks: Locks<Q, N, P>,
-    seats: Vec<Seat<Record, Part, Kept, N>>,
+    seats: Vec<Seat<Record, WorldPart, JournalState, N>>,
 ) -> Closed<Q, P>
     requires { EachOnce locks.history.callers seats.items }
     ensures history { Leaves (RecordStep Q.R.discipline) (opening_world P) result.history result.core }
@@ -91,7 +91,7 @@ fn all_out<Q: RunQueue + Drop, N: Naming + Counting, const P: usize>(
     inboxes: Vec<Mutex<UnderLock<NumberedInbox, N>>>,
     lobby: Mutex<UnderLock<OneLobby, N>>,
     room: Mutex<ClosingRoom<Q, P>>,
-) -> (Contents<Q, P>, Holder<Item<Record, Part, Kept>, N>)
+) -> (Contents<Q, P>, Holder<Item<Record, WorldPart, JournalState>, N>)
     requires cpus { vec_len cpus ≡ P }
     requires inboxes { vec_len inboxes ≡ P }
     ensures { result.1 ≡ map part_item (all_parts result.0.lobby result.0.cpus.items result.0.inboxes.items (λ c. cpu_part c.number c.state) (λ i. inbox_part i.number i.state)) }

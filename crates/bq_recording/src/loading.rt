@@ -100,17 +100,17 @@ impl<Q: RunQueue + Drop, N: Naming + Counting> Recorder<Q, N> {
         &self,
         rt: &R,
         working: &mut WorkingSeat<N>,
-        place: &mut UnderLock<NumberedCpu<Q>, N>,
+        cpu: &mut UnderLock<NumberedCpu<Q>, N>,
         hook: Hook,
         spare: Spare,
     ) -> Receipt<Record>
         requires tally { working.old.tally ≡ account_of told_calls working.old.caller.1 }
-        requires fits { argument_refusal self.now.history.about (Event.Install place.old.number hook spare.installed.generation spare.installed.policy) ≡ None }
+        requires fits { argument_refusal self.now.history.about (Event.Install cpu.old.number hook spare.installed.generation spare.installed.policy) ≡ None }
         ensures caller { working.new.caller ≡ (working.old.caller.0, working.old.caller.1 ++ result ∷ []) }
         ensures tally { working.new.tally ≡ account_of told_calls working.new.caller.1 }
-        ensures event { result.entry.event ≡ Event.Install place.old.number hook spare.installed.generation spare.installed.policy }
+        ensures event { result.entry.event ≡ Event.Install cpu.old.number hook spare.installed.generation spare.installed.policy }
     {
-        let processor = place.cell.content.number;
+        let processor = cpu.cell.content.number;
         let Spare {
             installed,
             for_record,
@@ -121,7 +121,7 @@ impl<Q: RunQueue + Drop, N: Naming + Counting> Recorder<Q, N> {
         let mut guard = self.lock_journal(rt);
         let journal = &mut *guard;
         let drawn = journal.kept().drawn;
-        let reply = place.cell.content.state.replace(hook, drawn, installed);
+        let reply = cpu.cell.content.state.replace(hook, drawn, installed);
         let events = (
             install_event(processor, hook, generation, for_record),
             install_event(processor, hook, generation, for_receipt),
@@ -130,7 +130,7 @@ impl<Q: RunQueue + Drop, N: Naming + Counting> Recorder<Q, N> {
         working.commit_one(
             &self.history,
             journal,
-            &mut place.cell,
+            &mut cpu.cell,
             CommitDraft {
                 room: &mut room,
                 logged,

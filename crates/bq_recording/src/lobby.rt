@@ -48,7 +48,7 @@ impl<Q: RunQueue + Drop, N: Naming + Counting> Recorder<Q, N> {
         &self,
         rt: &R,
         working: &mut WorkingSeat<N>,
-        place: &mut UnderLock<OneLobby, N>,
+        lobby: &mut UnderLock<OneLobby, N>,
         admission: Admission,
         new: Unlinked,
         room: &mut Room<Record>,
@@ -61,14 +61,14 @@ impl<Q: RunQueue + Drop, N: Naming + Counting> Recorder<Q, N> {
         ensures tally { working.new.tally ≡ account_of told_calls working.new.caller.1 }
         ensures event { result.entry.event ≡ Event.Admit admission.task admission.nice admission.mask admission.slice }
     {
-        let reply = place.cell.content.state.admit(admission.task, new);
+        let reply = lobby.cell.content.state.admit(admission.task, new);
         let (logged, told) = quiet_twice(admission.event(), &reply);
         let mut guard = self.lock_journal(rt);
         let journal = &mut *guard;
         working.commit_one(
             &self.history,
             journal,
-            &mut place.cell,
+            &mut lobby.cell,
             CommitDraft {
                 room,
                 logged,
@@ -83,7 +83,7 @@ impl<Q: RunQueue + Drop, N: Naming + Counting> Recorder<Q, N> {
         &self,
         rt: &R,
         working: &mut WorkingSeat<N>,
-        place: &mut UnderLock<OneLobby, N>,
+        lobby: &mut UnderLock<OneLobby, N>,
         task: u16,
         room: &mut Room<Record>,
     ) -> Receipt<Record>
@@ -94,14 +94,14 @@ impl<Q: RunQueue + Drop, N: Naming + Counting> Recorder<Q, N> {
         ensures tally { working.new.tally ≡ account_of told_calls working.new.caller.1 }
         ensures event { result.entry.event ≡ Event.Retire task }
     {
-        let reply = place.cell.content.state.retire(task);
+        let reply = lobby.cell.content.state.retire(task);
         let (logged, told) = quiet_twice(Event::Retire { task }, &reply);
         let mut guard = self.lock_journal(rt);
         let journal = &mut *guard;
         working.commit_one(
             &self.history,
             journal,
-            &mut place.cell,
+            &mut lobby.cell,
             CommitDraft {
                 room,
                 logged,

@@ -4,7 +4,7 @@ ghost use Rattle.bq_history.specs.Items.{callers_from, part_item};
 ghost use Rattle.bq_cells.specs.Parts.{first_parts};
 ghost use Rattle.bq_cells.specs.Opened.{ItemOf, cpu_items, inbox_items};
 
-use bq_cells::{Kept, NumberedCpu, NumberedInbox, OneLobby, Part, Record, Shared, UnderLock};
+use bq_cells::{JournalState, NumberedCpu, NumberedInbox, OneLobby, WorldPart, Record, Shared, UnderLock};
 use bq_disc::RunQueue;
 use bq_history::{Item, Locked};
 use bq_parts::{Cpu, Inbox, Lobby, Scratch};
@@ -24,7 +24,7 @@ pub struct PartLocks<Q: RunQueue + Drop, N: Naming> {
 pub fn part_locks<Q: RunQueue + Drop, N: Naming>(
     alloc: Global,
     history: &Shared<Q, N>,
-    all: &mut Holder<Item<Record, Part, Kept>, N>,
+    all: &mut Holder<Item<Record, WorldPart, JournalState>, N>,
     queues: Vec<Q>,
     count: u8,
 ) -> Result<PartLocks<Q, N>, AllocError>
@@ -53,7 +53,7 @@ pub fn part_locks<Q: RunQueue + Drop, N: Naming>(
 fn cpu_locks<Q: RunQueue + Drop, N: Naming>(
     alloc: Global,
     history: &Shared<Q, N>,
-    all: &mut Holder<Item<Record, Part, Kept>, N>,
+    all: &mut Holder<Item<Record, WorldPart, JournalState>, N>,
     queues: Vec<Q>,
 ) -> Result<Vec<Mutex<UnderLock<NumberedCpu<Q>, N>>>, AllocError>
     requires few { length queues.items ≤ 64 }
@@ -80,7 +80,7 @@ fn cpu_locks<Q: RunQueue + Drop, N: Naming>(
 fn inbox_locks<Q: RunQueue + Drop, N: Naming>(
     alloc: Global,
     history: &Shared<Q, N>,
-    all: &mut Holder<Item<Record, Part, Kept>, N>,
+    all: &mut Holder<Item<Record, WorldPart, JournalState>, N>,
     count: u8,
 ) -> Result<Vec<Mutex<UnderLock<NumberedInbox, N>>>, AllocError>
     requires { (rest : List ItemOf) × (all.old ≡ inbox_items 0 count ++ rest) }

@@ -8,7 +8,7 @@ ghost use Rattle.bq_cells.specs.Parts.{first_parts};
 use crate::locked_parts::{PartLocks, part_locks};
 use crate::prepared::Prepared;
 use crate::{ClosingRoom, Recorder, Seat};
-use bq_cells::{Kept, NumberedCpu, NumberedInbox, OneLobby, Part, Record, UnderLock};
+use bq_cells::{JournalState, NumberedCpu, NumberedInbox, OneLobby, WorldPart, Record, UnderLock};
 use bq_disc::RunQueue;
 use bq_history::{Item, Journal};
 use bq_parts::Loads;
@@ -89,7 +89,7 @@ fn recorder_at_start<Q: RunQueue + Drop, N: Naming + Counting>(
     count: usize,
 ) -> (
     Recorder<Q, N>,
-    Holder<Item<Record, Part, Kept>, N>,
+    Holder<Item<Record, WorldPart, JournalState>, N>,
     CounterTally<N>,
 )
     requires few { count ≤ 64 }
@@ -102,7 +102,7 @@ fn recorder_at_start<Q: RunQueue + Drop, N: Naming + Counting>(
 {
     let (history, mut all) = prepared.named::<N>();
     let (counters, account) = unnamed.named::<N>();
-    let kept = Kept {
+    let kept = JournalState {
         drawn: 0,
         loads: no_loads(count),
     };

@@ -20,7 +20,7 @@ impl<Q: RunQueue + Drop, N: Naming + Counting> Recorder<Q, N> {
         &self,
         rt: &R,
         working: &mut WorkingSeat<N>,
-        place: &mut UnderLock<NumberedCpu<Q>, N>,
+        cpu: &mut UnderLock<NumberedCpu<Q>, N>,
         source: &mut UnderLock<NumberedCpu<Q>, N>,
         now: u64,
         rooms: EventRooms<'_>,
@@ -28,15 +28,15 @@ impl<Q: RunQueue + Drop, N: Naming + Counting> Recorder<Q, N> {
         requires calls { is_some rooms.calls.now ≡ true }
         requires ready { rooms.record.now ≡ true }
         requires tally { working.old.tally ≡ account_of told_calls working.old.caller.1 }
-        requires apart { place.old.number ≢ source.old.number }
+        requires apart { cpu.old.number ≢ source.old.number }
         ensures caller { working.new.caller ≡ (working.old.caller.0, working.old.caller.1 ++ result ∷ []) }
         ensures tally { working.new.tally ≡ account_of told_calls working.new.caller.1 }
-        ensures event { result.entry.event ≡ Event.Pull place.old.number source.old.number now }
+        ensures event { result.entry.event ≡ Event.Pull cpu.old.number source.old.number now }
     {
-        look_at_both(&self.history, place, source);
-        let processor = place.cell.content.number;
+        look_at_both(&self.history, cpu, source);
+        let processor = cpu.cell.content.number;
         let from = source.cell.content.number;
-        let content = &mut place.cell.content;
+        let content = &mut cpu.cell.content;
         content.scratch.clear();
         let mut desk = working.sit(&self.counters);
         let reply = content.state.pull(
@@ -62,7 +62,7 @@ impl<Q: RunQueue + Drop, N: Naming + Counting> Recorder<Q, N> {
         working.commit_two(
             &self.history,
             journal,
-            &mut place.cell,
+            &mut cpu.cell,
             &mut source.cell,
             CommitDraft {
                 room: rooms.record,

@@ -2,7 +2,7 @@
 ghost use Rattle.std.specs.Prelude.{◌≡◌, ◌≤◌, ◌<◌, ◌+◌, ◌^◌, length};
 ghost use Rattle.std.specs.Sync.Mutex.{mutex_guard_value};
 
-use bq_cells::{Kept, NumberedCpu, Part, Record, Shared};
+use bq_cells::{JournalState, NumberedCpu, WorldPart, Record, Shared};
 use bq_disc::RunQueue;
 use bq_history::{Cell, Journal};
 use bq_seats::{Counters, Counting, Working};
@@ -10,16 +10,16 @@ use bq_tie::Naming;
 use std::sync::{Mutex, MutexGuard, Wait};
 
 /// A caller's end of a machine. Contracts see it as its number and its receipts, in order.
-pub type Seat<N> = bq_seats::Seat<Record, Part, Kept, N>;
+pub type Seat<N> = bq_seats::Seat<Record, WorldPart, JournalState, N>;
 
 /// What a seat has while an event is under way.
-pub type WorkingSeat<N> = Working<Record, Part, Kept, N>;
+pub type WorkingSeat<N> = Working<Record, WorldPart, JournalState, N>;
 
 /// A processor whose lock is held: its hand may be full.
-pub type CpuCell<Q, N> = Cell<NumberedCpu<Q>, Record, Part, Kept, N>;
+pub type CpuCell<Q, N> = Cell<NumberedCpu<Q>, Record, WorldPart, JournalState, N>;
 
 /// The journal, whose lock is held.
-pub(crate) type LockedJournal<'a, N> = MutexGuard<'a, Journal<Record, Part, Kept, N>>;
+pub(crate) type LockedJournal<'a, N> = MutexGuard<'a, Journal<Record, WorldPart, JournalState, N>>;
 
 /// The history with its journal, and the counters. Each event of a machine is recorded by one call here, under the locks of
 /// all parts that it touches; the call takes the journal's lock last.
@@ -27,7 +27,7 @@ pub(crate) type LockedJournal<'a, N> = MutexGuard<'a, Journal<Record, Part, Kept
 pub struct Recorder<Q: RunQueue + Drop, N: Naming + Counting> {
     pub history: Shared<Q, N>,
     pub counters: Counters<N>,
-    pub journal: Mutex<Journal<Record, Part, Kept, N>>,
+    pub journal: Mutex<Journal<Record, WorldPart, JournalState, N>>,
     pub ghost few: { history.about ≤ 64 },
     pub ghost same: { counters ≡ history.callers },
 }

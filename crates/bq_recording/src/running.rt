@@ -21,7 +21,7 @@ impl<Q: RunQueue + Drop, N: Naming + Counting> Recorder<Q, N> {
         &self,
         rt: &R,
         working: &mut WorkingSeat<N>,
-        place: &mut UnderLock<NumberedCpu<Q>, N>,
+        cpu: &mut UnderLock<NumberedCpu<Q>, N>,
         now: u64,
         rooms: EventRooms<'_>,
     ) -> Receipt<Record>
@@ -30,11 +30,11 @@ impl<Q: RunQueue + Drop, N: Naming + Counting> Recorder<Q, N> {
         requires tally { working.old.tally ≡ account_of told_calls working.old.caller.1 }
         ensures caller { working.new.caller ≡ (working.old.caller.0, working.old.caller.1 ++ result ∷ []) }
         ensures tally { working.new.tally ≡ account_of told_calls working.new.caller.1 }
-        ensures event { result.entry.event ≡ Event.Tick place.old.number now }
+        ensures event { result.entry.event ≡ Event.Tick cpu.old.number now }
     {
-        place.look(&self.history);
-        let processor = place.cell.content.number;
-        let content = &mut place.cell.content;
+        cpu.look(&self.history);
+        let processor = cpu.cell.content.number;
+        let content = &mut cpu.cell.content;
         content.scratch.clear();
         let mut desk = working.sit(&self.counters);
         let reply = content
@@ -56,7 +56,7 @@ impl<Q: RunQueue + Drop, N: Naming + Counting> Recorder<Q, N> {
         working.commit_one(
             &self.history,
             journal,
-            &mut place.cell,
+            &mut cpu.cell,
             CommitDraft {
                 room: rooms.record,
                 logged,
@@ -71,7 +71,7 @@ impl<Q: RunQueue + Drop, N: Naming + Counting> Recorder<Q, N> {
         &self,
         rt: &R,
         working: &mut WorkingSeat<N>,
-        place: &mut UnderLock<NumberedCpu<Q>, N>,
+        cpu: &mut UnderLock<NumberedCpu<Q>, N>,
         inbox: &mut UnderLock<NumberedInbox, N>,
         now: u64,
         rooms: EventRooms<'_>,
@@ -79,14 +79,14 @@ impl<Q: RunQueue + Drop, N: Naming + Counting> Recorder<Q, N> {
         requires calls { is_some rooms.calls.now ≡ true }
         requires ready { rooms.record.now ≡ true }
         requires tally { working.old.tally ≡ account_of told_calls working.old.caller.1 }
-        requires own { inbox.old.number ≡ place.old.number }
+        requires own { inbox.old.number ≡ cpu.old.number }
         ensures caller { working.new.caller ≡ (working.old.caller.0, working.old.caller.1 ++ result ∷ []) }
         ensures tally { working.new.tally ≡ account_of told_calls working.new.caller.1 }
-        ensures event { result.entry.event ≡ Event.Drain place.old.number now }
+        ensures event { result.entry.event ≡ Event.Drain cpu.old.number now }
     {
-        look_at_both(&self.history, place, inbox);
-        let processor = place.cell.content.number;
-        let content = &mut place.cell.content;
+        look_at_both(&self.history, cpu, inbox);
+        let processor = cpu.cell.content.number;
+        let content = &mut cpu.cell.content;
         content.scratch.clear();
         let mut desk = working.sit(&self.counters);
         let reply = content.state.drain(
@@ -105,7 +105,7 @@ impl<Q: RunQueue + Drop, N: Naming + Counting> Recorder<Q, N> {
         working.commit_two(
             &self.history,
             journal,
-            &mut place.cell,
+            &mut cpu.cell,
             &mut inbox.cell,
             CommitDraft {
                 room: rooms.record,
@@ -121,7 +121,7 @@ impl<Q: RunQueue + Drop, N: Naming + Counting> Recorder<Q, N> {
         &self,
         rt: &R,
         working: &mut WorkingSeat<N>,
-        place: &mut UnderLock<NumberedCpu<Q>, N>,
+        cpu: &mut UnderLock<NumberedCpu<Q>, N>,
         lobby: &mut UnderLock<OneLobby, N>,
         now: u64,
         room: &mut Room<Record>,
@@ -130,11 +130,11 @@ impl<Q: RunQueue + Drop, N: Naming + Counting> Recorder<Q, N> {
         requires tally { working.old.tally ≡ account_of told_calls working.old.caller.1 }
         ensures caller { working.new.caller ≡ (working.old.caller.0, working.old.caller.1 ++ result ∷ []) }
         ensures tally { working.new.tally ≡ account_of told_calls working.new.caller.1 }
-        ensures event { result.entry.event ≡ Event.Block place.old.number now }
+        ensures event { result.entry.event ≡ Event.Block cpu.old.number now }
     {
-        place.look(&self.history);
-        let processor = place.cell.content.number;
-        let reply = place
+        cpu.look(&self.history);
+        let processor = cpu.cell.content.number;
+        let reply = cpu
             .cell
             .content
             .state
@@ -146,7 +146,7 @@ impl<Q: RunQueue + Drop, N: Naming + Counting> Recorder<Q, N> {
         working.commit_two(
             &self.history,
             journal,
-            &mut place.cell,
+            &mut cpu.cell,
             &mut lobby.cell,
             CommitDraft {
                 room,

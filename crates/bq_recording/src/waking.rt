@@ -41,7 +41,7 @@ impl<Q: RunQueue + Drop, N: Naming + Counting> Recorder<Q, N> {
         &self,
         rt: &R,
         working: &mut WorkingSeat<N>,
-        cell: &mut CpuCell<Q, N>,
+        cpu: &mut CpuCell<Q, N>,
         lobby: &mut UnderLock<OneLobby, N>,
         task: u16,
         rooms: BeginRooms<'_>,
@@ -49,22 +49,22 @@ impl<Q: RunQueue + Drop, N: Naming + Counting> Recorder<Q, N> {
         requires below { task < 1024 }
         requires ready { rooms.record.now ≡ true }
         requires tally { working.old.tally ≡ account_of told_calls working.old.caller.1 }
-        requires says { cell.old.holder ≡ part_item (cpu_part cell.old.content.number cell.old.content.state) ∷ [] }
-        requires rests { cell.old.content.state.hand ≡ None }
+        requires says { cpu.old.holder ≡ part_item (cpu_part cpu.old.content.number cpu.old.content.state) ∷ [] }
+        requires rests { cpu.old.content.state.hand ≡ None }
         ensures caller { working.new.caller ≡ (working.old.caller.0, working.old.caller.1 ++ result ∷ []) }
         ensures tally { working.new.tally ≡ account_of told_calls working.new.caller.1 }
-        ensures event { result.entry.event ≡ Event.BeginWake cell.old.content.number task }
-        ensures says { cell.new.holder ≡ part_item (cpu_part cell.new.content.number cell.new.content.state) ∷ [] }
-        ensures number { cell.new.content.number ≡ cell.old.content.number }
-        ensures hand { OnOk result.entry.reply (option_map (λ c. c.task.id) cell.new.content.state.hand ≡ Some task) }
-        ensures rests { OnErr result.entry.reply (cell.new.content.state.hand ≡ None) }
+        ensures event { result.entry.event ≡ Event.BeginWake cpu.old.content.number task }
+        ensures says { cpu.new.holder ≡ part_item (cpu_part cpu.new.content.number cpu.new.content.state) ∷ [] }
+        ensures number { cpu.new.content.number ≡ cpu.old.content.number }
+        ensures hand { OnOk result.entry.reply (option_map (λ c. c.task.id) cpu.new.content.state.hand ≡ Some task) }
+        ensures rests { OnErr result.entry.reply (cpu.new.content.state.hand ≡ None) }
         ensures begun { IfErr result.entry.reply (λ e. (e ≡ no.NoTask) ⊎ (e ≡ no.NotBlocked)) }
     {
         lobby.look(&self.history);
-        let processor = cell.content.number;
+        let processor = cpu.content.number;
         let mut guard = self.lock_journal(rt);
         let journal = &mut *guard;
-        let reply = cell
+        let reply = cpu
             .content
             .state
             .begin_wake(&mut lobby.cell.content.state, task, &journal.kept().loads);
@@ -77,7 +77,7 @@ impl<Q: RunQueue + Drop, N: Naming + Counting> Recorder<Q, N> {
         working.commit_two(
             &self.history,
             journal,
-            cell,
+            cpu,
             &mut lobby.cell,
             CommitDraft {
                 room: rooms.record,
@@ -94,7 +94,7 @@ impl<Q: RunQueue + Drop, N: Naming + Counting> Recorder<Q, N> {
         &self,
         rt: &R,
         working: &mut WorkingSeat<N>,
-        cell: &mut CpuCell<Q, N>,
+        cpu: &mut CpuCell<Q, N>,
         inboxes: &[Mutex<UnderLock<NumberedInbox, N>>],
         placing: Placing,
         rooms: EventRooms<'_>,
@@ -103,23 +103,23 @@ impl<Q: RunQueue + Drop, N: Naming + Counting> Recorder<Q, N> {
         requires calls { is_some rooms.calls.now ≡ true }
         requires ready { rooms.record.now ≡ true }
         requires tally { working.old.tally ≡ account_of told_calls working.old.caller.1 }
-        requires says { cell.old.holder ≡ part_item (cpu_part cell.old.content.number cell.old.content.state) ∷ [] }
-        requires hand { option_map (λ c. c.task.id) cell.old.content.state.hand ≡ Some placing.task }
+        requires says { cpu.old.holder ≡ part_item (cpu_part cpu.old.content.number cpu.old.content.state) ∷ [] }
+        requires hand { option_map (λ c. c.task.id) cpu.old.content.state.hand ≡ Some placing.task }
         ensures caller { working.new.caller ≡ (working.old.caller.0, working.old.caller.1 ++ result ∷ []) }
         ensures tally { working.new.tally ≡ account_of told_calls working.new.caller.1 }
-        ensures event { result.entry.event ≡ Event.EndWake cell.old.content.number placing.now }
+        ensures event { result.entry.event ≡ Event.EndWake cpu.old.content.number placing.now }
         ensures placed { IsPlaced placing.task result.entry.reply }
-        ensures says { cell.new.holder ≡ part_item (cpu_part cell.new.content.number cell.new.content.state) ∷ [] }
-        ensures rests { cell.new.content.state.hand ≡ None }
+        ensures says { cpu.new.holder ≡ part_item (cpu_part cpu.new.content.number cpu.new.content.state) ∷ [] }
+        ensures rests { cpu.new.content.state.hand ≡ None }
     {
-        cell.look(&self.history);
-        let processor = cell.content.number;
+        cpu.look(&self.history);
+        let processor = cpu.content.number;
         let Placement {
             task: woken,
             to,
             by,
             steps,
-        } = self.place_task(working, &mut cell.content, inboxes.len(), placing.now);
+        } = self.place_task(working, &mut cpu.content, inboxes.len(), placing.now);
         let mut guard = lock_inbox(rt, inboxes, to);
         let inbox = &mut *guard;
         inbox.look(&self.history);
@@ -130,7 +130,7 @@ impl<Q: RunQueue + Drop, N: Naming + Counting> Recorder<Q, N> {
             by,
             steps,
         });
-        let calls = hold_calls(rooms.calls, cell.content.scratch.calls());
+        let calls = hold_calls(rooms.calls, cpu.content.scratch.calls());
         let event = Event::EndWake {
             processor,
             now: placing.now,
@@ -143,7 +143,7 @@ impl<Q: RunQueue + Drop, N: Naming + Counting> Recorder<Q, N> {
         working.commit_two(
             &self.history,
             journal,
-            cell,
+            cpu,
             &mut inbox.cell,
             CommitDraft {
                 room: rooms.record,

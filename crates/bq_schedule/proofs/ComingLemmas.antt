@@ -37,22 +37,22 @@ weights-joined s s' id processor j w t' false h (inr e) is at place weight old s
 joined-here : (f : ℕ → ℕ) (u : PurseLemmas.Purse) (processor : ℕ) (o : Option ℕ) → o ≡ Some processor → u.joined ≡ f processor → PurseLemmas.JoinedBy f u o
 joined-here f u processor o e j = rw e (omega (arith, j))
 
-worth-here : (f : ℕ → ℕ) (u : PurseLemmas.Purse) (processor : ℕ) (o : Option ℕ) → o ≡ Some processor → u.joined ≡ f processor → PurseLemmas.worth_at f u o ≡ u.settled
+worth-here : (f : ℕ → ℕ) (u : PurseLemmas.Purse) (processor : ℕ) (o : Option ℕ) → o ≡ Some processor → u.joined ≡ f processor → PurseLemmas.worth_at f u o ≡ u.accrued
 worth-here f u processor o e j =
     let none : f processor - u.joined ≡ 0 = omega (arith, j) in
-    ap (λ p. PurseLemmas.worth_at f u p) e ∙ ap (λ n. u.settled + u.weight * n) none ∙ omega arith
+    ap (λ p. PurseLemmas.worth_at f u p) e ∙ ap (λ n. u.accrued + u.weight * n) none ∙ omega arith
 
 -- a task with an id of the table comes
 joined-inside : (s : Figures) (id processor : ℕ) (p : ProcessorFigures) (t' : TaskFigures) → PurseLemmas.IsSound s → id < length s.tasks → (task_of s id).place ≡ None → p.shared ≡ PurseLemmas.shared_at s processor →
-    p.weight ≡ counted (processor_of s processor).weight (task_of s id).weight → t'.place ≡ Some processor → t'.weight ≡ (task_of s id).weight → t'.joined ≡ PurseLemmas.shared_at s processor → t'.settled ≡ (task_of s id).settled →
+    p.weight ≡ counted (processor_of s processor).weight (task_of s id).weight → t'.place ≡ Some processor → t'.weight ≡ (task_of s id).weight → t'.joined ≡ PurseLemmas.shared_at s processor → t'.accrued ≡ (task_of s id).accrued →
     Stays s (with_task (with_processor s processor p) id t')
-joined-inside s id processor p t' h inside at shared weight place same joined settled =
+joined-inside s id processor p t' h inside at shared weight place same joined accrued =
     let s1 = with_processor s processor p in
     let s2 = with_task s1 id t' in
     let u = PurseLemmas.purse t' in
     let gives : (j : ℕ) → PurseLemmas.shared_at s2 j ≡ PurseLemmas.shared_at s j = λ j. shared-with_processor s processor p j shared in
     let is : (j : ℕ) → PurseLemmas.purse (task_of s2 j) ≡ cond (eqb id j) u (PurseLemmas.purse (task_of s j)) = λ j. set_reads PurseLemmas.purse s1 id j t' (eqb id j) inside (eqb_tells id j) in
-    let had : PurseLemmas.uncapped s id ≡ (task_of s id).settled = ap (λ o. PurseLemmas.worth_at (PurseLemmas.shared_at s) (PurseLemmas.purse (task_of s id)) o) at in
+    let had : PurseLemmas.uncapped s id ≡ (task_of s id).accrued = ap (λ o. PurseLemmas.worth_at (PurseLemmas.shared_at s) (PurseLemmas.purse (task_of s id)) o) at in
     record {
       sound = record {
         weights = λ j there.
@@ -63,7 +63,7 @@ joined-inside s id processor p t' h inside at shared weight place same joined se
         table = λ j. omega (arith, h.table j, task_kept (λ (v : TaskFigures). v.weight) s1 id j t' same);
         ids = length-set s.tasks id t' ∙ h.ids;
       };
-      raws = λ j. raw-set s s2 id j u gives (is j) (worth-here (PurseLemmas.shared_at s) u processor t'.place place joined ∙ settled ∙ sym had);
+      raws = λ j. raw-set s s2 id j u gives (is j) (worth-here (PurseLemmas.shared_at s) u processor t'.place place joined ∙ accrued ∙ sym had);
     }
 
 -- what counts nothing more is as it was
@@ -114,13 +114,13 @@ table-cond true u v h l = h
 table-cond false u v h l = l
 
 -- a task that is nowhere has another weight
-admitted-inside : (s : Figures) (id : ℕ) (t' : TaskFigures) → PurseLemmas.IsSound s → id < length s.tasks → (task_of s id).place ≡ None → t'.place ≡ None → t'.weight ≤ 88761 → t'.settled ≡ (task_of s id).settled →
+admitted-inside : (s : Figures) (id : ℕ) (t' : TaskFigures) → PurseLemmas.IsSound s → id < length s.tasks → (task_of s id).place ≡ None → t'.place ≡ None → t'.weight ≤ 88761 → t'.accrued ≡ (task_of s id).accrued →
     Stays s (with_task s id t')
-admitted-inside s id t' h inside at place weight settled =
+admitted-inside s id t' h inside at place weight accrued =
     let s2 = with_task s id t' in
     let u = PurseLemmas.purse t' in
     let is : (j : ℕ) → PurseLemmas.purse (task_of s2 j) ≡ cond (eqb id j) u (PurseLemmas.purse (task_of s j)) = λ j. set_reads PurseLemmas.purse s id j t' (eqb id j) inside (eqb_tells id j) in
-    let had : PurseLemmas.uncapped s id ≡ (task_of s id).settled = ap (λ o. PurseLemmas.worth_at (PurseLemmas.shared_at s) (PurseLemmas.purse (task_of s id)) o) at in
+    let had : PurseLemmas.uncapped s id ≡ (task_of s id).accrued = ap (λ o. PurseLemmas.worth_at (PurseLemmas.shared_at s) (PurseLemmas.purse (task_of s id)) o) at in
     record {
       sound = record {
         weights = λ j there. omega (arith, h.weights j there, weights-set s id j t' inside, weight-nowhere j t' place, weight-nowhere j (task_of s id) at);
@@ -128,7 +128,7 @@ admitted-inside s id t' h inside at place weight settled =
         table = λ j. omega (arith, ap (λ (v : PurseLemmas.Purse). v.weight) (is j), table-cond (eqb id j) u (PurseLemmas.purse (task_of s j)) weight (h.table j));
         ids = length-set s.tasks id t' ∙ h.ids;
       };
-      raws = λ j. raw-set s s2 id j u (λ k. refl) (is j) (ap (λ o. PurseLemmas.worth_at (PurseLemmas.shared_at s) u o) place ∙ settled ∙ sym had);
+      raws = λ j. raw-set s s2 id j u (λ k. refl) (is j) (ap (λ o. PurseLemmas.worth_at (PurseLemmas.shared_at s) u o) place ∙ accrued ∙ sym had);
     }
 
 admitted-outside : (s : Figures) (id : ℕ) (t' : TaskFigures) → PurseLemmas.IsSound s → length s.tasks ≤ id → Stays s (with_task s id t')

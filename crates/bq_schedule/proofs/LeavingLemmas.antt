@@ -153,9 +153,9 @@ raw-set s s' id j u gives is same =
     ∙ worth-cond s id j u (eqb id j) (eqb_tells id j) same
 
 left-one : (s : Figures) (id processor : ℕ) (p : ProcessorFigures) (t' : TaskFigures) → PurseLemmas.IsSound s → (task_of s id).place ≡ Some processor → p.shared ≡ PurseLemmas.shared_at s processor →
-    p.weight ≡ (processor_of s processor).weight - (task_of s id).weight → t'.place ≡ None → t'.weight ≡ (task_of s id).weight → t'.settled ≡ PurseLemmas.uncapped s id →
+    p.weight ≡ (processor_of s processor).weight - (task_of s id).weight → t'.place ≡ None → t'.weight ≡ (task_of s id).weight → t'.accrued ≡ PurseLemmas.uncapped s id →
     Leaves id s (with_task (with_processor s processor p) id t')
-left-one s id processor p t' h at shared weight nowhere same settled =
+left-one s id processor p t' h at shared weight nowhere same accrued =
     let s1 = with_processor s processor p in
     let s2 = with_task s1 id t' in
     let u = PurseLemmas.purse t' in
@@ -174,7 +174,7 @@ left-one s id processor p t' h at shared weight nowhere same settled =
         table = λ j. omega (arith, h.table j, task_kept (λ (v : TaskFigures). v.weight) s1 id j t' same);
         ids = length-set s.tasks id t' ∙ h.ids;
       };
-      raws = λ j. raw-set s s2 id j u gives (is j) (ap (λ o. PurseLemmas.worth_at (PurseLemmas.shared_at s) u o) nowhere ∙ settled);
+      raws = λ j. raw-set s s2 id j u gives (is j) (ap (λ o. PurseLemmas.worth_at (PurseLemmas.shared_at s) u o) nowhere ∙ accrued);
       nowhere = ap (λ (v : TaskFigures). v.place) (get_or-set_same s.tasks id t' unknown inside) ∙ nowhere;
     }
 
@@ -182,8 +182,8 @@ left-if : (s : Figures) (id : ℕ) (o : Option ℕ) → PurseLemmas.IsSound s �
 left-if s id None h at small = record { sound = h; raws = λ j. refl; nowhere = at }
 left-if s id (Some processor) h at small =
     let t = task_of s id in
-    let is : PurseLemmas.uncapped s id ≡ t.settled + t.weight * (PurseLemmas.shared_at s processor - t.joined) = ap (λ o. PurseLemmas.worth_at (PurseLemmas.shared_at s) (PurseLemmas.purse t) o) at in
-    left-one s id processor (processor_left (processor_of s processor) t.weight) (record t { settled = fair_at s t (Some processor); place = None; drains = None }) h at refl refl refl refl (omega (arith, is, small))
+    let is : PurseLemmas.uncapped s id ≡ t.accrued + t.weight * (PurseLemmas.shared_at s processor - t.joined) = ap (λ o. PurseLemmas.worth_at (PurseLemmas.shared_at s) (PurseLemmas.purse t) o) at in
+    left-one s id processor (processor_left (processor_of s processor) t.weight) (record t { accrued = fair_at s t (Some processor); place = None; drains = None }) h at refl refl refl refl (omega (arith, is, small))
 
 -- a task that leaves is nowhere, all stays sound, and each has what it had, where what it has fits in 128 bits
 pub leaves-stays : (s : Figures) (id : ℕ) → PurseLemmas.IsSound s → PurseLemmas.uncapped s id ≤ 340282366920938463463374607431768211455 → Leaves id s (leaves id s)

@@ -32,11 +32,11 @@ pub record Purse : Type 0 where
   pub place : Option ℕ
   pub weight : ℕ
   pub joined : ℕ
-  pub settled : ℕ
+  pub accrued : ℕ
 
 -- of a task's figures, its place, its weight and what it was given
 abbrev pub purse : TaskFigures → Purse
-purse t = record { place = t.place; weight = t.weight; joined = t.joined; settled = t.settled }
+purse t = record { place = t.place; weight = t.weight; joined = t.joined; accrued = t.accrued }
 
 -- the weight at a processor, and what each unit of weight was given there
 pub record Pot : Type 0 where
@@ -119,8 +119,8 @@ kept-switched left processor now run s = kept-switched_if (is_run_by (processor_
 
 -- the fair time of a purse, where so much was given at each processor
 abbrev pub worth_at : (ℕ → ℕ) → Purse → Option ℕ → ℕ
-worth_at shared u None = u.settled
-worth_at shared u (Some processor) = u.settled + u.weight * (shared processor - u.joined)
+worth_at shared u None = u.accrued
+worth_at shared u (Some processor) = u.accrued + u.weight * (shared processor - u.joined)
 
 -- what each unit of weight was given at a processor
 abbrev pub shared_at : Figures → ℕ → ℕ
@@ -137,7 +137,7 @@ uncapped s id = uncapped_of s (task_of s id)
 -- a purse is worth the same where each processor gave the same
 pub worth-same : (f g : ℕ → ℕ) (u : Purse) (o : Option ℕ) → ((j : ℕ) → f j ≡ g j) → worth_at f u o ≡ worth_at g u o
 worth-same f g u None h = refl
-worth-same f g u (Some processor) h = ap (λ n. u.settled + u.weight * (n - u.joined)) (h processor)
+worth-same f g u (Some processor) h = ap (λ n. u.accrued + u.weight * (n - u.joined)) (h processor)
 
 -- a task whose purse stays has what it had, where each processor gave the same
 pub raw-kept : (s s' : Figures) (id : ℕ) → ((j : ℕ) → shared_at s' j ≡ shared_at s j) → purse (task_of s' id) ≡ purse (task_of s id) → uncapped s' id ≡ uncapped s id

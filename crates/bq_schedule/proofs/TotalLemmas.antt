@@ -238,13 +238,13 @@ shared-read_at processor now j s inside fits =
 
 -- a task that is there is given its weight times as much
 worth-more_if : (f g : ℕ → ℕ) (processor k part : ℕ) (u : PurseLemmas.Purse) (b c : Bool) → ((b ≡ true) × (processor ≡ k)) ⊎ ((b ≡ false) × (processor ≢ k)) → ((c ≡ true) × (k ≡ processor)) ⊎ ((c ≡ false) × (k ≢ processor)) →
-    g k ≡ f k + cond b part 0 → u.joined ≤ f k → u.settled + u.weight * (g k - u.joined) ≡ (u.settled + u.weight * (f k - u.joined)) + cond c u.weight 0 * part
+    g k ≡ f k + cond b part 0 → u.joined ≤ f k → u.accrued + u.weight * (g k - u.joined) ≡ (u.accrued + u.weight * (f k - u.joined)) + cond c u.weight 0 * part
 worth-more_if f g processor k part u true true s t e h =
     let more : g k - u.joined ≡ (f k - u.joined) + part = omega (arith, e, h) in
-    ap (λ n. u.settled + u.weight * n) more ∙ omega arith
+    ap (λ n. u.accrued + u.weight * n) more ∙ omega arith
 worth-more_if f g processor k part u false false s t e h =
     let same : g k - u.joined ≡ f k - u.joined = omega (arith, e) in
-    ap (λ n. u.settled + u.weight * n) same ∙ omega arith
+    ap (λ n. u.accrued + u.weight * n) same ∙ omega arith
 worth-more_if f g processor k part u true false (inl s) (inr t) e h = absurd (t.1 (sym s.1))
 worth-more_if f g processor k part u true false (inl s) (inl t) e h = absurd (cc)
 worth-more_if f g processor k part u true false (inr s) t e h = absurd (cc)

@@ -14,7 +14,7 @@ use Rattle.bq_bpf.specs.declared.hook.Hook.TheVariants.{Place, Preempt, Pull as 
 use Rattle.bq_schedule.specs.declared.slice.Slice.{Slice}
 use Rattle.bq_schedule.specs.declared.change.Change.{Change}
 use Rattle.bq_schedule.specs.declared.change.Decision.{Decision}
-use Rattle.bq_schedule.specs.declared.change.Moved.{Moved}
+use Rattle.bq_schedule.specs.declared.change.PulledTask.{PulledTask}
 use Rattle.bq_schedule.specs.declared.change.Start.{Start}
 use Rattle.bq_schedule.specs.declared.change.Left.{Left}
 use Rattle.bq_schedule.specs.declared.change.Left.TheVariants.{Preempted, Blocked}
@@ -233,11 +233,11 @@ starts-waited_if false left processor at (Some id) s st e =
 starts-waited : (left : Left) (processor at : ℕ) (run : Option ℕ) (s : Figures) (st : Start) → start_at left processor at run s ≡ Some st → st.waited ≡ st.at - (task_of (switched left processor at run s) st.task).since
 starts-waited left processor at run s st e = starts-waited_if (is_run_by (processor_of s processor).running run) left processor at run s st e
 
-pull-waited : (from processor at : ℕ) (task : Option ℕ) (s : Figures) (p : Moved) → moves_as from processor at task s ≡ Some p → p.waited ≡ p.at - (task_of s p.task).since
+pull-waited : (from processor at : ℕ) (task : Option ℕ) (s : Figures) (p : PulledTask) → moves_as from processor at task s ≡ Some p → p.waited ≡ p.at - (task_of s p.task).since
 pull-waited from processor at None s p e = cc
 pull-waited from processor at (Some id) s p e =
     let x : move_of from processor at id s ≡ p = cc in
-    let P : Moved → Type 0 = λ y. y.waited ≡ y.at - (task_of s y.task).since in
+    let P : PulledTask → Type 0 = λ y. y.waited ≡ y.at - (task_of s y.task).since in
     subst P x refl
 
 -- when an answer has a task wait, by who ran in the figures
@@ -432,7 +432,7 @@ start-told : (s : Figures) (e : Event) (a : Result Reply Refusal) (st : Start) �
 start-told s e (Ok r) st h = start-told_if (is_there s e) s e r st h
 start-told s e (Err r) st h = cc
 
-pull-performed : (s : Figures) (e : Event) (r : Reply) (p : Moved) → (performed_told s e r).pull ≡ Some p → p.waited ≡ p.at - (task_of s p.task).since
+pull-performed : (s : Figures) (e : Event) (r : Reply) (p : PulledTask) → (performed_told s e r).pull ≡ Some p → p.waited ≡ p.at - (task_of s p.task).since
 pull-performed s (EndWake processor now) (Placed task to by steps) p e = cc
 pull-performed s (Drain processor now) (Drained count run by steps) p e = cc
 pull-performed s (Tick processor now) (Ticked run by steps) p e = cc
@@ -442,11 +442,11 @@ pull-performed s (Pull processor from now) (Pulled task run by steps) p e =
     pull-waited from processor (time_at processor now s) task (asked processor d (read_at processor now s)) p e ∙ ap (λ n. p.at - n) ((kept-ask processor now d s).since p.task)
 pull-performed s e r p h = cc
 
-pull-told_if : (b : Bool) (s : Figures) (e : Event) (r : Reply) (p : Moved) → (cond b (performed_told s e r) nothing).pull ≡ Some p → p.waited ≡ p.at - (task_of s p.task).since
+pull-told_if : (b : Bool) (s : Figures) (e : Event) (r : Reply) (p : PulledTask) → (cond b (performed_told s e r) nothing).pull ≡ Some p → p.waited ≡ p.at - (task_of s p.task).since
 pull-told_if true s e r p h = pull-performed s e r p h
 pull-told_if false s e r p h = cc
 
-pull-told : (s : Figures) (e : Event) (a : Result Reply Refusal) (p : Moved) → (change s e a).pull ≡ Some p → p.waited ≡ p.at - (task_of s p.task).since
+pull-told : (s : Figures) (e : Event) (a : Result Reply Refusal) (p : PulledTask) → (change s e a).pull ≡ Some p → p.waited ≡ p.at - (task_of s p.task).since
 pull-told s e (Ok r) p h = pull-told_if (is_there s e) s e r p h
 pull-told s e (Err r) p h = cc
 

@@ -3,14 +3,14 @@ use Rattle.std.specs.Prelude.{ℕ, ◌-◌, ◌*◌, ◌/◌, Bool, ◌==◌, �
 use Rattle.bq_disc.specs.OneProcessor.{reading}
 use Rattle.bq_schedule.specs.declared.slice.Slice.{Slice}
 use Rattle.bq_schedule.specs.declared.change.Start.{Start}
-use Rattle.bq_schedule.specs.declared.change.Reading.{Reading}
+use Rattle.bq_schedule.specs.declared.change.ClockReading.{ClockReading}
 use Rattle.bq_schedule.specs.declared.figures.TaskFigures.{TaskFigures}
 use Rattle.bq_schedule.specs.declared.figures.ProcessorFigures.{ProcessorFigures}
 use Rattle.bq_schedule.specs.Counts.{counted, counted_wide, parts}
 use Rattle.bq_schedule.specs.Figures.{Figures, processor_of, task_of, with_processor, with_task}
 
 -- the reading itself. It goes back where it is below the last
-abbrev pub reading_at : ℕ → ProcessorFigures → ℕ → Reading
+abbrev pub reading_at : ℕ → ProcessorFigures → ℕ → ClockReading
 reading_at processor p now = record { processor = processor; from = p.last; to = reading p.last now; is_back = nat_lt now p.last }
 
 -- the stretch from one reading to another, of the task that ran; one of no length is none

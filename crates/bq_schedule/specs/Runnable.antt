@@ -11,8 +11,8 @@ pending p t = min (t.weight * (p.shared - t.joined)) (2 ^ 128 - 1)
 
 -- the fair time of a task, in parts: at all processors where it was, and where it is
 abbrev pub fair_at : Figures → TaskFigures → Option ℕ → ℕ
-fair_at s t None = t.settled
-fair_at s t (Some processor) = counted_wide t.settled (pending (processor_of s processor) t)
+fair_at s t None = t.accrued
+fair_at s t (Some processor) = counted_wide t.accrued (pending (processor_of s processor) t)
 
 abbrev pub fair_of : Figures → ℕ → ℕ
 fair_of s id = let t = task_of s id in fair_at s t t.place
@@ -37,7 +37,7 @@ left_from id s None = s
 left_from id s (Some processor) =
     let t = task_of s id in
     with_task (with_processor s processor (processor_left (processor_of s processor) t.weight)) id
-    (record t { settled = fair_at s t (Some processor); place = None; drains = None })
+    (record t { accrued = fair_at s t (Some processor); place = None; drains = None })
 
 abbrev pub leaves : ℕ → Figures → Figures
 leaves id s = left_from id s (task_of s id).place

@@ -14,7 +14,7 @@ use Rattle.bq_parts.specs.declared.reply.Reply.{Reply}
 use Rattle.bq_parts.specs.declared.reply.Reply.TheVariants.{Admitted, Placed, Drained, Ticked, Blocked as Went, Pulled}
 use Rattle.bq_schedule.specs.declared.change.Change.{Change}
 use Rattle.bq_schedule.specs.declared.change.Decision.{Decision}
-use Rattle.bq_schedule.specs.declared.change.Moved.{Moved}
+use Rattle.bq_schedule.specs.declared.change.PulledTask.{PulledTask}
 use Rattle.bq_schedule.specs.declared.change.Left.TheVariants.{Preempted, Blocked}
 use Rattle.bq_schedule.specs.declared.figures.ProcessorFigures.{ProcessorFigures}
 use Rattle.bq_schedule.specs.declared.figures.HookFigures.{HookFigures}
@@ -86,10 +86,10 @@ taken processor now None s = s
 taken processor now (Some id) s = comes id processor now (waited_there id now s)
 
 -- what is told of a task that is pulled
-abbrev pub move_of : ℕ → ℕ → ℕ → ℕ → Figures → Moved
+abbrev pub move_of : ℕ → ℕ → ℕ → ℕ → Figures → PulledTask
 move_of from to at id s = record { task = id; from = from; to = to; at = at; waited = at - (task_of s id).since }
 
-abbrev pub moves_as : ℕ → ℕ → ℕ → Option ℕ → Figures → Option Moved
+abbrev pub moves_as : ℕ → ℕ → ℕ → Option ℕ → Figures → Option PulledTask
 moves_as from to at task s = option_map (λ (id : ℕ). move_of from to at id s) task
 
 -- the reading of the clock, as it counts

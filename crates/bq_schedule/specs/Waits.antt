@@ -8,7 +8,7 @@ use Rattle.bq_parts.specs.declared.reply.Reply.TheVariants.{Placed, Drained, Tic
 use Rattle.bq_parts.specs.declared.refusal.Refusal.{Refusal}
 use Rattle.bq_schedule.specs.declared.change.Change.{Change}
 use Rattle.bq_schedule.specs.declared.change.Start.{Start}
-use Rattle.bq_schedule.specs.declared.change.Moved.{Moved}
+use Rattle.bq_schedule.specs.declared.change.PulledTask.{PulledTask}
 use Rattle.bq_schedule.specs.Moments.{History}
 use Rattle.bq_schedule.specs.Slices.{clock, runner, is_this}
 use Rattle.bq_schedule.specs.Steps.{change, figures}
@@ -35,7 +35,7 @@ waits_since id [] = 0
 waits_since id (m ∷ past) = unwrap_or (wait_begins id past m.event m.answer) (waits_since id past)
 
 -- how long a task has waited as a pull of it tells, and as a start of it does
-abbrev pub wait_of_pull : ℕ → Option Moved → ℕ
+abbrev pub wait_of_pull : ℕ → Option PulledTask → ℕ
 wait_of_pull id None = 0
 wait_of_pull id (Some p) = if p.task == id then p.waited else 0
 

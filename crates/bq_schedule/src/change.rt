@@ -10,7 +10,7 @@ use bq_parts::{By, Hook};
 #[derive(Clone, Copy, PartialEq, Eq)]
 pub struct Change {
     /// The reading of the processor's clock, where the event has one.
-    pub reading: Option<Reading>,
+    pub reading: Option<ClockReading>,
     /// What the processor's task was charged at that reading.
     pub slice: Option<Slice>,
     /// The run before that slice, which ended: the slice does not go on from it. The run that goes on last is with the
@@ -21,7 +21,7 @@ pub struct Change {
     /// A wake ended: its task was placed.
     pub wake: Option<Wake>,
     /// A task was pulled from another processor.
-    pub pull: Option<Moved>,
+    pub pull: Option<PulledTask>,
     /// The task that ran at the processor no longer does.
     pub stop: Option<Stop>,
     /// Another task runs at the processor now.
@@ -50,7 +50,7 @@ impl Change {
 
 /// A reading of a processor's clock.
 #[derive(Clone, Copy, PartialEq, Eq)]
-pub struct Reading {
+pub struct ClockReading {
     pub processor: u8,
     /// The reading before, 0 at first.
     pub from: u64,
@@ -108,7 +108,7 @@ pub struct Wake {
 
 /// A runnable task was pulled.
 #[derive(Clone, Copy, PartialEq, Eq)]
-pub struct Moved {
+pub struct PulledTask {
     pub task: u16,
     pub from: u8,
     pub to: u8,

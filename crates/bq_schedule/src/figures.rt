@@ -27,7 +27,7 @@ pub struct TaskFigures {
     /// How much its processor had shared out to each unit of weight when the task came there.
     pub joined: u128,
     /// Its fair time at all processors where it was runnable before this one, in parts of a nanosecond.
-    pub settled: u128,
+    pub accrued: u128,
 
     /// The time that it ran, in nanoseconds: the sum of its slices.
     pub time: u64,
@@ -66,7 +66,7 @@ impl TaskFigures {
             drains: None,
             before: None,
             joined: 0,
-            settled: 0,
+            accrued: 0,
             time: 0,
             waited: 0,
             wakes: 0,

@@ -3,7 +3,7 @@ ghost use Rattle.std.specs.Prelude.{◌≡◌, ◌<◌, length};
 ghost use Rattle.bq_schedule.specs.Passing.{reading_at, slice_between, length_of, joined_run, ended_run, passed, task_charged, with_charged, read_at, goes_on};
 ghost use Rattle.bq_schedule.specs.Steps.{read_told};
 
-use crate::change::{Change, Reading, Start};
+use crate::change::{Change, ClockReading, Start};
 use crate::figures::{ProcessorFigures, TaskFigures};
 use crate::schedule::{PARTS, Schedule};
 use crate::slice::Slice;
@@ -70,10 +70,10 @@ impl TaskFigures {
 
 impl ProcessorFigures {
     /// A reading of the clock.
-    fn reading(&self, processor: u8, now: u64) -> Reading
+    fn reading(&self, processor: u8, now: u64) -> ClockReading
         ensures { result ≡ reading_at processor self.now now }
     {
-        Reading {
+        ClockReading {
             processor,
             from: self.last,
             to: now.min(LATEST).max(self.last),

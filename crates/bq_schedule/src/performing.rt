@@ -4,7 +4,7 @@ ghost use Rattle.bq_schedule.specs.Steps.{weight_at, admitted, woken, emptied, t
 ghost use Rattle.bq_schedule.specs.Figures.{task_of};
 ghost use Rattle.bq_schedule.specs.Runnable.{leaves};
 
-use crate::change::{Change, Decision, Left, Moved, Wake};
+use crate::change::{Change, Decision, Left, PulledTask, Wake};
 use crate::schedule::Schedule;
 use bq_parts::{Event, Hook, Reply};
 use bq_weights::{is_nice, weight};
@@ -201,14 +201,14 @@ impl Schedule {
     }
 
     /// A task is pulled, if any: what it waited where it was counts, and it waits anew.
-    fn take_over(&mut self, task: Option<u16>, from: u8, to: u8, at: u64) -> Option<Moved>
+    fn take_over(&mut self, task: Option<u16>, from: u8, to: u8, at: u64) -> Option<PulledTask>
         ensures figures { self.new ≡ taken to at task self.old }
         ensures told { result ≡ moves_as from to at task self.old }
     {
         let id = task?;
         let waited = self.count_wait(id, at);
         self.come(id, to, at);
-        Some(Moved {
+        Some(PulledTask {
             task: id,
             from,
             to,

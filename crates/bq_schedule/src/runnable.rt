@@ -12,9 +12,9 @@ impl Schedule {
     {
         match task.place {
             Some(processor) => task
-                .settled
+                .accrued
                 .saturating_add(self.processor(processor).pending(task)),
-            None => task.settled,
+            None => task.accrued,
         }
     }
 
@@ -26,7 +26,7 @@ impl Schedule {
         let Some(processor) = task.place else {
             return;
         };
-        task.settled = self.fair_of(&task);
+        task.accrued = self.fair_of(&task);
         task.place = None;
         task.drains = None;
         let mut figures = self.processor(processor);

@@ -84,9 +84,9 @@ impl Play<(), Account> for Looking {
 }
 
 /// A look by nobody yet, whose account is of no seat.
-pub struct Blank;
+pub struct UnseatedLook;
 
-impl Play<(), Account> for Blank {
+impl Play<(), Account> for UnseatedLook {
     ghost use Rattle.std.specs.Prelude.{◌≡◌, []};
     ghost use Rattle.bq_seats.specs.Sums.{spent};
 

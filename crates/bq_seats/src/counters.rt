@@ -4,7 +4,7 @@ ghost use Rattle.bq_bpf.specs.declared.board.Call.TheVariants.{Add, Read};
 ghost use Rattle.bq_seats.specs.Sums.{AreSumsOf, both, calling, opened, spent, without_one};
 
 use crate::account::{
-    Account, Adding, Apart, Blank, CounterTally, Counting, Looking, Reading, Summed, Together,
+    Account, Adding, Apart, UnseatedLook, CounterTally, Counting, Looking, Reading, Summed, Together,
     Whole,
 };
 use atomic_table::{Seat, Table};
@@ -83,7 +83,7 @@ impl<N: Counting> Counters<N> {
     pub fn none(&self) -> CounterTally<N>
         ensures { result ≡ spent }
     {
-        let (_, seat) = self.table.shared.load_new_seat::<Blank>(0);
+        let (_, seat) = self.table.shared.load_new_seat::<UnseatedLook>(0);
         CounterTally {
             seat,
             of: PhantomData,

@@ -6,7 +6,7 @@ use Rattle.std.proofs.lemmas.Str.{IsUtf8-from_is_utf8, is_utf8-from_IsUtf8}
 use Rattle.bq_trace.specs.Feeding.{with_feeds}
 use Rattle.bq_trace.specs.News.{News, Told, TakesAll, Skipped}
 use Rattle.bq_simulate.specs.Texts.{ByHook, Writes, WritesAll, image_at, news_lines, told_lines}
-use Rattle.bq_simulate.specs.declared.trace_text.TraceText.{TraceText}
+use Rattle.bq_simulate.specs.declared.trace_writer.TraceWriter.{TraceWriter}
 
 -- a line of UTF-8 is written
 pub writes_line : (images : ByHook) (old new line : List ℕ) → IsUtf8 line → new ≡ old ++ (line ++ 10 ∷ []) → Writes images old (Skipped line) new
@@ -38,13 +38,13 @@ writes_more images old mid new n x more h k = record {
 }
 
 -- what the text takes of one piece of news
-abbrev pub Takes : TraceText → ℕ → News → TraceText → Type 0
+abbrev pub Takes : TraceWriter → ℕ → News → TraceWriter → Type 0
 Takes old n news new = (new.images ≡ old.images) × Writes (image_at old.images) (string_bytes old.text) news (string_bytes new.text)
 
 -- the text that takes news has grown by its lines, and its images are the same
-pub writes_all : (old new : TraceText) (told : Told) → TakesAll Takes old told new
+pub writes_all : (old new : TraceWriter) (told : Told) → TakesAll Takes old told new
     → (new.images ≡ old.images) × WritesAll (image_at old.images) (string_bytes old.text) told (string_bytes new.text)
-writes_all old new [] h = (ap (λ (s : TraceText). s.images) h, record { text = ap (λ (s : TraceText). string_bytes s.text) h ∙ sym (append-nil (string_bytes old.text)); fits = tt })
+writes_all old new [] h = (ap (λ (s : TraceWriter). s.images) h, record { text = ap (λ (s : TraceWriter). string_bytes s.text) h ∙ sym (append-nil (string_bytes old.text)); fits = tt })
 writes_all old new ((n, x) ∷ more) h =
     let rest = writes_all h.0 new more h.2 in (
       rest.0 ∙ h.1.0,

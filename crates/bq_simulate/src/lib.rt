@@ -27,7 +27,7 @@ pub mod line_laws;
 pub mod opening;
 pub mod simulation;
 pub mod tally;
-pub mod trace_text;
+pub mod trace_writer;
 pub mod writing;
 
 pub use drive_fault::DriveFault;
@@ -36,5 +36,5 @@ pub use fault::SimulateFault;
 pub use following::{simulate, simulate_seed};
 pub use images::Images;
 pub use tally::Tally;
-pub use trace_text::TraceText;
+pub use trace_writer::TraceWriter;
 pub use writing::{write_event, write_machine};

@@ -12,8 +12,8 @@ use Rattle.bq_ranges.specs.Within.{Within}
 use Rattle.bq_ranges.specs.declared.range.Range.{Range}
 use Rattle.bq_states.specs.declared.abstract_state.AbstractState.{AbstractState}
 use Rattle.bq_states.specs.declared.abstract_state.AbstractValue.{AbstractValue}
-use Rattle.bq_states.specs.declared.abstract_state.Kind.{Kind}
-use Rattle.bq_states.specs.declared.abstract_state.Kind.TheVariants.{Number, Context, Stack, Entry, EntryOrNull, Map}
+use Rattle.bq_states.specs.declared.abstract_state.ValueKind.{ValueKind}
+use Rattle.bq_states.specs.declared.abstract_state.ValueKind.TheVariants.{Number, Context, Stack, Entry, EntryOrNull, Map}
 use Rattle.bq_states.specs.AbstractStates.{Contains, Suits, IsEntryBase, IsOfKind, Bounds, FindsBytes}
 use Rattle.bq_insn.proofs.OptionLemmas.{some_same}
 use Rattle.bq_states.proofs.LearnLemmas.{found_at}
@@ -66,7 +66,7 @@ entry_low shapes m first size entry =
     omega (arith, entry.first_is, product)
 
 -- a pointer to an entry of a map may reach over one value
-pub entry_bounds : (shapes : List MapShape) (context_length m size : ℕ) (shape : MapShape) (kind : Kind) → kind ≡ Entry m → Some shape ≡ slice_get shapes m → size ≡ shape.value_size → m < 256 → Bounds shapes context_length kind size
+pub entry_bounds : (shapes : List MapShape) (context_length m size : ℕ) (shape : MapShape) (kind : ValueKind) → kind ≡ Entry m → Some shape ≡ slice_get shapes m → size ≡ shape.value_size → m < 256 → Bounds shapes context_length kind size
 entry_bounds shapes context_length m size shape kind kind_is known size_is low f base suits is =
     let entry : IsEntryBase f.shapes m base = rw kind_is at is in
     let e = entry.entry in
@@ -79,7 +79,7 @@ entry_bounds shapes context_length m size shape kind kind_is known size_is low f
     )
 
 -- the bytes that a pointer of the kind points to are set
-pub region_byte : (shapes : List MapShape) (context_length : ℕ) (f : Setting) (v : AbstractState) (s : State) (kind : Kind) (region : Region) (base size i : ℕ) → Suits shapes context_length f → Contains f v s → IsOfKind kind region → Spans f region base size → i < size → (kind ≡ Stack → slice_index_or v.set i false ≡ true) → (b : ℕ) × (byte_at f s region i ≡ Some b) × (b < 256)
+pub region_byte : (shapes : List MapShape) (context_length : ℕ) (f : Setting) (v : AbstractState) (s : State) (kind : ValueKind) (region : Region) (base size i : ℕ) → Suits shapes context_length f → Contains f v s → IsOfKind kind region → Spans f region base size → i < size → (kind ≡ Stack → slice_index_or v.set i false ≡ true) → (b : ℕ) × (byte_at f s region i ≡ Some b) × (b < 256)
 region_byte shapes context_length f v s Number region base size i suits contains is spans lt set = absurd is
 region_byte shapes context_length f v s Context region base size i suits contains is spans lt set =
     let spans' : Spans f InContext base size = rw is at spans in
@@ -93,9 +93,9 @@ region_byte shapes context_length f v s (EntryOrNull m) region base size i suits
 region_byte shapes context_length f v s (Map m) region base size i suits contains is spans lt set = absurd is
 
 -- a read by a pointer that stays inside its region
-pub reads_gives : (shapes : List MapShape) (context_length : ℕ) (view : AbstractState) (count : ℕ) (src : ℕ) (off : ℤ) (base : AbstractValue) (bound : ℕ) (at : Range) → Some base ≡ slice_index_or view.registers src None → Bounds shapes context_length base.kind bound → bound ≤ 65536 → ((u : ℕ) → Within base.offset u → Within at ((u + word_of off) % 2 ^ 64)) → at.hi + count ≤ bound → (base.kind ≡ Stack → (o i : ℕ) → Within at o → i < count → slice_index_or view.set (o + i) false ≡ true) → (f : Setting) (s : State) → Suits shapes context_length f → Contains f view s → (word : ℕ) × (bytes : List ℕ) × (s.register src ≡ Some word) × (length bytes ≡ count) × Reads f s (address_of word off) bytes × (number_of bytes < 256 ^ count) × (word < 2 ^ 64) × ((i : ℕ) → slice_index bytes i < 256)
-reads_gives shapes context_length view count src off base bound at known bounds small moved inside set f s suits contains =
-    let found = found_at f view s src base known contains in
+pub reads_gives : (shapes : List MapShape) (context_length : ℕ) (state : AbstractState) (count : ℕ) (src : ℕ) (off : ℤ) (base : AbstractValue) (bound : ℕ) (at : Range) → Some base ≡ slice_index_or state.registers src None → Bounds shapes context_length base.kind bound → bound ≤ 65536 → ((u : ℕ) → Within base.offset u → Within at ((u + word_of off) % 2 ^ 64)) → at.hi + count ≤ bound → (base.kind ≡ Stack → (o i : ℕ) → Within at o → i < count → slice_index_or state.set (o + i) false ≡ true) → (f : Setting) (s : State) → Suits shapes context_length f → Contains f state s → (word : ℕ) × (bytes : List ℕ) × (s.register src ≡ Some word) × (length bytes ≡ count) × Reads f s (address_of word off) bytes × (number_of bytes < 256 ^ count) × (word < 2 ^ 64) × ((i : ℕ) → slice_index bytes i < 256)
+reads_gives shapes context_length state count src off base bound at known bounds small moved inside set f s suits contains =
+    let found = found_at f state s src base known contains in
     let d = found.2 in
     let region = bounds f d.base suits d.is_base in
     let o : ℕ = (d.offset + word_of off) % 2 ^ 64 in
@@ -103,7 +103,7 @@ reads_gives shapes context_length view count src off base bound at known bounds 
     let stays : o + count ≤ bound = omega (arith, within, inside) in
     let good = good_at f region.0 d.base bound found.0 d.offset (count) o off region.1 region.3 d.word_is refl small stays in
     let bytes = read_bytes (λ i. byte_at f s region.0 (o + i)) (count)
-    (λ i h. region_byte shapes context_length f view s base.kind region.0 d.base bound (o + i) suits contains region.2 region.1 (omega arith) (λ stack. set stack o i within h)) in (
+    (λ i h. region_byte shapes context_length f state s base.kind region.0 d.base bound (o + i) suits contains region.2 region.1 (omega arith) (λ stack. set stack o i within h)) in (
       found.0,
       bytes.0,
       found.1,
@@ -122,9 +122,9 @@ word_at : (f : Setting) (s : State) (word : ℕ) (bytes : List ℕ) → word < 2
 word_at f s word bytes small reads = let same : (word + word_of (pos 0)) % 2 ^ 64 ≡ word = omega arith in subst (λ (a : ℕ). Reads f s a bytes) same reads
 
 -- a pointer that stays inside its region finds bytes
-pub finds_bytes : (shapes : List MapShape) (context_length : ℕ) (view : AbstractState) (count : ℕ) (src : ℕ) (base : AbstractValue) (bound : ℕ) → Some base ≡ slice_index_or view.registers src None → Bounds shapes context_length base.kind bound → bound ≤ 65536 → base.offset.hi + count ≤ bound → (base.kind ≡ Stack → (o i : ℕ) → Within base.offset o → i < count → slice_index_or view.set (o + i) false ≡ true) → FindsBytes shapes context_length view src count
-finds_bytes shapes context_length view count src base bound known bounds small inside set f s suits contains =
+pub finds_bytes : (shapes : List MapShape) (context_length : ℕ) (state : AbstractState) (count : ℕ) (src : ℕ) (base : AbstractValue) (bound : ℕ) → Some base ≡ slice_index_or state.registers src None → Bounds shapes context_length base.kind bound → bound ≤ 65536 → base.offset.hi + count ≤ bound → (base.kind ≡ Stack → (o i : ℕ) → Within base.offset o → i < count → slice_index_or state.set (o + i) false ≡ true) → FindsBytes shapes context_length state src count
+finds_bytes shapes context_length state count src base bound known bounds small inside set f s suits contains =
     let fits = base.offset.fits in
-    let read = reads_gives shapes context_length view count src (pos 0) base bound base.offset known bounds small
+    let read = reads_gives shapes context_length state count src (pos 0) base bound base.offset known bounds small
     (λ u w. let same : (u + word_of (pos 0)) % 2 ^ 64 ≡ u = omega (arith, w) in rw same w) inside set f s suits contains in
     (read.0, read.1, read.2, read.3, word_at f s read.0 read.1 read.6 read.4, read.7)

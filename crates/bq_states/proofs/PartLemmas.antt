@@ -9,9 +9,9 @@ use Rattle.bq_insn.specs.Slots.{byte_count}
 use Rattle.bq_bpf.specs.Memory.{Setting, State, Region, Reads, byte_at, number_of, stack_with}
 use Rattle.bq_ranges.specs.declared.range.Range.{Range}
 use Rattle.bq_ranges.specs.Within.{Within}
-use Rattle.bq_states.specs.declared.abstract_state.Kind.{Kind}
-use Rattle.bq_states.specs.declared.abstract_state.Kind.TheVariants.{Stack}
-use Rattle.bq_states.specs.declared.abstract_state.Part.{Part}
+use Rattle.bq_states.specs.declared.abstract_state.ValueKind.{ValueKind}
+use Rattle.bq_states.specs.declared.abstract_state.ValueKind.TheVariants.{Stack}
+use Rattle.bq_states.specs.declared.abstract_state.StackPart.{StackPart}
 use Rattle.bq_states.specs.declared.abstract_state.AbstractState.{AbstractState}
 use Rattle.bq_states.specs.Parts.{AllowsPart, HasBytes, HasPart, HaveParts, Outlives}
 use Rattle.bq_states.specs.AbstractStates.{Contains, IsOfKind}
@@ -37,34 +37,34 @@ same_bytes stack first (suc count) (a ∷ as') (b ∷ bs) p q =
     rest x xs h = (omega (arith, h.0), λ i lt. subst (λ (n : ℕ). stack n ≡ Some (slice_index xs i)) (let e : first + suc i ≡ suc first + i = omega arith in e) (h.1 (suc i) (omega arith)))
 
 -- the number of the bytes of a part is in its range
-pub part_number : (stack : ℕ → Option ℕ) (p : Part) (o : ℕ) (size : Size) (bytes : List ℕ) → p.first ≡ o → p.size ≡ size → HasPart stack (Some p) → HasBytes stack o (byte_count size) bytes → Within p.range (number_of bytes)
+pub part_number : (stack : ℕ → Option ℕ) (p : StackPart) (o : ℕ) (size : Size) (bytes : List ℕ) → p.first ≡ o → p.size ≡ size → HasPart stack (Some p) → HasBytes stack o (byte_count size) bytes → Within p.range (number_of bytes)
 part_number stack p o size bytes place same h has =
     let own = subst (λ (n : ℕ). HasBytes stack n (byte_count size) h.0) place (subst (λ (z : Size). HasBytes stack p.first (byte_count z) h.0) same h.1) in
     subst (λ (xs : List ℕ). Within p.range (number_of xs)) (same_bytes stack o (byte_count size) h.0 bytes own has) h.2
 
-related_at : (R : Option Part → Option Part → Type 0) (old now : List (Option Part)) (i : ℕ) (x a : Option Part) → i < length now → get_or old i None ≡ a → R a x → ((k : ℕ) → k < i → R (get_or old k None) (get_or now k None)) → (k : ℕ) (b : Bool) → k < i + 1 → ((b ≡ true) × (k ≡ i)) ⊎ ((b ≡ false) × (k ≢ i)) → R (get_or old k None) (get_or (set now i x) k None)
+related_at : (R : Option StackPart → Option StackPart → Type 0) (old now : List (Option StackPart)) (i : ℕ) (x a : Option StackPart) → i < length now → get_or old i None ≡ a → R a x → ((k : ℕ) → k < i → R (get_or old k None) (get_or now k None)) → (k : ℕ) (b : Bool) → k < i + 1 → ((b ≡ true) × (k ≡ i)) ⊎ ((b ≡ false) × (k ≢ i)) → R (get_or old k None) (get_or (set now i x) k None)
 related_at R old now i x a lt read r before k b le (inr (_, other)) =
-    subst (λ (v : Option Part). R (get_or old k None) v) (sym (get_or-set_other now i k x None other)) (before k (omega arith))
+    subst (λ (v : Option StackPart). R (get_or old k None) v) (sym (get_or-set_other now i k x None other)) (before k (omega arith))
 related_at R old now i x a lt read r before k b le (inl (_, same)) =
     let there : get_or (set now i x) k None ≡ x = rw same (get_or-set_same now i x None lt) in
     let was : get_or old k None ≡ a = rw same read in
-    subst (λ (v : Option Part). R (get_or old k None) v) (sym there) (subst (λ (v : Option Part). R v x) (sym was) r)
+    subst (λ (v : Option StackPart). R (get_or old k None) v) (sym there) (subst (λ (v : Option StackPart). R v x) (sym was) r)
 
 -- one more of the parts that are related
-pub related_more : (R : Option Part → Option Part → Type 0) (old now : List (Option Part)) (i : ℕ) (x a : Option Part) → i < length now → get_or old i None ≡ a → R a x → ((k : ℕ) → k < i → R (get_or old k None) (get_or now k None)) → (k : ℕ) → k < i + 1 → R (get_or old k None) (get_or (set now i x) k None)
+pub related_more : (R : Option StackPart → Option StackPart → Type 0) (old now : List (Option StackPart)) (i : ℕ) (x a : Option StackPart) → i < length now → get_or old i None ≡ a → R a x → ((k : ℕ) → k < i → R (get_or old k None) (get_or now k None)) → (k : ℕ) → k < i + 1 → R (get_or old k None) (get_or (set now i x) k None)
 related_more R old now i x a lt read r before k le = related_at R old now i x a lt read r before k _ le (eqb_tells k i)
 
-related_by : (R : Option Part → Option Part → Type 0) (old now : List (Option Part)) (i : ℕ) → R None None → length old ≤ i → length now ≤ i → ((k : ℕ) → k < i → R (get_or old k None) (get_or now k None)) → (k : ℕ) → (k < i) ⊎ (i ≤ k) → R (get_or old k None) (get_or now k None)
+related_by : (R : Option StackPart → Option StackPart → Type 0) (old now : List (Option StackPart)) (i : ℕ) → R None None → length old ≤ i → length now ≤ i → ((k : ℕ) → k < i → R (get_or old k None) (get_or now k None)) → (k : ℕ) → (k < i) ⊎ (i ≤ k) → R (get_or old k None) (get_or now k None)
 related_by R old now i none long long' before k (inl lt) = before k lt
 related_by R old now i none long long' before k (inr le) =
-    subst (λ (v : Option Part). R (get_or old k None) v) (sym (get_or_past now k None (omega arith))) (subst (λ (v : Option Part). R v None) (sym (get_or_past old k None (omega arith))) none)
+    subst (λ (v : Option StackPart). R (get_or old k None) v) (sym (get_or_past now k None (omega arith))) (subst (λ (v : Option StackPart). R v None) (sym (get_or_past old k None (omega arith))) none)
 
 -- all parts are related
-pub related_all : (R : Option Part → Option Part → Type 0) (old now : List (Option Part)) (i : ℕ) → R None None → length old ≤ i → length now ≤ i → ((k : ℕ) → k < i → R (get_or old k None) (get_or now k None)) → (k : ℕ) → R (get_or old k None) (get_or now k None)
+pub related_all : (R : Option StackPart → Option StackPart → Type 0) (old now : List (Option StackPart)) (i : ℕ) → R None None → length old ≤ i → length now ≤ i → ((k : ℕ) → k < i → R (get_or old k None) (get_or now k None)) → (k : ℕ) → R (get_or old k None) (get_or now k None)
 related_all R old now i none long long' before k = related_by R old now i none long long' before k (cases_lt k i)
 
 -- an element that was read
-pub part_read : (now : List (Option Part)) (i : ℕ) (a : Option Part) → i < length now → a ≡ get_or now i a → get_or now i None ≡ a
+pub part_read : (now : List (Option StackPart)) (i : ℕ) (a : Option StackPart) → i < length now → a ≡ get_or now i a → get_or now i None ≡ a
 part_read now i a lt is = sym (get_or_read now i a lt is None)
 
 -- where nothing is known of a part, nothing need be known of it
@@ -76,17 +76,17 @@ pub outlives_none : (from to : ℕ) → Outlives from to None None
 outlives_none from to = record { has = λ stack at bytes low high h. h }
 
 -- a number that is read is one of those
-pub read_numbers : (kind : Kind) (at numbers : Range) (size : Size) (f : Setting) (s : State) (address : ℕ) (bytes : List ℕ) (parts : List (Option Part)) (r : Reads f s address bytes) → ((x : ℕ) → kind ≢ Stack → x < 256 ^ byte_count size → Within numbers x) → ((stack : ℕ → Option ℕ) (o : ℕ) (own : List ℕ) → kind ≡ Stack → HaveParts stack parts → Within at o → HasBytes stack o (byte_count size) own → number_of own < 256 ^ byte_count size → Within numbers (number_of own)) → HaveParts s.stack parts → length bytes ≡ byte_count size → number_of bytes < 256 ^ byte_count size → IsOfKind kind r.region → Within at r.offset → Within numbers (number_of bytes)
+pub read_numbers : (kind : ValueKind) (at numbers : Range) (size : Size) (f : Setting) (s : State) (address : ℕ) (bytes : List ℕ) (parts : List (Option StackPart)) (r : Reads f s address bytes) → ((x : ℕ) → kind ≢ Stack → x < 256 ^ byte_count size → Within numbers x) → ((stack : ℕ → Option ℕ) (o : ℕ) (own : List ℕ) → kind ≡ Stack → HaveParts stack parts → Within at o → HasBytes stack o (byte_count size) own → number_of own < 256 ^ byte_count size → Within numbers (number_of own)) → HaveParts s.stack parts → length bytes ≡ byte_count size → number_of bytes < 256 ^ byte_count size → IsOfKind kind r.region → Within at r.offset → Within numbers (number_of bytes)
 read_numbers Stack at numbers size f s address bytes parts r any on have long small is within =
     on s.stack r.offset bytes refl have within (long, λ i lt. subst (λ (region : Region). byte_at f s region (r.offset + i) ≡ Some (slice_index bytes i)) is (r.set i (rw long lt))) small
 read_numbers kind at numbers size f s address bytes parts r any on have long small is within = any (number_of bytes) (λ e. let no : ⊥ = cc in no) small
 
 -- an abstract state with other parts, which are right
-pub contains_parts : (f : Setting) (v : AbstractState) (t : State) (parts : List (Option Part)) → HaveParts t.stack parts → Contains f v t → Contains f (record v { parts = parts }) t
+pub contains_parts : (f : Setting) (v : AbstractState) (t : State) (parts : List (Option StackPart)) → HaveParts t.stack parts → Contains f v t → Contains f (record v { parts = parts }) t
 contains_parts f v t parts have contains = record { registers = contains.registers; set = contains.set; kept = contains.kept; parts = have; maps = contains.maps; copies = contains.copies }
 
 -- an element that is there is read the same whatever stands for one that is not
-pub part_known : (parts : List (Option Part)) (i : ℕ) (other : Option Part) (p : Part) → i < length parts → get_or parts i other ≡ Some p → get_or parts i None ≡ Some p
+pub part_known : (parts : List (Option StackPart)) (i : ℕ) (other : Option StackPart) (p : StackPart) → i < length parts → get_or parts i other ≡ Some p → get_or parts i None ≡ Some p
 part_known [] i other p there is = absurd (omega arith)
 part_known (x ∷ xs) zero other p there is = is
 part_known (x ∷ xs) (suc i) other p there is = part_known xs i other p (omega arith) is

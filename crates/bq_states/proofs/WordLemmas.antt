@@ -3,8 +3,8 @@ use Rattle.std.proofs.Common.{◌≡◌, ℕ, ◌^◌, ◌<◌, List, refl, arit
 use Rattle.bq_bpf.specs.declared.shape.MapShape.{MapShape}
 use Rattle.bq_ranges.specs.Within.{Within}
 use Rattle.bq_ranges.specs.declared.range.Range.{Range}
-use Rattle.bq_states.specs.declared.abstract_state.Kind.{Kind}
-use Rattle.bq_states.specs.declared.abstract_state.Kind.TheVariants.{Number}
+use Rattle.bq_states.specs.declared.abstract_state.ValueKind.{ValueKind}
+use Rattle.bq_states.specs.declared.abstract_state.ValueKind.TheVariants.{Number}
 use Rattle.bq_states.specs.declared.abstract_state.AbstractValue.{AbstractValue}
 use Rattle.bq_states.specs.AbstractStates.{Describes}
 
@@ -23,7 +23,7 @@ describes_number shapes r word w =
     record { base = 0; offset = word; is_base = refl; within = w; word_is = omega (arith, w) }
 
 -- a word that is known to be in a range is known to be in a wider one
-pub describes_wider : (shapes : List MapShape) (kind : Kind) (k : AbstractValue) (r : Range) (word : ℕ) → k.kind ≡ kind → ((x : ℕ) → Within k.offset x → Within r x) → Describes shapes k word → Describes shapes (record { kind = kind; offset = r }) word
+pub describes_wider : (shapes : List MapShape) (kind : ValueKind) (k : AbstractValue) (r : Range) (word : ℕ) → k.kind ≡ kind → ((x : ℕ) → Within k.offset x → Within r x) → Describes shapes k word → Describes shapes (record { kind = kind; offset = r }) word
 describes_wider shapes kind k r word e more d = record { base = d.base; offset = d.offset; is_base = rw e at d.is_base; within = more d.offset d.within; word_is = d.word_is }
 
 -- a word that is described has at most 64 bits

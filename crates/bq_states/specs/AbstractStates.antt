@@ -8,8 +8,8 @@ use Rattle.bq_insn.specs.declared.Source.{Source}
 use Rattle.bq_ranges.specs.Within.{Within}
 use Rattle.bq_states.specs.Copies.{AreCopies}
 use Rattle.bq_states.specs.Parts.{HaveParts}
-use Rattle.bq_states.specs.declared.abstract_state.Kind.{Kind}
-use Rattle.bq_states.specs.declared.abstract_state.Kind.TheVariants.{Number, Context, Stack, Entry, EntryOrNull, Map}
+use Rattle.bq_states.specs.declared.abstract_state.ValueKind.{ValueKind}
+use Rattle.bq_states.specs.declared.abstract_state.ValueKind.TheVariants.{Number, Context, Stack, Entry, EntryOrNull, Map}
 use Rattle.bq_states.specs.declared.abstract_state.AbstractValue.{AbstractValue}
 use Rattle.bq_states.specs.declared.abstract_state.AbstractState.{AbstractState}
 
@@ -21,7 +21,7 @@ pub record IsEntryBase (shapes : List MapShape) (m base : ℕ) : Type 0 where
   pub base_is : base ≡ values_base m + first
 
 -- what a word of the kind may count from
-abbrev pub IsBase : List MapShape → Kind → ℕ → Type 0
+abbrev pub IsBase : List MapShape → ValueKind → ℕ → Type 0
 IsBase shapes Number base = base ≡ 0
 IsBase shapes Context base = base ≡ context_base
 IsBase shapes Stack base = base ≡ stack_base
@@ -79,14 +79,14 @@ Allows None (Some new) = ⊥
 Allows (Some old) (Some new) = (shapes : List MapShape) (word : ℕ) → Describes shapes old word → Describes shapes new word
 
 -- the regions that a pointer of the kind is into
-abbrev pub IsOfKind : Kind → Region → Type 0
+abbrev pub IsOfKind : ValueKind → Region → Type 0
 IsOfKind Context region = region ≡ InContext
 IsOfKind Stack region = region ≡ InStack
 IsOfKind (Entry m) region = (first : ℕ) × (region ≡ InEntry m first)
 IsOfKind _ region = ⊥
 
 -- what a pointer of the kind counts from is the start of a region of that size
-abbrev pub Bounds : List MapShape → ℕ → Kind → ℕ → Type 0
+abbrev pub Bounds : List MapShape → ℕ → ValueKind → ℕ → Type 0
 Bounds shapes context_length kind size =
     (f : Setting) (base : ℕ) → Suits shapes context_length f → IsBase f.shapes kind base → (region : Region) × Spans f region base size × IsOfKind kind region × (base < 2 ^ 63)
 
@@ -98,8 +98,8 @@ pub record Clears (old new : List (Option AbstractValue)) : Type 0 where
 
 -- in every state of the abstract state the register points to so many bytes that may be read
 abbrev pub FindsBytes : List MapShape → ℕ → AbstractState → ℕ → ℕ → Type 0
-FindsBytes shapes context_length view r count =
-    (f : Setting) (s : State) → Suits shapes context_length f → Contains f view s → (word : ℕ) × (bytes : List ℕ) × (s.register r ≡ Some word) × (length bytes ≡ count) × Reads f s word bytes × ((i : ℕ) → slice_index bytes i < 256)
+FindsBytes shapes context_length state r count =
+    (f : Setting) (s : State) → Suits shapes context_length f → Contains f state s → (word : ℕ) × (bytes : List ℕ) × (s.register r ≡ Some word) × (length bytes ≡ count) × Reads f s word bytes × ((i : ℕ) → slice_index bytes i < 256)
 
 -- only bytes from there to there were set anew
 abbrev pub Marks : List Bool → List Bool → ℕ → ℕ → Type 0
@@ -118,7 +118,7 @@ abbrev pub size_of_shape : Option MapShape → Option ℕ
 size_of_shape None = None
 size_of_shape (Some shape) = Some shape.value_size
 
-abbrev pub bound_of : List MapShape → ℕ → Kind → Option ℕ
+abbrev pub bound_of : List MapShape → ℕ → ValueKind → Option ℕ
 bound_of shapes context Context = Some context
 bound_of shapes context Stack = Some stack_size
 bound_of shapes context (Entry m) = size_of_shape (slice_get shapes m)

@@ -2,8 +2,8 @@
 use Rattle.std.specs.Prelude.{true, false, ◌≡◌, ◌≢◌, ℕ, ◌<◌, ◌≤◌, Option, Some, None, slice_index_or}
 use Rattle.bq_insn.specs.declared.Source.TheVariants.{Imm, Reg}
 use Rattle.bq_insn.specs.declared.Source.{Source}
-use Rattle.bq_states.specs.declared.abstract_state.Kind.TheVariants.{Number}
-use Rattle.bq_states.specs.declared.abstract_state.Kind.{Kind}
+use Rattle.bq_states.specs.declared.abstract_state.ValueKind.TheVariants.{Number}
+use Rattle.bq_states.specs.declared.abstract_state.ValueKind.{ValueKind}
 use Rattle.bq_states.specs.declared.abstract_state.AbstractValue.{AbstractValue}
 use Rattle.bq_states.specs.declared.abstract_state.AbstractState.{AbstractState}
 
@@ -11,7 +11,7 @@ use Rattle.bq_states.specs.declared.abstract_state.AbstractState.{AbstractState}
 pub data Certainty : Type 0 where
   Scalar : Certainty
   Exact : ℕ → Certainty
-  Pointer : Kind → ℕ → Certainty
+  Pointer : ValueKind → ℕ → Certainty
   NoPointer : Certainty
 
 abbrev pub Stands : Certainty → Option AbstractValue → Type 0
@@ -25,7 +25,7 @@ Stands (Pointer kind o) (Some k) = (k.kind ≡ kind) × (kind ≢ Number) × (k.
 Stands NoPointer (Some k) = k.kind ≡ Number
 
 abbrev pub StandsAt : Certainty → AbstractState → ℕ → Type 0
-StandsAt s view r = Stands s (slice_index_or view.registers r None)
+StandsAt s state r = Stands s (slice_index_or state.registers r None)
 
 -- of a register, of a byte of the stack that it is set, of a slot of eight bytes that no pointer is kept there; and what is true of no abstract state
 pub data Fact : Type 0 where
@@ -35,10 +35,10 @@ pub data Fact : Type 0 where
   IsPlainAt : ℕ → Fact
 
 abbrev pub Has : Fact → AbstractState → Type 0
-Has Never view = ⊥
-Has (AtRegister s r) view = Stands s (slice_index_or view.registers r None)
-Has (IsSetAt i) view = slice_index_or view.set i false ≡ true
-Has (IsPlainAt j) view = Stands NoPointer (slice_index_or view.kept j None)
+Has Never state = ⊥
+Has (AtRegister s r) state = Stands s (slice_index_or state.registers r None)
+Has (IsSetAt i) state = slice_index_or state.set i false ≡ true
+Has (IsPlainAt j) state = Stands NoPointer (slice_index_or state.kept j None)
 
 -- the fact stays true where a number in the register is known anew as a number
 abbrev pub Outlasts : Fact → ℕ → Type 0
@@ -46,8 +46,8 @@ Outlasts (AtRegister (Exact n) r) dst = r ≢ dst
 Outlasts x dst = Unit {0}
 
 abbrev pub IsScalarOperand : AbstractState → Source → Type 0
-IsScalarOperand view (Imm i) = Unit {0}
-IsScalarOperand view (Reg r) = StandsAt Scalar view r
+IsScalarOperand state (Imm i) = Unit {0}
+IsScalarOperand state (Reg r) = StandsAt Scalar state r
 
 -- a number, and that one
 abbrev pub IsWord : ℕ → Option AbstractValue → Type 0

@@ -8,11 +8,11 @@ use Rattle.bq_states.specs.declared.abstract_state.AbstractValue.{AbstractValue}
 use Rattle.bq_states.specs.declared.abstract_state.AbstractState.{AbstractState}
 use Rattle.bq_states.specs.Certainty.{Certainty, Pointer, Fact, AtRegister, Has}
 use Rattle.bq_states.specs.AbstractStates.{Describes}
-use Rattle.bq_states.specs.declared.abstract_state.Kind.TheVariants.{EntryOrNull}
-use Rattle.bq_states.specs.declared.abstract_state.Kind.{Kind}
+use Rattle.bq_states.specs.declared.abstract_state.ValueKind.TheVariants.{EntryOrNull}
+use Rattle.bq_states.specs.declared.abstract_state.ValueKind.{ValueKind}
 
 -- a pointer of the kind is not told apart by a test
-abbrev pub IsCertain : Kind → Type 0
+abbrev pub IsCertain : ValueKind → Type 0
 IsCertain (EntryOrNull m) = ⊥
 IsCertain kind = Unit {0}
 
@@ -27,7 +27,7 @@ IsLasting x = Unit {0}
 
 -- the fact is true of the abstract state with that word in the register
 abbrev pub HasLearnt : Fact → AbstractState → ℕ → AbstractValue → Type 0
-HasLearnt x view dst word = Has x (record view { registers = slice_set view.registers dst (Some word) })
+HasLearnt x state dst word = Has x (record state { registers = slice_set state.registers dst (Some word) })
 
 -- what is known of a word that is also as told
 abbrev pub IsSharper : AbstractValue → Option AbstractValue → Option AbstractValue → Type 0

@@ -5,7 +5,7 @@ use bq_ranges::Range;
 
 /// What a word counts from.
 #[derive(Clone, Copy, PartialEq, Eq)]
-pub enum Kind {
+pub enum ValueKind {
     /// Nothing: the word is a number.
     Number,
     /// The start of the context.
@@ -23,14 +23,14 @@ pub enum Kind {
 /// A word: so far above what it counts from.
 #[derive(Clone, Copy)]
 pub struct AbstractValue {
-    pub kind: Kind,
+    pub kind: ValueKind,
     /// How far above; of a pointer in bytes.
     pub offset: Range,
 }
 
 /// Some bytes of the stack: the number that is stored in them, its low byte first, is of the range.
 #[derive(Clone, Copy)]
-pub struct Part {
+pub struct StackPart {
     /// Where the first of them is, in bytes above the stack's lowest one.
     pub first: u16,
     /// How many they are.
@@ -48,7 +48,7 @@ pub struct AbstractState {
     /// The word that was stored whole in each slot of eight bytes of the stack, where one is known.
     pub kept: [Option<AbstractValue>; 64],
     /// Numbers that were stored in a few bytes, the last one for each remainder of the word's place by 16 bytes.
-    pub parts: [Option<Part>; 4],
+    pub parts: [Option<StackPart>; 4],
     /// Of which class each place is: the registers, and then these slots. Places of one class other than 0 hold the same
     /// word.
     pub classes: [u8; 75],

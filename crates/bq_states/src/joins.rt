@@ -5,7 +5,7 @@ ghost use Rattle.bq_bpf.specs.Memory.{Setting, State};
 ghost use Rattle.bq_states.specs.Certainty.{Fact, Has, Certainty, Stands};
 ghost use Rattle.bq_states.specs.AbstractStates.{Allows, Contains};
 
-use crate::abstract_state::{AbstractState, AbstractValue, Kind};
+use crate::abstract_state::{AbstractState, AbstractValue, ValueKind};
 use crate::copies::keep_same;
 use crate::parts::join_parts;
 
@@ -35,12 +35,12 @@ fn join_answers(a: AbstractValue, b: AbstractValue) -> Option<AbstractValue>
     ensures stands { (s : Certainty) → Stands s (Some a) → Stands s (Some b) → Stands s result }
 {
     let map = match (a.kind, b.kind) {
-        (Kind::Entry(map), Kind::EntryOrNull(other)) if map == other => map,
-        (Kind::EntryOrNull(map), Kind::Entry(other)) if map == other => map,
+        (ValueKind::Entry(map), ValueKind::EntryOrNull(other)) if map == other => map,
+        (ValueKind::EntryOrNull(map), ValueKind::Entry(other)) if map == other => map,
         _ => return None,
     };
     Some(AbstractValue {
-        kind: Kind::EntryOrNull(map),
+        kind: ValueKind::EntryOrNull(map),
         offset: b.offset.hull(a.offset),
     })
 }

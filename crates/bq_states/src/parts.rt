@@ -7,22 +7,22 @@ ghost use Rattle.bq_bpf.specs.Memory.{number_of};
 ghost use Rattle.bq_ranges.specs.Within.{Within};
 ghost use Rattle.bq_states.specs.Parts.{AllowsPart, HasBytes, HaveParts, Outlives};
 
-use crate::abstract_state::Part;
+use crate::abstract_state::StackPart;
 use bq_bpf::addresses::STACK_SIZE;
 use bq_insn::Size;
 use bq_ranges::Range;
 
 /// A number of the range was stored there: its low bytes are known.
-fn keep_part(parts: &mut [Option<Part>], first: u16, size: Size, word: Range)
+fn keep_part(parts: &mut [Option<StackPart>], first: u16, size: Size, word: Range)
     requires { length parts.old ≡ 4 }
     ensures { (stack : ℕ → Option ℕ) (v : ℕ) → Within word v → HasBytes stack first (byte_count size) (low_bytes size v) → HaveParts stack parts.old → HaveParts stack parts.new }
 {
     let range = low_of(size, word);
-    parts[place_of(first)] = Some(Part { first, size, range });
+    parts[place_of(first)] = Some(StackPart { first, size, range });
 }
 
 /// A number of the range was stored at an offset of the range: its low bytes are known if it is one place.
-pub fn store_part(parts: &mut [Option<Part>], at: Range, size: Size, word: Range)
+pub fn store_part(parts: &mut [Option<StackPart>], at: Range, size: Size, word: Range)
     requires room { length parts.old ≡ 4 }
     requires small { at.hi < 2 ^ 16 }
     ensures { (stack : ℕ → Option ℕ) (o v : ℕ) → Within at o → Within word v → HasBytes stack o (byte_count size) (low_bytes size v) → HaveParts stack parts.old → HaveParts stack parts.new }
@@ -33,7 +33,7 @@ pub fn store_part(parts: &mut [Option<Part>], at: Range, size: Size, word: Range
 }
 
 /// The numbers that a read of so many bytes at an offset of the range gives.
-pub fn numbers_at(parts: &[Option<Part>], at: Range, size: Size) -> Range
+pub fn numbers_at(parts: &[Option<StackPart>], at: Range, size: Size) -> Range
     requires { length parts.now ≡ 4 }
     ensures { (stack : ℕ → Option ℕ) (o : ℕ) (bytes : List ℕ) → HaveParts stack parts.now → Within at o → HasBytes stack o (byte_count size) bytes → number_of bytes < 256 ^ byte_count size → Within result (number_of bytes) }
 {
@@ -51,7 +51,7 @@ pub fn numbers_at(parts: &[Option<Part>], at: Range, size: Size) -> Range
 }
 
 /// Parts of which a byte is among these are forgotten.
-pub fn forget_parts(parts: &mut [Option<Part>], from: usize, to: usize)
+pub fn forget_parts(parts: &mut [Option<StackPart>], from: usize, to: usize)
     ensures { (j : ℕ) → Outlives from to (slice_index_or parts.old j None) (slice_index_or parts.new j None) }
 {
     for j in 0..parts.len() {
@@ -60,7 +60,7 @@ pub fn forget_parts(parts: &mut [Option<Part>], from: usize, to: usize)
 }
 
 /// The part, if none of these bytes is one of its own.
-fn apart(part: Option<Part>, from: usize, to: usize) -> Option<Part>
+fn apart(part: Option<StackPart>, from: usize, to: usize) -> Option<StackPart>
     ensures { Outlives from to part result }
 {
     let Some(part) = part else {
@@ -74,7 +74,7 @@ fn apart(part: Option<Part>, from: usize, to: usize) -> Option<Part>
 }
 
 /// Each part as both ways know it.
-pub fn join_parts(into: &mut [Option<Part>], other: &[Option<Part>])
+pub fn join_parts(into: &mut [Option<StackPart>], other: &[Option<StackPart>])
     requires { length into.old ≡ length other.now }
     ensures left { (k : ℕ) → AllowsPart (slice_index_or into.old k None) (slice_index_or into.new k None) }
     ensures right { (k : ℕ) → AllowsPart (slice_index_or other.now k None) (slice_index_or into.new k None) }
@@ -85,7 +85,7 @@ pub fn join_parts(into: &mut [Option<Part>], other: &[Option<Part>])
 }
 
 /// What both say of the same bytes.
-fn join_part(a: Option<Part>, b: Option<Part>) -> Option<Part>
+fn join_part(a: Option<StackPart>, b: Option<StackPart>) -> Option<StackPart>
     ensures left { AllowsPart a result }
     ensures right { AllowsPart b result }
 {
@@ -95,7 +95,7 @@ fn join_part(a: Option<Part>, b: Option<Part>) -> Option<Part>
     if a.first != b.first || a.size != b.size {
         return None;
     }
-    Some(Part {
+    Some(StackPart {
         first: a.first,
         size: a.size,
         range: a.range.hull(b.range),

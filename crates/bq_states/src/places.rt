@@ -6,7 +6,7 @@ ghost use Rattle.bq_ranges.specs.Within.{Within};
 ghost use Rattle.bq_states.specs.Certainty.{Pointer, StandsAt};
 ghost use Rattle.bq_states.specs.AbstractStates.{bound_of, Bounds, FindsBytes};
 
-use crate::abstract_state::{AbstractState, Kind};
+use crate::abstract_state::{AbstractState, ValueKind};
 use crate::registers::known;
 use bq_bpf::MapShape;
 use bq_bpf::addresses::STACK_SIZE;
@@ -14,15 +14,15 @@ use bq_insn::Size;
 use bq_ranges::Range;
 
 /// How many bytes there are where a pointer of the kind points to, if it may be followed.
-pub fn bound(kind: Kind, shapes: &[MapShape], context: usize) -> Option<usize>
+pub fn bound(kind: ValueKind, shapes: &[MapShape], context: usize) -> Option<usize>
     ensures bounds { IfSome result (Bounds shapes.now context kind) }
     ensures is { result ≡ bound_of shapes.now context kind }
     ensures small { context < 2 ^ 16 → IfSome result (λ bytes. bytes ≤ 65536) }
 {
     match kind {
-        Kind::Context => Some(context),
-        Kind::Stack => Some(STACK_SIZE as usize),
-        Kind::Entry(map) => {
+        ValueKind::Context => Some(context),
+        ValueKind::Stack => Some(STACK_SIZE as usize),
+        ValueKind::Entry(map) => {
             let Some(shape) = shape_of(shapes, map) else {
                 return None;
             };
@@ -57,28 +57,28 @@ pub fn stays(at: Range, size: Size, bound: usize) -> bool
 }
 
 /// Whether the bytes of an access at each offset of the range are set, where they are on the stack.
-pub fn is_readable(view: &AbstractState, kind: Kind, at: Range, size: Size) -> bool
-    ensures stack { IsTrue result → kind ≡ Kind.Stack → (o i : ℕ) → Within at o → i < byte_count size → slice_index_or view.now.set (o + i) false ≡ true }
-    ensures found { (kind ≡ Kind.Stack → at.hi + byte_count size ≤ STACK_SIZE) → (kind ≡ Kind.Stack → (i : ℕ) → at.lo ≤ i → i < at.hi + byte_count size → slice_index_or view.now.set i false ≡ true) → IsTrue result }
+pub fn is_readable(state: &AbstractState, kind: ValueKind, at: Range, size: Size) -> bool
+    ensures stack { IsTrue result → kind ≡ ValueKind.Stack → (o i : ℕ) → Within at o → i < byte_count size → slice_index_or state.now.set (o + i) false ≡ true }
+    ensures found { (kind ≡ ValueKind.Stack → at.hi + byte_count size ≤ STACK_SIZE) → (kind ≡ ValueKind.Stack → (i : ℕ) → at.lo ≤ i → i < at.hi + byte_count size → slice_index_or state.now.set i false ≡ true) → IsTrue result }
 {
     match kind {
-        Kind::Stack => {
+        ValueKind::Stack => {
             if !stays(at, size, STACK_SIZE as usize) {
                 return false;
             }
-            is_set(view, at, size)
+            is_set(state, at, size)
         }
         _ => true,
     }
 }
 
 /// Whether all stack bytes of an access at each offset of the range are set.
-fn is_set(view: &AbstractState, at: Range, size: Size) -> bool
+fn is_set(state: &AbstractState, at: Range, size: Size) -> bool
     requires { at.hi + byte_count size ≤ STACK_SIZE }
-    ensures all { IsTrue result → (o i : ℕ) → Within at o → i < byte_count size → slice_index_or view.now.set (o + i) false ≡ true }
-    ensures found { ((i : ℕ) → at.lo ≤ i → i < at.hi + byte_count size → slice_index_or view.now.set i false ≡ true) → IsTrue result }
+    ensures all { IsTrue result → (o i : ℕ) → Within at o → i < byte_count size → slice_index_or state.now.set (o + i) false ≡ true }
+    ensures found { ((i : ℕ) → at.lo ≤ i → i < at.hi + byte_count size → slice_index_or state.now.set i false ≡ true) → IsTrue result }
 {
-    all_set(&view.set, at.lo as usize, at.hi as usize + size.bytes())
+    all_set(&state.set, at.lo as usize, at.hi as usize + size.bytes())
 }
 
 /// Whether all of these bytes are set.
@@ -97,17 +97,17 @@ fn all_set(set: &[bool], from: usize, to: usize) -> bool
 
 /// Whether a register points to so many bytes that may be read.
 pub fn reads(
-    view: &AbstractState,
+    state: &AbstractState,
     shapes: &[MapShape],
     context: usize,
     register: u8,
     size: Size,
 ) -> bool
     requires { context < 2 ^ 16 }
-    ensures finds { IsTrue result → FindsBytes shapes.now context view.now register (byte_count size) }
-    ensures accepts { (place : ℕ) → StandsAt (Pointer Kind.Stack place) view.now register → place + byte_count size ≤ STACK_SIZE → ((i : ℕ) → place ≤ i → i < place + byte_count size → slice_index_or view.now.set i false ≡ true) → IsTrue result }
+    ensures finds { IsTrue result → FindsBytes shapes.now context state.now register (byte_count size) }
+    ensures accepts { (place : ℕ) → StandsAt (Pointer ValueKind.Stack place) state.now register → place + byte_count size ≤ STACK_SIZE → ((i : ℕ) → place ≤ i → i < place + byte_count size → slice_index_or state.now.set i false ≡ true) → IsTrue result }
 {
-    let Some(base) = known(view, register) else {
+    let Some(base) = known(state, register) else {
         return false;
     };
     let Some(bound) = bound(base.kind, shapes, context) else {
@@ -119,12 +119,12 @@ pub fn reads(
     if !stays(base.offset, size, bound) {
         return false;
     }
-    is_readable(view, base.kind, base.offset, size)
+    is_readable(state, base.kind, base.offset, size)
 }
 
 /// Whether a register points to so many bytes that may be read.
 pub fn reads_value(
-    view: &AbstractState,
+    state: &AbstractState,
     shapes: &[MapShape],
     context: usize,
     register: u8,
@@ -132,10 +132,10 @@ pub fn reads_value(
 ) -> bool
     requires context { context < 2 ^ 16 }
     requires count { count ≤ 256 }
-    ensures finds { IsTrue result → FindsBytes shapes.now context view.now register count }
-    ensures accepts { (place : ℕ) → StandsAt (Pointer Kind.Stack place) view.now register → place + count ≤ STACK_SIZE → ((i : ℕ) → place ≤ i → i < place + count → slice_index_or view.now.set i false ≡ true) → IsTrue result }
+    ensures finds { IsTrue result → FindsBytes shapes.now context state.now register count }
+    ensures accepts { (place : ℕ) → StandsAt (Pointer ValueKind.Stack place) state.now register → place + count ≤ STACK_SIZE → ((i : ℕ) → place ≤ i → i < place + count → slice_index_or state.now.set i false ≡ true) → IsTrue result }
 {
-    let Some(base) = known(view, register) else {
+    let Some(base) = known(state, register) else {
         return false;
     };
     let Some(bound) = bound(base.kind, shapes, context) else {
@@ -145,19 +145,19 @@ pub fn reads_value(
         return false;
     }
     match base.kind {
-        Kind::Stack => stack_is_set(view, base.offset, count),
+        ValueKind::Stack => stack_is_set(state, base.offset, count),
         _ => true,
     }
 }
 
 /// Whether so many stack bytes from each offset of the range on are set.
-fn stack_is_set(view: &AbstractState, at: Range, count: usize) -> bool
+fn stack_is_set(state: &AbstractState, at: Range, count: usize) -> bool
     requires { count ≤ 256 }
-    ensures all { IsTrue result → (o i : ℕ) → Within at o → i < count → slice_index_or view.now.set (o + i) false ≡ true }
-    ensures found { at.hi + count ≤ STACK_SIZE → ((i : ℕ) → at.lo ≤ i → i < at.hi + count → slice_index_or view.now.set i false ≡ true) → IsTrue result }
+    ensures all { IsTrue result → (o i : ℕ) → Within at o → i < count → slice_index_or state.now.set (o + i) false ≡ true }
+    ensures found { at.hi + count ≤ STACK_SIZE → ((i : ℕ) → at.lo ≤ i → i < at.hi + count → slice_index_or state.now.set i false ≡ true) → IsTrue result }
 {
     if at.hi > STACK_SIZE - count as u64 {
         return false;
     }
-    all_set(&view.set, at.lo as usize, at.hi as usize + count)
+    all_set(&state.set, at.lo as usize, at.hi as usize + count)
 }

@@ -5,48 +5,48 @@ ghost use Rattle.bq_bpf.specs.Meaning.{word_of};
 ghost use Rattle.bq_states.specs.Certainty.{IsScalarOperand, IsWord, Scalar, Stands};
 ghost use Rattle.bq_states.specs.AbstractStates.{Clears, Finds, knowing};
 
-use crate::abstract_state::{AbstractState, AbstractValue, Kind};
+use crate::abstract_state::{AbstractState, AbstractValue, ValueKind};
 use bq_insn::Source;
 use bq_ranges::Range;
 
 /// What is known of an operand, if it is set.
-pub fn operand(view: &AbstractState, src: Source) -> Option<AbstractValue>
-    ensures finds { IfSome result (Finds view.now src) }
-    ensures scalar { IsScalarOperand view.now src → Stands Scalar result }
+pub fn operand(state: &AbstractState, src: Source) -> Option<AbstractValue>
+    ensures finds { IfSome result (Finds state.now src) }
+    ensures scalar { IsScalarOperand state.now src → Stands Scalar result }
     ensures immediate { (i : ℤ) → src ≡ Source.Imm i → IsWord (word_of i) result }
-    ensures register { (r : ℕ) → src ≡ Source.Reg r → result ≡ slice_index_or view.now.registers r None }
+    ensures register { (r : ℕ) → src ≡ Source.Reg r → result ≡ slice_index_or state.now.registers r None }
 {
     match src {
         Source::Imm(imm) => {
             let word = i64::from(imm).cast_unsigned();
             Some(AbstractValue {
-                kind: Kind::Number,
+                kind: ValueKind::Number,
                 offset: Range::single(word),
             })
         }
-        Source::Reg(register) => known(view, register),
+        Source::Reg(register) => known(state, register),
     }
 }
 
 /// What is known of a register, if it is set.
-pub fn known(view: &AbstractState, register: u8) -> Option<AbstractValue>
-    ensures { result ≡ slice_index_or view.now.registers register None }
+pub fn known(state: &AbstractState, register: u8) -> Option<AbstractValue>
+    ensures { result ≡ slice_index_or state.now.registers register None }
 {
     if register < 11 {
-        view.registers[usize::from(register)]
+        state.registers[usize::from(register)]
     } else {
         None
     }
 }
 
 /// Writes what is known of a register.
-pub fn learn(view: &mut AbstractState, register: u8, word: AbstractValue)
+pub fn learn(state: &mut AbstractState, register: u8, word: AbstractValue)
     requires { register < 11 }
-    ensures is { view.new ≡ knowing view.old register word }
-    ensures long { length view.old.registers ≡ 11 }
+    ensures is { state.new ≡ knowing state.old register word }
+    ensures long { length state.old.registers ≡ 11 }
 {
-    view.registers[usize::from(register)] = Some(word);
-    view.classes[usize::from(register)] = 0;
+    state.registers[usize::from(register)] = Some(word);
+    state.classes[usize::from(register)] = 0;
 }
 
 /// Registers 1 to 5 are forgotten, as after a call.

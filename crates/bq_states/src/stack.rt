@@ -15,29 +15,29 @@ use bq_insn::Size;
 use bq_ranges::Range;
 
 /// Bytes are written somewhere in the range: what was kept there is forgotten, and they are set if it is one place.
-pub fn overwrite(view: &mut AbstractState, at: Range, size: Size)
+pub fn overwrite(state: &mut AbstractState, at: Range, size: Size)
     requires { at.hi + byte_count size ≤ stack_size }
-    ensures long { length view.new.kept ≡ 64 }
-    ensures stored { at.lo ≡ at.hi → IsStoredAt view.old view.new at.lo (at.hi + byte_count size) }
-    ensures contains { (f : Setting) (s : State) (o : ℕ) (bytes : List ℕ) → Contains f view.old s → Within at o → length bytes ≡ byte_count size → ((k : ℕ) → k < length bytes → slice_index bytes k < 256) → Contains f view.new (next (written s InStack o bytes)) }
+    ensures long { length state.new.kept ≡ 64 }
+    ensures stored { at.lo ≡ at.hi → IsStoredAt state.old state.new at.lo (at.hi + byte_count size) }
+    ensures contains { (f : Setting) (s : State) (o : ℕ) (bytes : List ℕ) → Contains f state.old s → Within at o → length bytes ≡ byte_count size → ((k : ℕ) → k < length bytes → slice_index bytes k < 256) → Contains f state.new (next (written s InStack o bytes)) }
 {
     let from = at.lo as usize;
     let to = at.hi as usize + size.bytes();
-    forget(&mut view.kept, from, to);
-    forget_parts(&mut view.parts, from, to);
-    part_slots(&mut view.classes, from, to);
+    forget(&mut state.kept, from, to);
+    forget_parts(&mut state.parts, from, to);
+    part_slots(&mut state.classes, from, to);
     if !at.is_single() {
         return;
     }
-    mark(&mut view.set, from, to);
+    mark(&mut state.set, from, to);
 }
 
 /// A word is kept in a slot of eight bytes.
-pub fn keep(view: &mut AbstractState, slot: usize, word: AbstractValue)
+pub fn keep(state: &mut AbstractState, slot: usize, word: AbstractValue)
     requires { slot < 64 }
-    ensures { view.new ≡ keeping view.old slot word }
+    ensures { state.new ≡ keeping state.old slot word }
 {
-    view.kept[slot] = Some(word);
+    state.kept[slot] = Some(word);
 }
 
 /// These bytes are set.

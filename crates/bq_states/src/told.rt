@@ -6,55 +6,55 @@ ghost use Rattle.bq_states.specs.Certainty.{Fact, Has, Certainty, Stands};
 ghost use Rattle.bq_states.specs.Told.{HasLearnt, IsLasting, IsLastingWord, IsSharper, IsTold};
 ghost use Rattle.bq_states.specs.AbstractStates.{Contains, Describes};
 
-use crate::abstract_state::{AbstractState, AbstractValue, Kind};
+use crate::abstract_state::{AbstractState, AbstractValue, ValueKind};
 use bq_insn::Source;
 
 /// Both operands of a branch, of which the right one may be a register, are as told.
 pub fn tell(
-    view: &mut AbstractState,
+    state: &mut AbstractState,
     dst: u8,
     src: Source,
     left: AbstractValue,
     right: AbstractValue,
 )
     requires { dst < 11 }
-    ensures contains { (f : Setting) (s : State) → Contains f view.old s → IsTold f s dst src left right → Contains f view.new s }
-    ensures has { (x : Fact) → IsLasting x → HasLearnt x view.old dst left → Has x view.new }
+    ensures contains { (f : Setting) (s : State) → Contains f state.old s → IsTold f s dst src left right → Contains f state.new s }
+    ensures has { (x : Fact) → IsLasting x → HasLearnt x state.old dst left → Has x state.new }
 {
-    tell_right(view, src, right);
-    sharpen(view, dst, left);
-    view.registers[usize::from(dst)] = Some(left);
+    tell_right(state, src, right);
+    sharpen(state, dst, left);
+    state.registers[usize::from(dst)] = Some(left);
 }
 
 /// The right operand is as told.
-fn tell_right(view: &mut AbstractState, src: Source, told: AbstractValue)
-    ensures contains { (f : Setting) (s : State) → Contains f view.old s → ((r : ℕ) → src ≡ Source.Reg r → (n : ℕ) × (s.register r ≡ Some n) × Describes f.shapes told n) → Contains f view.new s }
-    ensures has { (x : Fact) → IsLasting x → Has x view.old → Has x view.new }
+fn tell_right(state: &mut AbstractState, src: Source, told: AbstractValue)
+    ensures contains { (f : Setting) (s : State) → Contains f state.old s → ((r : ℕ) → src ≡ Source.Reg r → (n : ℕ) × (s.register r ≡ Some n) × Describes f.shapes told n) → Contains f state.new s }
+    ensures has { (x : Fact) → IsLasting x → Has x state.old → Has x state.new }
 {
     match src {
         Source::Imm(_) => {}
         Source::Reg(register) => {
             if register < 11 {
-                sharpen(view, register, told);
+                sharpen(state, register, told);
             }
         }
     }
 }
 
 /// The word of a register is as told, and so are its copies.
-fn sharpen(view: &mut AbstractState, register: u8, told: AbstractValue)
+fn sharpen(state: &mut AbstractState, register: u8, told: AbstractValue)
     requires { register < 11 }
-    ensures contains { (f : Setting) (s : State) (n : ℕ) → Contains f view.old s → s.register register ≡ Some n → Describes f.shapes told n → Contains f view.new s }
-    ensures has { (x : Fact) → IsLasting x → Has x view.old → Has x view.new }
+    ensures contains { (f : Setting) (s : State) (n : ℕ) → Contains f state.old s → s.register register ≡ Some n → Describes f.shapes told n → Contains f state.new s }
+    ensures has { (x : Fact) → IsLasting x → Has x state.old → Has x state.new }
 {
     let register = usize::from(register);
-    let class = view.classes[register];
+    let class = state.classes[register];
     if class == 0 {
-        view.registers[register] = sharper(view.registers[register], told);
+        state.registers[register] = sharper(state.registers[register], told);
         return;
     }
-    sharpen_all(&mut view.registers, &view.classes, 0, class, told);
-    sharpen_all(&mut view.kept, &view.classes, 11, class, told);
+    sharpen_all(&mut state.registers, &state.classes, 0, class, told);
+    sharpen_all(&mut state.kept, &state.classes, 11, class, told);
 }
 
 /// Words at places of that class are as told; the first of them is that place.
@@ -101,12 +101,12 @@ fn sharper(known: Option<AbstractValue>, told: AbstractValue) -> Option<Abstract
         return None;
     };
     match (word.kind, told.kind) {
-        (Kind::Number, Kind::Number) => Some(AbstractValue {
-            kind: Kind::Number,
+        (ValueKind::Number, ValueKind::Number) => Some(AbstractValue {
+            kind: ValueKind::Number,
             offset: word.offset.meet(told.offset),
         }),
-        (Kind::EntryOrNull(_), Kind::Entry(_)) => Some(told),
-        (Kind::EntryOrNull(_), Kind::Number) => Some(told),
+        (ValueKind::EntryOrNull(_), ValueKind::Entry(_)) => Some(told),
+        (ValueKind::EntryOrNull(_), ValueKind::Number) => Some(told),
         _ => Some(word),
     }
 }

@@ -7,8 +7,8 @@ use Rattle.bq_program.specs.Files.{Agree, IsOfKind, IsPolicy, IsPolicyFault, eit
 use Rattle.bq_program.specs.declared.fault.PolicyFault.{PolicyFault as FileFault}
 use Rattle.bq_program.specs.declared.fault.PolicyFault.TheVariants.{Disagrees}
 use Rattle.bq_program.specs.declared.head.Head.{Head}
-use Rattle.bq_program.specs.declared.kind.Kind.{Kind}
-use Rattle.bq_program.specs.declared.kind.Kind.TheVariants as kind
+use Rattle.bq_program.specs.declared.kind.FileKind.{FileKind}
+use Rattle.bq_program.specs.declared.kind.FileKind.TheVariants as kind
 use Rattle.bq_program.specs.declared.policy_source.PolicySource.{PolicySource}
 use Rattle.bq_study.specs.Standing.{Standing}
 use Rattle.bq_study.specs.Taking.{Asks, IsNone, IsRead, IsTold, IsToldOf, IsToldOfImage, Takes}
@@ -23,7 +23,7 @@ agrees : (given : Option Hook) (hook named : Hook) → given ≡ Some hook → A
 agrees (Some other) hook named is e = cc
 agrees None hook named is e = cc
 
-of_kind : (k : Kind) (bytes : List ℕ) (asked : Head) (policy : PolicySource) (hook : Hook) → asked.hook ≡ Some hook → IsOfKind k bytes asked policy → policy.hook ≡ hook
+of_kind : (k : FileKind) (bytes : List ℕ) (asked : Head) (policy : PolicySource) (hook : Hook) → asked.hook ≡ Some hook → IsOfKind k bytes asked policy → policy.hook ≡ hook
 of_kind kind.Image bytes asked policy hook is h = agrees asked.hook hook policy.hook is h.agrees.hooks
 of_kind kind.Hex bytes asked policy hook is (image, spells, h) = agrees asked.hook hook policy.hook is h.agrees.hooks
 of_kind kind.Text bytes asked policy hook is h = either_is asked.hook h.said.hook hook policy.hook is h.combined.hook_is

@@ -5,7 +5,7 @@ use Rattle.bq_actions.specs.Soundness.{first_flaw}
 use Rattle.bq_actions.specs.declared.workload.Workload.{Workload}
 use Rattle.bq_simulate.specs.Retelling.{Answers, AreOfImages}
 use Rattle.bq_simulate.specs.Texts.{AreFitting, ByHook, image_at, told_lines}
-use Rattle.bq_simulate.specs.declared.trace_text.TraceText.{TraceText}
+use Rattle.bq_simulate.specs.declared.trace_writer.TraceWriter.{TraceWriter}
 use Rattle.bq_simulate.proofs.FromImagesLemmas.{installs_of_images}
 use Rattle.bq_simulate.proofs.RetellingLemmas.{AreFitting-parts, texts_are_replayed}
 use Rattle.bq_simulate.proofs.TextLemmas.{Takes, writes_all}
@@ -18,7 +18,7 @@ use Rattle.bq_study.specs.Names.{comments_of}
 use Rattle.bq_study.proofs.NameLemmas.{are_comments, lines_named}
 
 -- comments that name the tasks, and then a simulation whose policies are those of the images, are written as a trace
-pub trace_written : (none named whole : TraceText) (w : Workload) (policies : List Accepted) (images : ByHook) → string_bytes none.text ≡ [] → image_at none.images ≡ images → AreOfImages images policies
+pub trace_written : (none named whole : TraceWriter) (w : Workload) (policies : List Accepted) (images : ByHook) → string_bytes none.text ≡ [] → image_at none.images ≡ images → AreOfImages images policies
     → first_flaw w ≡ None → TakesAll Takes none (map skipped (comments_of w)) named → Gets Takes named whole (IsSimulation policies w) → IsTrace w policies images (string_bytes whole.text)
 trace_written none named whole w policies images empty same of sound g h =
     let first = writes_all none named (map skipped (comments_of w)) g in

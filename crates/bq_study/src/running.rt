@@ -10,7 +10,7 @@ use crate::later::Later;
 use crate::names::tell_names;
 use crate::policies::Policies;
 use bq_actions::Workload;
-use bq_simulate::{SimulateFault, TraceText, simulate};
+use bq_simulate::{SimulateFault, TraceWriter, simulate};
 use bq_timeline::Settings;
 use bq_timeline::viewer::Viewer;
 use std::alloc::Global;
@@ -49,7 +49,7 @@ fn as_trace(
     ensures written { IfOk result (IsWritten Trace workload.now policies.now) }
     ensures flaw { IfErr result (TellsNoOther workload.now) }
 {
-    let mut sink = TraceText::new(alloc, policies.images());
+    let mut sink = TraceWriter::new(alloc, policies.images());
     tell_names(alloc, workload, &mut sink)?;
     simulate(alloc, workload, policies.loaded(), &mut sink)?;
     Ok(Written {

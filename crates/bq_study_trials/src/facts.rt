@@ -3,7 +3,7 @@
 use crate::cases;
 use crate::steps::Step;
 use bq_schedule::{
-    Change, Moved, ProcessorFigures, Reading, Schedule, Slice, Start, Stop, TaskFigures, Wake,
+    Change, PulledTask, ProcessorFigures, ClockReading, Schedule, Slice, Start, Stop, TaskFigures, Wake,
 };
 use std::alloc::{AllocError, Global};
 use std::process::Abort;
@@ -13,11 +13,11 @@ use std::process::Abort;
 pub enum Fact {
     /// All that was changed.
     Change(Change),
-    Reading(Reading),
+    Reading(ClockReading),
     Slice(Option<Slice>),
     Run(Option<Slice>),
     Wake(Wake),
-    Pull(Moved),
+    Pull(PulledTask),
     Stop(Stop),
     Start(Start),
     /// How many events were refused.

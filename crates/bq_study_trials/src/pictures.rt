@@ -2,14 +2,14 @@
 
 use crate::cases::holds;
 use crate::steps::shown;
-use bq_forms::{Form, Window};
+use bq_forms::{ScheduleForm, Window};
 use bq_parts::By;
 use bq_pictures::{Perfetto, Svg};
 use std::alloc::{AllocError, Global};
 use std::test::Fail;
 
 /// What a form shows of the three tasks, where a policy is asked in vain at the end.
-fn drawn<F: Form>(alloc: Global, form: F) -> Result<String, AllocError> {
+fn drawn<F: ScheduleForm>(alloc: Global, form: F) -> Result<String, AllocError> {
     shown(alloc, form, By::Discipline, b"# task 3 <server> \"a&b\"")
 }
 

@@ -5,7 +5,7 @@ use crate::facts::{Fact, tells};
 use crate::steps::Step;
 use bq_parts::{By, Hook};
 use bq_schedule::{
-    Change, Decision, Latencies, Left, Moved, PARTS, Reading, Slice, Start, Stop, Wake,
+    Change, Decision, Latencies, Left, PulledTask, PARTS, ClockReading, Slice, Start, Stop, Wake,
 };
 use std::alloc::{AllocError, Global};
 
@@ -81,7 +81,7 @@ const START: Start = Start {
 };
 
 const FIRST: Change = Change {
-    reading: Some(Reading {
+    reading: Some(ClockReading {
         processor: 0,
         from: 0,
         to: 0,
@@ -242,7 +242,7 @@ const MOVED: Start = Start {
     before: None,
 };
 
-const PULLED: Moved = Moved {
+const PULLED: PulledTask = PulledTask {
     task: 2,
     from: 1,
     to: 0,
@@ -314,7 +314,7 @@ fn back_refused_overruled(rt: HostRuntime) -> Result<(), AllocError> {
     )
 }
 
-const CLOCK_BACK: Reading = Reading {
+const CLOCK_BACK: ClockReading = ClockReading {
     processor: 0,
     from: 1400,
     to: 1400,

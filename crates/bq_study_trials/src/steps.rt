@@ -1,7 +1,7 @@
 //! The steps of small traces, each an event and its answer, and what a form shows of one.
 
 use crate::cases::holds;
-use bq_forms::{Form, Names};
+use bq_forms::{ScheduleForm, Names};
 use bq_parts::{By, Event, Refusal, Reply};
 use bq_schedule::{Change, Schedule};
 use std::alloc::{AllocError, Global};
@@ -103,7 +103,7 @@ static THREE_TASKS: [Step; 10] = [
 ];
 
 /// Shows these steps in a form.
-fn takes<F: Form>(
+fn takes<F: ScheduleForm>(
     form: &mut F,
     schedule: &mut Schedule,
     names: &Names,
@@ -119,7 +119,7 @@ fn takes<F: Form>(
 
 /// Shows the three tasks in a form, from its begin to its end. At 8 a policy took four steps, and it was it that chose, or the
 /// discipline.
-fn takes_three<F: Form>(
+fn takes_three<F: ScheduleForm>(
     form: &mut F,
     schedule: &mut Schedule,
     names: &Names,
@@ -141,7 +141,7 @@ fn named(alloc: Global, comment: &[u8]) -> Result<Names, AllocError> {
 }
 
 /// Shows the three tasks in a form, where a comment names one.
-fn tells_three<F: Form>(
+fn tells_three<F: ScheduleForm>(
     alloc: Global,
     form: &mut F,
     text: &mut String,
@@ -154,7 +154,7 @@ fn tells_three<F: Form>(
 }
 
 /// What a form shows of the three tasks, where a comment names one.
-pub fn shown<F: Form>(
+pub fn shown<F: ScheduleForm>(
     alloc: Global,
     mut form: F,
     by: By,
@@ -166,7 +166,7 @@ pub fn shown<F: Form>(
 }
 
 /// Shows these steps on two processors in a form, without its begin and its end.
-fn tells<F: Form>(
+fn tells<F: ScheduleForm>(
     alloc: Global,
     form: &mut F,
     text: &mut String,
@@ -178,7 +178,7 @@ fn tells<F: Form>(
 }
 
 /// What a form shows of these steps on two processors, without its begin and its end.
-pub fn shown_between<F: Form>(
+pub fn shown_between<F: ScheduleForm>(
     alloc: Global,
     mut form: F,
     steps: &[Step],
@@ -189,7 +189,7 @@ pub fn shown_between<F: Form>(
 }
 
 /// A form shows this text of the three tasks, the third of which is named, where a policy chose last.
-pub fn shows<F: Form>(
+pub fn shows<F: ScheduleForm>(
     rt: &impl Abort,
     alloc: Global,
     form: F,

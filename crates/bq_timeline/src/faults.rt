@@ -2,7 +2,7 @@
 
 use bq_lines::Keyword;
 use bq_lines::lines::LONGEST;
-use bq_lines::operands::{OperandKind, operands_of};
+use bq_lines::operands::{LineOperand, operands_of};
 use bq_lines::words::is_allowed_line;
 use bq_words::next_word;
 use std::{fmt, str};
@@ -19,7 +19,7 @@ pub enum Fault<'a> {
     /// The command takes another number of words.
     Count { name: &'a [u8], wanted: usize },
     /// A word is not what stands at its place.
-    Word { word: &'a [u8], kind: OperandKind },
+    Word { word: &'a [u8], kind: LineOperand },
     /// A machine is made already.
     Again,
     /// The trace does not begin with its machine.
@@ -48,7 +48,7 @@ pub fn why_bad(line: Option<&[u8]>, is_open: bool) -> Fault<'_> {
 }
 
 /// What is wrong with the words after a command's name: their number, or the first that does not fit.
-fn word_fault<'a>(name: &'a [u8], operands: &'a [u8], kinds: &[OperandKind]) -> Option<Fault<'a>> {
+fn word_fault<'a>(name: &'a [u8], operands: &'a [u8], kinds: &[LineOperand]) -> Option<Fault<'a>> {
     let wanted = kinds.len();
     let mut rest = operands;
     let mut misfit = None;

@@ -11,9 +11,9 @@ use std::fmt;
 
 /// A task by its id, v and deadline.
 #[derive(Clone, Copy)]
-struct Figures<'a>(&'a Entity);
+struct TaskText<'a>(&'a Entity);
 
-impl fmt::Display for Figures<'_> {
+impl fmt::Display for TaskText<'_> {
     ghost output = { λ t. Some (entity_text t.0.now) };
 
     fn fmt<W: fmt::Write>(&self, f: &mut fmt::Formatter<W>) -> fmt::Result {
@@ -31,7 +31,7 @@ fn write_current<Q: RunQueue>(text: &mut String, cpu: &Cpu<Q>) -> Result<(), All
     match cpu.current() {
         None => text.push_str("none"),
         Some(node) => {
-            let current = Figures(&node.entity);
+            let current = TaskText(&node.entity);
             write!(text, "{current}")
         }
     }
@@ -43,7 +43,7 @@ fn write_queue<Q: RunQueue>(text: &mut String, cpu: &Cpu<Q>) -> Result<(), Alloc
 {
     let mut last: Option<(u64, u16)> = None;
     while let Some(node) = cpu.after(last) {
-        let task = Figures(&node.entity);
+        let task = TaskText(&node.entity);
         write!(text, " {task}")?;
         last = Some((node.entity.v(), node.entity.id()));
     }

@@ -10,7 +10,7 @@ use Rattle.bq_bpf.specs.Steps.{Does, called, entry_address, NamesEntry}
 use Rattle.bq_ranges.specs.declared.range.Range.{Range}
 use Rattle.bq_states.specs.declared.abstract_state.AbstractState.{AbstractState}
 use Rattle.bq_states.specs.declared.abstract_state.AbstractValue.{AbstractValue}
-use Rattle.bq_states.specs.declared.abstract_state.Kind.TheVariants.{EntryOrNull}
+use Rattle.bq_states.specs.declared.abstract_state.ValueKind.TheVariants.{EntryOrNull}
 use Rattle.bq_states.specs.Copies.{PartsFirst}
 use Rattle.bq_states.proofs.CopyLemmas.{copies_called}
 use Rattle.bq_states.specs.AbstractStates.{Describes, Holds, Contains, Clears, FindsBytes}

@@ -13,8 +13,8 @@ use Rattle.bq_bpf.specs.Meaning.{word_of}
 use Rattle.bq_insn.specs.declared.Source.{Source}
 use Rattle.bq_insn.specs.declared.Source.TheVariants.{Imm, Reg}
 use Rattle.bq_graph.specs.Faults.{destination_of}
-use Rattle.bq_states.specs.declared.abstract_state.Kind.{Kind}
-use Rattle.bq_states.specs.declared.abstract_state.Kind.TheVariants.{Number, Stack, Entry, EntryOrNull, Map}
+use Rattle.bq_states.specs.declared.abstract_state.ValueKind.{ValueKind}
+use Rattle.bq_states.specs.declared.abstract_state.ValueKind.TheVariants.{Number, Stack, Entry, EntryOrNull, Map}
 use Rattle.bq_states.specs.declared.abstract_state.AbstractValue.{AbstractValue}
 use Rattle.bq_states.specs.declared.abstract_state.AbstractState.{AbstractState}
 use Rattle.bq_ranges.specs.declared.range.Range.{Range}
@@ -25,16 +25,16 @@ use Rattle.bq_transfer.specs.After.{GivesExact, GivesNumber, LeavesNumber, Gives
 use Rattle.bq_insn.proofs.OptionLemmas.{some_none}
 
 -- no word is a number and a pointer
-pub not_both : (k : Option AbstractValue) (kind : Kind) (o : ℕ) → Stands Scalar k → Stands (Pointer kind o) k → ⊥
+pub not_both : (k : Option AbstractValue) (kind : ValueKind) (o : ℕ) → Stands Scalar k → Stands (Pointer kind o) k → ⊥
 not_both None kind o p q = p
 not_both (Some k) kind o p q = q.1 (sym q.0 ∙ p)
 
 -- a word is one pointer
-pub pointer_is : (k : Option AbstractValue) (kind : Kind) (o : ℕ) (kind' : Kind) (o' : ℕ) → Stands (Pointer kind o) k → Stands (Pointer kind' o') k → (kind ≡ kind') × (o ≡ o')
+pub pointer_is : (k : Option AbstractValue) (kind : ValueKind) (o : ℕ) (kind' : ValueKind) (o' : ℕ) → Stands (Pointer kind o) k → Stands (Pointer kind' o') k → (kind ≡ kind') × (o ≡ o')
 pointer_is None kind o kind' o' p q = absurd p
 pointer_is (Some k) kind o kind' o' p q = (sym p.0 ∙ q.0, sym p.2 ∙ q.2)
 
-same_pointer : (k : Option AbstractValue) (kind : Kind) (o : ℕ) (kind' : Kind) (o' : ℕ) (v : Option AbstractValue) → Stands (Pointer kind o) k → Stands (Pointer kind' o') k → Stands (Pointer kind' o') v → Stands (Pointer kind o) v
+same_pointer : (k : Option AbstractValue) (kind : ValueKind) (o : ℕ) (kind' : ValueKind) (o' : ℕ) (v : Option AbstractValue) → Stands (Pointer kind o) k → Stands (Pointer kind' o') k → Stands (Pointer kind' o') v → Stands (Pointer kind o) v
 same_pointer k kind o kind' o' v p q stands = let e = pointer_is k kind o kind' o' p q in rw (e.0, e.1) stands
 
 -- what outlasts a number of a register that is a number is that it is one
@@ -91,7 +91,7 @@ stores_none (StoreReg size d off src) dst i writes stores = absurd (some_none _ 
 stores_none _ dst i writes stores = stores
 
 -- what is not of registers goes on, where the stack does not change
-stack_same : (x : Fact) (slot k : ℕ) (insn : Insn) (old new : AbstractState) → ((i : ℕ) → StoresByte insn i → ⊥) → new.set ≡ old.set → new.kept ≡ old.kept → ((r : ℕ) → After (AtRegister Scalar r) slot k insn old → StandsAt Scalar new r) → ((n r : ℕ) → After (AtRegister (Exact n) r) slot k insn old → StandsAt (Exact n) new r) → ((kind : Kind) (o r : ℕ) → After (AtRegister (Pointer kind o) r) slot k insn old → StandsAt (Pointer kind o) new r) → After x slot k insn old → Has x new
+stack_same : (x : Fact) (slot k : ℕ) (insn : Insn) (old new : AbstractState) → ((i : ℕ) → StoresByte insn i → ⊥) → new.set ≡ old.set → new.kept ≡ old.kept → ((r : ℕ) → After (AtRegister Scalar r) slot k insn old → StandsAt Scalar new r) → ((n r : ℕ) → After (AtRegister (Exact n) r) slot k insn old → StandsAt (Exact n) new r) → ((kind : ValueKind) (o r : ℕ) → After (AtRegister (Pointer kind o) r) slot k insn old → StandsAt (Pointer kind o) new r) → After x slot k insn old → Has x new
 stack_same Never slot k insn old new none set kept scalars exacts pointers after = absurd after
 stack_same (AtRegister Scalar r) slot k insn old new none set kept scalars exacts pointers after = scalars r after
 stack_same (AtRegister (Exact n) r) slot k insn old new none set kept scalars exacts pointers after = exacts n r after
@@ -108,7 +108,7 @@ here_at : (s : Certainty) (new : AbstractState) (dst r : ℕ) → r ≡ dst → 
 here_at s new dst r same stands = subst (λ (n : ℕ). StandsAt s new n) (sym same) stands
 
 -- after an instruction that gives a register a number
-pub has_given : (x : Fact) (slot k : ℕ) (insn : Insn) (old new : AbstractState) (dst : ℕ) → destination_of insn ≡ Some dst → ((kind : Kind) (o r : ℕ) → GivesPointer kind o slot k insn r old → ⊥) → ((n r : ℕ) → GivesExact n insn r → StandsAt (Exact n) new r) → IsGiven old new dst → After x slot k insn old → Has x new
+pub has_given : (x : Fact) (slot k : ℕ) (insn : Insn) (old new : AbstractState) (dst : ℕ) → destination_of insn ≡ Some dst → ((kind : ValueKind) (o r : ℕ) → GivesPointer kind o slot k insn r old → ⊥) → ((n r : ℕ) → GivesExact n insn r → StandsAt (Exact n) new r) → IsGiven old new dst → After x slot k insn old → Has x new
 has_given x slot k insn old new dst writes none number given after = stack_same x slot k insn old new (λ i stores. stores_none insn dst i writes stores) given.set_same given.kept_same scalars exacts pointers after
   where
     scalar_at : (r : ℕ) (t : Bool) → ((t ≡ true) × (r ≡ dst)) ⊎ ((t ≡ false) × (r ≢ dst)) → GivesNumber insn r ⊎ (LeavesNumber insn r × StandsAt Scalar old r) → StandsAt Scalar new r
@@ -123,15 +123,15 @@ has_given x slot k insn old new dst writes none number given after = stack_same 
     exacts n r (inl gives) = number n r gives
     exacts n r (inr (spares, _, stands)) = kept_at (Exact n) Scalar old new dst r given (spares_other insn dst r writes spares) stands
 
-    pointers : (kind : Kind) (o r : ℕ) → GivesPointer kind o slot k insn r old ⊎ (Spares insn r × LeavesPointer kind insn × StandsAt (Pointer kind o) old r) → StandsAt (Pointer kind o) new r
+    pointers : (kind : ValueKind) (o r : ℕ) → GivesPointer kind o slot k insn r old ⊎ (Spares insn r × LeavesPointer kind insn × StandsAt (Pointer kind o) old r) → StandsAt (Pointer kind o) new r
     pointers kind o r (inl gives) = absurd (none kind o r gives)
     pointers kind o r (inr (spares, _, stands)) = kept_at (Pointer kind o) Scalar old new dst r given (spares_other insn dst r writes spares) stands
 
 -- numbers are no pointers
-pub no_pointer : (kind : Kind) (o slot k : ℕ) (w : Width) (op : Operation) (dst : ℕ) (src : Source) (r : ℕ) (view : AbstractState) → IsLeftReady op view dst → IsScalarOperand view src → GivesPointer kind o slot k (Alu w op dst src) r view → ⊥
-no_pointer kind o slot k w Mov dst (Reg src) r view left right (same, ten, stands) = not_both _ kind o (subst (λ (n : ℕ). StandsAt Scalar view n) ten right) stands
-no_pointer kind o slot k w Add dst (Imm i) r view left right (same, base, stands, at) = not_both _ kind base left stands
-no_pointer kind o slot k w op dst src r view left right gives = gives
+pub no_pointer : (kind : ValueKind) (o slot k : ℕ) (w : Width) (op : Operation) (dst : ℕ) (src : Source) (r : ℕ) (state : AbstractState) → IsLeftReady op state dst → IsScalarOperand state src → GivesPointer kind o slot k (Alu w op dst src) r state → ⊥
+no_pointer kind o slot k w Mov dst (Reg src) r state left right (same, ten, stands) = not_both _ kind o (subst (λ (n : ℕ). StandsAt Scalar state n) ten right) stands
+no_pointer kind o slot k w Add dst (Imm i) r state left right (same, base, stands, at) = not_both _ kind base left stands
+no_pointer kind o slot k w op dst src r state left right gives = gives
 
 -- after a copy of register 10
 pub has_copied : (x : Fact) (slot k : ℕ) (w : Width) (dst base : ℕ) (old new : AbstractState) → StandsAt (Pointer Stack base) old 10 → IsMade (Pointer Stack base) old new dst → After x slot k (Alu w Mov dst (Reg 10)) old → Has x new
@@ -167,7 +167,7 @@ has_moved x slot k w dst base at i old new stands at_is made after = stack_same 
     exacts n r (inl gives) = absurd gives
     exacts n r (inr (spares, _, before)) = kept_at (Exact n) (Pointer Stack at) old new dst r made (λ e. spares (ap (λ (n : ℕ). Some n) (sym e))) before
 
-    pointers : (kind : Kind) (o r : ℕ) → GivesPointer kind o slot k (Alu w Add dst (Imm i)) r old ⊎ (Spares (Alu w Add dst (Imm i)) r × LeavesPointer kind (Alu w Add dst (Imm i)) × StandsAt (Pointer kind o) old r) → StandsAt (Pointer kind o) new r
+    pointers : (kind : ValueKind) (o r : ℕ) → GivesPointer kind o slot k (Alu w Add dst (Imm i)) r old ⊎ (Spares (Alu w Add dst (Imm i)) r × LeavesPointer kind (Alu w Add dst (Imm i)) × StandsAt (Pointer kind o) old r) → StandsAt (Pointer kind o) new r
     pointers kind o r (inl (same, from, before, o_is)) =
         let kinds = pointer_is _ kind from Stack base before stands in
         let sum : pos o ≡ pos at = o_is ∙ ap (λ (n : ℕ). pos n +ℤ i) kinds.1 ∙ sym at_is in
@@ -239,7 +239,7 @@ has_looked_up x slot k m old new names called after =
     after
 
 -- after a store on the stack
-pub has_stored : (x : Fact) (slot k : ℕ) (insn : Insn) (old new : AbstractState) (from to : ℕ) → ((r : ℕ) → GivesNumber insn r → ⊥) → ((n r : ℕ) → GivesExact n insn r → ⊥) → ((kind : Kind) (o r : ℕ) → GivesPointer kind o slot k insn r old → ⊥) → ((i : ℕ) → StoresByte insn i → (from ≤ i) × (i < to)) → IsStoredAt old new from to → After x slot k insn old → Has x new
+pub has_stored : (x : Fact) (slot k : ℕ) (insn : Insn) (old new : AbstractState) (from to : ℕ) → ((r : ℕ) → GivesNumber insn r → ⊥) → ((n r : ℕ) → GivesExact n insn r → ⊥) → ((kind : ValueKind) (o r : ℕ) → GivesPointer kind o slot k insn r old → ⊥) → ((i : ℕ) → StoresByte insn i → (from ≤ i) × (i < to)) → IsStoredAt old new from to → After x slot k insn old → Has x new
 has_stored Never slot k insn old new from to none inexact nowhere bytes stored after = absurd after
 has_stored (AtRegister Scalar r) slot k insn old new from to none inexact nowhere bytes stored (inl gives) = absurd (none r gives)
 has_stored (AtRegister Scalar r) slot k insn old new from to none inexact nowhere bytes stored (inr (_, stands)) = subst (λ (l : List (Option AbstractValue)). Stands Scalar (slice_index_or l r None)) (sym stored.registers_same) stands
@@ -255,28 +255,28 @@ has_stored (IsSetAt i) slot k insn old new from to none inexact nowhere bytes st
 has_stored (IsPlainAt j) slot k insn old new from to none inexact nowhere bytes stored after = stored.plain j after
 
 -- after an instruction that writes nothing that is known
-pub has_left : (x : Fact) (slot k : ℕ) (insn : Insn) (view : AbstractState) → ((r : ℕ) → GivesNumber insn r → ⊥) → ((n r : ℕ) → GivesExact n insn r → ⊥) → ((kind : Kind) (o r : ℕ) → GivesPointer kind o slot k insn r view → ⊥) → ((i : ℕ) → StoresByte insn i → ⊥) → After x slot k insn view → Has x view
-has_left Never slot k insn view none inexact nowhere bytes after = after
-has_left (AtRegister Scalar r) slot k insn view none inexact nowhere bytes (inl gives) = absurd (none r gives)
-has_left (AtRegister Scalar r) slot k insn view none inexact nowhere bytes (inr (_, stands)) = stands
-has_left (AtRegister (Exact n) r) slot k insn view none inexact nowhere bytes (inl gives) = absurd (inexact n r gives)
-has_left (AtRegister (Exact n) r) slot k insn view none inexact nowhere bytes (inr (_, _, stands)) = stands
-has_left (AtRegister (Pointer kind o) r) slot k insn view none inexact nowhere bytes (inl gives) = absurd (nowhere kind o r gives)
-has_left (AtRegister (Pointer kind o) r) slot k insn view none inexact nowhere bytes (inr (_, _, stands)) = stands
-has_left (AtRegister NoPointer r) slot k insn view none inexact nowhere bytes after = absurd after
-has_left (IsSetAt i) slot k insn view none inexact nowhere bytes (inl stores) = absurd (bytes i stores)
-has_left (IsSetAt i) slot k insn view none inexact nowhere bytes (inr has) = has
-has_left (IsPlainAt j) slot k insn view none inexact nowhere bytes after = after
+pub has_left : (x : Fact) (slot k : ℕ) (insn : Insn) (state : AbstractState) → ((r : ℕ) → GivesNumber insn r → ⊥) → ((n r : ℕ) → GivesExact n insn r → ⊥) → ((kind : ValueKind) (o r : ℕ) → GivesPointer kind o slot k insn r state → ⊥) → ((i : ℕ) → StoresByte insn i → ⊥) → After x slot k insn state → Has x state
+has_left Never slot k insn state none inexact nowhere bytes after = after
+has_left (AtRegister Scalar r) slot k insn state none inexact nowhere bytes (inl gives) = absurd (none r gives)
+has_left (AtRegister Scalar r) slot k insn state none inexact nowhere bytes (inr (_, stands)) = stands
+has_left (AtRegister (Exact n) r) slot k insn state none inexact nowhere bytes (inl gives) = absurd (inexact n r gives)
+has_left (AtRegister (Exact n) r) slot k insn state none inexact nowhere bytes (inr (_, _, stands)) = stands
+has_left (AtRegister (Pointer kind o) r) slot k insn state none inexact nowhere bytes (inl gives) = absurd (nowhere kind o r gives)
+has_left (AtRegister (Pointer kind o) r) slot k insn state none inexact nowhere bytes (inr (_, _, stands)) = stands
+has_left (AtRegister NoPointer r) slot k insn state none inexact nowhere bytes after = absurd after
+has_left (IsSetAt i) slot k insn state none inexact nowhere bytes (inl stores) = absurd (bytes i stores)
+has_left (IsSetAt i) slot k insn state none inexact nowhere bytes (inr has) = has
+has_left (IsPlainAt j) slot k insn state none inexact nowhere bytes after = after
 
 -- bytes of a store lie where it is placed
 pub bytes_at : (a b count i : ℕ) (off : ℤ) → pos a ≡ (pos 512 +ℤ off) → pos b ≡ (pos 512 +ℤ off) → a ≤ i → i < a + count → (b ≤ i) × (i < b + count)
 bytes_at a b count i off p q le lt = let same : pos a ≡ pos b = p ∙ sym q in let e : a ≡ b = cc in (omega arith, omega arith)
 
 -- one register is learnt anew
-pub knowing_made : (s : Certainty) (view : AbstractState) (dst : ℕ) (k : AbstractValue) → dst < length view.registers → Stands s (Some k) → IsMade s view (knowing view dst k) dst
-knowing_made s view dst k there stands = record {
-  given = subst (λ (v : Option AbstractValue). Stands s v) (sym (get_or-set_same view.registers dst (Some k) None there)) stands;
-  kept = λ r other. get_or-set_other view.registers dst r (Some k) None other;
+pub knowing_made : (s : Certainty) (state : AbstractState) (dst : ℕ) (k : AbstractValue) → dst < length state.registers → Stands s (Some k) → IsMade s state (knowing state dst k) dst
+knowing_made s state dst k there stands = record {
+  given = subst (λ (v : Option AbstractValue). Stands s v) (sym (get_or-set_same state.registers dst (Some k) None there)) stands;
+  kept = λ r other. get_or-set_other state.registers dst r (Some k) None other;
   set_same = refl;
   kept_same = refl;
 }
@@ -286,12 +286,12 @@ pub made_classes : (s : Certainty) (old new : AbstractState) (dst : ℕ) (classe
 made_classes s old new dst classes made = record { given = made.given; kept = made.kept; set_same = made.set_same; kept_same = made.kept_same }
 
 -- an abstract state that learns a number in a register has a number there, and all else as before
-pub knowing_given : (view : AbstractState) (dst : ℕ) (k : AbstractValue) → dst < length view.registers → k.kind ≡ Number → IsGiven view (knowing view dst k) dst
-knowing_given view dst k there number = knowing_made Scalar view dst k there number
+pub knowing_given : (state : AbstractState) (dst : ℕ) (k : AbstractValue) → dst < length state.registers → k.kind ≡ Number → IsGiven state (knowing state dst k) dst
+knowing_given state dst k there number = knowing_made Scalar state dst k there number
 
 -- registers 1 to 5 are forgotten, and register 0 is learnt anew
-pub called_by : (s : Certainty) (view : AbstractState) (registers : List (Option AbstractValue)) (classes : List ℕ) (k : AbstractValue) → 0 < length registers → Clears view.registers registers → Stands s (Some k) → IsCalled s view (knowing (record view { registers = registers; classes = classes }) 0 k)
-called_by s view registers classes k there clears stands = record {
+pub called_by : (s : Certainty) (state : AbstractState) (registers : List (Option AbstractValue)) (classes : List ℕ) (k : AbstractValue) → 0 < length registers → Clears state.registers registers → Stands s (Some k) → IsCalled s state (knowing (record state { registers = registers; classes = classes }) 0 k)
+called_by s state registers classes k there clears stands = record {
   given = subst (λ (v : Option AbstractValue). Stands s v) (sym (get_or-set_same registers 0 (Some k) None there)) stands;
   kept = λ r above. get_or-set_other registers 0 r (Some k) None (λ e. absurd (omega arith)) ∙ clears.others r above;
   set_same = refl;
@@ -307,9 +307,9 @@ pub answer_stands : (map m : ℕ) (range : Range) → map ≡ m → range.lo ≡
 answer_stands map m range same lo hi = (ap (λ (n : ℕ). EntryOrNull n) same, λ e. let refuted : ⊥ = cc in refuted, lo, hi)
 
 -- the first operand that is ready is a number, unless the operation is a MOV
-pub left_scalar : (op : Operation) (view : AbstractState) (dst : ℕ) → (op ≡ Mov → ⊥) → IsLeftReady op view dst → StandsAt Scalar view dst
-left_scalar Mov view dst other ready = absurd (other refl)
-left_scalar _ view dst other ready = ready
+pub left_scalar : (op : Operation) (state : AbstractState) (dst : ℕ) → (op ≡ Mov → ⊥) → IsLeftReady op state dst → StandsAt Scalar state dst
+left_scalar Mov state dst other ready = absurd (other refl)
+left_scalar _ state dst other ready = ready
 
 -- a number that an instruction gives is its immediate
 pub exact_of : (n : ℕ) (w : Width) (dst : ℕ) (src : Source) (r : ℕ) → GivesExact n (Alu w Mov dst src) r → (i : ℤ) × (src ≡ Imm i) × (w ≡ W64) × (dst ≡ r) × (n ≡ word_of i)

@@ -1,7 +1,7 @@
 -- Instructions that give a register a value.
 use Rattle.bq_ranges.specs.Within.{Within}
 use Rattle.bq_ranges.specs.declared.range.Range.{Range}
-use Rattle.bq_states.specs.declared.abstract_state.Kind.TheVariants.{Map, Number}
+use Rattle.bq_states.specs.declared.abstract_state.ValueKind.TheVariants.{Map, Number}
 use Rattle.std.proofs.Common.{zero-le, ◌≡◌, ◌≢◌, ℕ, ◌+◌, ◌<◌, Bool, true, false, List, Option, Some, None, length, get_or, set, refl, arith, get_or-set_same, get_or-set_other, ◌⊎◌, inl, inr, cond}
 use Rattle.std.specs.Prelude.{slice_set}
 use Rattle.std.proofs.lemmas.Bool.Decides.{eqb_tells}

@@ -8,21 +8,21 @@ use Rattle.std.proofs.lemmas.Bool.Decides.{nat_tests}
 use Rattle.bq_bpf.specs.declared.shape.MapShape.{MapShape}
 use Rattle.bq_ranges.specs.Within.{Within}
 use Rattle.bq_ranges.specs.declared.range.Range.{Range}
-use Rattle.bq_states.specs.declared.abstract_state.Kind.{Kind}
-use Rattle.bq_states.specs.declared.abstract_state.Kind.TheVariants.{Number, Entry, EntryOrNull}
+use Rattle.bq_states.specs.declared.abstract_state.ValueKind.{ValueKind}
+use Rattle.bq_states.specs.declared.abstract_state.ValueKind.TheVariants.{Number, Entry, EntryOrNull}
 use Rattle.bq_states.specs.declared.abstract_state.AbstractValue.{AbstractValue}
 use Rattle.bq_states.specs.AbstractStates.{Describes, IsEntryBase}
 use Rattle.bq_states.proofs.WordLemmas.{number_within, describes_number}
 use Rattle.bq_transfer.specs.Sides.{IsSide, IsNumberIfAny}
 
 -- a word plus a number is of the same kind, and its offset is in a range that holds the sums
-pub moved_up : (shapes : List MapShape) (kind : Kind) (r t : Range) (x y : ℕ) (b : Range) → Describes shapes (record { kind = kind; offset = r }) x → Within b y → ((u v : ℕ) → Within r u → Within b v → Within t ((u + v) % 2 ^ 64)) → Describes shapes (record { kind = kind; offset = t }) (alu_result W64 op.Add x y)
+pub moved_up : (shapes : List MapShape) (kind : ValueKind) (r t : Range) (x y : ℕ) (b : Range) → Describes shapes (record { kind = kind; offset = r }) x → Within b y → ((u v : ℕ) → Within r u → Within b v → Within t ((u + v) % 2 ^ 64)) → Describes shapes (record { kind = kind; offset = t }) (alu_result W64 op.Add x y)
 unfolding operate
 moved_up shapes kind r t x y b d w sums =
     record { base = d.base; offset = (d.offset + y) % 2 ^ 64; is_base = d.is_base; within = sums d.offset y d.within w; word_is = omega (arith, d.word_is) }
 
 -- a word less a number is of the same kind, and its offset is in a range that holds the differences
-pub moved_down : (shapes : List MapShape) (kind : Kind) (r t : Range) (x y : ℕ) (b : Range) → Describes shapes (record { kind = kind; offset = r }) x → Within b y → ((u v : ℕ) → Within r u → Within b v → Within t ((u + (2 ^ 64 - v)) % 2 ^ 64)) → Describes shapes (record { kind = kind; offset = t }) (alu_result W64 op.Sub x y)
+pub moved_down : (shapes : List MapShape) (kind : ValueKind) (r t : Range) (x y : ℕ) (b : Range) → Describes shapes (record { kind = kind; offset = r }) x → Within b y → ((u v : ℕ) → Within r u → Within b v → Within t ((u + (2 ^ 64 - v)) % 2 ^ 64)) → Describes shapes (record { kind = kind; offset = t }) (alu_result W64 op.Sub x y)
 unfolding operate
 moved_down shapes kind r t x y b d w differences =
     let fits = b.fits in
@@ -96,15 +96,15 @@ unfolding operate
 same_half n h = omega arith
 
 -- no number is a look-up's answer that may be 0
-pub number_or_null : (kind : Kind) (m : ℕ) → kind ≡ Number → kind ≡ EntryOrNull m → ⊥
+pub number_or_null : (kind : ValueKind) (m : ℕ) → kind ≡ Number → kind ≡ EntryOrNull m → ⊥
 number_or_null kind m number null = cc
 
 -- no entry is a look-up's answer that may be 0
-pub entry_or_null : (kind : Kind) (m n : ℕ) → kind ≡ Entry m → kind ≡ EntryOrNull n → ⊥
+pub entry_or_null : (kind : ValueKind) (m n : ℕ) → kind ≡ Entry m → kind ≡ EntryOrNull n → ⊥
 entry_or_null kind m n entry null = cc
 
 -- a look-up's answer that may be 0 is of one map
-pub same_map : (kind : Kind) (m n : ℕ) → kind ≡ EntryOrNull m → kind ≡ EntryOrNull n → m ≡ n
+pub same_map : (kind : ValueKind) (m n : ℕ) → kind ≡ EntryOrNull m → kind ≡ EntryOrNull n → m ≡ n
 same_map kind m n one other = cc
 
 -- a side on numbers has a number, where control goes there

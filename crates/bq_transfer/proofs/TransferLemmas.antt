@@ -9,8 +9,8 @@ use Rattle.bq_insn.specs.declared.Size.{Size}
 use Rattle.bq_bpf.specs.declared.shape.MapShape.{MapShape}
 use Rattle.bq_graph.specs.Faults.{destination_of}
 use Rattle.bq_states.specs.Certainty.{Fact, Has, IsGiven, IsStoredAt}
-use Rattle.bq_states.specs.declared.abstract_state.Kind.{Kind}
-use Rattle.bq_states.specs.declared.abstract_state.Kind.TheVariants.{Stack, Entry}
+use Rattle.bq_states.specs.declared.abstract_state.ValueKind.{ValueKind}
+use Rattle.bq_states.specs.declared.abstract_state.ValueKind.TheVariants.{Stack, Entry}
 use Rattle.bq_states.specs.declared.abstract_state.AbstractState.{AbstractState}
 use Rattle.bq_transfer.specs.After.{After, GivesExact, GivesNumber, GivesPointer, IsStackByte, StoresByte}
 use Rattle.bq_transfer.specs.Doubts.{MayDoubt}
@@ -40,14 +40,14 @@ doubts_as r insn kind is doubts = subst (λ (i : Insn). IfErr r (λ doubt. MayDo
 pub ruleset transferring = (straight_on_ok, doubts_as)
 
 -- what is sure after an instruction that gives a register a number, and no pointer
-pub gives_number : {T E : Type 0} (r : Result T E) (insn : Insn) (old new : AbstractState) (dst : ℕ) → destination_of insn ≡ Some dst → ((kind : Kind) (o slot k n : ℕ) → GivesPointer kind o slot k insn n old → ⊥) → ((n m : ℕ) → GivesExact n insn m → ⊥) → IsOk r × IsGiven old new dst
+pub gives_number : {T E : Type 0} (r : Result T E) (insn : Insn) (old new : AbstractState) (dst : ℕ) → destination_of insn ≡ Some dst → ((kind : ValueKind) (o slot k n : ℕ) → GivesPointer kind o slot k insn n old → ⊥) → ((n m : ℕ) → GivesExact n insn m → ⊥) → IsOk r × IsGiven old new dst
     → IsOk r × ((x : Fact) (slot k : ℕ) → After x slot k insn old → Has x new)
 gives_number r insn old new dst writes nowhere inexact given =
     (given.0, λ x slot k after. has_given x slot k insn old new dst writes (λ kind o n gives. nowhere kind o slot k n gives) (λ n m gives. absurd (inexact n m gives)) given.1 after)
 
 -- and after a store of a number by a register: on the stack, or into an entry
 pub stores_number : {T E : Type 0} (r : Result T E) (insn : Insn) (old new : AbstractState) (shapes : List MapShape) (context : ℕ) (size : Size) (dst : ℕ) (off : ℤ)
-    → ((n : ℕ) → GivesNumber insn n → ⊥) → ((n m : ℕ) → GivesExact n insn m → ⊥) → ((kind : Kind) (o slot k n : ℕ) → GivesPointer kind o slot k insn n old → ⊥) → ((i : ℕ) → StoresByte insn i → (dst ≡ 10) × IsStackByte size off i)
+    → ((n : ℕ) → GivesNumber insn n → ⊥) → ((n m : ℕ) → GivesExact n insn m → ⊥) → ((kind : ValueKind) (o slot k n : ℕ) → GivesPointer kind o slot k insn n old → ⊥) → ((i : ℕ) → StoresByte insn i → (dst ≡ 10) × IsStackByte size off i)
     → ((at : ℕ) → IsPlaced shapes context old size dst off Stack at → IsOk r × IsStoredAt old new at (at + byte_count size)) → ((map at : ℕ) → IsPlaced shapes context old size dst off (Entry map) at → IsOk r × (new ≡ old))
     → IsOnFrame shapes context old size dst off ⊎ IsIntoEntry shapes context old size dst off → IsOk r × ((x : Fact) (slot k : ℕ) → After x slot k insn old → Has x new)
 stores_number r insn old new shapes context size dst off none inexact nowhere bytes on_frame into_entry (inl f) = (

@@ -20,8 +20,8 @@ use Rattle.bq_bpf.specs.Steps.{address_of, low_bytes, next}
 use Rattle.bq_maps.proofs.ShapeLemmas.{have_overwritten}
 use Rattle.bq_ranges.specs.declared.range.Range.{Range}
 use Rattle.bq_ranges.specs.Within.{Within}
-use Rattle.bq_states.specs.declared.abstract_state.Kind.{Kind}
-use Rattle.bq_states.specs.declared.abstract_state.Kind.TheVariants.{Stack, Entry, Number}
+use Rattle.bq_states.specs.declared.abstract_state.ValueKind.{ValueKind}
+use Rattle.bq_states.specs.declared.abstract_state.ValueKind.TheVariants.{Stack, Entry, Number}
 use Rattle.bq_states.specs.declared.abstract_state.AbstractState.{AbstractState}
 use Rattle.bq_states.specs.declared.abstract_state.AbstractValue.{AbstractValue}
 use Rattle.bq_states.specs.AbstractStates.{Contains, Describes, Keeps, IsOfKind, keeping}
@@ -100,10 +100,10 @@ some_slot None n P h e = absurd (let no : ⊥ = cc in no)
 some_slot (Some m) n P h e = let same : m ≡ n = cc in subst P same h
 
 -- a store on the stack
-stores_on_stack : (shapes : List MapShape) (context_length dst : ℕ) (off : ℤ) (size : Size) (k : AbstractValue) (at : Range) (kind : Kind) (old new : AbstractState) (slot : Option ℕ) → IfSome slot (IsWholeSlot at size) → kind ≡ Stack → FindsPlace shapes context_length old dst off size kind at → ((f : Setting) (s : State) (o v : ℕ) → Contains f old s → Within at o → Describes f.shapes k v → Contains f new (next (written s InStack o (low_bytes size v)))) → Stores shapes context_length dst off size k old new slot
+stores_on_stack : (shapes : List MapShape) (context_length dst : ℕ) (off : ℤ) (size : Size) (k : AbstractValue) (at : Range) (kind : ValueKind) (old new : AbstractState) (slot : Option ℕ) → IfSome slot (IsWholeSlot at size) → kind ≡ Stack → FindsPlace shapes context_length old dst off size kind at → ((f : Setting) (s : State) (o v : ℕ) → Contains f old s → Within at o → Describes f.shapes k v → Contains f new (next (written s InStack o (low_bytes size v)))) → Stores shapes context_length dst off size k old new slot
 stores_on_stack shapes context_length dst off size k at kind old new slot whole stack finds after f s v suits contains d =
     let found = finds f s suits contains in
-    let region : found.1 ≡ InStack = subst (λ (x : Kind). IsOfKind x found.1) stack found.5 in
+    let region : found.1 ≡ InStack = subst (λ (x : ValueKind). IsOfKind x found.1) stack found.5 in
     let good = subst (λ (r : Region). IsGood f (address_of found.0 off) (byte_count size) r found.2) region found.4 in (
       found.0,
       written s InStack found.2 (low_bytes size v),
@@ -116,22 +116,22 @@ stores_on_stack shapes context_length dst off size k at kind old new slot whole 
     )
 
 -- the same, where the store answers that slot
-pub stores_if_ok : (shapes : List MapShape) (context_length dst : ℕ) (off : ℤ) (size : Size) (k : AbstractValue) (at : Range) (kind : Kind) (old new : AbstractState) (r : Result (Option ℕ) Doubt) → IfOk r (λ slot. IfSome slot (IsWholeSlot at size)) → kind ≡ Stack → FindsPlace shapes context_length old dst off size kind at → OnOk r ((f : Setting) (s : State) (o v : ℕ) → Contains f old s → Within at o → Describes f.shapes k v → Contains f new (next (written s InStack o (low_bytes size v)))) → IfOk r (Stores shapes context_length dst off size k old new)
+pub stores_if_ok : (shapes : List MapShape) (context_length dst : ℕ) (off : ℤ) (size : Size) (k : AbstractValue) (at : Range) (kind : ValueKind) (old new : AbstractState) (r : Result (Option ℕ) Doubt) → IfOk r (λ slot. IfSome slot (IsWholeSlot at size)) → kind ≡ Stack → FindsPlace shapes context_length old dst off size kind at → OnOk r ((f : Setting) (s : State) (o v : ℕ) → Contains f old s → Within at o → Describes f.shapes k v → Contains f new (next (written s InStack o (low_bytes size v)))) → IfOk r (Stores shapes context_length dst off size k old new)
 stores_if_ok shapes context_length dst off size k at kind old new (Ok slot) whole stack finds after =
     stores_on_stack shapes context_length dst off size k at kind old new slot whole stack finds after
 stores_if_ok shapes context_length dst off size k at kind old new (Err doubt) whole stack finds after = tt
 
 -- a store into an entry
-pub stores_in_entry : (shapes : List MapShape) (context_length dst : ℕ) (off : ℤ) (size : Size) (k : AbstractValue) (at : Range) (kind : Kind) (m : ℕ) (view : AbstractState) → kind ≡ Entry m → FindsPlace shapes context_length view dst off size kind at → Stores shapes context_length dst off size k view view None
-stores_in_entry shapes context_length dst off size k at kind m view entry finds f s v suits contains d =
+pub stores_in_entry : (shapes : List MapShape) (context_length dst : ℕ) (off : ℤ) (size : Size) (k : AbstractValue) (at : Range) (kind : ValueKind) (m : ℕ) (state : AbstractState) → kind ≡ Entry m → FindsPlace shapes context_length state dst off size kind at → Stores shapes context_length dst off size k state state None
+stores_in_entry shapes context_length dst off size k at kind m state entry finds f s v suits contains d =
     let found = finds f s suits contains in
-    let into : (first : ℕ) × (found.1 ≡ InEntry m first) = subst (λ (x : Kind). IsOfKind x found.1) entry found.5 in
+    let into : (first : ℕ) × (found.1 ≡ InEntry m first) = subst (λ (x : ValueKind). IsOfKind x found.1) entry found.5 in
     let good = subst (λ (r : Region). IsGood f (address_of found.0 off) (byte_count size) r found.2) into.1 found.4 in (
       found.0,
       written s (InEntry m into.0) found.2 (low_bytes size v),
       found.3,
       record { region = InEntry m into.0; offset = found.2; writable = tt; good = rw (low_long size v) good; after = refl },
-      contains_entry f view s m into.0 (address_of found.0 off) (byte_count size) found.2 (low_bytes size v) good (low_long size v) (low_small size v) contains,
+      contains_entry f state s m into.0 (address_of found.0 off) (byte_count size) found.2 (low_bytes size v) good (low_long size v) (low_small size v) contains,
       refl,
       refl,
       λ n is. absurd (let no : ⊥ = cc in no),

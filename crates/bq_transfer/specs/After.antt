@@ -17,8 +17,8 @@ use Rattle.bq_bpf.specs.Memory.{stack_size}
 use Rattle.bq_graph.specs.Faults.{destination_of}
 use Rattle.bq_states.specs.Certainty.{Scalar, Exact, Pointer, NoPointer, StandsAt, Fact, Never, AtRegister, IsSetAt, IsPlainAt, Has}
 use Rattle.bq_states.specs.Told.{IsCertain}
-use Rattle.bq_states.specs.declared.abstract_state.Kind.TheVariants.{Entry, EntryOrNull, Map}
-use Rattle.bq_states.specs.declared.abstract_state.Kind.{Kind}
+use Rattle.bq_states.specs.declared.abstract_state.ValueKind.TheVariants.{Entry, EntryOrNull, Map}
+use Rattle.bq_states.specs.declared.abstract_state.ValueKind.{ValueKind}
 use Rattle.bq_states.specs.declared.abstract_state.AbstractState.{AbstractState}
 
 -- the instruction gives the register a number
@@ -52,7 +52,7 @@ abbrev pub Spares : Insn → ℕ → Type 0
 Spares (Call helper) r = 6 ≤ r
 Spares insn r = destination_of insn ≡ Some r → ⊥
 
-abbrev pub LeavesPointer : Kind → Insn → Type 0
+abbrev pub LeavesPointer : ValueKind → Insn → Type 0
 LeavesPointer kind (Branch w c dst src off) = IsCertain kind
 LeavesPointer kind insn = Unit {0}
 
@@ -63,14 +63,14 @@ IsFoundSide NotEqual off slot to = LeadsTo slot off to × (to ≢ slot + 1)
 IsFoundSide _ off slot to = ⊥
 
 -- the instruction gives the register such a pointer, by the abstract state before it: a map's name, a copy, a sum, a look-up's answer, and what a test leaves of it
-abbrev pub GivesPointer : Kind → ℕ → ℕ → ℕ → Insn → ℕ → AbstractState → Type 0
-GivesPointer kind o slot k (MapRef dst index) r view = (dst ≡ r) × (m : ℕ) × (index ≡ pos m) × (kind ≡ Map m) × (o ≡ 0)
-GivesPointer kind o slot k (Alu w Mov dst (Reg src)) r view = (dst ≡ r) × (src ≡ 10) × StandsAt (Pointer kind o) view 10
-GivesPointer kind o slot k (Alu w Add dst (Imm i)) r view = (dst ≡ r) × (base : ℕ) × StandsAt (Pointer kind base) view dst × (pos o ≡ (pos base +ℤ i))
-GivesPointer kind o slot k (Call helper) r view = (r ≡ 0) × (helper ≡ number_of_helper Lookup) × (m : ℕ) × (kind ≡ EntryOrNull m) × (o ≡ 0) × StandsAt (Pointer (Map m) 0) view 1
-GivesPointer kind o slot k (Branch w c dst src off) r view =
-    (dst ≡ r) × (m : ℕ) × (kind ≡ Entry m) × (o ≡ 0) × StandsAt (Pointer (EntryOrNull m) 0) view dst × IsFoundSide c off slot k
-GivesPointer kind o slot k insn r view = ⊥
+abbrev pub GivesPointer : ValueKind → ℕ → ℕ → ℕ → Insn → ℕ → AbstractState → Type 0
+GivesPointer kind o slot k (MapRef dst index) r state = (dst ≡ r) × (m : ℕ) × (index ≡ pos m) × (kind ≡ Map m) × (o ≡ 0)
+GivesPointer kind o slot k (Alu w Mov dst (Reg src)) r state = (dst ≡ r) × (src ≡ 10) × StandsAt (Pointer kind o) state 10
+GivesPointer kind o slot k (Alu w Add dst (Imm i)) r state = (dst ≡ r) × (base : ℕ) × StandsAt (Pointer kind base) state dst × (pos o ≡ (pos base +ℤ i))
+GivesPointer kind o slot k (Call helper) r state = (r ≡ 0) × (helper ≡ number_of_helper Lookup) × (m : ℕ) × (kind ≡ EntryOrNull m) × (o ≡ 0) × StandsAt (Pointer (Map m) 0) state 1
+GivesPointer kind o slot k (Branch w c dst src off) r state =
+    (dst ≡ r) × (m : ℕ) × (kind ≡ Entry m) × (o ≡ 0) × StandsAt (Pointer (EntryOrNull m) 0) state dst × IsFoundSide c off slot k
+GivesPointer kind o slot k insn r state = ⊥
 
 -- the byte of the stack is one of those that the instruction stores by register 10
 abbrev pub IsStackByte : Size → ℤ → ℕ → Type 0
@@ -83,10 +83,10 @@ StoresByte insn i = ⊥
 
 -- what is sure after an instruction on the way to a slot: what it made so, or what was so and it left so
 abbrev pub After : Fact → ℕ → ℕ → Insn → AbstractState → Type 0
-After Never slot k insn view = ⊥
-After (AtRegister Scalar r) slot k insn view = GivesNumber insn r ⊎ (LeavesNumber insn r × Has (AtRegister Scalar r) view)
-After (AtRegister (Exact n) r) slot k insn view = GivesExact n insn r ⊎ (Spares insn r × IsNoTestOf insn r × Has (AtRegister (Exact n) r) view)
-After (AtRegister (Pointer kind o) r) slot k insn view = GivesPointer kind o slot k insn r view ⊎ (Spares insn r × LeavesPointer kind insn × Has (AtRegister (Pointer kind o) r) view)
-After (AtRegister NoPointer r) slot k insn view = ⊥
-After (IsSetAt i) slot k insn view = StoresByte insn i ⊎ Has (IsSetAt i) view
-After (IsPlainAt j) slot k insn view = Has (IsPlainAt j) view
+After Never slot k insn state = ⊥
+After (AtRegister Scalar r) slot k insn state = GivesNumber insn r ⊎ (LeavesNumber insn r × Has (AtRegister Scalar r) state)
+After (AtRegister (Exact n) r) slot k insn state = GivesExact n insn r ⊎ (Spares insn r × IsNoTestOf insn r × Has (AtRegister (Exact n) r) state)
+After (AtRegister (Pointer kind o) r) slot k insn state = GivesPointer kind o slot k insn r state ⊎ (Spares insn r × LeavesPointer kind insn × Has (AtRegister (Pointer kind o) r) state)
+After (AtRegister NoPointer r) slot k insn state = ⊥
+After (IsSetAt i) slot k insn state = StoresByte insn i ⊎ Has (IsSetAt i) state
+After (IsPlainAt j) slot k insn state = Has (IsPlainAt j) state

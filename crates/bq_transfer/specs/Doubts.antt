@@ -8,7 +8,7 @@ use Rattle.bq_insn.specs.declared.Source.{Source}
 use Rattle.bq_insn.specs.declared.Source.TheVariants.{Reg}
 use Rattle.bq_insn.specs.declared.Width.{Width}
 use Rattle.bq_insn.specs.declared.Width.TheVariants.{W32}
-use Rattle.bq_states.specs.declared.abstract_state.Kind.TheVariants.{Number}
+use Rattle.bq_states.specs.declared.abstract_state.ValueKind.TheVariants.{Number}
 use Rattle.bq_states.specs.declared.abstract_state.AbstractValue.{AbstractValue}
 use Rattle.bq_states.specs.declared.abstract_state.AbstractState.{AbstractState}
 use Rattle.bq_transfer.specs.declared.doubt.Doubt.{Doubt}
@@ -69,11 +69,11 @@ MayDoubt Answer insn = IsExit insn
 
 -- of the register it is not shown that it is set
 abbrev pub IsUnknownAt : AbstractState → ℕ → Type 0
-IsUnknownAt view r = slice_index_or view.registers r None ≡ None
+IsUnknownAt state r = slice_index_or state.registers r None ≡ None
 
 -- the register is set, and not to a number
 abbrev pub IsNoNumberAt : AbstractState → ℕ → Type 0
-IsNoNumberAt view r = (k : AbstractValue) × (slice_index_or view.registers r None ≡ Some k) × (k.kind ≢ Number)
+IsNoNumberAt state r = (k : AbstractValue) × (slice_index_or state.registers r None ≡ Some k) × (k.kind ≢ Number)
 
 -- the number of a doubt, after the letter V
 abbrev pub doubt_number : Doubt → ℕ

@@ -20,74 +20,74 @@ use Rattle.bq_bpf.specs.Memory.{stack_size}
 use Rattle.bq_graph.specs.Faults.{destination_of}
 use Rattle.bq_states.specs.Certainty.{Scalar, Pointer, StandsAt, IsSetAt, IsPlainAt, Has, IsScalarOperand}
 use Rattle.bq_states.specs.AbstractStates.{bound_of, size_of_shape}
-use Rattle.bq_states.specs.declared.abstract_state.Kind.TheVariants.{Number, Stack, Entry, EntryOrNull, Map}
-use Rattle.bq_states.specs.declared.abstract_state.Kind.{Kind}
+use Rattle.bq_states.specs.declared.abstract_state.ValueKind.TheVariants.{Number, Stack, Entry, EntryOrNull, Map}
+use Rattle.bq_states.specs.declared.abstract_state.ValueKind.{ValueKind}
 use Rattle.bq_states.specs.declared.abstract_state.AbstractValue.{AbstractValue}
 use Rattle.bq_states.specs.declared.abstract_state.AbstractState.{AbstractState}
 
 -- the first operand of an arithmetic instruction, which a MOV has not
 abbrev pub IsLeftReady : Operation → AbstractState → ℕ → Type 0
-IsLeftReady Mov view dst = Unit {0}
-IsLeftReady _ view dst = StandsAt Scalar view dst
+IsLeftReady Mov state dst = Unit {0}
+IsLeftReady _ state dst = StandsAt Scalar state dst
 
 -- an access by the register lies there, inside what the register points to
-pub record IsPlaced (shapes : List MapShape) (context : ℕ) (view : AbstractState) (size : Size) (r : ℕ) (off : ℤ) (kind : Kind) (at : ℕ) : Type 0 where
+pub record IsPlaced (shapes : List MapShape) (context : ℕ) (state : AbstractState) (size : Size) (r : ℕ) (off : ℤ) (kind : ValueKind) (at : ℕ) : Type 0 where
   pub base : ℕ
-  pub stands : StandsAt (Pointer kind base) view r
+  pub stands : StandsAt (Pointer kind base) state r
   pub at_is : pos at ≡ (pos base +ℤ off)
   pub bound : ℕ
   pub bound_is : bound_of shapes context kind ≡ Some bound
   pub inside : at + byte_count size ≤ bound
 
 -- a load of what may be read: on the stack, of bytes that are set, and no pointer is kept there
-pub record IsReadable (shapes : List MapShape) (context : ℕ) (view : AbstractState) (size : Size) (r : ℕ) (off : ℤ) : Type 0 where
-  pub kind : Kind
+pub record IsReadable (shapes : List MapShape) (context : ℕ) (state : AbstractState) (size : Size) (r : ℕ) (off : ℤ) : Type 0 where
+  pub kind : ValueKind
   pub at : ℕ
-  pub placed : IsPlaced shapes context view size r off kind at
-  pub set : kind ≡ Stack → (i : ℕ) → at ≤ i → i < at + byte_count size → Has (IsSetAt i) view
-  pub plain : (j : ℕ) → Has (IsPlainAt j) view
+  pub placed : IsPlaced shapes context state size r off kind at
+  pub set : kind ≡ Stack → (i : ℕ) → at ≤ i → i < at + byte_count size → Has (IsSetAt i) state
+  pub plain : (j : ℕ) → Has (IsPlainAt j) state
 
 -- a store on the stack
-pub record IsOnFrame (shapes : List MapShape) (context : ℕ) (view : AbstractState) (size : Size) (r : ℕ) (off : ℤ) : Type 0 where
+pub record IsOnFrame (shapes : List MapShape) (context : ℕ) (state : AbstractState) (size : Size) (r : ℕ) (off : ℤ) : Type 0 where
   pub at : ℕ
   pub at_is : pos at ≡ (pos stack_size +ℤ off)
-  pub placed : IsPlaced shapes context view size r off Stack at
+  pub placed : IsPlaced shapes context state size r off Stack at
 
 -- a store into an entry
-pub record IsIntoEntry (shapes : List MapShape) (context : ℕ) (view : AbstractState) (size : Size) (r : ℕ) (off : ℤ) : Type 0 where
+pub record IsIntoEntry (shapes : List MapShape) (context : ℕ) (state : AbstractState) (size : Size) (r : ℕ) (off : ℤ) : Type 0 where
   pub map : ℕ
   pub at : ℕ
-  pub placed : IsPlaced shapes context view size r off (Entry map) at
+  pub placed : IsPlaced shapes context state size r off (Entry map) at
   pub other : r ≢ 10
 
 -- a copy of register 10
-pub record IsCopyOfFrame (view : AbstractState) (w : Width) (op : Operation) (src : Source) : Type 0 where
+pub record IsCopyOfFrame (state : AbstractState) (w : Width) (op : Operation) (src : Source) : Type 0 where
   pub is_copy : op ≡ Mov
   pub whole : w ≡ W64
   pub of_frame : src ≡ Reg 10
   pub base : ℕ
-  pub stands : StandsAt (Pointer Stack base) view 10
+  pub stands : StandsAt (Pointer Stack base) state 10
 
 -- a sum of a pointer into the stack and a number
-pub record IsMoveOfPointer (view : AbstractState) (w : Width) (op : Operation) (dst : ℕ) (src : Source) : Type 0 where
+pub record IsMoveOfPointer (state : AbstractState) (w : Width) (op : Operation) (dst : ℕ) (src : Source) : Type 0 where
   pub is_sum : op ≡ Add
   pub whole : w ≡ W64
   pub distance : ℤ
   pub by_distance : src ≡ Imm distance
   pub base : ℕ
-  pub stands : StandsAt (Pointer Stack base) view dst
+  pub stands : StandsAt (Pointer Stack base) state dst
   pub at : ℕ
   pub at_is : pos at ≡ (pos base +ℤ distance)
   pub below : base ≤ stack_size
   pub small : at ≤ stack_size
 
 -- a look-up: register 1 names a map, and register 2 points to four bytes of the stack that are set
-pub record IsNamingEntry (view : AbstractState) (map : ℕ) : Type 0 where
-  pub names : StandsAt (Pointer (Map map) 0) view 1
+pub record IsNamingEntry (state : AbstractState) (map : ℕ) : Type 0 where
+  pub names : StandsAt (Pointer (Map map) 0) state 1
   pub at : ℕ
-  pub points : StandsAt (Pointer Stack at) view 2
+  pub points : StandsAt (Pointer Stack at) state 2
   pub inside : at + 4 ≤ stack_size
-  pub set : (i : ℕ) → at ≤ i → i < at + 4 → Has (IsSetAt i) view
+  pub set : (i : ℕ) → at ≤ i → i < at + 4 → Has (IsSetAt i) state
 
 -- a number of at most so much
 abbrev pub IsAtMost : ℕ → Option AbstractValue → Type 0
@@ -95,15 +95,15 @@ IsAtMost most None = ⊥
 IsAtMost most (Some k) = (k.kind ≡ Number) × (k.offset.hi ≤ most)
 
 -- an update: as a look-up, and register 3 points to bytes of the stack that are set, as many as a value has, and register 4 is 0
-pub record IsUpdating (shapes : List MapShape) (view : AbstractState) (map : ℕ) : Type 0 where
-  pub names : IsNamingEntry view map
+pub record IsUpdating (shapes : List MapShape) (state : AbstractState) (map : ℕ) : Type 0 where
+  pub names : IsNamingEntry state map
   pub size : ℕ
   pub size_is : size_of_shape (slice_get shapes map) ≡ Some size
   pub at : ℕ
-  pub points : StandsAt (Pointer Stack at) view 3
+  pub points : StandsAt (Pointer Stack at) state 3
   pub inside : at + size ≤ stack_size
-  pub set : (i : ℕ) → at ≤ i → i < at + size → Has (IsSetAt i) view
-  pub flags : IsAtMost 0 (slice_index_or view.registers 4 None)
+  pub set : (i : ℕ) → at ≤ i → i < at + size → Has (IsSetAt i) state
+  pub flags : IsAtMost 0 (slice_index_or state.registers 4 None)
 
 -- a test with 0 for equality
 abbrev pub IsNullTest : Condition → Type 0
@@ -119,22 +119,22 @@ pub record IsNullCheck (w : Width) (c : Condition) (src : Source) : Type 0 where
 
 -- what an instruction needs, by the abstract state before it
 abbrev pub IsReady : List MapShape → ℕ → AbstractState → Insn → Type 0
-IsReady shapes context view (Alu w op dst src) = (dst < 10) × ((IsLeftReady op view dst × IsScalarOperand view src) ⊎ (IsCopyOfFrame view w op src ⊎ IsMoveOfPointer view w op dst src))
-IsReady shapes context view (MovSx w bits dst src) = (dst < 10) × StandsAt Scalar view src
-IsReady shapes context view (Neg w dst) = (dst < 10) × StandsAt Scalar view dst
-IsReady shapes context view (End order bits dst) = (dst < 10) × StandsAt Scalar view dst
-IsReady shapes context view (Load size signed dst src off) = (dst < 10) × IsReadable shapes context view size src off
-IsReady shapes context view (StoreImm size dst off imm) = IsOnFrame shapes context view size dst off ⊎ IsIntoEntry shapes context view size dst off
-IsReady shapes context view (StoreReg size dst off src) = StandsAt Scalar view src × (IsOnFrame shapes context view size dst off ⊎ IsIntoEntry shapes context view size dst off)
-IsReady shapes context view (Imm64 dst value) = dst < 10
-IsReady shapes context view (MapRef dst index) = (dst < 10) × (m : ℕ) × (index ≡ pos m) × (m < length shapes)
-IsReady shapes context view (Goto off) = Unit {0}
-IsReady shapes context view (Goto32 imm) = Unit {0}
-IsReady shapes context view (Branch w c dst src off) =
-    (dst < 10) × ((StandsAt Scalar view dst × IsScalarOperand view src) ⊎ (IsNullCheck w c src × (m : ℕ) × StandsAt (Pointer (EntryOrNull m) 0) view dst))
-IsReady shapes context view (Call helper) =
-    ((helper ≡ number_of_helper Now) ⊎ (helper ≡ number_of_helper Processor)) ⊎ ((helper ≡ number_of_helper Lookup) × (m : ℕ) × IsNamingEntry view m) ⊎ ((helper ≡ number_of_helper Update) × (m : ℕ) × IsUpdating shapes view m)
-IsReady shapes context view Exit = StandsAt Scalar view 0
+IsReady shapes context state (Alu w op dst src) = (dst < 10) × ((IsLeftReady op state dst × IsScalarOperand state src) ⊎ (IsCopyOfFrame state w op src ⊎ IsMoveOfPointer state w op dst src))
+IsReady shapes context state (MovSx w bits dst src) = (dst < 10) × StandsAt Scalar state src
+IsReady shapes context state (Neg w dst) = (dst < 10) × StandsAt Scalar state dst
+IsReady shapes context state (End order bits dst) = (dst < 10) × StandsAt Scalar state dst
+IsReady shapes context state (Load size signed dst src off) = (dst < 10) × IsReadable shapes context state size src off
+IsReady shapes context state (StoreImm size dst off imm) = IsOnFrame shapes context state size dst off ⊎ IsIntoEntry shapes context state size dst off
+IsReady shapes context state (StoreReg size dst off src) = StandsAt Scalar state src × (IsOnFrame shapes context state size dst off ⊎ IsIntoEntry shapes context state size dst off)
+IsReady shapes context state (Imm64 dst value) = dst < 10
+IsReady shapes context state (MapRef dst index) = (dst < 10) × (m : ℕ) × (index ≡ pos m) × (m < length shapes)
+IsReady shapes context state (Goto off) = Unit {0}
+IsReady shapes context state (Goto32 imm) = Unit {0}
+IsReady shapes context state (Branch w c dst src off) =
+    (dst < 10) × ((StandsAt Scalar state dst × IsScalarOperand state src) ⊎ (IsNullCheck w c src × (m : ℕ) × StandsAt (Pointer (EntryOrNull m) 0) state dst))
+IsReady shapes context state (Call helper) =
+    ((helper ≡ number_of_helper Now) ⊎ (helper ≡ number_of_helper Processor)) ⊎ ((helper ≡ number_of_helper Lookup) × (m : ℕ) × IsNamingEntry state m) ⊎ ((helper ≡ number_of_helper Update) × (m : ℕ) × IsUpdating shapes state m)
+IsReady shapes context state Exit = StandsAt Scalar state 0
 
 -- neither a jump nor an EXIT
 abbrev pub IsTransferred : Insn → Type 0
@@ -150,9 +150,9 @@ WritesBelowFrame insn = (r : ℕ) → destination_of insn ≡ Some r → r < 10
 
 -- a call of a counter: register 1 is its number, and of an add register 2 is the amount
 abbrev pub IsAsking : AbstractState → ℤ → Type 0
-IsAsking view helper = IsAtMost (COUNTERS - 1) (slice_index_or view.registers 1 None) × (helper ≡ number_of_helper AddCounter → StandsAt Scalar view 2)
+IsAsking state helper = IsAtMost (COUNTERS - 1) (slice_index_or state.registers 1 None) × (helper ≡ number_of_helper AddCounter → StandsAt Scalar state 2)
 
 -- what a call of a counter needs
 abbrev pub IsReadyToAsk : AbstractState → Insn → Type 0
-IsReadyToAsk view (Call helper) = ((helper ≡ number_of_helper AddCounter) ⊎ (helper ≡ number_of_helper ReadCounter)) × IsAsking view helper
-IsReadyToAsk view insn = ⊥
+IsReadyToAsk state (Call helper) = ((helper ≡ number_of_helper AddCounter) ⊎ (helper ≡ number_of_helper ReadCounter)) × IsAsking state helper
+IsReadyToAsk state insn = ⊥

@@ -7,8 +7,8 @@ use Rattle.bq_insn.specs.declared.Width.{Width}
 use Rattle.bq_transfer.specs.Ready.{IsNullCheck}
 use Rattle.bq_states.specs.Certainty.{Pointer, Stands}
 use Rattle.bq_states.specs.AbstractStates.{Describes}
-use Rattle.bq_states.specs.declared.abstract_state.Kind.{Kind}
-use Rattle.bq_states.specs.declared.abstract_state.Kind.TheVariants.{Number, Entry, EntryOrNull}
+use Rattle.bq_states.specs.declared.abstract_state.ValueKind.{ValueKind}
+use Rattle.bq_states.specs.declared.abstract_state.ValueKind.TheVariants.{Number, Entry, EntryOrNull}
 use Rattle.bq_states.specs.declared.abstract_state.AbstractValue.{AbstractValue}
 use Rattle.bq_bpf.specs.declared.shape.MapShape.{MapShape}
 
@@ -18,7 +18,7 @@ is_found Equal goes = not goes
 is_found c goes = goes
 
 -- the answer of a look-up in that map, which may be 0 or was found
-abbrev pub IsAnswerOf : ℕ → Kind → Type 0
+abbrev pub IsAnswerOf : ℕ → ValueKind → Type 0
 IsAnswerOf map kind = (kind ≡ EntryOrNull map) ⊎ (kind ≡ Entry map)
 
 -- the words may be compared so: two numbers, or a look-up's answer with 0 from the instruction, for equality and in 64 bits

@@ -14,7 +14,7 @@ use Rattle.bq_bpf.specs.Steps.{Does, Asks, called, address_of, low_bytes, next}
 use Rattle.bq_ranges.specs.Within.{Within}
 use Rattle.bq_ranges.specs.declared.range.Range.{Range}
 use Rattle.bq_states.specs.Copies.{HasWord}
-use Rattle.bq_states.specs.declared.abstract_state.Kind.{Kind}
+use Rattle.bq_states.specs.declared.abstract_state.ValueKind.{ValueKind}
 use Rattle.bq_states.specs.declared.abstract_state.AbstractValue.{AbstractValue}
 use Rattle.bq_states.specs.declared.abstract_state.AbstractState.{AbstractState}
 use Rattle.bq_insn.specs.declared.Operation.TheVariants.{Mov}
@@ -33,16 +33,16 @@ AsksFrom insn old new =
 
 -- in every state of the abstract state the register is set, and is below that number
 abbrev pub IsBelow : AbstractState → ℕ → ℕ → Type 0
-IsBelow view r bound = (f : Setting) (s : State) → Contains f view s → (n : ℕ) × (s.register r ≡ Some n) × (n < bound)
+IsBelow state r bound = (f : Setting) (s : State) → Contains f state s → (n : ℕ) × (s.register r ≡ Some n) × (n < bound)
 
 -- in every state of the abstract state the register is set, to a number of the range
 abbrev pub HoldsNumber : AbstractState → ℕ → Range → Type 0
-HoldsNumber view r range = (f : Setting) (s : State) → Contains f view s → (n : ℕ) × (s.register r ≡ Some n) × Within range n
+HoldsNumber state r range = (f : Setting) (s : State) → Contains f state s → (n : ℕ) × (s.register r ≡ Some n) × Within range n
 
 -- in every state of the abstract state the access is good: the region is of that kind, and the offset in the range
-abbrev pub FindsPlace : List MapShape → ℕ → AbstractState → ℕ → ℤ → Size → Kind → Range → Type 0
-FindsPlace shapes context_length view r off size kind at =
-    (f : Setting) (s : State) → Suits shapes context_length f → Contains f view s → (word : ℕ) × (region : Region) × (o : ℕ) × (s.register r ≡ Some word) × IsGood f (address_of word off) (byte_count size) region o × IsOfKind kind region × Within at o
+abbrev pub FindsPlace : List MapShape → ℕ → AbstractState → ℕ → ℤ → Size → ValueKind → Range → Type 0
+FindsPlace shapes context_length state r off size kind at =
+    (f : Setting) (s : State) → Suits shapes context_length f → Contains f state s → (word : ℕ) × (region : Region) × (o : ℕ) × (s.register r ≡ Some word) × IsGood f (address_of word off) (byte_count size) region o × IsOfKind kind region × Within at o
 
 -- the eight bytes of that slot of the stack
 abbrev pub IsWholeSlot : Range → Size → ℕ → Type 0

@@ -5,14 +5,14 @@ ghost use Rattle.bq_bpf.specs.Meaning.{word_of};
 ghost use Rattle.bq_insn.specs.declared.Insn.{Insn};
 ghost use Rattle.bq_transfer.specs.Doubts.{IsAccess, IsUnknownAt, MayDoubt, ReadsOperand};
 ghost use Rattle.bq_transfer.specs.Ready.{IsPlaced};
-ghost use Rattle.bq_states.specs.declared.abstract_state.Kind.{Kind as Base};
+ghost use Rattle.bq_states.specs.declared.abstract_state.ValueKind.{ValueKind as Base};
 ghost use Rattle.bq_transfer.specs.Transfers.{FindsPlace};
 
 use crate::doubt::Doubt;
 use bq_bpf::MapShape;
 use bq_insn::{Operation, Size, Width};
 use bq_ranges::{Range, arithmetic};
-use bq_states::abstract_state::{AbstractState, Kind};
+use bq_states::abstract_state::{AbstractState, ValueKind};
 use bq_states::places::{bound, stays};
 use bq_states::registers::known;
 
@@ -27,25 +27,25 @@ pub struct Access {
 /// Where an access goes: what the pointer counts from, and the offsets from there.
 #[derive(Clone, Copy)]
 pub struct Location {
-    pub kind: Kind,
+    pub kind: ValueKind,
     pub at: Range,
 }
 
 /// Where an access goes, if it stays inside. What is in doubt is that the register is set, where nothing is known of it, and else the access.
 pub fn locate(
-    view: &AbstractState,
+    state: &AbstractState,
     shapes: &[MapShape],
     context: usize,
     access: Access,
 ) -> Result<Location, Doubt>
     requires context { context < 2 ^ 16 }
-    ensures finds { IfOk result (λ p. FindsPlace shapes.now context view.now access.base access.off access.size p.kind p.at) }
+    ensures finds { IfOk result (λ p. FindsPlace shapes.now context state.now access.base access.off access.size p.kind p.at) }
     ensures doubts { IfErr result (λ doubt. (insn : Insn) → IsAccess insn → ReadsOperand insn → MayDoubt doubt insn) }
-    ensures unset { IfErr result (λ doubt. doubt ≡ Doubt.Unset ↔ IsUnknownAt view.now access.base) }
-    ensures accepts { (kind : Base) (place : ℕ) → IsPlaced shapes.now context view.now access.size access.base access.off kind place → IsOk result }
-    ensures there { IfOk result (λ p. (kind : Base) (place : ℕ) → IsPlaced shapes.now context view.now access.size access.base access.off kind place → (p.kind ≡ kind) × (p.at.lo ≡ place) × (p.at.hi ≡ place)) }
+    ensures unset { IfErr result (λ doubt. doubt ≡ Doubt.Unset ↔ IsUnknownAt state.now access.base) }
+    ensures accepts { (kind : Base) (place : ℕ) → IsPlaced shapes.now context state.now access.size access.base access.off kind place → IsOk result }
+    ensures there { IfOk result (λ p. (kind : Base) (place : ℕ) → IsPlaced shapes.now context state.now access.size access.base access.off kind place → (p.kind ≡ kind) × (p.at.lo ≡ place) × (p.at.hi ≡ place)) }
 {
-    let Some(base) = known(view, access.base) else {
+    let Some(base) = known(state, access.base) else {
         return Err(Doubt::Unset);
     };
     let Some(bound) = bound(base.kind, shapes, context) else {

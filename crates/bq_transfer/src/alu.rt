@@ -15,7 +15,7 @@ ghost use Rattle.bq_states.specs.AbstractStates.{Describes};
 use crate::doubt::Doubt;
 use bq_insn::{Insn, Operation, Source, Width};
 use bq_ranges::arithmetic;
-use bq_states::abstract_state::{AbstractState, AbstractValue, Kind};
+use bq_states::abstract_state::{AbstractState, AbstractValue, ValueKind};
 use bq_states::copies::link;
 use bq_states::registers::{known, learn, operand};
 
@@ -27,25 +27,25 @@ pub fn combine(
     b: AbstractValue,
 ) -> Option<AbstractValue>
     ensures describes { IfSome result (λ k. (shapes : List MapShape) (x y : ℕ) → Describes shapes a x → Describes shapes b y → Describes shapes k (alu_result width op x y)) }
-    ensures scalar { a.kind ≡ Kind.Number → b.kind ≡ Kind.Number → Stands Scalar result }
-    ensures moves { (base word : ℕ) → width ≡ Width.W64 → op ≡ Operation.Add → Stands (Pointer Kind.Stack base) (Some a) → IsWord word (Some b) → Stands (Pointer Kind.Stack (alu_result Width.W64 Operation.Add base word)) result }
+    ensures scalar { a.kind ≡ ValueKind.Number → b.kind ≡ ValueKind.Number → Stands Scalar result }
+    ensures moves { (base word : ℕ) → width ≡ Width.W64 → op ≡ Operation.Add → Stands (Pointer ValueKind.Stack base) (Some a) → IsWord word (Some b) → Stands (Pointer ValueKind.Stack (alu_result Width.W64 Operation.Add base word)) result }
 {
     match (a.kind, b.kind) {
-        (Kind::Number, Kind::Number) => Some(AbstractValue {
-            kind: Kind::Number,
+        (ValueKind::Number, ValueKind::Number) => Some(AbstractValue {
+            kind: ValueKind::Number,
             offset: arithmetic::alu(width, op, a.offset, b.offset),
         }),
-        (Kind::EntryOrNull(_), _) | (Kind::Map(_), _) => None,
-        (_, Kind::Number) => moved(width, op, a, b),
-        (Kind::Number, _) => added(width, op, a, b),
+        (ValueKind::EntryOrNull(_), _) | (ValueKind::Map(_), _) => None,
+        (_, ValueKind::Number) => moved(width, op, a, b),
+        (ValueKind::Number, _) => added(width, op, a, b),
         _ => None,
     }
 }
 
 /// A pointer and a number.
 fn moved(width: Width, op: Operation, a: AbstractValue, b: AbstractValue) -> Option<AbstractValue>
-    requires { b.kind ≡ Kind.Number }
-    ensures moves { (base word : ℕ) → width ≡ Width.W64 → op ≡ Operation.Add → Stands (Pointer Kind.Stack base) (Some a) → IsWord word (Some b) → Stands (Pointer Kind.Stack (alu_result Width.W64 Operation.Add base word)) result }
+    requires { b.kind ≡ ValueKind.Number }
+    ensures moves { (base word : ℕ) → width ≡ Width.W64 → op ≡ Operation.Add → Stands (Pointer ValueKind.Stack base) (Some a) → IsWord word (Some b) → Stands (Pointer ValueKind.Stack (alu_result Width.W64 Operation.Add base word)) result }
     ensures describes { IfSome result (λ k. (shapes : List MapShape) (x y : ℕ) → Describes shapes a x → Describes shapes b y → Describes shapes k (alu_result width op x y)) }
 {
     match (width, op) {
@@ -63,11 +63,11 @@ fn moved(width: Width, op: Operation, a: AbstractValue, b: AbstractValue) -> Opt
 
 /// A number to which a pointer is added: the pointer moved.
 fn added(width: Width, op: Operation, a: AbstractValue, b: AbstractValue) -> Option<AbstractValue>
-    requires { a.kind ≡ Kind.Number }
+    requires { a.kind ≡ ValueKind.Number }
     ensures { IfSome result (λ k. (shapes : List MapShape) (x y : ℕ) → Describes shapes a x → Describes shapes b y → Describes shapes k (alu_result width op x y)) }
 {
     match (width, op, b.kind) {
-        (_, _, Kind::EntryOrNull(_) | Kind::Map(_)) => None,
+        (_, _, ValueKind::EntryOrNull(_) | ValueKind::Map(_)) => None,
         (Width::W64, Operation::Add, _) => Some(AbstractValue {
             kind: b.kind,
             offset: arithmetic::add(Width::W64, b.offset, a.offset),
@@ -78,26 +78,26 @@ fn added(width: Width, op: Operation, a: AbstractValue, b: AbstractValue) -> Opt
 
 /// An arithmetic instruction.
 pub fn alu(
-    view: &mut AbstractState,
+    state: &mut AbstractState,
     width: Width,
     op: Operation,
     dst: u8,
     src: Source,
 ) -> Result<(), Doubt>
     requires { dst < 10 }
-    ensures transfers { OnOk result ((shapes : List MapShape) (context_length : ℕ) → Transfers shapes context_length (Insn.Alu width op dst src) view.old view.new) }
+    ensures transfers { OnOk result ((shapes : List MapShape) (context_length : ℕ) → Transfers shapes context_length (Insn.Alu width op dst src) state.old state.new) }
     ensures doubts { IfErr result (λ doubt. MayDoubt doubt (Insn.Alu width op dst src)) }
-    ensures accepts { (shapes : List MapShape) (context_length : ℕ) → IsReady shapes context_length view.old (Insn.Alu width op dst src) → IsOk result × ((x : Fact) (slot k : ℕ) → After x slot k (Insn.Alu width op dst src) view.old → Has x view.new) }
+    ensures accepts { (shapes : List MapShape) (context_length : ℕ) → IsReady shapes context_length state.old (Insn.Alu width op dst src) → IsOk result × ((x : Fact) (slot k : ℕ) → After x slot k (Insn.Alu width op dst src) state.old → Has x state.new) }
 {
     if op == Operation::Mov {
-        return copy(view, width, dst, src);
+        return copy(state, width, dst, src);
     }
-    operate(view, width, op, dst, src)
+    operate(state, width, op, dst, src)
 }
 
 /// Arithmetic on what the register holds.
 fn operate(
-    view: &mut AbstractState,
+    state: &mut AbstractState,
     width: Width,
     op: Operation,
     dst: u8,
@@ -105,34 +105,34 @@ fn operate(
 ) -> Result<(), Doubt>
     requires other { op ≢ Operation.Mov }
     requires below { dst < 10 }
-    ensures transfers { OnOk result ((shapes : List MapShape) (context_length : ℕ) → Transfers shapes context_length (Insn.Alu width op dst src) view.old view.new) }
+    ensures transfers { OnOk result ((shapes : List MapShape) (context_length : ℕ) → Transfers shapes context_length (Insn.Alu width op dst src) state.old state.new) }
     ensures doubts { IfErr result (λ doubt. MayDoubt doubt (Insn.Alu width op dst src)) }
-    ensures accepts { StandsAt Scalar view.old dst → IsScalarOperand view.old src → IsOk result × IsGiven view.old view.new dst }
-    ensures moves { (m : IsMoveOfPointer view.old width op dst src) → IsOk result × IsMade (Pointer Kind.Stack m.at) view.old view.new dst }
+    ensures accepts { StandsAt Scalar state.old dst → IsScalarOperand state.old src → IsOk result × IsGiven state.old state.new dst }
+    ensures moves { (m : IsMoveOfPointer state.old width op dst src) → IsOk result × IsMade (Pointer ValueKind.Stack m.at) state.old state.new dst }
 {
-    let Some(right) = operand(view, src) else {
+    let Some(right) = operand(state, src) else {
         return Err(Doubt::Unset);
     };
-    let Some(left) = known(view, dst) else {
+    let Some(left) = known(state, dst) else {
         return Err(Doubt::Unset);
     };
     let Some(word) = combine(width, op, left, right) else {
         return Err(Doubt::PointerUse);
     };
-    learn(view, dst, word);
+    learn(state, dst, word);
     Ok(())
 }
 
 /// A copy.
-fn copy(view: &mut AbstractState, width: Width, dst: u8, src: Source) -> Result<(), Doubt>
+fn copy(state: &mut AbstractState, width: Width, dst: u8, src: Source) -> Result<(), Doubt>
     requires { dst < 10 }
-    ensures transfers { OnOk result ((shapes : List MapShape) (context_length : ℕ) → Transfers shapes context_length (Insn.Alu width Operation.Mov dst src) view.old view.new) }
+    ensures transfers { OnOk result ((shapes : List MapShape) (context_length : ℕ) → Transfers shapes context_length (Insn.Alu width Operation.Mov dst src) state.old state.new) }
     ensures doubts { IfErr result (λ doubt. MayDoubt doubt (Insn.Alu width Operation.Mov dst src)) }
-    ensures accepts { IsScalarOperand view.old src → IsOk result × IsGiven view.old view.new dst }
-    ensures exact { OnOk result ((i : ℤ) → src ≡ Source.Imm i → width ≡ Width.W64 → IsMade (Exact (word_of i)) view.old view.new dst) }
-    ensures copies { (m : IsCopyOfFrame view.old width Operation.Mov src) → IsOk result × IsMade (Pointer Kind.Stack m.base) view.old view.new dst }
+    ensures accepts { IsScalarOperand state.old src → IsOk result × IsGiven state.old state.new dst }
+    ensures exact { OnOk result ((i : ℤ) → src ≡ Source.Imm i → width ≡ Width.W64 → IsMade (Exact (word_of i)) state.old state.new dst) }
+    ensures copies { (m : IsCopyOfFrame state.old width Operation.Mov src) → IsOk result × IsMade (Pointer ValueKind.Stack m.base) state.old state.new dst }
 {
-    let Some(right) = operand(view, src) else {
+    let Some(right) = operand(state, src) else {
         return Err(Doubt::Unset);
     };
     if src == Source::Reg(dst) && is_whole(width, right) {
@@ -141,8 +141,8 @@ fn copy(view: &mut AbstractState, width: Width, dst: u8, src: Source) -> Result<
     let Some(word) = copied(width, right) else {
         return Err(Doubt::PointerUse);
     };
-    learn(view, dst, word);
-    link_copy(&mut view.classes, width, dst, src, right);
+    learn(state, dst, word);
+    link_copy(&mut state.classes, width, dst, src, right);
     Ok(())
 }
 
@@ -167,7 +167,7 @@ fn is_whole(width: Width, word: AbstractValue) -> bool
 {
     match (width, word.kind) {
         (Width::W64, _) => true,
-        (Width::W32, Kind::Number) => {
+        (Width::W32, ValueKind::Number) => {
             if word.offset.hi > 0xffff_ffff {
                 return false;
             }
@@ -180,13 +180,13 @@ fn is_whole(width: Width, word: AbstractValue) -> bool
 /// What is known of a copy.
 fn copied(width: Width, word: AbstractValue) -> Option<AbstractValue>
     ensures describes { IfSome result (λ k. (shapes : List MapShape) (x y : ℕ) → Describes shapes word y → Describes shapes k (alu_result width Operation.Mov x y)) }
-    ensures scalar { word.kind ≡ Kind.Number → Stands Scalar result }
+    ensures scalar { word.kind ≡ ValueKind.Number → Stands Scalar result }
     ensures same { width ≡ Width.W64 → result ≡ Some word }
 {
     match (width, word.kind) {
         (Width::W64, _) => Some(word),
-        (Width::W32, Kind::Number) => Some(AbstractValue {
-            kind: Kind::Number,
+        (Width::W32, ValueKind::Number) => Some(AbstractValue {
+            kind: ValueKind::Number,
             offset: arithmetic::alu(width, Operation::Mov, word.offset, word.offset),
         }),
         _ => None,

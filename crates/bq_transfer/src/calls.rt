@@ -18,32 +18,32 @@ use bq_bpf::helper::{LOOKUP, NOW, PROCESSOR, UPDATE};
 use bq_bpf::shape::MAPS;
 use bq_insn::{Insn, Size, Width};
 use bq_ranges::Range;
-use bq_states::abstract_state::{AbstractState, AbstractValue, Kind};
+use bq_states::abstract_state::{AbstractState, AbstractValue, ValueKind};
 use bq_states::copies::part_first;
 use bq_states::places::{reads, reads_value, shape_of};
 use bq_states::registers::{clear, known, learn};
 
 /// The reference of a map.
 pub fn map_ref(
-    view: &mut AbstractState,
+    state: &mut AbstractState,
     shapes: &[MapShape],
     dst: u8,
     index: i32,
 ) -> Result<(), Doubt>
     requires few { length shapes.now ≤ 8 }
     requires below { dst < 10 }
-    ensures transfers { OnOk result ((context_length : ℕ) → Transfers shapes.now context_length (Insn.MapRef dst index) view.old view.new) }
+    ensures transfers { OnOk result ((context_length : ℕ) → Transfers shapes.now context_length (Insn.MapRef dst index) state.old state.new) }
     ensures doubts { IfErr result (λ doubt. MayDoubt doubt (Insn.MapRef dst index)) }
-    ensures accepts { (m : ℕ) → index ≡ pos m → m < length shapes.now → IsOk result × IsMade (Pointer (Kind.Map m) 0) view.old view.new dst }
+    ensures accepts { (m : ℕ) → index ≡ pos m → m < length shapes.now → IsOk result × IsMade (Pointer (ValueKind.Map m) 0) state.old state.new dst }
 {
     let Some(map) = map_number(shapes, index) else {
         return Err(Doubt::Argument);
     };
     learn(
-        view,
+        state,
         dst,
         AbstractValue {
-            kind: Kind::Map(map),
+            kind: ValueKind::Map(map),
             offset: Range::single(0),
         },
     );
@@ -69,71 +69,71 @@ fn map_number(shapes: &[MapShape], index: i32) -> Option<u8>
 }
 
 /// The map that register 1 names.
-fn map_of(view: &AbstractState) -> Option<u8>
-    ensures found { (m : ℕ) → StandsAt (Pointer (Kind.Map m) 0) view.now 1 → result ≡ Some m }
-    ensures names { IfSome result (λ m. (f : Setting) (s : State) → Contains f view.now s → (s.register 1 ≡ Some (reference m)) × (m < length f.shapes)) }
+fn map_of(state: &AbstractState) -> Option<u8>
+    ensures found { (m : ℕ) → StandsAt (Pointer (ValueKind.Map m) 0) state.now 1 → result ≡ Some m }
+    ensures names { IfSome result (λ m. (f : Setting) (s : State) → Contains f state.now s → (s.register 1 ≡ Some (reference m)) × (m < length f.shapes)) }
 {
-    let Some(word) = known(view, 1) else {
+    let Some(word) = known(state, 1) else {
         return None;
     };
     if word.offset.hi > 0 {
         return None;
     }
     match word.kind {
-        Kind::Map(map) => Some(map),
+        ValueKind::Map(map) => Some(map),
         _ => None,
     }
 }
 
 /// A call of a helper that is no counter's: a look-up, an update, the time, or the number of the processor.
 pub fn call(
-    view: &mut AbstractState,
+    state: &mut AbstractState,
     shapes: &[MapShape],
     context: usize,
     helper: i32,
 ) -> Result<(), Doubt>
     requires { context < 2 ^ 16 }
-    ensures transfers { OnOk result (Transfers shapes.now context (Insn.Call helper) view.old view.new) }
+    ensures transfers { OnOk result (Transfers shapes.now context (Insn.Call helper) state.old state.new) }
     ensures doubts { IfErr result (λ doubt. MayDoubt doubt (Insn.Call helper)) }
-    ensures accepts { IsReady shapes.now context view.old (Insn.Call helper) → IsOk result × ((x : Fact) (slot k : ℕ) → After x slot k (Insn.Call helper) view.old → Has x view.new) }
+    ensures accepts { IsReady shapes.now context state.old (Insn.Call helper) → IsOk result × ((x : Fact) (slot k : ℕ) → After x slot k (Insn.Call helper) state.old → Has x state.new) }
 {
     if helper == LOOKUP {
-        return look_up(view, shapes, context);
+        return look_up(state, shapes, context);
     }
     if helper == UPDATE {
-        return update(view, shapes, context);
+        return update(state, shapes, context);
     }
     if helper == NOW {
-        now(view);
+        now(state);
         return Ok(());
     }
     if helper == PROCESSOR {
-        processor(view);
+        processor(state);
         return Ok(());
     }
     Err(Doubt::Argument)
 }
 
 /// A look-up: register 1 is the reference of a map, and register 2 points to the number of an entry.
-fn look_up(view: &mut AbstractState, shapes: &[MapShape], context: usize) -> Result<(), Doubt>
+fn look_up(state: &mut AbstractState, shapes: &[MapShape], context: usize) -> Result<(), Doubt>
     requires context { context < 2 ^ 16 }
-    ensures transfers { OnOk result (Transfers shapes.now context (Insn.Call LOOKUP) view.old view.new) }
+    ensures transfers { OnOk result (Transfers shapes.now context (Insn.Call LOOKUP) state.old state.new) }
     ensures doubts { IfErr result (λ doubt. MayDoubt doubt (Insn.Call LOOKUP)) }
-    ensures accepts { (m : ℕ) → IsNamingEntry view.old m → IsOk result × IsCalled (Pointer (Kind.EntryOrNull m) 0) view.old view.new }
+    ensures accepts { (m : ℕ) → IsNamingEntry state.old m → IsOk result × IsCalled (Pointer (ValueKind.EntryOrNull m) 0) state.old state.new }
 {
-    let Some(map) = map_of(view) else {
+    let Some(map) = map_of(state) else {
         return Err(Doubt::Argument);
     };
-    if !reads(view, shapes, context, 2, Size::Word) {
+    if !reads(state, shapes, context, 2, Size::Word) {
         return Err(Doubt::Argument);
     }
-    clear(&mut view.registers);
-    part_first(&mut view.classes);
+    clear(&mut state.registers);
+    part_first(&mut state.classes);
     learn(
-        view,
+        state,
         0,
         AbstractValue {
-            kind: Kind::EntryOrNull(map),
+            kind: ValueKind::EntryOrNull(map),
             offset: Range::single(0),
         },
     );
@@ -141,75 +141,75 @@ fn look_up(view: &mut AbstractState, shapes: &[MapShape], context: usize) -> Res
 }
 
 /// An update: as a look-up, and register 3 points to a value, and register 4 is 0.
-fn update(view: &mut AbstractState, shapes: &[MapShape], context: usize) -> Result<(), Doubt>
+fn update(state: &mut AbstractState, shapes: &[MapShape], context: usize) -> Result<(), Doubt>
     requires context { context < 2 ^ 16 }
-    ensures transfers { OnOk result (Transfers shapes.now context (Insn.Call UPDATE) view.old view.new) }
+    ensures transfers { OnOk result (Transfers shapes.now context (Insn.Call UPDATE) state.old state.new) }
     ensures doubts { IfErr result (λ doubt. MayDoubt doubt (Insn.Call UPDATE)) }
-    ensures accepts { (m : ℕ) → IsUpdating shapes.now view.old m → IsOk result × IsAnswered view.old view.new }
+    ensures accepts { (m : ℕ) → IsUpdating shapes.now state.old m → IsOk result × IsAnswered state.old state.new }
 {
-    let Some(map) = map_of(view) else {
+    let Some(map) = map_of(state) else {
         return Err(Doubt::Argument);
     };
-    if !reads(view, shapes, context, 2, Size::Word) {
+    if !reads(state, shapes, context, 2, Size::Word) {
         return Err(Doubt::Argument);
     }
     let Some(shape) = shape_of(shapes, map) else {
         return Err(Doubt::Argument);
     };
-    if !reads_value(view, shapes, context, 3, usize::from(shape.value_size)) {
+    if !reads_value(state, shapes, context, 3, usize::from(shape.value_size)) {
         return Err(Doubt::Argument);
     }
-    if !is_at_most(view, 4, 0) {
+    if !is_at_most(state, 4, 0) {
         return Err(Doubt::Argument);
     }
-    answer(view, Range::full(Width::W64));
+    answer(state, Range::full(Width::W64));
     Ok(())
 }
 
 /// Whether a register is a number of at most `most`.
-pub fn is_at_most(view: &AbstractState, register: u8, most: u64) -> bool
-    ensures below { IsTrue result → (bound : ℕ) → most < bound → IsBelow view.now register bound }
-    ensures found { IsAtMost most (slice_index_or view.now.registers register None) → IsTrue result }
-    ensures any { most ≡ 2 ^ 64 - 1 → StandsAt Scalar view.now register → IsTrue result }
+pub fn is_at_most(state: &AbstractState, register: u8, most: u64) -> bool
+    ensures below { IsTrue result → (bound : ℕ) → most < bound → IsBelow state.now register bound }
+    ensures found { IsAtMost most (slice_index_or state.now.registers register None) → IsTrue result }
+    ensures any { most ≡ 2 ^ 64 - 1 → StandsAt Scalar state.now register → IsTrue result }
 {
-    let Some(word) = known(view, register) else {
+    let Some(word) = known(state, register) else {
         return false;
     };
-    if word.kind != Kind::Number {
+    if word.kind != ValueKind::Number {
         return false;
     }
     word.offset.hi <= most
 }
 
 /// After a call registers 1 to 5 are unset, and register 0 is a number of that range.
-pub fn answer(view: &mut AbstractState, offset: Range)
-    ensures contains { (f : Setting) (s : State) (x : ℕ) → Contains f view.old s → Within offset x → Contains f view.new (called s x) }
-    ensures answered { IsAnswered view.old view.new }
+pub fn answer(state: &mut AbstractState, offset: Range)
+    ensures contains { (f : Setting) (s : State) (x : ℕ) → Contains f state.old s → Within offset x → Contains f state.new (called s x) }
+    ensures answered { IsAnswered state.old state.new }
 {
-    clear(&mut view.registers);
-    part_first(&mut view.classes);
+    clear(&mut state.registers);
+    part_first(&mut state.classes);
     learn(
-        view,
+        state,
         0,
         AbstractValue {
-            kind: Kind::Number,
+            kind: ValueKind::Number,
             offset,
         },
     );
 }
 
 /// The time.
-fn now(view: &mut AbstractState)
-    ensures transfers { (shapes : List MapShape) (context_length : ℕ) → Transfers shapes context_length (Insn.Call NOW) view.old view.new }
-    ensures answered { IsAnswered view.old view.new }
+fn now(state: &mut AbstractState)
+    ensures transfers { (shapes : List MapShape) (context_length : ℕ) → Transfers shapes context_length (Insn.Call NOW) state.old state.new }
+    ensures answered { IsAnswered state.old state.new }
 {
-    answer(view, Range::full(Width::W64));
+    answer(state, Range::full(Width::W64));
 }
 
 /// The number of the processor.
-fn processor(view: &mut AbstractState)
-    ensures transfers { (shapes : List MapShape) (context_length : ℕ) → Transfers shapes context_length (Insn.Call PROCESSOR) view.old view.new }
-    ensures answered { IsAnswered view.old view.new }
+fn processor(state: &mut AbstractState)
+    ensures transfers { (shapes : List MapShape) (context_length : ℕ) → Transfers shapes context_length (Insn.Call PROCESSOR) state.old state.new }
+    ensures answered { IsAnswered state.old state.new }
 {
-    answer(view, Range::full(Width::W32));
+    answer(state, Range::full(Width::W32));
 }

@@ -19,47 +19,47 @@ use bq_states::abstract_state::AbstractState;
 const LAST: u64 = COUNTERS as u64 - 1;
 
 /// An add: register 1 is a counter, and register 2 an amount.
-fn add(view: &mut AbstractState) -> Result<(), Doubt>
-    ensures asks { OnOk result (AsksFrom (Insn.Call ADD_COUNTER) view.old view.new) }
-    ensures accepts { IsAsking view.old ADD_COUNTER → IsOk result × IsAnswered view.old view.new }
+fn add(state: &mut AbstractState) -> Result<(), Doubt>
+    ensures asks { OnOk result (AsksFrom (Insn.Call ADD_COUNTER) state.old state.new) }
+    ensures accepts { IsAsking state.old ADD_COUNTER → IsOk result × IsAnswered state.old state.new }
     ensures doubts { IfErr result (λ doubt. (helper : ℤ) → MayDoubt doubt (Insn.Call helper)) }
 {
-    if !is_at_most(view, 1, LAST) {
+    if !is_at_most(state, 1, LAST) {
         return Err(Doubt::Argument);
     }
-    if !is_at_most(view, 2, u64::MAX) {
+    if !is_at_most(state, 2, u64::MAX) {
         return Err(Doubt::Argument);
     }
-    answer(view, Range::full(Width::W64));
+    answer(state, Range::full(Width::W64));
     Ok(())
 }
 
 /// A read: register 1 is a counter.
-fn read(view: &mut AbstractState) -> Result<(), Doubt>
-    ensures asks { OnOk result (AsksFrom (Insn.Call READ_COUNTER) view.old view.new) }
-    ensures accepts { IsAsking view.old READ_COUNTER → IsOk result × IsAnswered view.old view.new }
+fn read(state: &mut AbstractState) -> Result<(), Doubt>
+    ensures asks { OnOk result (AsksFrom (Insn.Call READ_COUNTER) state.old state.new) }
+    ensures accepts { IsAsking state.old READ_COUNTER → IsOk result × IsAnswered state.old state.new }
     ensures doubts { IfErr result (λ doubt. (helper : ℤ) → MayDoubt doubt (Insn.Call helper)) }
 {
-    if !is_at_most(view, 1, LAST) {
+    if !is_at_most(state, 1, LAST) {
         return Err(Doubt::Argument);
     }
-    answer(view, Range::full(Width::W64));
+    answer(state, Range::full(Width::W64));
     Ok(())
 }
 
 /// The abstract state after a call of a counter.
-pub fn ask(view: &mut AbstractState, insn: Insn) -> Result<(), Doubt>
+pub fn ask(state: &mut AbstractState, insn: Insn) -> Result<(), Doubt>
     requires { IsCounterCall insn }
-    ensures asks { OnOk result (AsksFrom insn view.old view.new) }
-    ensures accepts { (helper : ℤ) → insn ≡ Insn.Call helper → IsAsking view.old helper → IsOk result × IsAnswered view.old view.new }
+    ensures asks { OnOk result (AsksFrom insn state.old state.new) }
+    ensures accepts { (helper : ℤ) → insn ≡ Insn.Call helper → IsAsking state.old helper → IsOk result × IsAnswered state.old state.new }
     ensures doubts { IfErr result (λ doubt. MayDoubt doubt insn) }
 {
     match insn {
         Insn::Call { helper } => {
             if helper == ADD_COUNTER {
-                return add(view);
+                return add(state);
             }
-            read(view)
+            read(state)
         }
         _ => unreachable!(),
     }

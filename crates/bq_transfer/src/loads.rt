@@ -19,7 +19,7 @@ use bq_bpf::addresses::STACK_SIZE;
 use bq_bpf::words::bits_of;
 use bq_insn::{Insn, Size, Width};
 use bq_ranges::{Range, moves};
-use bq_states::abstract_state::{AbstractState, AbstractValue, Kind};
+use bq_states::abstract_state::{AbstractState, AbstractValue, ValueKind};
 use bq_states::copies::link;
 use bq_states::parts::{numbers, numbers_at};
 use bq_states::places::is_readable;
@@ -27,7 +27,7 @@ use bq_states::registers::learn;
 
 /// A load; of a slot of the stack whose word is known the register is a copy then.
 pub fn load(
-    view: &mut AbstractState,
+    state: &mut AbstractState,
     shapes: &[MapShape],
     context: usize,
     access: Access,
@@ -36,61 +36,61 @@ pub fn load(
 ) -> Result<(), Doubt>
     requires context { context < 2 ^ 16 }
     requires below { dst < 10 }
-    ensures transfers { OnOk result (Transfers shapes.now context (Insn.Load access.size signed dst access.base access.off) view.old view.new) }
+    ensures transfers { OnOk result (Transfers shapes.now context (Insn.Load access.size signed dst access.base access.off) state.old state.new) }
     ensures doubts { IfErr result (λ doubt. MayDoubt doubt (Insn.Load access.size signed dst access.base access.off)) }
-    ensures accepts { IsReadable shapes.now context view.old access.size access.base access.off → IsOk result × IsGiven view.old view.new dst }
+    ensures accepts { IsReadable shapes.now context state.old access.size access.base access.off → IsOk result × IsGiven state.old state.new dst }
 {
-    let found = locate(view, shapes, context, access)?;
-    if let Some(word) = kept_at(view, found, access.size, signed) {
-        learn(view, dst, word);
+    let found = locate(state, shapes, context, access)?;
+    if let Some(word) = kept_at(state, found, access.size, signed) {
+        learn(state, dst, word);
         let slot = found.at.lo as usize / 8;
-        link(&mut view.classes, usize::from(dst), 11 + slot);
+        link(&mut state.classes, usize::from(dst), 11 + slot);
         return Ok(());
     }
-    if !is_readable(view, found.kind, found.at, access.size) {
+    if !is_readable(state, found.kind, found.at, access.size) {
         return Err(Doubt::Access);
     }
     learn(
-        view,
+        state,
         dst,
         AbstractValue {
-            kind: Kind::Number,
-            offset: loads(reads_at(view, found, access.size), access.size, signed),
+            kind: ValueKind::Number,
+            offset: loads(reads_at(state, found, access.size), access.size, signed),
         },
     );
     Ok(())
 }
 
 /// The word that is kept where a load of eight bytes reads, if one is.
-fn kept_at(view: &AbstractState, place: Location, size: Size, signed: bool) -> Option<AbstractValue>
-    ensures { IfSome result (λ word. (place.kind ≡ Kind.Stack) × (size ≡ Size.Double) × (signed ≡ false) × (place.at.lo ≡ place.at.hi) × (slot : ℕ) × (slot < 64) × (place.at.lo ≡ 8 * slot) × (slice_index_or view.now.kept slot None ≡ Some word)) }
+fn kept_at(state: &AbstractState, place: Location, size: Size, signed: bool) -> Option<AbstractValue>
+    ensures { IfSome result (λ word. (place.kind ≡ ValueKind.Stack) × (size ≡ Size.Double) × (signed ≡ false) × (place.at.lo ≡ place.at.hi) × (slot : ℕ) × (slot < 64) × (place.at.lo ≡ 8 * slot) × (slice_index_or state.now.kept slot None ≡ Some word)) }
 {
-    if place.kind != Kind::Stack || size != Size::Double || signed {
+    if place.kind != ValueKind::Stack || size != Size::Double || signed {
         return None;
     }
     if !place.at.is_single() || place.at.lo % 8 != 0 || place.at.lo >= STACK_SIZE {
         return None;
     }
-    kept_in(view, place.at.lo as usize / 8)
+    kept_in(state, place.at.lo as usize / 8)
 }
 
 /// The word that is kept in a slot of eight bytes, if one is.
-fn kept_in(view: &AbstractState, slot: usize) -> Option<AbstractValue>
+fn kept_in(state: &AbstractState, slot: usize) -> Option<AbstractValue>
     requires { slot < 64 }
-    ensures { result ≡ slice_index_or view.now.kept slot None }
+    ensures { result ≡ slice_index_or state.now.kept slot None }
 {
-    view.kept[slot]
+    state.kept[slot]
 }
 
 /// The numbers that a read of so many bytes gives there.
-fn reads_at(view: &AbstractState, place: Location, size: Size) -> Range
-    ensures any { (x : ℕ) → place.kind ≢ Kind.Stack → x < 256 ^ byte_count size → Within result x }
-    ensures stack { (stack : ℕ → Option ℕ) (o : ℕ) (bytes : List ℕ) → place.kind ≡ Kind.Stack → HaveParts stack view.now.parts → Within place.at o → HasBytes stack o (byte_count size) bytes → number_of bytes < 256 ^ byte_count size → Within result (number_of bytes) }
+fn reads_at(state: &AbstractState, place: Location, size: Size) -> Range
+    ensures any { (x : ℕ) → place.kind ≢ ValueKind.Stack → x < 256 ^ byte_count size → Within result x }
+    ensures stack { (stack : ℕ → Option ℕ) (o : ℕ) (bytes : List ℕ) → place.kind ≡ ValueKind.Stack → HaveParts stack state.now.parts → Within place.at o → HasBytes stack o (byte_count size) bytes → number_of bytes < 256 ^ byte_count size → Within result (number_of bytes) }
 {
-    if place.kind != Kind::Stack {
+    if place.kind != ValueKind::Stack {
         return numbers(size);
     }
-    numbers_at(&view.parts, place.at, size)
+    numbers_at(&state.parts, place.at, size)
 }
 
 /// What a load makes of such numbers.

@@ -5,45 +5,45 @@ ghost use Rattle.bq_states.specs.Certainty.{IsGiven, Scalar, StandsAt};
 ghost use Rattle.bq_insn.specs.declared.Insn.{Insn};
 ghost use Rattle.bq_bpf.specs.declared.shape.MapShape.{MapShape};
 ghost use Rattle.bq_transfer.specs.Doubts.{IsNoNumberAt, IsUnknownAt, MayDoubt, ReadsOperand, UsesWord};
-ghost use Rattle.bq_states.specs.declared.abstract_state.Kind.TheVariants.{Number};
+ghost use Rattle.bq_states.specs.declared.abstract_state.ValueKind.TheVariants.{Number};
 ghost use Rattle.bq_transfer.specs.Transfers.{Transfers, HoldsNumber};
 ghost use Rattle.bq_states.specs.AbstractStates.{knowing};
 
 use crate::doubt::Doubt;
 use bq_insn::{Bits, Order, Width};
 use bq_ranges::{Range, moves};
-use bq_states::abstract_state::{AbstractState, AbstractValue, Kind};
+use bq_states::abstract_state::{AbstractState, AbstractValue, ValueKind};
 use bq_states::registers::{known, learn};
 
 /// The range of a register that is a number. What is in doubt is that it is set, where nothing is known of it, and else how a pointer is used.
-pub fn number(view: &AbstractState, register: u8) -> Result<Range, Doubt>
-    ensures holds { IfOk result (HoldsNumber view.now register) }
+pub fn number(state: &AbstractState, register: u8) -> Result<Range, Doubt>
+    ensures holds { IfOk result (HoldsNumber state.now register) }
     ensures doubts { IfErr result (λ doubt. (insn : Insn) → ReadsOperand insn → UsesWord insn → MayDoubt doubt insn) }
-    ensures unset { IfErr result (λ doubt. doubt ≡ Doubt.Unset ↔ IsUnknownAt view.now register) }
-    ensures pointer { IfErr result (λ doubt. doubt ≡ Doubt.PointerUse ↔ IsNoNumberAt view.now register) }
-    ensures accepts { StandsAt Scalar view.now register → IsOk result }
+    ensures unset { IfErr result (λ doubt. doubt ≡ Doubt.Unset ↔ IsUnknownAt state.now register) }
+    ensures pointer { IfErr result (λ doubt. doubt ≡ Doubt.PointerUse ↔ IsNoNumberAt state.now register) }
+    ensures accepts { StandsAt Scalar state.now register → IsOk result }
 {
-    let Some(word) = known(view, register) else {
+    let Some(word) = known(state, register) else {
         return Err(Doubt::Unset);
     };
-    if word.kind != Kind::Number {
+    if word.kind != ValueKind::Number {
         return Err(Doubt::PointerUse);
     }
     Ok(word.offset)
 }
 
 /// A register becomes a number of that range.
-fn learn_number(view: &mut AbstractState, register: u8, offset: Range)
+fn learn_number(state: &mut AbstractState, register: u8, offset: Range)
     requires { register < 10 }
-    ensures is { view.new ≡ knowing view.old register (record { kind = Number; offset = offset }) }
-    ensures given { IsGiven view.old view.new register }
-    ensures long { length view.old.registers ≡ 11 }
+    ensures is { state.new ≡ knowing state.old register (record { kind = Number; offset = offset }) }
+    ensures given { IsGiven state.old state.new register }
+    ensures long { length state.old.registers ≡ 11 }
 {
     learn(
-        view,
+        state,
         register,
         AbstractValue {
-            kind: Kind::Number,
+            kind: ValueKind::Number,
             offset,
         },
     );
@@ -51,51 +51,51 @@ fn learn_number(view: &mut AbstractState, register: u8, offset: Range)
 
 /// The low bits of a register with their sign extended.
 pub fn extend(
-    view: &mut AbstractState,
+    state: &mut AbstractState,
     width: Width,
     bits: Bits,
     dst: u8,
     src: u8,
 ) -> Result<(), Doubt>
     requires { dst < 10 }
-    ensures transfers { OnOk result ((shapes : List MapShape) (context_length : ℕ) → Transfers shapes context_length (Insn.MovSx width bits dst src) view.old view.new) }
+    ensures transfers { OnOk result ((shapes : List MapShape) (context_length : ℕ) → Transfers shapes context_length (Insn.MovSx width bits dst src) state.old state.new) }
     ensures doubts { IfErr result (λ doubt. MayDoubt doubt (Insn.MovSx width bits dst src)) }
-    ensures accepts { StandsAt Scalar view.old src → IsOk result × IsGiven view.old view.new dst }
+    ensures accepts { StandsAt Scalar state.old src → IsOk result × IsGiven state.old state.new dst }
 {
-    let word = number(view, src)?;
-    learn_number(view, dst, moves::extend(width, bits, word));
+    let word = number(state, src)?;
+    learn_number(state, dst, moves::extend(width, bits, word));
     Ok(())
 }
 
 /// A negation.
-pub fn negate(view: &mut AbstractState, width: Width, dst: u8) -> Result<(), Doubt>
+pub fn negate(state: &mut AbstractState, width: Width, dst: u8) -> Result<(), Doubt>
     requires { dst < 10 }
-    ensures transfers { OnOk result ((shapes : List MapShape) (context_length : ℕ) → Transfers shapes context_length (Insn.Neg width dst) view.old view.new) }
+    ensures transfers { OnOk result ((shapes : List MapShape) (context_length : ℕ) → Transfers shapes context_length (Insn.Neg width dst) state.old state.new) }
     ensures doubts { IfErr result (λ doubt. MayDoubt doubt (Insn.Neg width dst)) }
-    ensures accepts { StandsAt Scalar view.old dst → IsOk result × IsGiven view.old view.new dst }
+    ensures accepts { StandsAt Scalar state.old dst → IsOk result × IsGiven state.old state.new dst }
 {
-    let word = number(view, dst)?;
-    learn_number(view, dst, moves::neg(width, word));
+    let word = number(state, dst)?;
+    learn_number(state, dst, moves::neg(width, word));
     Ok(())
 }
 
 /// The low bits of a register in a byte order.
-pub fn reorder(view: &mut AbstractState, kind: Order, bits: Bits, dst: u8) -> Result<(), Doubt>
+pub fn reorder(state: &mut AbstractState, kind: Order, bits: Bits, dst: u8) -> Result<(), Doubt>
     requires { dst < 10 }
-    ensures transfers { OnOk result ((shapes : List MapShape) (context_length : ℕ) → Transfers shapes context_length (Insn.End kind bits dst) view.old view.new) }
+    ensures transfers { OnOk result ((shapes : List MapShape) (context_length : ℕ) → Transfers shapes context_length (Insn.End kind bits dst) state.old state.new) }
     ensures doubts { IfErr result (λ doubt. MayDoubt doubt (Insn.End kind bits dst)) }
-    ensures accepts { StandsAt Scalar view.old dst → IsOk result × IsGiven view.old view.new dst }
+    ensures accepts { StandsAt Scalar state.old dst → IsOk result × IsGiven state.old state.new dst }
 {
-    let word = number(view, dst)?;
-    learn_number(view, dst, moves::reorder(kind, bits, word));
+    let word = number(state, dst)?;
+    learn_number(state, dst, moves::reorder(kind, bits, word));
     Ok(())
 }
 
 /// A number of 64 bits from the instruction.
-pub fn immediate(view: &mut AbstractState, dst: u8, value: u64)
+pub fn immediate(state: &mut AbstractState, dst: u8, value: u64)
     requires { dst < 10 }
-    ensures transfers { (shapes : List MapShape) (context_length : ℕ) → Transfers shapes context_length (Insn.Imm64 dst value) view.old view.new }
-    ensures given { IsGiven view.old view.new dst }
+    ensures transfers { (shapes : List MapShape) (context_length : ℕ) → Transfers shapes context_length (Insn.Imm64 dst value) state.old state.new }
+    ensures given { IsGiven state.old state.new dst }
 {
-    learn_number(view, dst, Range::single(value));
+    learn_number(state, dst, Range::single(value));
 }

@@ -13,7 +13,7 @@ ghost use Rattle.bq_states.specs.AbstractStates.{Describes};
 use crate::doubt::Doubt;
 use bq_insn::{Condition, Source, Width};
 use bq_ranges::narrowing::{narrow, narrow_right};
-use bq_states::abstract_state::{AbstractValue, Kind};
+use bq_states::abstract_state::{AbstractValue, ValueKind};
 
 /// What the left operand is on one side of a branch; `None` where control never goes there.
 pub fn side(
@@ -28,10 +28,10 @@ pub fn side(
     ensures fits { IfOk result (λ side. (shapes : List MapShape) (a b : ℕ) → Describes shapes left a → Describes shapes right b → taken width cond a b ≡ goes → Fits shapes side a) }
     ensures doubts { IfErr result (λ doubt. (insn : Insn) → UsesWord insn → MayDoubt doubt insn) }
     ensures compared { OnOk result (IsCompared width cond left src right) }
-    ensures accepts { left.kind ≡ Kind.Number → right.kind ≡ Kind.Number → IsOk result }
-    ensures number { left.kind ≡ Kind.Number → right.kind ≡ Kind.Number → IfOk result IsNumberIfAny }
-    ensures checks { (map : ℕ) → IsNullCheck width cond src → Stands (Pointer (Kind.EntryOrNull map) 0) (Some left) → IsOk result }
-    ensures tested { (map : ℕ) → IsNullCheck width cond src → Stands (Pointer (Kind.EntryOrNull map) 0) (Some left) → IfOk result (IsTested map (is_found cond goes)) }
+    ensures accepts { left.kind ≡ ValueKind.Number → right.kind ≡ ValueKind.Number → IsOk result }
+    ensures number { left.kind ≡ ValueKind.Number → right.kind ≡ ValueKind.Number → IfOk result IsNumberIfAny }
+    ensures checks { (map : ℕ) → IsNullCheck width cond src → Stands (Pointer (ValueKind.EntryOrNull map) 0) (Some left) → IsOk result }
+    ensures tested { (map : ℕ) → IsNullCheck width cond src → Stands (Pointer (ValueKind.EntryOrNull map) 0) (Some left) → IfOk result (IsTested map (is_found cond goes)) }
 {
     match outcome(width, cond, left, src, right, goes) {
         Some(side) => Ok(side),
@@ -50,8 +50,8 @@ pub fn right_side(
     ensures { (shapes : List MapShape) (a b : ℕ) → Describes shapes left a → Describes shapes right b → taken width cond a b ≡ goes → Describes shapes result b }
 {
     match (left.kind, right.kind) {
-        (Kind::Number, Kind::Number) => AbstractValue {
-            kind: Kind::Number,
+        (ValueKind::Number, ValueKind::Number) => AbstractValue {
+            kind: ValueKind::Number,
             offset: narrow_right(cond, width, left.offset, right.offset, goes),
         },
         _ => right,
@@ -70,24 +70,24 @@ fn outcome(
     requires { (i : ℤ) → src ≡ Source.Imm i → IsWord (word_of i) (Some right) }
     ensures compared { IfSome result (λ _. IsCompared width cond left src right) }
     ensures fits { IfSome result (λ side. (shapes : List MapShape) (a b : ℕ) → Describes shapes left a → Describes shapes right b → taken width cond a b ≡ goes → Fits shapes side a) }
-    ensures numbers { left.kind ≡ Kind.Number → right.kind ≡ Kind.Number → IsSide result }
-    ensures tested { (map : ℕ) → IsNullCheck width cond src → Stands (Pointer (Kind.EntryOrNull map) 0) (Some left) → IsTestedIfAny map (is_found cond goes) result }
+    ensures numbers { left.kind ≡ ValueKind.Number → right.kind ≡ ValueKind.Number → IsSide result }
+    ensures tested { (map : ℕ) → IsNullCheck width cond src → Stands (Pointer (ValueKind.EntryOrNull map) 0) (Some left) → IsTestedIfAny map (is_found cond goes) result }
 {
     match (left.kind, right.kind) {
-        (Kind::Number, Kind::Number) => match narrow(cond, width, left.offset, right.offset, goes) {
+        (ValueKind::Number, ValueKind::Number) => match narrow(cond, width, left.offset, right.offset, goes) {
             Some(offset) => Some(Some(AbstractValue {
-                kind: Kind::Number,
+                kind: ValueKind::Number,
                 offset,
             })),
             None => Some(None),
         },
-        (Kind::EntryOrNull(map), Kind::Number) => {
+        (ValueKind::EntryOrNull(map), ValueKind::Number) => {
             if left.offset.hi > 0 || src != Source::Imm(0) {
                 return None;
             }
             null_check(map, width, cond, left, right, goes)
         }
-        (Kind::Entry(_), Kind::Number) => found_check(width, cond, left, src),
+        (ValueKind::Entry(_), ValueKind::Number) => found_check(width, cond, left, src),
         _ => None,
     }
 }
@@ -120,8 +120,8 @@ fn null_check(
     right: AbstractValue,
     goes: bool,
 ) -> Option<Option<AbstractValue>>
-    requires left { left.kind ≡ Kind.EntryOrNull map }
-    requires right { right.kind ≡ Kind.Number }
+    requires left { left.kind ≡ ValueKind.EntryOrNull map }
+    requires right { right.kind ≡ ValueKind.Number }
     requires whole { left.offset.hi ≡ 0 }
     requires null { right.offset.hi ≡ 0 }
     ensures compared { IfSome result (λ _. (width ≡ Width.W64) × IsNullTest cond) }
@@ -129,11 +129,11 @@ fn null_check(
     ensures fits { IfSome result (λ side. (shapes : List MapShape) (a b : ℕ) → Describes shapes left a → Describes shapes right b → taken width cond a b ≡ goes → Fits shapes side a) }
 {
     let null = AbstractValue {
-        kind: Kind::Number,
+        kind: ValueKind::Number,
         offset: right.offset,
     };
     let entry = AbstractValue {
-        kind: Kind::Entry(map),
+        kind: ValueKind::Entry(map),
         offset: left.offset,
     };
     match (width, cond, goes) {

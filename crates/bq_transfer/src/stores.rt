@@ -20,7 +20,7 @@ use bq_bpf::MapShape;
 use bq_bpf::addresses::STACK_SIZE;
 use bq_insn::{Insn, Size};
 use bq_ranges::Range;
-use bq_states::abstract_state::{AbstractState, AbstractValue, Kind};
+use bq_states::abstract_state::{AbstractState, AbstractValue, ValueKind};
 use bq_states::copies::link;
 use bq_states::parts::store_part;
 use bq_states::places::stays;
@@ -29,23 +29,23 @@ use bq_states::stack::{keep, overwrite};
 
 /// A store of a number from the instruction.
 pub fn store_imm(
-    view: &mut AbstractState,
+    state: &mut AbstractState,
     shapes: &[MapShape],
     context: usize,
     access: Access,
     imm: i32,
 ) -> Result<(), Doubt>
     requires context { context < 2 ^ 16 }
-    ensures transfers { OnOk result (Transfers shapes.now context (Insn.StoreImm access.size access.base access.off imm) view.old view.new) }
+    ensures transfers { OnOk result (Transfers shapes.now context (Insn.StoreImm access.size access.base access.off imm) state.old state.new) }
     ensures doubts { IfErr result (λ doubt. MayDoubt doubt (Insn.StoreImm access.size access.base access.off imm)) }
-    ensures accepts { (place : ℕ) → IsPlaced shapes.now context view.old access.size access.base access.off Kind.Stack place → IsOk result × IsStoredAt view.old view.new place (place + byte_count access.size) }
-    ensures entry { (map place : ℕ) → IsPlaced shapes.now context view.old access.size access.base access.off (Kind.Entry map) place → IsOk result × (view.new ≡ view.old) }
+    ensures accepts { (place : ℕ) → IsPlaced shapes.now context state.old access.size access.base access.off ValueKind.Stack place → IsOk result × IsStoredAt state.old state.new place (place + byte_count access.size) }
+    ensures entry { (map place : ℕ) → IsPlaced shapes.now context state.old access.size access.base access.off (ValueKind.Entry map) place → IsOk result × (state.new ≡ state.old) }
 {
     let word = AbstractValue {
-        kind: Kind::Number,
+        kind: ValueKind::Number,
         offset: Range::single(word_of_imm(imm)),
     };
-    store(view, shapes, context, access, word)?;
+    store(state, shapes, context, access, word)?;
     Ok(())
 }
 
@@ -58,23 +58,23 @@ fn word_of_imm(imm: i32) -> u64
 
 /// A store of a register, of which a slot of the stack is a copy then if it got the whole word.
 pub fn store_reg(
-    view: &mut AbstractState,
+    state: &mut AbstractState,
     shapes: &[MapShape],
     context: usize,
     access: Access,
     src: u8,
 ) -> Result<(), Doubt>
     requires context { context < 2 ^ 16 }
-    ensures transfers { OnOk result (Transfers shapes.now context (Insn.StoreReg access.size access.base access.off src) view.old view.new) }
+    ensures transfers { OnOk result (Transfers shapes.now context (Insn.StoreReg access.size access.base access.off src) state.old state.new) }
     ensures doubts { IfErr result (λ doubt. MayDoubt doubt (Insn.StoreReg access.size access.base access.off src)) }
-    ensures accepts { StandsAt Scalar view.old src → (place : ℕ) → IsPlaced shapes.now context view.old access.size access.base access.off Kind.Stack place → IsOk result × IsStoredAt view.old view.new place (place + byte_count access.size) }
-    ensures entry { StandsAt Scalar view.old src → (map place : ℕ) → IsPlaced shapes.now context view.old access.size access.base access.off (Kind.Entry map) place → IsOk result × (view.new ≡ view.old) }
+    ensures accepts { StandsAt Scalar state.old src → (place : ℕ) → IsPlaced shapes.now context state.old access.size access.base access.off ValueKind.Stack place → IsOk result × IsStoredAt state.old state.new place (place + byte_count access.size) }
+    ensures entry { StandsAt Scalar state.old src → (map place : ℕ) → IsPlaced shapes.now context state.old access.size access.base access.off (ValueKind.Entry map) place → IsOk result × (state.new ≡ state.old) }
 {
-    let Some(word) = known(view, src) else {
+    let Some(word) = known(state, src) else {
         return Err(Doubt::Unset);
     };
-    let slot = store(view, shapes, context, access, word)?;
-    link_slot(&mut view.classes, slot, src);
+    let slot = store(state, shapes, context, access, word)?;
+    link_slot(&mut state.classes, slot, src);
     Ok(())
 }
 
@@ -96,24 +96,24 @@ fn link_slot(classes: &mut [u8], slot: Option<usize>, register: u8)
 
 /// A store of a word: on the stack, or into an entry. The answer is the slot of eight bytes in which the word is kept whole.
 fn store(
-    view: &mut AbstractState,
+    state: &mut AbstractState,
     shapes: &[MapShape],
     context: usize,
     access: Access,
     word: AbstractValue,
 ) -> Result<Option<usize>, Doubt>
     requires context { context < 2 ^ 16 }
-    ensures stores { IfOk result (Stores shapes.now context access.base access.off access.size word view.old view.new) }
+    ensures stores { IfOk result (Stores shapes.now context access.base access.off access.size word state.old state.new) }
     ensures inside { IfOk result (λ slot. IfSome slot (λ n. n < 64)) }
-    ensures doubts { IfErr result (λ doubt. (insn : Insn) → IsAccess insn → ReadsOperand insn → (word.kind ≢ Kind.Number → UsesWord insn) → MayDoubt doubt insn) }
-    ensures accepts { word.kind ≡ Kind.Number → (place : ℕ) → IsPlaced shapes.now context view.old access.size access.base access.off Kind.Stack place → IsOk result × IsStoredAt view.old view.new place (place + byte_count access.size) }
-    ensures entry { word.kind ≡ Kind.Number → (map place : ℕ) → IsPlaced shapes.now context view.old access.size access.base access.off (Kind.Entry map) place → IsOk result × (view.new ≡ view.old) × IfOk result (λ slot. slot ≡ None) }
+    ensures doubts { IfErr result (λ doubt. (insn : Insn) → IsAccess insn → ReadsOperand insn → (word.kind ≢ ValueKind.Number → UsesWord insn) → MayDoubt doubt insn) }
+    ensures accepts { word.kind ≡ ValueKind.Number → (place : ℕ) → IsPlaced shapes.now context state.old access.size access.base access.off ValueKind.Stack place → IsOk result × IsStoredAt state.old state.new place (place + byte_count access.size) }
+    ensures entry { word.kind ≡ ValueKind.Number → (map place : ℕ) → IsPlaced shapes.now context state.old access.size access.base access.off (ValueKind.Entry map) place → IsOk result × (state.new ≡ state.old) × IfOk result (λ slot. slot ≡ None) }
 {
-    let found = locate(view, shapes, context, access)?;
+    let found = locate(state, shapes, context, access)?;
     match found.kind {
-        Kind::Stack => store_on_stack(view, found.at, access.size, word),
-        Kind::Entry(_) => {
-            if word.kind != Kind::Number {
+        ValueKind::Stack => store_on_stack(state, found.at, access.size, word),
+        ValueKind::Entry(_) => {
+            if word.kind != ValueKind::Number {
                 return Err(Doubt::PointerUse);
             }
             Ok(None)
@@ -125,29 +125,29 @@ fn store(
 /// A store on the stack; a word of eight bytes at a multiple of eight is kept whole, in the slot that is answered, and of
 /// another number the bytes that are stored.
 fn store_on_stack(
-    view: &mut AbstractState,
+    state: &mut AbstractState,
     at: Range,
     size: Size,
     word: AbstractValue,
 ) -> Result<Option<usize>, Doubt>
     ensures slot { IfOk result (λ slot. IfSome slot (IsWholeSlot at size)) }
-    ensures contains { OnOk result ((f : Setting) (s : State) (o v : ℕ) → Contains f view.old s → Within at o → Describes f.shapes word v → Contains f view.new (next (written s InStack o (low_bytes size v)))) }
-    ensures doubts { IfErr result (λ doubt. (insn : Insn) → IsAccess insn → (word.kind ≢ Kind.Number → UsesWord insn) → MayDoubt doubt insn) }
-    ensures accepts { word.kind ≡ Kind.Number → (place : ℕ) → at.lo ≡ place → at.hi ≡ place → place + byte_count size ≤ STACK_SIZE → IsOk result × IsStoredAt view.old view.new place (place + byte_count size) }
+    ensures contains { OnOk result ((f : Setting) (s : State) (o v : ℕ) → Contains f state.old s → Within at o → Describes f.shapes word v → Contains f state.new (next (written s InStack o (low_bytes size v)))) }
+    ensures doubts { IfErr result (λ doubt. (insn : Insn) → IsAccess insn → (word.kind ≢ ValueKind.Number → UsesWord insn) → MayDoubt doubt insn) }
+    ensures accepts { word.kind ≡ ValueKind.Number → (place : ℕ) → at.lo ≡ place → at.hi ≡ place → place + byte_count size ≤ STACK_SIZE → IsOk result × IsStoredAt state.old state.new place (place + byte_count size) }
 {
     if !stays(at, size, STACK_SIZE as usize) {
         return Err(Doubt::Access);
     }
     if size == Size::Double && at.is_single() && at.lo % 8 == 0 {
-        overwrite(view, at, size);
+        overwrite(state, at, size);
         let slot = at.lo as usize / 8;
-        keep(view, slot, word);
+        keep(state, slot, word);
         return Ok(Some(slot));
     }
-    if word.kind != Kind::Number {
+    if word.kind != ValueKind::Number {
         return Err(Doubt::PointerUse);
     }
-    overwrite(view, at, size);
-    store_part(&mut view.parts, at, size, word.offset);
+    overwrite(state, at, size);
+    store_part(&mut state.parts, at, size, word.offset);
     Ok(None)
 }

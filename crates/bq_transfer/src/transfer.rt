@@ -21,7 +21,7 @@ use bq_states::abstract_state::AbstractState;
 /// The abstract state after the instruction.
 #[tactic(auto, using(crate::proofs::TransferLemmas::transferring))]
 pub fn transfer(
-    view: &mut AbstractState,
+    state: &mut AbstractState,
     shapes: &[MapShape],
     context: usize,
     insn: Insn,
@@ -31,9 +31,9 @@ pub fn transfer(
     requires transferred { IsTransferred insn }
     requires below { WritesBelowFrame insn }
     ensures straight { OnOk result (IsStraight insn) }
-    ensures transfers { OnOk result (Transfers shapes.now context insn view.old view.new) }
+    ensures transfers { OnOk result (Transfers shapes.now context insn state.old state.new) }
     ensures doubts { IfErr result (λ doubt. MayDoubt doubt insn) }
-    ensures accepts { IsReady shapes.now context view.old insn → IsOk result × ((x : Fact) (slot k : ℕ) → After x slot k insn view.old → Has x view.new) }
+    ensures accepts { IsReady shapes.now context state.old insn → IsOk result × ((x : Fact) (slot k : ℕ) → After x slot k insn state.old → Has x state.new) }
 {
     match insn {
         Insn::Alu {
@@ -41,17 +41,17 @@ pub fn transfer(
             op,
             dst,
             src,
-        } => alu(view, width, op, dst, src),
+        } => alu(state, width, op, dst, src),
         Insn::MovSx {
             width,
             bits,
             dst,
             src,
-        } => extend(view, width, bits, dst, src),
-        Insn::Neg { width, dst } => negate(view, width, dst),
-        Insn::End { kind, bits, dst } => reorder(view, kind, bits, dst),
+        } => extend(state, width, bits, dst, src),
+        Insn::Neg { width, dst } => negate(state, width, dst),
+        Insn::End { kind, bits, dst } => reorder(state, kind, bits, dst),
         Insn::Imm64 { dst, value } => {
-            immediate(view, dst, value);
+            immediate(state, dst, value);
             Ok(())
         }
         Insn::Load {
@@ -66,7 +66,7 @@ pub fn transfer(
                 base: src,
                 off,
             };
-            load(view, shapes, context, access, signed, dst)
+            load(state, shapes, context, access, signed, dst)
         }
         Insn::StoreImm {
             size,
@@ -79,7 +79,7 @@ pub fn transfer(
                 base: dst,
                 off,
             };
-            store_imm(view, shapes, context, access, imm)
+            store_imm(state, shapes, context, access, imm)
         }
         Insn::StoreReg {
             size,
@@ -92,10 +92,10 @@ pub fn transfer(
                 base: dst,
                 off,
             };
-            store_reg(view, shapes, context, access, src)
+            store_reg(state, shapes, context, access, src)
         }
-        Insn::MapRef { dst, index } => map_ref(view, shapes, dst, index),
-        Insn::Call { helper } => call(view, shapes, context, helper),
+        Insn::MapRef { dst, index } => map_ref(state, shapes, dst, index),
+        Insn::Call { helper } => call(state, shapes, context, helper),
         Insn::Goto { .. } | Insn::Goto32 { .. } | Insn::Branch { .. } | Insn::Exit => {
             unreachable!()
         }

@@ -16,7 +16,7 @@ use Rattle.bq_graph.specs.Paths.{CallsOnWay, IsPath, Path, calls_before_end, cal
 use Rattle.bq_graph.specs.Faults.{IsFaultless, destination_of, is_helper}
 use Rattle.bq_graph.specs.declared.cause.GraphCause.TheVariants.{Jump, NoExit, Unreached, Frame, Helper, Counters}
 use Rattle.bq_graph.proofs.EdgeLemmas.{end_of-push, IsPath-push, exit_is_last}
-use Rattle.bq_states.specs.declared.abstract_state.Kind.TheVariants.{Map, Stack}
+use Rattle.bq_states.specs.declared.abstract_state.ValueKind.TheVariants.{Map, Stack}
 use Rattle.bq_verify.specs.Straight.{leaves, loads, stores, untouched, writes, HasOneWay, IsByteStored, IsCounting, IsGiving, IsLoaded, IsMoveOnStack, IsNaming, IsPointerFrom, IsWritten, Needs, OnEachPath}
 use Rattle.bq_verify.specs.Worked.{calling, CallingIsStraight}
 use Rattle.bq_verify.proofs.WorkedLemmas.{AllAt, holds_along_path, at_slot, made_before, made_first, no_distance, no_register, not_false, not_frame, or_true}

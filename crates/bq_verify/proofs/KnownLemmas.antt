@@ -15,7 +15,7 @@ use Rattle.bq_bpf.specs.Safe.{IsSetting}
 use Rattle.bq_graph.specs.Edges.{IsEdge, IsStart, Leaves}
 use Rattle.bq_graph.specs.Passes.{IsSound}
 use Rattle.bq_states.specs.declared.abstract_state.AbstractState.{AbstractState}
-use Rattle.bq_states.specs.declared.abstract_state.Kind.TheVariants.{Map}
+use Rattle.bq_states.specs.declared.abstract_state.ValueKind.TheVariants.{Map}
 use Rattle.bq_states.specs.AbstractStates.{Contains}
 use Rattle.bq_verify.specs.Control.{IsKnown, LeadsOn, PassesOn}
 use Rattle.bq_verify.specs.KnownAt.{ContainsRuns, IsNotReached, RestIsCovered}
@@ -136,12 +136,12 @@ module _ (slots : List (Option Insn)) (shapes : List MapShape) (context_length :
     covered_before before passes rest f s setting le begins known = at_state before passes rest f s _ setting le begins known (eqb_tells s.slot slot)
 
   -- at the slot itself the abstract state is what is known
-  pub covered_at : (target : ℕ) (pending after : List (Option (Box AbstractState Global))) (view seen : AbstractState) (live arrived : Bool)
-      → ((f : Setting) (s : State) → IsKnown pending view live target f s → IsKnown after seen arrived target f s) → slice_index_or after target None ≡ None
-      → RestIsCovered slots shapes context_length target seen target (IsKnown pending view live target)
-  covered_at target pending after view seen live arrived arrives empty f s setting le begins known (suc n) calls t chain here =
+  pub covered_at : (target : ℕ) (pending after : List (Option (Box AbstractState Global))) (state seen : AbstractState) (live arrived : Bool)
+      → ((f : Setting) (s : State) → IsKnown pending state live target f s → IsKnown after seen arrived target f s) → slice_index_or after target None ≡ None
+      → RestIsCovered slots shapes context_length target seen target (IsKnown pending state live target)
+  covered_at target pending after state seen live arrived arrives empty f s setting le begins known (suc n) calls t chain here =
       absurd (omega (arith, farther f setting s n calls t chain, here, le))
-  covered_at target pending after view seen live arrived arrives empty f s setting le begins known zero calls t (none, is) here =
+  covered_at target pending after state seen live arrived arrives empty f s setting le begins known zero calls t (none, is) here =
       let there : s.slot ≡ target = ap (λ (x : State). x.slot) (sym is) ∙ here in
       subst (Contains f seen) (sym is) (is_seen (arrives f s known) there)
     where
@@ -150,12 +150,12 @@ module _ (slots : List (Option Insn)) (shapes : List MapShape) (context_length :
       is_seen (inr (e, same, contains)) there = contains
 
   -- and where nothing is known there, no chain that is left to follow comes to it
-  pub covered_by_any : (target : ℕ) (pending after : List (Option (Box AbstractState Global))) (view seen any : AbstractState) (live arrived : Bool)
-      → ((f : Setting) (s : State) → IsKnown pending view live target f s → IsKnown after seen arrived target f s) → slice_index_or after target None ≡ None → arrived ≡ false
-      → RestIsCovered slots shapes context_length target any target (IsKnown pending view live target)
-  covered_by_any target pending after view seen any live arrived arrives empty not f s setting le begins known (suc n) calls t chain here =
+  pub covered_by_any : (target : ℕ) (pending after : List (Option (Box AbstractState Global))) (state seen any : AbstractState) (live arrived : Bool)
+      → ((f : Setting) (s : State) → IsKnown pending state live target f s → IsKnown after seen arrived target f s) → slice_index_or after target None ≡ None → arrived ≡ false
+      → RestIsCovered slots shapes context_length target any target (IsKnown pending state live target)
+  covered_by_any target pending after state seen any live arrived arrives empty not f s setting le begins known (suc n) calls t chain here =
       absurd (omega (arith, farther f setting s n calls t chain, here, le))
-  covered_by_any target pending after view seen any live arrived arrives empty not f s setting le begins known zero calls t (none, is) here =
+  covered_by_any target pending after state seen any live arrived arrives empty not f s setting le begins known zero calls t (none, is) here =
       let there : s.slot ≡ target = ap (λ (x : State). x.slot) (sym is) ∙ here in
       absurd (is_none (arrives f s known) there)
     where
@@ -186,8 +186,8 @@ not_reached slots shapes context_length target contains f maps setting have n ca
     contains_none f t (subst (λ (x : List MapShape). Contains f (nowhere x) t) (sym setting.shapes_are) (contains f maps setting have n calls t chain here))
 
 -- an abstract state that contains the rest from the start contains the runs
-pub contains_runs : (slots : List (Option Insn)) (shapes : List MapShape) (context_length target : ℕ) (seen : AbstractState) (pending : List (Option (Box AbstractState Global))) (view : AbstractState)
-    → IsStart slots 0 → ((f : Setting) (maps : List (List ℕ)) → HaveShapes f.shapes maps → Contains f view (start maps))
-    → RestIsCovered slots shapes context_length target seen 0 (IsKnown pending view true 0) → ContainsRuns slots shapes context_length target seen
-contains_runs slots shapes context_length target seen pending view first begins rest f maps setting have n calls t chain here =
+pub contains_runs : (slots : List (Option Insn)) (shapes : List MapShape) (context_length target : ℕ) (seen : AbstractState) (pending : List (Option (Box AbstractState Global))) (state : AbstractState)
+    → IsStart slots 0 → ((f : Setting) (maps : List (List ℕ)) → HaveShapes f.shapes maps → Contains f state (start maps))
+    → RestIsCovered slots shapes context_length target seen 0 (IsKnown pending state true 0) → ContainsRuns slots shapes context_length target seen
+contains_runs slots shapes context_length target seen pending state first begins rest f maps setting have n calls t chain here =
     rest f (start maps) setting zero-le first (inr (refl, refl, begins f maps (rw setting.shapes_are have))) n calls t chain here

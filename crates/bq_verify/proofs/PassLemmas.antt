@@ -23,7 +23,7 @@ use Rattle.bq_graph.specs.Edges.{IsEdge, IsStart, Leaves}
 use Rattle.bq_graph.specs.Passes.{IsSound}
 use Rattle.bq_states.specs.declared.abstract_state.AbstractState.{AbstractState}
 use Rattle.bq_states.specs.declared.abstract_state.AbstractValue.{AbstractValue}
-use Rattle.bq_states.specs.declared.abstract_state.Kind.TheVariants.{Context, Stack}
+use Rattle.bq_states.specs.declared.abstract_state.ValueKind.TheVariants.{Context, Stack}
 use Rattle.bq_states.specs.AbstractStates.{Contains, Suits, Describes, knowing}
 use Rattle.bq_transfer.specs.Transfers.{Transfers, AsksFrom, IsStraight}
 use Rattle.bq_transfer.specs.Sides.{Fits}
@@ -52,10 +52,10 @@ after_call (Call helper) counter slot = inl (refl, refl)
 after_call _ counter slot = absurd counter
 
 -- the side that the test chooses
-pub test_chooses_side : (f : Setting) (view : AbstractState) (s : State) (slot dst a b : ℕ) (src : Source) (word : Option AbstractValue) (right : AbstractValue) → s.register dst ≡ Some a → IsOperand s src b → Contains f view s → Fits f.shapes word a → Describes f.shapes right b → IsOnSide f view dst src word right (record s { slot = slot })
-test_chooses_side f view s slot dst a b src None right is operand contains fits told = fits
-test_chooses_side f view s slot dst a b src (Some word) right is operand contains fits told = (
-  Contains-at f view s slot contains,
+pub test_chooses_side : (f : Setting) (state : AbstractState) (s : State) (slot dst a b : ℕ) (src : Source) (word : Option AbstractValue) (right : AbstractValue) → s.register dst ≡ Some a → IsOperand s src b → Contains f state s → Fits f.shapes word a → Describes f.shapes right b → IsOnSide f state dst src word right (record s { slot = slot })
+test_chooses_side f state s slot dst a b src None right is operand contains fits told = fits
+test_chooses_side f state s slot dst a b src (Some word) right is operand contains fits told = (
+  Contains-at f state s slot contains,
   record {
     word = a;
     is = is;
@@ -64,12 +64,12 @@ test_chooses_side f view s slot dst a b src (Some word) right is operand contain
   },
 )
 
-module _ (slots : List (Option Insn)) (shapes : List MapShape) (context_length slot : ℕ) (view : AbstractState) (K : Setting → State → Type 0) where
+module _ (slots : List (Option Insn)) (shapes : List MapShape) (context_length slot : ℕ) (state : AbstractState) (K : Setting → State → Type 0) where
   here_at : (insn : Insn) → instruction_at slots slot ≡ Some insn → (f : Setting) (s : State) → IsSetting slots shapes context_length f → s.slot ≡ slot → instruction_at f.slots s.slot ≡ Some insn
   here_at insn here f s setting same = rw (setting.slots_are, same) here
 
   -- the next instruction, at an abstract state of which the state is known
-  pub goes_on : (insn : Insn) (after : AbstractState) → instruction_at slots slot ≡ Some insn → IsStraight insn → Transfers shapes context_length insn view after → ((f : Setting) (s : State) → s.slot ≡ slot + slots_of insn → Contains f after s → K f s) → Goes slots shapes context_length slot view K
+  pub goes_on : (insn : Insn) (after : AbstractState) → instruction_at slots slot ≡ Some insn → IsStraight insn → Transfers shapes context_length insn state after → ((f : Setting) (s : State) → s.slot ≡ slot + slots_of insn → Contains f after s → K f s) → Goes slots shapes context_length slot state K
   goes_on insn after here straight transfers added f s setting same contains =
       let on = transfers f s (setting_suits slots shapes context_length f setting) contains in
       let at = here_at insn here f s setting same in
@@ -80,7 +80,7 @@ module _ (slots : List (Option Insn)) (shapes : List MapShape) (context_length s
         added f on.0 (rw (← same) on.3) on.2,
       ))
 
-  pub goes_there : (off : ℤ) (to : ℕ) → instruction_at slots slot ≡ Some (Goto off) → LeadsTo slot off to → ((f : Setting) (s : State) → s.slot ≡ to → Contains f view s → K f s) → Goes slots shapes context_length slot view K
+  pub goes_there : (off : ℤ) (to : ℕ) → instruction_at slots slot ≡ Some (Goto off) → LeadsTo slot off to → ((f : Setting) (s : State) → s.slot ≡ to → Contains f state s → K f s) → Goes slots shapes context_length slot state K
   goes_there off to here leads added f s setting same contains =
       let at = here_at (Goto off) here f s setting same in
       let there : LeadsTo s.slot off to = rw same leads in
@@ -88,10 +88,10 @@ module _ (slots : List (Option Insn)) (shapes : List MapShape) (context_length s
         record s { slot = to },
         record { insn = Goto off; here = at; takes = (to, there, refl) },
         record { insn = Goto off; here = at; leaves = inr (off, refl, there) },
-        added f (record s { slot = to }) refl (Contains-at f view s to contains),
+        added f (record s { slot = to }) refl (Contains-at f state s to contains),
       ))
 
-  pub goes_far : (imm : ℤ) (to : ℕ) → instruction_at slots slot ≡ Some (Goto32 imm) → LeadsTo slot imm to → ((f : Setting) (s : State) → s.slot ≡ to → Contains f view s → K f s) → Goes slots shapes context_length slot view K
+  pub goes_far : (imm : ℤ) (to : ℕ) → instruction_at slots slot ≡ Some (Goto32 imm) → LeadsTo slot imm to → ((f : Setting) (s : State) → s.slot ≡ to → Contains f state s → K f s) → Goes slots shapes context_length slot state K
   goes_far imm to here leads added f s setting same contains =
       let at = here_at (Goto32 imm) here f s setting same in
       let there : LeadsTo s.slot imm to = rw same leads in
@@ -99,10 +99,10 @@ module _ (slots : List (Option Insn)) (shapes : List MapShape) (context_length s
         record s { slot = to },
         record { insn = Goto32 imm; here = at; takes = (to, there, refl) },
         record { insn = Goto32 imm; here = at; leaves = inr (imm, refl, there) },
-        added f (record s { slot = to }) refl (Contains-at f view s to contains),
+        added f (record s { slot = to }) refl (Contains-at f state s to contains),
       ))
 
-  pub goes_asking : (insn : Insn) (after : AbstractState) → instruction_at slots slot ≡ Some insn → IsCounterCall insn → AsksFrom insn view after → ((f : Setting) (s : State) → s.slot ≡ slot + 1 → Contains f after s → K f s) → Goes slots shapes context_length slot view K
+  pub goes_asking : (insn : Insn) (after : AbstractState) → instruction_at slots slot ≡ Some insn → IsCounterCall insn → AsksFrom insn state after → ((f : Setting) (s : State) → s.slot ≡ slot + 1 → Contains f after s → K f s) → Goes slots shapes context_length slot state K
   goes_asking insn after here counter asks added f s setting same contains =
       inr (inr (λ x small.
       let on = asks f s x contains small in
@@ -131,21 +131,21 @@ module _ (slots : List (Option Insn)) (shapes : List MapShape) (context_length s
         parts.no (record s { slot = s.slot + 1 }) refl e,
       ))
 
-  pub goes_apart : (w : Width) (c : Condition) (dst : ℕ) (src : Source) (off : ℤ) (to : ℕ) → instruction_at slots slot ≡ Some (Branch w c dst src off) → LeadsTo slot off to → ((f : Setting) (s : State) → Contains f view s → PartsTo K f s w c dst src to (slot + 1)) → Goes slots shapes context_length slot view K
+  pub goes_apart : (w : Width) (c : Condition) (dst : ℕ) (src : Source) (off : ℤ) (to : ℕ) → instruction_at slots slot ≡ Some (Branch w c dst src off) → LeadsTo slot off to → ((f : Setting) (s : State) → Contains f state s → PartsTo K f s w c dst src to (slot + 1)) → Goes slots shapes context_length slot state K
   goes_apart w c dst src off to here leads parts f s setting same contains =
       parted w c dst src off to f s (here_at (Branch w c dst src off) here f s setting same) (rw same leads) (subst (λ (n : ℕ). PartsTo K f s w c dst src to (n + 1)) (sym same) (parts f s contains)) _ refl
 
 -- the two sides of a branch
-pub parts_of : (f : Setting) (s : State) (view : AbstractState) (w : Width) (c : Condition) (dst : ℕ) (src : Source) (to next : ℕ) (K : Setting → State → Type 0) (left right : AbstractValue) (yes_word no_word : Option AbstractValue) (yes_right no_right : AbstractValue) → Some left ≡ slice_index_or view.registers dst None → (b : ℕ) → IsOperand s src b → Describes f.shapes right b → ((shapes : List MapShape) (a b : ℕ) → Describes shapes left a → Describes shapes right b → taken w c a b ≡ true → Fits shapes yes_word a) → ((shapes : List MapShape) (a b : ℕ) → Describes shapes left a → Describes shapes right b → taken w c a b ≡ false → Fits shapes no_word a) → ((shapes : List MapShape) (a b : ℕ) → Describes shapes left a → Describes shapes right b → taken w c a b ≡ true → Describes shapes yes_right b) → ((shapes : List MapShape) (a b : ℕ) → Describes shapes left a → Describes shapes right b → taken w c a b ≡ false → Describes shapes no_right b) → ((t : State) → t.slot ≡ to → IsOnSide f view dst src yes_word yes_right t → K f t) → ((t : State) → t.slot ≡ next → IsOnSide f view dst src no_word no_right t → K f t) → Contains f view s → PartsTo K f s w c dst src to next
-parts_of f s view w c dst src to next K left right yes_word no_word yes_right no_right known b operand word yes_is no_is yes_told no_told add_yes add_no contains =
-    let found = found_at f view s dst left known contains in
+pub parts_of : (f : Setting) (s : State) (state : AbstractState) (w : Width) (c : Condition) (dst : ℕ) (src : Source) (to next : ℕ) (K : Setting → State → Type 0) (left right : AbstractValue) (yes_word no_word : Option AbstractValue) (yes_right no_right : AbstractValue) → Some left ≡ slice_index_or state.registers dst None → (b : ℕ) → IsOperand s src b → Describes f.shapes right b → ((shapes : List MapShape) (a b : ℕ) → Describes shapes left a → Describes shapes right b → taken w c a b ≡ true → Fits shapes yes_word a) → ((shapes : List MapShape) (a b : ℕ) → Describes shapes left a → Describes shapes right b → taken w c a b ≡ false → Fits shapes no_word a) → ((shapes : List MapShape) (a b : ℕ) → Describes shapes left a → Describes shapes right b → taken w c a b ≡ true → Describes shapes yes_right b) → ((shapes : List MapShape) (a b : ℕ) → Describes shapes left a → Describes shapes right b → taken w c a b ≡ false → Describes shapes no_right b) → ((t : State) → t.slot ≡ to → IsOnSide f state dst src yes_word yes_right t → K f t) → ((t : State) → t.slot ≡ next → IsOnSide f state dst src no_word no_right t → K f t) → Contains f state s → PartsTo K f s w c dst src to next
+parts_of f s state w c dst src to next K left right yes_word no_word yes_right no_right known b operand word yes_is no_is yes_told no_told add_yes add_no contains =
+    let found = found_at f state s dst left known contains in
     record {
       left = found.0;
       right = b;
       left_is = found.1;
       right_is = operand;
-      yes = λ t e test. rw e (add_yes (record s { slot = to }) refl (test_chooses_side f view s to dst found.0 b src yes_word yes_right found.1 operand contains (yes_is f.shapes found.0 b found.2 word test) (yes_told f.shapes found.0 b found.2 word test)));
-      no = λ t e test. rw e (add_no (record s { slot = next }) refl (test_chooses_side f view s next dst found.0 b src no_word no_right found.1 operand contains (no_is f.shapes found.0 b found.2 word test) (no_told f.shapes found.0 b found.2 word test)));
+      yes = λ t e test. rw e (add_yes (record s { slot = to }) refl (test_chooses_side f state s to dst found.0 b src yes_word yes_right found.1 operand contains (yes_is f.shapes found.0 b found.2 word test) (yes_told f.shapes found.0 b found.2 word test)));
+      no = λ t e test. rw e (add_no (record s { slot = next }) refl (test_chooses_side f state s next dst found.0 b src no_word no_right found.1 operand contains (no_is f.shapes found.0 b found.2 word test) (no_told f.shapes found.0 b found.2 word test)));
     }
 
 -- more steps, and fewer calls before
@@ -216,27 +216,27 @@ not_true live a b = cc
 pub waits_at_slot : (f : Setting) (s : State) (pending : List (Option (Box AbstractState Global))) (slot : ℕ) → s.slot ≡ slot → WaitsBoxed f pending s → IsIn f (slice_index_or pending slot None) s
 waits_at_slot f s pending slot same waits = subst (λ (n : ℕ). IsIn f (slice_index_or pending n None) s) same waits
 
-module _ (slots : List (Option Insn)) (shapes : List MapShape) (context_length slot : ℕ) (pending : List (Option (Box AbstractState Global))) (view : AbstractState) (live : Bool) (K : Setting → State → Type 0) (empty : slice_index_or pending slot None ≡ None) (arrives : (f : Setting) (s : State) → K f s → IsKnown pending view live slot f s) where
+module _ (slots : List (Option Insn)) (shapes : List MapShape) (context_length slot : ℕ) (pending : List (Option (Box AbstractState Global))) (state : AbstractState) (live : Bool) (K : Setting → State → Type 0) (empty : slice_index_or pending slot None ≡ None) (arrives : (f : Setting) (s : State) → K f s → IsKnown pending state live slot f s) where
   -- nothing is known at the slot
   pub passes_over : (after : AbstractState) → live ≡ false → PassesOn slots shapes context_length slot K (IsKnown pending after false (slot + 1))
   passes_over after dead f s setting begins known = (λ other. side (arrives f s known) other, λ same. absurd (here (arrives f s known) same))
     where
-      side : IsKnown pending view live slot f s → s.slot ≢ slot → IsKnown pending after false (slot + 1) f s
+      side : IsKnown pending state live slot f s → s.slot ≢ slot → IsKnown pending after false (slot + 1) f s
       side (inl waits) other = inl waits
       side (inr (e, same, contains)) other = absurd (other same)
 
-      here : IsKnown pending view live slot f s → s.slot ≡ slot → ⊥
+      here : IsKnown pending state live slot f s → s.slot ≡ slot → ⊥
       here (inl waits) same = none_waits f s (slice_index_or pending slot None) empty (waits_at_slot f s pending slot same waits)
       here (inr (e, same', contains)) same = not_true live dead e
 
-  pub passes_by : (new : List (Option (Box AbstractState Global))) (after : AbstractState) (on : Bool) → ((f : Setting) (s : State) → WaitsBoxed f pending s → WaitsBoxed f new s) → Goes slots shapes context_length slot view (IsKnown new after on (slot + 1)) → PassesOn slots shapes context_length slot K (IsKnown new after on (slot + 1))
+  pub passes_by : (new : List (Option (Box AbstractState Global))) (after : AbstractState) (on : Bool) → ((f : Setting) (s : State) → WaitsBoxed f pending s → WaitsBoxed f new s) → Goes slots shapes context_length slot state (IsKnown new after on (slot + 1)) → PassesOn slots shapes context_length slot K (IsKnown new after on (slot + 1))
   passes_by new after on kept goes f s setting begins known = (λ other. side (arrives f s known) other, λ same. here (arrives f s known) same)
     where
-      side : IsKnown pending view live slot f s → s.slot ≢ slot → IsKnown new after on (slot + 1) f s
+      side : IsKnown pending state live slot f s → s.slot ≢ slot → IsKnown new after on (slot + 1) f s
       side (inl waits) other = inl (kept f s waits)
       side (inr (e, same, contains)) other = absurd (other same)
 
-      here : IsKnown pending view live slot f s → s.slot ≡ slot → LeadsOn (IsKnown new after on (slot + 1)) f s
+      here : IsKnown pending state live slot f s → s.slot ≡ slot → LeadsOn (IsKnown new after on (slot + 1)) f s
       here (inl waits) same = absurd (none_waits f s (slice_index_or pending slot None) empty (waits_at_slot f s pending slot same waits))
       here (inr (e, same', contains)) same = goes f s setting same contains
 
@@ -246,8 +246,8 @@ rest_at_end slots shapes context_length heights made slot K end f s setting le b
     absurd (some_none _ _ begins.here (get_or_past slots s.slot None (omega arith)))
 
 -- a program whose start is known is safe
-pub safe_from_start : (slots : List (Option Insn)) (shapes : List MapShape) (context_length : ℕ) (heights : List ℕ) (made : ℕ → ℕ) (pending : List (Option (Box AbstractState Global))) (view : AbstractState) → context_length < 2 ^ 16 → IsStart slots 0 → ((f : Setting) (maps : List (List ℕ)) → HaveShapes f.shapes maps → Contains f view (start maps)) → RestIsSafe slots shapes context_length heights made 0 (IsKnown pending view true 0) → Safe slots shapes context_length (slice_index heights 0)
-safe_from_start slots shapes context_length heights made pending view small first begins rest f maps setting have n calls t chain =
+pub safe_from_start : (slots : List (Option Insn)) (shapes : List MapShape) (context_length : ℕ) (heights : List ℕ) (made : ℕ → ℕ) (pending : List (Option (Box AbstractState Global))) (state : AbstractState) → context_length < 2 ^ 16 → IsStart slots 0 → ((f : Setting) (maps : List (List ℕ)) → HaveShapes f.shapes maps → Contains f state (start maps)) → RestIsSafe slots shapes context_length heights made 0 (IsKnown pending state true 0) → Safe slots shapes context_length (slice_index heights 0)
+safe_from_start slots shapes context_length heights made pending state small first begins rest f maps setting have n calls t chain =
     goes_well f (rw setting.context_long small) (start maps) (slice_index heights 0)
     (ends_more f (start maps) _ _ _ 0 (let p : slice_index heights 0 ≤ slice_index heights 0 = omega arith in p) zero-le
     (rest f (start maps) setting zero-le first (inr (refl, refl, begins f maps (rw setting.shapes_are have))))) n calls t chain

@@ -10,8 +10,8 @@ use Rattle.bq_insn.specs.declared.Condition.{Condition}
 use Rattle.bq_insn.specs.declared.Condition.TheVariants.{Equal, NotEqual}
 use Rattle.bq_bpf.specs.Steps.{LeadsTo}
 use Rattle.bq_insn.specs.declared.Source.{Source}
-use Rattle.bq_states.specs.declared.abstract_state.Kind.{Kind}
-use Rattle.bq_states.specs.declared.abstract_state.Kind.TheVariants.{Entry, EntryOrNull}
+use Rattle.bq_states.specs.declared.abstract_state.ValueKind.{ValueKind}
+use Rattle.bq_states.specs.declared.abstract_state.ValueKind.TheVariants.{Entry, EntryOrNull}
 use Rattle.bq_states.specs.declared.abstract_state.AbstractValue.{AbstractValue}
 use Rattle.bq_states.specs.declared.abstract_state.AbstractState.{AbstractState}
 use Rattle.bq_states.specs.AbstractStates.{knowing}
@@ -33,76 +33,76 @@ pub known_inside : (xs : List (Option AbstractValue)) (r : ℕ) (k : AbstractVal
 known_inside xs r k known = known_within xs r k known (cases_lt r (length xs))
 
 -- what is sure after a test of a look-up's answer, on a side of it
-pub has_tested : (x : Fact) (slot k : ℕ) (w : Width) (c : Condition) (dst : ℕ) (src : Source) (off : ℤ) (m : ℕ) (found : Bool) (view : AbstractState) → StandsAt (Pointer (EntryOrNull m) 0) view dst → (IsFoundSide c off slot k → found ≡ true) → After x slot k (Branch w c dst src off) view → AfterTest x view dst m found
-has_tested Never slot k w c dst src off m found view stands side after = absurd after
-has_tested (AtRegister Scalar r) slot k w c dst src off m found view stands side (inl gives) = absurd (some_none _ _ gives refl)
-has_tested (AtRegister Scalar r) slot k w c dst src off m found view stands side (inr (_, scalar)) = inr (λ same. not_both _ (EntryOrNull m) 0 (subst (λ (n : ℕ). StandsAt Scalar view n) same scalar) stands, tt, scalar)
-has_tested (AtRegister (Exact n) r) slot k w c dst src off m found view stands side (inl gives) = absurd gives
-has_tested (AtRegister (Exact n) r) slot k w c dst src off m found view stands side (inr (_, other, exact)) = inr (other, tt, exact)
-has_tested (AtRegister (Pointer kind o) r) slot k w c dst src off m found view stands side (inl (same, m', kind_is, o_is, answer, on_side)) =
+pub has_tested : (x : Fact) (slot k : ℕ) (w : Width) (c : Condition) (dst : ℕ) (src : Source) (off : ℤ) (m : ℕ) (found : Bool) (state : AbstractState) → StandsAt (Pointer (EntryOrNull m) 0) state dst → (IsFoundSide c off slot k → found ≡ true) → After x slot k (Branch w c dst src off) state → AfterTest x state dst m found
+has_tested Never slot k w c dst src off m found state stands side after = absurd after
+has_tested (AtRegister Scalar r) slot k w c dst src off m found state stands side (inl gives) = absurd (some_none _ _ gives refl)
+has_tested (AtRegister Scalar r) slot k w c dst src off m found state stands side (inr (_, scalar)) = inr (λ same. not_both _ (EntryOrNull m) 0 (subst (λ (n : ℕ). StandsAt Scalar state n) same scalar) stands, tt, scalar)
+has_tested (AtRegister (Exact n) r) slot k w c dst src off m found state stands side (inl gives) = absurd gives
+has_tested (AtRegister (Exact n) r) slot k w c dst src off m found state stands side (inr (_, other, exact)) = inr (other, tt, exact)
+has_tested (AtRegister (Pointer kind o) r) slot k w c dst src off m found state stands side (inl (same, m', kind_is, o_is, answer, on_side)) =
     let kinds = pointer_is _ (EntryOrNull m') 0 (EntryOrNull m) 0 answer stands in
     let one : m' ≡ m = let e : EntryOrNull m' ≡ EntryOrNull m = kinds.0 in cc in
     let is : AtRegister (Pointer kind o) r ≡ AtRegister (Pointer (Entry m) 0) dst = rw (kind_is, o_is, one, ← same) refl in
     inl (side on_side, is)
-has_tested (AtRegister (Pointer kind o) r) slot k w c dst src off m found view stands side (inr (_, certain, before)) =
+has_tested (AtRegister (Pointer kind o) r) slot k w c dst src off m found state stands side (inr (_, certain, before)) =
     inr (
       λ same.
-          let kinds = pointer_is _ kind o (EntryOrNull m) 0 (subst (λ (n : ℕ). StandsAt (Pointer kind o) view n) same before) stands in
-          (let refuted : IsCertain (EntryOrNull m) = subst (λ (b : Kind). IsCertain b) kinds.0 certain in refuted),
+          let kinds = pointer_is _ kind o (EntryOrNull m) 0 (subst (λ (n : ℕ). StandsAt (Pointer kind o) state n) same before) stands in
+          (let refuted : IsCertain (EntryOrNull m) = subst (λ (b : ValueKind). IsCertain b) kinds.0 certain in refuted),
       certain,
       before,
     )
-has_tested (AtRegister NoPointer r) slot k w c dst src off m found view stands side after = absurd after
-has_tested (IsSetAt i) slot k w c dst src off m found view stands side (inl stores) = absurd stores
-has_tested (IsSetAt i) slot k w c dst src off m found view stands side (inr has) = inr (tt, tt, has)
-has_tested (IsPlainAt j) slot k w c dst src off m found view stands side after = inr (tt, tt, after)
+has_tested (AtRegister NoPointer r) slot k w c dst src off m found state stands side after = absurd after
+has_tested (IsSetAt i) slot k w c dst src off m found state stands side (inl stores) = absurd stores
+has_tested (IsSetAt i) slot k w c dst src off m found state stands side (inr has) = inr (tt, tt, has)
+has_tested (IsPlainAt j) slot k w c dst src off m found state stands side after = inr (tt, tt, after)
 
-knowing_apart : (x : Fact) (view : AbstractState) (dst : ℕ) (word : AbstractValue) → IsApartFrom x dst → Has x view → HasLearnt x view dst word
-knowing_apart Never view dst word other has = has
-knowing_apart (AtRegister s r) view dst word other has = subst (λ (v : Option AbstractValue). Stands s v) (sym (get_or-set_other view.registers dst r (Some word) None other)) has
-knowing_apart (IsSetAt i) view dst word other has = has
-knowing_apart (IsPlainAt j) view dst word other has = has
+knowing_apart : (x : Fact) (state : AbstractState) (dst : ℕ) (word : AbstractValue) → IsApartFrom x dst → Has x state → HasLearnt x state dst word
+knowing_apart Never state dst word other has = has
+knowing_apart (AtRegister s r) state dst word other has = subst (λ (v : Option AbstractValue). Stands s v) (sym (get_or-set_other state.registers dst r (Some word) None other)) has
+knowing_apart (IsSetAt i) state dst word other has = has
+knowing_apart (IsPlainAt j) state dst word other has = has
 
 -- the word that is learnt on that side
-pub has_on_tested : (x : Fact) (view : AbstractState) (dst m : ℕ) (found : Bool) (side : Option AbstractValue) → dst < length view.registers → IsTested m found side → AfterTest x view dst m found → HasOnSide x view dst side
-has_on_tested x view dst m found side there tested (inl (yes', is)) =
-    let word : Stands (Pointer (Entry m) 0) (slice_index_or (slice_set view.registers dst (Some tested.word)) dst None) = subst (λ (v : Option AbstractValue). Stands (Pointer (Entry m) 0) v) (sym (get_or-set_same view.registers dst (Some tested.word) None there)) (tested.entry yes') in
-    let at : HasOnSide (AtRegister (Pointer (Entry m) 0) dst) view dst (Some tested.word) = (tt, word) in
-    subst (λ (v : Option AbstractValue). HasOnSide x view dst v) (sym tested.is) (subst (λ (y : Fact). HasOnSide y view dst (Some tested.word)) (sym is) at)
-has_on_tested x view dst m found side there tested (inr (other, lasting, has)) = subst (λ (v : Option AbstractValue). HasOnSide x view dst v) (sym tested.is) (lasting, knowing_apart x view dst tested.word other has)
+pub has_on_tested : (x : Fact) (state : AbstractState) (dst m : ℕ) (found : Bool) (side : Option AbstractValue) → dst < length state.registers → IsTested m found side → AfterTest x state dst m found → HasOnSide x state dst side
+has_on_tested x state dst m found side there tested (inl (yes', is)) =
+    let word : Stands (Pointer (Entry m) 0) (slice_index_or (slice_set state.registers dst (Some tested.word)) dst None) = subst (λ (v : Option AbstractValue). Stands (Pointer (Entry m) 0) v) (sym (get_or-set_same state.registers dst (Some tested.word) None there)) (tested.entry yes') in
+    let at : HasOnSide (AtRegister (Pointer (Entry m) 0) dst) state dst (Some tested.word) = (tt, word) in
+    subst (λ (v : Option AbstractValue). HasOnSide x state dst v) (sym tested.is) (subst (λ (y : Fact). HasOnSide y state dst (Some tested.word)) (sym is) at)
+has_on_tested x state dst m found side there tested (inr (other, lasting, has)) = subst (λ (v : Option AbstractValue). HasOnSide x state dst v) (sym tested.is) (lasting, knowing_apart x state dst tested.word other has)
 
-learnt_of : (x : Fact) (view : AbstractState) (dst : ℕ) (k : AbstractValue) → Has x (knowing view dst k) → HasLearnt x view dst k
-learnt_of Never view dst k has = has
-learnt_of (AtRegister s r) view dst k has = has
-learnt_of (IsSetAt i) view dst k has = has
-learnt_of (IsPlainAt j) view dst k has = has
+learnt_of : (x : Fact) (state : AbstractState) (dst : ℕ) (k : AbstractValue) → Has x (knowing state dst k) → HasLearnt x state dst k
+learnt_of Never state dst k has = has
+learnt_of (AtRegister s r) state dst k has = has
+learnt_of (IsSetAt i) state dst k has = has
+learnt_of (IsPlainAt j) state dst k has = has
 
 -- what is sure of an abstract state is sure on a side of a test of numbers
-pub has_on_side : (x : Fact) (view : AbstractState) (dst : ℕ) (side : Option AbstractValue) → dst < length view.registers → Outlasts x dst → IsLasting x → StandsAt Scalar view dst → IsNumberIfAny side → Has x view → HasOnSide x view dst side
-has_on_side x view dst None there lasts lasting scalar number has = tt
-has_on_side x view dst (Some k) there lasts lasting scalar number has = (lasting, learnt_of x view dst k (given_has x view (knowing view dst k) dst lasts scalar (knowing_given view dst k there number) has))
+pub has_on_side : (x : Fact) (state : AbstractState) (dst : ℕ) (side : Option AbstractValue) → dst < length state.registers → Outlasts x dst → IsLasting x → StandsAt Scalar state dst → IsNumberIfAny side → Has x state → HasOnSide x state dst side
+has_on_side x state dst None there lasts lasting scalar number has = tt
+has_on_side x state dst (Some k) there lasts lasting scalar number has = (lasting, learnt_of x state dst k (given_has x state (knowing state dst k) dst lasts scalar (knowing_given state dst k there number) has))
 
 -- what is sure after a branch outlasts the test
-pub sure_outlasts_test : (x : Fact) (slot k : ℕ) (w : Width) (c : Condition) (dst : ℕ) (src : Source) (off : ℤ) (view : AbstractState) → After x slot k (Branch w c dst src off) view → Outlasts x dst
-sure_outlasts_test (AtRegister (Exact n) r) slot k w c dst src off view (inl gives) = absurd gives
-sure_outlasts_test (AtRegister (Exact n) r) slot k w c dst src off view (inr (_, other, exact)) = other
-sure_outlasts_test (AtRegister Scalar r) slot k w c dst src off view after = tt
-sure_outlasts_test (AtRegister (Pointer kind o) r) slot k w c dst src off view after = tt
-sure_outlasts_test (AtRegister NoPointer r) slot k w c dst src off view after = tt
-sure_outlasts_test Never slot k w c dst src off view after = tt
-sure_outlasts_test (IsSetAt i) slot k w c dst src off view after = tt
-sure_outlasts_test (IsPlainAt j) slot k w c dst src off view after = tt
+pub sure_outlasts_test : (x : Fact) (slot k : ℕ) (w : Width) (c : Condition) (dst : ℕ) (src : Source) (off : ℤ) (state : AbstractState) → After x slot k (Branch w c dst src off) state → Outlasts x dst
+sure_outlasts_test (AtRegister (Exact n) r) slot k w c dst src off state (inl gives) = absurd gives
+sure_outlasts_test (AtRegister (Exact n) r) slot k w c dst src off state (inr (_, other, exact)) = other
+sure_outlasts_test (AtRegister Scalar r) slot k w c dst src off state after = tt
+sure_outlasts_test (AtRegister (Pointer kind o) r) slot k w c dst src off state after = tt
+sure_outlasts_test (AtRegister NoPointer r) slot k w c dst src off state after = tt
+sure_outlasts_test Never slot k w c dst src off state after = tt
+sure_outlasts_test (IsSetAt i) slot k w c dst src off state after = tt
+sure_outlasts_test (IsPlainAt j) slot k w c dst src off state after = tt
 
 -- and it lasts
-pub lasting_after : (x : Fact) (slot k : ℕ) (w : Width) (c : Condition) (dst : ℕ) (src : Source) (off : ℤ) (view : AbstractState) → After x slot k (Branch w c dst src off) view → IsLasting x
-lasting_after (AtRegister (Pointer kind o) r) slot k w c dst src off view (inl (same, m, kind_is, o_is, answer, on_side)) = subst (λ (b : Kind). IsCertain b) (sym kind_is) tt
-lasting_after (AtRegister (Pointer kind o) r) slot k w c dst src off view (inr (_, certain, before)) = certain
-lasting_after (AtRegister (Exact n) r) slot k w c dst src off view after = tt
-lasting_after (AtRegister Scalar r) slot k w c dst src off view after = tt
-lasting_after (AtRegister NoPointer r) slot k w c dst src off view after = tt
-lasting_after Never slot k w c dst src off view after = tt
-lasting_after (IsSetAt i) slot k w c dst src off view after = tt
-lasting_after (IsPlainAt j) slot k w c dst src off view after = tt
+pub lasting_after : (x : Fact) (slot k : ℕ) (w : Width) (c : Condition) (dst : ℕ) (src : Source) (off : ℤ) (state : AbstractState) → After x slot k (Branch w c dst src off) state → IsLasting x
+lasting_after (AtRegister (Pointer kind o) r) slot k w c dst src off state (inl (same, m, kind_is, o_is, answer, on_side)) = subst (λ (b : ValueKind). IsCertain b) (sym kind_is) tt
+lasting_after (AtRegister (Pointer kind o) r) slot k w c dst src off state (inr (_, certain, before)) = certain
+lasting_after (AtRegister (Exact n) r) slot k w c dst src off state after = tt
+lasting_after (AtRegister Scalar r) slot k w c dst src off state after = tt
+lasting_after (AtRegister NoPointer r) slot k w c dst src off state after = tt
+lasting_after Never slot k w c dst src off state after = tt
+lasting_after (IsSetAt i) slot k w c dst src off state after = tt
+lasting_after (IsPlainAt j) slot k w c dst src off state after = tt
 
 -- an instruction that is no EXIT, no jump and no branch is transferred
 pub transferred_if_no_jump : (insn : Insn) → (insn ≡ Exit → ⊥) → ((off : ℤ) → insn ≡ Goto off → ⊥) → ((imm : ℤ) → insn ≡ Goto32 imm → ⊥) → ((w : Width) (c : Condition) (d : ℕ) (s : Source) (off : ℤ) → insn ≡ Branch w c d s off → ⊥) → IsTransferred insn

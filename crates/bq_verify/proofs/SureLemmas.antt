@@ -24,8 +24,8 @@ use Rattle.bq_graph.specs.Passes.{IsSound}
 use Rattle.bq_graph.specs.Faults.{destination_of}
 use Rattle.bq_graph.specs.declared.cause.GraphCause.TheVariants.{Frame}
 use Rattle.bq_graph.proofs.EdgeLemmas.{end_of-push, IsPath-push}
-use Rattle.bq_states.specs.declared.abstract_state.Kind.{Kind}
-use Rattle.bq_states.specs.declared.abstract_state.Kind.TheVariants.{Context, Stack, Entry, EntryOrNull, Map}
+use Rattle.bq_states.specs.declared.abstract_state.ValueKind.{ValueKind}
+use Rattle.bq_states.specs.declared.abstract_state.ValueKind.TheVariants.{Context, Stack, Entry, EntryOrNull, Map}
 use Rattle.bq_states.specs.declared.abstract_state.AbstractState.{AbstractState}
 use Rattle.bq_states.specs.Certainty.{Scalar, Exact, Pointer, NoPointer, StandsAt, Fact, Never, AtRegister, IsSetAt, IsPlainAt, Has, IsScalarOperand}
 use Rattle.bq_verify.specs.Ways.{HasWaiting, GoesOnSure}
@@ -85,7 +85,7 @@ spares_is : (insn : Insn) (r : ℕ) → spares r (Some insn) ≡ true → Spares
 spares_is (Call helper) r h = let lt : 5 < r = ltb-true 5 r h in omega arith
 spares_is insn r h = register_other (destination_of insn) r h
 
-leaves_pointer : (kind : Kind) (insn : Insn) → IsCertain kind → LeavesPointer kind insn
+leaves_pointer : (kind : ValueKind) (insn : Insn) → IsCertain kind → LeavesPointer kind insn
 leaves_pointer kind (Branch w c dst src off) certain = certain
 leaves_pointer kind _ certain = tt
 
@@ -140,16 +140,16 @@ module _ (slots : List (Option Insn)) (makes leaves : Option Insn → Bool) wher
       by false false e f = absurd (reached (λ p. let on : leaves (Some insn) ≡ true = (left_on _ _ _ e (held p.rest p.is_path p.ends)).0 in let no : ⊥ = cc in no))
 
 -- what a chain of instructions makes of a register, the abstract state knows, if it knows what was before
-gives_pointer : (kind : Kind) (o r slot k : ℕ) (insn : Insn) (view : AbstractState) (Was : Kind → ℕ → ℕ → Type 0) → StandsAt (Pointer Stack 512) view 10 → ((kind : Kind) (o r : ℕ) → Was kind o r → StandsAt (Pointer kind o) view r) → MakesPointer kind o r slot k (Some insn) Was → GivesPointer kind o slot k insn r view
-gives_pointer kind o r slot k (MapRef dst index) view Was frame known made = made
-gives_pointer kind o r slot k (Alu w Mov dst (Reg src)) view Was frame known (same, ten, is, top) = (same, ten, rw (is, top) frame)
-gives_pointer kind o r slot k (Alu w Add dst (Imm i)) view Was frame known (same, base, was, o_is) = (same, base, subst (λ (n : ℕ). StandsAt (Pointer kind base) view n) (sym same) (known kind base r was), o_is)
-gives_pointer kind o r slot k (Call helper) view Was frame known (none, one, m, is, zero, was) = (none, one, m, is, zero, known (Map m) 0 1 was)
-gives_pointer kind o r slot k (Branch w c dst src off) view Was frame known (same, m, is, zero, was, side) = (same, m, is, zero, subst (λ (n : ℕ). StandsAt (Pointer (EntryOrNull m) 0) view n) (sym same) (known (EntryOrNull m) 0 r was), side)
-gives_pointer kind o r slot k _ view Was frame known made = absurd made
+gives_pointer : (kind : ValueKind) (o r slot k : ℕ) (insn : Insn) (state : AbstractState) (Was : ValueKind → ℕ → ℕ → Type 0) → StandsAt (Pointer Stack 512) state 10 → ((kind : ValueKind) (o r : ℕ) → Was kind o r → StandsAt (Pointer kind o) state r) → MakesPointer kind o r slot k (Some insn) Was → GivesPointer kind o slot k insn r state
+gives_pointer kind o r slot k (MapRef dst index) state Was frame known made = made
+gives_pointer kind o r slot k (Alu w Mov dst (Reg src)) state Was frame known (same, ten, is, top) = (same, ten, rw (is, top) frame)
+gives_pointer kind o r slot k (Alu w Add dst (Imm i)) state Was frame known (same, base, was, o_is) = (same, base, subst (λ (n : ℕ). StandsAt (Pointer kind base) state n) (sym same) (known kind base r was), o_is)
+gives_pointer kind o r slot k (Call helper) state Was frame known (none, one, m, is, zero, was) = (none, one, m, is, zero, known (Map m) 0 1 was)
+gives_pointer kind o r slot k (Branch w c dst src off) state Was frame known (same, m, is, zero, was, side) = (same, m, is, zero, subst (λ (n : ℕ). StandsAt (Pointer (EntryOrNull m) 0) state n) (sym same) (known (EntryOrNull m) 0 r was), side)
+gives_pointer kind o r slot k _ state Was frame known made = absurd made
 
 -- one slot of a program that is straight up to it
-module _ (slots : List (Option Insn)) (shapes : List MapShape) (context slot : ℕ) (insn : Insn) (view : AbstractState) (here : instruction_at slots slot ≡ Some insn) (straight : IsStraightBefore slots shapes context (slot + 1)) (has : (x : Fact) → IsDue slots x slot → Has x view) where
+module _ (slots : List (Option Insn)) (shapes : List MapShape) (context slot : ℕ) (insn : Insn) (state : AbstractState) (here : instruction_at slots slot ≡ Some insn) (straight : IsStraightBefore slots shapes context (slot + 1)) (has : (x : Fact) → IsDue slots x slot → Has x state) where
   reached : (Path slots 0 slot → ⊥) → ⊥
   reached none = has Never none
 
@@ -157,33 +157,33 @@ module _ (slots : List (Option Insn)) (shapes : List MapShape) (context slot : �
   frame_spared (Call helper) other = let le : 6 ≤ 10 = omega arith in le
   frame_spared _ other = other
 
-  frame : StandsAt (Pointer Stack 512) view 10
+  frame : StandsAt (Pointer Stack 512) state 10
   frame = has (AtRegister (Pointer Stack 512) 10) (inr (inl (refl, refl, refl)))
 
-  pointer : (kind : Kind) (o r : ℕ) → IsPointerAt slots kind o r slot → StandsAt (Pointer kind o) view r
+  pointer : (kind : ValueKind) (o r : ℕ) → IsPointerAt slots kind o r slot → StandsAt (Pointer kind o) state r
   pointer kind o r at = has (AtRegister (Pointer kind o) r) (inr (inr at))
 
   -- what the step before says, of this slot and its instruction
-  here_made : (k : ℕ) (kind : Kind) (o r before : ℕ) (back : List ℕ) → before ≡ slot → MakesPointer kind o r before k (instruction_at slots before) (λ kind o r. IsPointerFrom slots kind o r before back) → MakesPointer kind o r slot k (Some insn) (λ kind o r. IsPointerFrom slots kind o r slot back)
+  here_made : (k : ℕ) (kind : ValueKind) (o r before : ℕ) (back : List ℕ) → before ≡ slot → MakesPointer kind o r before k (instruction_at slots before) (λ kind o r. IsPointerFrom slots kind o r before back) → MakesPointer kind o r slot k (Some insn) (λ kind o r. IsPointerFrom slots kind o r slot back)
   here_made k kind o r before back same made =
       subst (λ (v : Option Insn). MakesPointer kind o r slot k v (λ kind o r. IsPointerFrom slots kind o r slot back)) here
       (subst (λ (n : ℕ). MakesPointer kind o r n k (instruction_at slots n) (λ kind o r. IsPointerFrom slots kind o r n back)) same made)
 
-  here_left : (kind : Kind) (r before : ℕ) → before ≡ slot → LeavesPointerIn kind r (instruction_at slots before) → LeavesPointerIn kind r (Some insn)
+  here_left : (kind : ValueKind) (r before : ℕ) → before ≡ slot → LeavesPointerIn kind r (instruction_at slots before) → LeavesPointerIn kind r (Some insn)
   here_left kind r before same left = subst (λ (v : Option Insn). LeavesPointerIn kind r v) (ap (λ (n : ℕ). instruction_at slots n) same ∙ here) left
 
   -- a pointer that was made
-  due_pointer : (k : ℕ) → IsEdge slots slot k → (kind : Kind) (o r : ℕ) (back : List ℕ) → IsPointerFrom slots kind o r k back → After (AtRegister (Pointer kind o) r) slot k insn view
+  due_pointer : (k : ℕ) → IsEdge slots slot k → (kind : ValueKind) (o r : ℕ) (back : List ℕ) → IsPointerFrom slots kind o r k back → After (AtRegister (Pointer kind o) r) slot k insn state
   due_pointer k edge kind o r [] chain = absurd chain
   due_pointer k edge kind o r (before ∷ back) (one_way, way, inl made) =
-      inl (gives_pointer kind o r slot k insn view (λ kind o r. IsPointerFrom slots kind o r slot back) frame (λ kind o r was. pointer kind o r (back, was)) (here_made k kind o r before back (one_way before slot way edge) made))
+      inl (gives_pointer kind o r slot k insn state (λ kind o r. IsPointerFrom slots kind o r slot back) frame (λ kind o r was. pointer kind o r (back, was)) (here_made k kind o r before back (one_way before slot way edge) made))
   due_pointer k edge kind o r (before ∷ back) (one_way, way, inr (left, was)) =
       let same = one_way before slot way edge in
       let leaves' = here_left kind r before same left in
       inr (spares_is insn r leaves'.0, leaves'.1, pointer kind o r (back, subst (λ (n : ℕ). IsPointerFrom slots kind o r n back) same was))
 
   -- what is due after an edge is sure after the instruction
-  due_on : (k : ℕ) → IsEdge slots slot k → (x : Fact) → IsDue slots x k → After x slot k insn view
+  due_on : (k : ℕ) → IsEdge slots slot k → (x : Fact) → IsDue slots x k → After x slot k insn state
   due_on k edge Never due =
       has Never
       (λ path.
@@ -191,17 +191,17 @@ module _ (slots : List (Option Insn)) (shapes : List MapShape) (context slot : �
       due (record { rest = path.rest ++ k ∷ []; is_path = IsPath-push slots 0 path.rest k path.is_path edge'; ends = end_of-push 0 path.rest k }))
   due_on k edge (AtRegister Scalar r) due = by (made_or_left slots (writes r) (leaves r) false slot k insn here edge due reached)
     where
-      by : (writes r (Some insn) ≡ true) ⊎ ((leaves r (Some insn) ≡ true) × IsWritten slots slot r) → After (AtRegister Scalar r) slot k insn view
+      by : (writes r (Some insn) ≡ true) ⊎ ((leaves r (Some insn) ≡ true) × IsWritten slots slot r) → After (AtRegister Scalar r) slot k insn state
       by (inl made) = inl (writes_gives insn r made)
       by (inr (left, written)) = inr (leaves_is insn r left, has (AtRegister Scalar r) written)
   due_on k edge (AtRegister (Exact n) r) due = by (made_or_left slots (loads r n) (untouched r) false slot k insn here edge due reached)
     where
-      by : (loads r n (Some insn) ≡ true) ⊎ ((untouched r (Some insn) ≡ true) × IsLoaded slots slot r n) → After (AtRegister (Exact n) r) slot k insn view
+      by : (loads r n (Some insn) ≡ true) ⊎ ((untouched r (Some insn) ≡ true) × IsLoaded slots slot r n) → After (AtRegister (Exact n) r) slot k insn state
       by (inl made) = inl (loads_gives insn r n made)
       by (inr (left, loaded)) = inr (untouched_spares insn r left, untouched_tests insn r left, has (AtRegister (Exact n) r) loaded)
   due_on k edge (AtRegister (Pointer kind o) r) (inl (is, zero, one, kept)) = by (made_or_left slots never (spares 1) true slot k insn here edge kept reached)
     where
-      by : (never (Some insn) ≡ true) ⊎ ((spares 1 (Some insn) ≡ true) × IsContextLeft slots slot) → After (AtRegister (Pointer kind o) r) slot k insn view
+      by : (never (Some insn) ≡ true) ⊎ ((spares 1 (Some insn) ≡ true) × IsContextLeft slots slot) → After (AtRegister (Pointer kind o) r) slot k insn state
       by (inl made) = absurd (let no : ⊥ = cc in no)
       by (inr (left, before)) =
           let certain : IsCertain kind = rw is tt in
@@ -217,26 +217,26 @@ module _ (slots : List (Option Insn)) (shapes : List MapShape) (context slot : �
   due_on k edge (AtRegister NoPointer r) due = absurd due
   due_on k edge (IsSetAt i) (size, off, stored, byte) = by (made_or_left slots (stores size off) always false slot k insn here edge stored reached)
     where
-      by : (stores size off (Some insn) ≡ true) ⊎ ((always (Some insn) ≡ true) × IsStored slots slot size off) → After (IsSetAt i) slot k insn view
+      by : (stores size off (Some insn) ≡ true) ⊎ ((always (Some insn) ≡ true) × IsStored slots slot size off) → After (IsSetAt i) slot k insn state
       by (inl made) = inl (stores_byte insn size off i made byte)
       by (inr (left, before)) = inr (has (IsSetAt i) (size, off, before, byte))
   due_on k edge (IsPlainAt j) due = has (IsPlainAt j) tt
 
-  operand_ready : (src : Source) → IsWrittenOperand slots slot src → IsScalarOperand view src
+  operand_ready : (src : Source) → IsWrittenOperand slots slot src → IsScalarOperand state src
   operand_ready (Imm i) w = tt
   operand_ready (Reg r) w = has (AtRegister Scalar r) w
 
-  left_ready : (op : Operation) (dst : ℕ) → IsWrittenLeft op slots slot dst → IsLeftReady op view dst
+  left_ready : (op : Operation) (dst : ℕ) → IsWrittenLeft op slots slot dst → IsLeftReady op state dst
   left_ready Mov dst w = tt
   left_ready _ dst w = has (AtRegister Scalar dst) w
 
-  frame_placed : (size : Size) (dst : ℕ) (off : ℤ) (at : ℕ) → dst ≡ 10 → pos at ≡ (pos 512 +ℤ off) → at + byte_count size ≤ 512 → IsPlaced shapes context view size dst off Stack at
-  frame_placed size dst off at ten at_is inside = record { base = 512; stands = subst (λ (n : ℕ). StandsAt (Pointer Stack 512) view n) (sym ten) frame; at_is = at_is; bound = 512; bound_is = refl; inside = inside }
+  frame_placed : (size : Size) (dst : ℕ) (off : ℤ) (at : ℕ) → dst ≡ 10 → pos at ≡ (pos 512 +ℤ off) → at + byte_count size ≤ 512 → IsPlaced shapes context state size dst off Stack at
+  frame_placed size dst off at ten at_is inside = record { base = 512; stands = subst (λ (n : ℕ). StandsAt (Pointer Stack 512) state n) (sym ten) frame; at_is = at_is; bound = 512; bound_is = refl; inside = inside }
 
-  on_frame : (size : Size) (dst : ℕ) (off : ℤ) → dst ≡ 10 → IsOnStack size off → IsOnFrame shapes context view size dst off
+  on_frame : (size : Size) (dst : ℕ) (off : ℤ) → dst ≡ 10 → IsOnStack size off → IsOnFrame shapes context state size dst off
   on_frame size dst off ten (at, at_is, inside) = record { at = at; at_is = at_is; placed = frame_placed size dst off at ten at_is inside }
 
-  entry_placed : (size : Size) (r : ℕ) (off : ℤ) → (entry : IsInEntry slots shapes slot r size off) → IsPlaced shapes context view size r off (Entry entry.map) entry.at
+  entry_placed : (size : Size) (r : ℕ) (off : ℤ) → (entry : IsInEntry slots shapes slot r size off) → IsPlaced shapes context state size r off (Entry entry.map) entry.at
   entry_placed size r off entry = record {
     base = 0;
     stands = pointer (Entry entry.map) 0 r entry.entry;
@@ -246,13 +246,13 @@ module _ (slots : List (Option Insn)) (shapes : List MapShape) (context slot : �
     inside = entry.inside;
   }
 
-  readable : (size : Size) (src : ℕ) (off : ℤ) → IsGoodLoad slots shapes context slot size src off → IsReadable shapes context view size src off
+  readable : (size : Size) (src : ℕ) (off : ℤ) → IsGoodLoad slots shapes context slot size src off → IsReadable shapes context state size src off
   readable size src off (inl (one, left, at, off_is, inside)) = record {
     kind = Context;
     at = at;
     placed = record {
       base = 0;
-      stands = subst (λ (n : ℕ). StandsAt (Pointer Context 0) view n) (sym one) (has (AtRegister (Pointer Context 0) 1) (inl (refl, refl, refl, left)));
+      stands = subst (λ (n : ℕ). StandsAt (Pointer Context 0) state n) (sym one) (has (AtRegister (Pointer Context 0) 1) (inl (refl, refl, refl, left)));
       at_is = omega (arith, ints, off_is);
       bound = context;
       bound_is = refl;
@@ -276,11 +276,11 @@ module _ (slots : List (Option Insn)) (shapes : List MapShape) (context slot : �
     plain = λ j. has (IsPlainAt j) tt;
   }
 
-  storable : (size : Size) (dst : ℕ) (off : ℤ) → IsGoodStore slots shapes slot size dst off → IsOnFrame shapes context view size dst off ⊎ IsIntoEntry shapes context view size dst off
+  storable : (size : Size) (dst : ℕ) (off : ℤ) → IsGoodStore slots shapes slot size dst off → IsOnFrame shapes context state size dst off ⊎ IsIntoEntry shapes context state size dst off
   storable size dst off (inl (ten, on)) = inl (on_frame size dst off ten on)
   storable size dst off (inr (other, entry)) = inr (record { map = entry.map; at = entry.at; placed = entry_placed size dst off entry; other = other })
 
-  naming : (map : ℕ) → IsNaming slots slot map → IsNamingEntry view map
+  naming : (map : ℕ) → IsNaming slots slot map → IsNamingEntry state map
   naming map n = record {
     names = pointer (Map map) 0 1 n.names;
     at = n.at;
@@ -290,10 +290,10 @@ module _ (slots : List (Option Insn)) (shapes : List MapShape) (context slot : �
   }
 
   -- a register that was loaded with a number
-  bounded : (r n most : ℕ) → n ≤ most → IsLoaded slots slot r n → IsAtMost most (slice_index_or view.registers r None)
-  bounded r n most le loaded = exact_at_most n most (slice_index_or view.registers r None) le (has (AtRegister (Exact n) r) loaded)
+  bounded : (r n most : ℕ) → n ≤ most → IsLoaded slots slot r n → IsAtMost most (slice_index_or state.registers r None)
+  bounded r n most le loaded = exact_at_most n most (slice_index_or state.registers r None) le (has (AtRegister (Exact n) r) loaded)
 
-  updating : (map : ℕ) → IsGiving slots shapes slot map → IsUpdating shapes view map
+  updating : (map : ℕ) → IsGiving slots shapes slot map → IsUpdating shapes state map
   updating map g = record {
     names = naming map g.naming;
     size = g.shape.value_size;
@@ -305,17 +305,17 @@ module _ (slots : List (Option Insn)) (shapes : List MapShape) (context slot : �
     flags = bounded 4 0 0 (omega arith) g.flags;
   }
 
-  asking : (helper : ℤ) → IsCounting slots slot helper → IsAsking view helper
+  asking : (helper : ℤ) → IsCounting slots slot helper → IsAsking state helper
   asking helper c = (bounded 1 c.counter 63 (let few = c.few in omega (arith, few)) c.loaded, λ is. has (AtRegister Scalar 2) (c.amount is))
 
-  operands : (w : Width) (op : Operation) (dst : ℕ) (src : Source) → (IsWrittenLeft op slots slot dst × IsWrittenOperand slots slot src) ⊎ (IsCopyOfEnd w op src ⊎ IsMoveOnStack slots slot w op dst src) → (IsLeftReady op view dst × IsScalarOperand view src) ⊎ (IsCopyOfFrame view w op src ⊎ IsMoveOfPointer view w op dst src)
+  operands : (w : Width) (op : Operation) (dst : ℕ) (src : Source) → (IsWrittenLeft op slots slot dst × IsWrittenOperand slots slot src) ⊎ (IsCopyOfEnd w op src ⊎ IsMoveOnStack slots slot w op dst src) → (IsLeftReady op state dst × IsScalarOperand state src) ⊎ (IsCopyOfFrame state w op src ⊎ IsMoveOfPointer state w op dst src)
   operands w op dst src (inl numbers) = inl (left_ready op dst numbers.0, operand_ready src numbers.1)
   operands w op dst src (inr (inl copy)) = inr (inl (record { is_copy = copy.1; whole = copy.0; of_frame = copy.2; base = 512; stands = frame }))
   operands w op dst src (inr (inr m)) =
       inr (inr (record { is_sum = m.is_sum; whole = m.whole; distance = m.distance; by_distance = m.by_distance; base = m.base; stands = pointer Stack m.base dst m.from; at = m.at; at_is = m.at_is; below = m.below; small = m.small }))
 
   -- the instruction has what it needs: for a call of a counter it is the abstract state that is asked from
-  ready_of : (i : Insn) → Needs slots shapes context slot i → IsReady shapes context view i ⊎ IsReadyToAsk view i
+  ready_of : (i : Insn) → Needs slots shapes context slot i → IsReady shapes context state i ⊎ IsReadyToAsk state i
   ready_of (Alu w op dst src) n = inl (n.0, operands w op dst src n.1)
   ready_of (MovSx w bits dst src) n = inl (n.0, has (AtRegister Scalar src) n.1)
   ready_of (Neg w dst) n = inl (n.0, has (AtRegister Scalar dst) n.1)
@@ -335,11 +335,11 @@ module _ (slots : List (Option Insn)) (shapes : List MapShape) (context slot : �
   ready_of (Call helper) (inr (inr (inr (which, c)))) = inr (which, asking helper c)
   ready_of Exit n = inl (has (AtRegister Scalar 0) n)
 
-  pub ready_at : IsReady shapes context view insn ⊎ IsReadyToAsk view insn
+  pub ready_at : IsReady shapes context state insn ⊎ IsReadyToAsk state insn
   ready_at = ready_of insn (straight.before slot insn (omega arith) here)
 
   -- one slot further the pass is as sure
-  pub sure_on : (pending new : List (Option (Box AbstractState Global))) (after : AbstractState) (on : Bool) → ((x : Fact) (k : ℕ) → IsDue slots x k → HasWaiting x pending k) → GoesOnSure slots slot insn view pending new after on → IsSure slots new after on (slot + 1)
+  pub sure_on : (pending new : List (Option (Box AbstractState Global))) (after : AbstractState) (on : Bool) → ((x : Fact) (k : ℕ) → IsDue slots x k → HasWaiting x pending k) → GoesOnSure slots slot insn state pending new after on → IsSure slots new after on (slot + 1)
   sure_on pending new after on waits goes x k due = goes x k (waits x k due) (λ edge. due_on k edge x due)
 
 -- a straight program is straight before each slot
@@ -351,18 +351,18 @@ pub straight_earlier : (slots : List (Option Insn)) (shapes : List MapShape) (co
 straight_earlier slots shapes context slot later order straight = record { faultless = straight.faultless; before = λ k insn below here. straight.before k insn (omega arith) here }
 
 -- where no abstract state is transferred on
-pub sure_over : (slots : List (Option Insn)) (pending : List (Option (Box AbstractState Global))) (view : AbstractState) (slot : ℕ) → ((x : Fact) (k : ℕ) → IsDue slots x k → HasWaiting x pending k) → IsSure slots pending view false slot
-sure_over slots pending view slot waits x k due = record { waiting = waits x k due; transferred = λ live. absurd (let no : ⊥ = cc in no) }
+pub sure_over : (slots : List (Option Insn)) (pending : List (Option (Box AbstractState Global))) (state : AbstractState) (slot : ℕ) → ((x : Fact) (k : ℕ) → IsDue slots x k → HasWaiting x pending k) → IsSure slots pending state false slot
+sure_over slots pending state slot waits x k due = record { waiting = waits x k due; transferred = λ live. absurd (let no : ⊥ = cc in no) }
 
 -- at the start
-pub sure_start : (slots : List (Option Insn)) (pending : List (Option (Box AbstractState Global))) (view : AbstractState) → IsSound slots → ((k : ℕ) → slice_index_or pending k None ≡ None) → StandsAt (Pointer Context 0) view 1 → StandsAt (Pointer Stack 512) view 10 → ((j : ℕ) → Has (IsPlainAt j) view) → IsSure slots pending view true 0
-sure_start slots pending view sound blank context frame plain x k due = record { waiting = rw (blank k) tt; transferred = λ live same. at x (subst (λ (n : ℕ). IsDue slots x n) same due) }
+pub sure_start : (slots : List (Option Insn)) (pending : List (Option (Box AbstractState Global))) (state : AbstractState) → IsSound slots → ((k : ℕ) → slice_index_or pending k None ≡ None) → StandsAt (Pointer Context 0) state 1 → StandsAt (Pointer Stack 512) state 10 → ((j : ℕ) → Has (IsPlainAt j) state) → IsSure slots pending state true 0
+sure_start slots pending state sound blank context frame plain x k due = record { waiting = rw (blank k) tt; transferred = λ live same. at x (subst (λ (n : ℕ). IsDue slots x n) same due) }
   where
-    not_made : (kind : Kind) (o r : ℕ) (back : List ℕ) → IsPointerFrom slots kind o r 0 back → ⊥
+    not_made : (kind : ValueKind) (o r : ℕ) (back : List ℕ) → IsPointerFrom slots kind o r 0 back → ⊥
     not_made kind o r [] chain = chain
     not_made kind o r (before ∷ back) chain = let up = (sound.forward before 0 chain.1).0 in omega (arith, up)
 
-    at : (x : Fact) → IsDue slots x 0 → Has x view
+    at : (x : Fact) → IsDue slots x 0 → Has x state
     at Never due = due (record { rest = []; is_path = tt; ends = refl })
     at (AtRegister Scalar r) due = absurd (let e : false ≡ true = due [] tt refl in let no : ⊥ = cc in no)
     at (AtRegister (Exact n) r) due = absurd (let e : false ≡ true = due [] tt refl in let no : ⊥ = cc in no)

@@ -18,7 +18,7 @@ use Rattle.bq_graph.specs.Faults.{IsFaultless, destination_of, is_helper}
 use Rattle.bq_graph.specs.declared.cause.GraphCause.TheVariants.{Jump, NoExit, Unreached, Frame, Helper, Counters}
 use Rattle.bq_graph.proofs.EdgeLemmas.{end_of-push, IsPath-push, exit_is_last, leads_same}
 use Rattle.bq_transfer.specs.Ready.{IsNullCheck}
-use Rattle.bq_states.specs.declared.abstract_state.Kind.TheVariants.{Entry, EntryOrNull, Map, Stack}
+use Rattle.bq_states.specs.declared.abstract_state.ValueKind.TheVariants.{Entry, EntryOrNull, Map, Stack}
 use Rattle.bq_verify.specs.Straight.{held_along, OnEachPath, always, stores, writes, leaves, HasOneWay, IsByteStored, IsInEntry, IsMoveOnStack, IsNaming, IsPointerFrom, IsWritten, Needs}
 use Rattle.bq_verify.specs.Worked.{worked, WorkedIsStraight}
 

@@ -63,7 +63,7 @@ WaitsBoxed f pending s = IsIn f (slice_index_or pending s.slot None) s
 
 -- the state is one of a waiting abstract state, or one of the abstract state that is transferred to that slot
 abbrev pub IsKnown : List (Option (Box AbstractState Global)) → AbstractState → Bool → ℕ → Setting → State → Type 0
-IsKnown pending view live slot f s = WaitsBoxed f pending s ⊎ ((live ≡ true) × (s.slot ≡ slot) × Contains f view s)
+IsKnown pending state live slot f s = WaitsBoxed f pending s ⊎ ((live ≡ true) × (s.slot ≡ slot) × Contains f state s)
 
 -- at the state the program ends, or goes on to a state that is known; at a call of a counter it does so for each answer
 abbrev pub LeadsOn : (Setting → State → Type 0) → Setting → State → Type 0
@@ -74,8 +74,8 @@ LeadsOn K f s =
 
 -- from the states of the abstract state at that slot the program goes on
 abbrev pub Goes : List (Option Insn) → List MapShape → ℕ → ℕ → AbstractState → (Setting → State → Type 0) → Type 0
-Goes slots shapes context_length slot view K =
-    (f : Setting) (s : State) → IsSetting slots shapes context_length f → s.slot ≡ slot → Contains f view s → LeadsOn K f s
+Goes slots shapes context_length slot state K =
+    (f : Setting) (s : State) → IsSetting slots shapes context_length f → s.slot ≡ slot → Contains f state s → LeadsOn K f s
 
 -- one slot is done
 abbrev pub PassesOn : List (Option Insn) → List MapShape → ℕ → ℕ → (Setting → State → Type 0) → (Setting → State → Type 0) → Type 0
@@ -89,8 +89,8 @@ RestIsSafe slots shapes context_length heights made slot K =
 
 -- the state is one of the abstract state, and both operands are as told there; of none where control never goes there
 abbrev pub IsOnSide : Setting → AbstractState → ℕ → Source → Option AbstractValue → AbstractValue → State → Type 0
-IsOnSide f view dst src None right s = ⊥
-IsOnSide f view dst src (Some word) right s = Contains f view s × IsTold f s dst src word right
+IsOnSide f state dst src None right s = ⊥
+IsOnSide f state dst src (Some word) right s = Contains f state s × IsTold f s dst src word right
 
 -- both operands are set, and on the side that the test chooses the state is known
 pub record PartsTo (K : Setting → State → Type 0) (f : Setting) (s : State) (w : Width) (c : Condition) (dst : ℕ) (src : Source) (to next : ℕ) : Type 0 where

@@ -23,8 +23,8 @@ use Rattle.bq_graph.specs.Paths.{IsPath, end_of}
 use Rattle.bq_graph.specs.Faults.{IsFaultless, destination_of}
 use Rattle.bq_transfer.specs.Ready.{IsNullCheck}
 use Rattle.bq_transfer.specs.After.{IsFoundSide, IsStackByte, LeavesPointer}
-use Rattle.bq_states.specs.declared.abstract_state.Kind.{Kind}
-use Rattle.bq_states.specs.declared.abstract_state.Kind.TheVariants.{Entry, EntryOrNull, Map, Stack}
+use Rattle.bq_states.specs.declared.abstract_state.ValueKind.{ValueKind}
+use Rattle.bq_states.specs.declared.abstract_state.ValueKind.TheVariants.{Entry, EntryOrNull, Map, Stack}
 
 -- whether something holds at the end of a path: the last instruction before the end made it so, or it was so and that one left it so
 abbrev pub held_along : List (Option Insn) → (Option Insn → Bool) → (Option Insn → Bool) → Bool → ℕ → List ℕ → Bool
@@ -125,7 +125,7 @@ HasOneWay slots slot = (a b : ℕ) → IsEdge slots a slot → IsEdge slots b sl
 
 -- on the way to a slot the instruction makes the register such a pointer, by what registers were before: the name of a map, a
 -- copy of register 10, a sum with a number, the answer of a look-up, and on the side of its test where it is not 0 an entry
-abbrev pub MakesPointer : Kind → ℕ → ℕ → ℕ → ℕ → Option Insn → (Kind → ℕ → ℕ → Type 0) → Type 0
+abbrev pub MakesPointer : ValueKind → ℕ → ℕ → ℕ → ℕ → Option Insn → (ValueKind → ℕ → ℕ → Type 0) → Type 0
 MakesPointer kind o r slot to (Some (MapRef dst index)) Was = (dst ≡ r) × (m : ℕ) × (index ≡ pos m) × (kind ≡ Map m) × (o ≡ 0)
 MakesPointer kind o r slot to (Some (Alu w Mov dst (Reg src))) Was = (dst ≡ r) × (src ≡ 10) × (kind ≡ Stack) × (o ≡ stack_size)
 MakesPointer kind o r slot to (Some (Alu w Add dst (Imm i))) Was = (dst ≡ r) × (base : ℕ) × Was kind base r × (pos o ≡ (pos base +ℤ i))
@@ -134,19 +134,19 @@ MakesPointer kind o r slot to (Some (Branch w c dst src off)) Was = (dst ≡ r) 
 MakesPointer kind o r slot to _ Was = ⊥
 
 -- the instruction leaves such a pointer in the register: a look-up's answer is told apart by a test
-abbrev pub LeavesPointerIn : Kind → ℕ → Option Insn → Type 0
+abbrev pub LeavesPointerIn : ValueKind → ℕ → Option Insn → Type 0
 LeavesPointerIn kind r None = ⊥
 LeavesPointerIn kind r (Some insn) = (spares r (Some insn) ≡ true) × LeavesPointer kind insn
 
 -- the register is such a pointer at the slot: the slots back to where it was made have one way to each; the list has them, backwards
-abbrev pub IsPointerFrom : List (Option Insn) → Kind → ℕ → ℕ → ℕ → List ℕ → Type 0
+abbrev pub IsPointerFrom : List (Option Insn) → ValueKind → ℕ → ℕ → ℕ → List ℕ → Type 0
 IsPointerFrom slots kind o r slot [] = ⊥
 IsPointerFrom slots kind o r slot (before ∷ back) =
     HasOneWay slots slot × IsEdge slots before slot
     × (MakesPointer kind o r before slot (instruction_at slots before) (λ kind o r. IsPointerFrom slots kind o r before back)
     ⊎ (LeavesPointerIn kind r (instruction_at slots before) × IsPointerFrom slots kind o r before back))
 
-abbrev pub IsPointerAt : List (Option Insn) → Kind → ℕ → ℕ → ℕ → Type 0
+abbrev pub IsPointerAt : List (Option Insn) → ValueKind → ℕ → ℕ → ℕ → Type 0
 IsPointerAt slots kind o r slot = (back : List ℕ) × IsPointerFrom slots kind o r slot back
 
 -- all bytes of an access by the register lie in an entry

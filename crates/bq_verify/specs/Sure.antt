@@ -5,7 +5,7 @@ use Rattle.std.specs.declared.boxed.Box.{Box}
 use Rattle.bq_insn.specs.declared.Insn.{Insn}
 use Rattle.bq_bpf.specs.Memory.{stack_size}
 use Rattle.bq_graph.specs.Paths.{Path}
-use Rattle.bq_states.specs.declared.abstract_state.Kind.TheVariants.{Context, Stack}
+use Rattle.bq_states.specs.declared.abstract_state.ValueKind.TheVariants.{Context, Stack}
 use Rattle.bq_states.specs.declared.abstract_state.AbstractState.{AbstractState}
 use Rattle.bq_states.specs.Certainty.{Scalar, Exact, Pointer, NoPointer, Fact, Never, AtRegister, IsSetAt, IsPlainAt}
 use Rattle.bq_verify.specs.Ways.{IsSureOf}
@@ -26,4 +26,4 @@ IsDue slots (IsPlainAt j) k = Unit {0}
 
 -- what is due at a slot is known there
 abbrev pub IsSure : List (Option Insn) → List (Option (Box AbstractState Global)) → AbstractState → Bool → ℕ → Type 0
-IsSure slots pending view live slot = (x : Fact) (k : ℕ) → IsDue slots x k → IsSureOf x pending view live slot k
+IsSure slots pending state live slot = (x : Fact) (k : ℕ) → IsDue slots x k → IsSureOf x pending state live slot k

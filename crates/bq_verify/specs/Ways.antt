@@ -7,7 +7,7 @@ use Rattle.bq_graph.specs.Edges.{IsEdge}
 use Rattle.bq_transfer.specs.After.{After}
 use Rattle.bq_states.specs.Certainty.{Pointer, Fact, AtRegister, Has}
 use Rattle.bq_states.specs.Told.{HasLearnt, IsLasting}
-use Rattle.bq_states.specs.declared.abstract_state.Kind.TheVariants.{Entry}
+use Rattle.bq_states.specs.declared.abstract_state.ValueKind.TheVariants.{Entry}
 use Rattle.bq_states.specs.declared.abstract_state.AbstractValue.{AbstractValue}
 use Rattle.bq_states.specs.declared.abstract_state.AbstractState.{AbstractState}
 
@@ -18,7 +18,7 @@ IsApartFrom x dst = Unit {0}
 
 -- what is sure on a side of a test of a look-up's answer: the entry, where it was found, and what is sure of the rest
 abbrev pub AfterTest : Fact → AbstractState → ℕ → ℕ → Bool → Type 0
-AfterTest x view dst map found = ((found ≡ true) × (x ≡ AtRegister (Pointer (Entry map) 0) dst)) ⊎ (IsApartFrom x dst × IsLasting x × Has x view)
+AfterTest x state dst map found = ((found ≡ true) × (x ≡ AtRegister (Pointer (Entry map) 0) dst)) ⊎ (IsApartFrom x dst × IsLasting x × Has x state)
 
 -- the fact is true of an abstract state that waits, if one does
 abbrev pub HasIn : Fact → Option (Box AbstractState Global) → Type 0
@@ -29,16 +29,16 @@ abbrev pub HasWaiting : Fact → List (Option (Box AbstractState Global)) → �
 HasWaiting x pending k = HasIn x (slice_index_or pending k None)
 
 -- the fact is true of each abstract state with which control comes to the slot: one that waits there, and the one that is transferred to it
-pub record IsSureOf (x : Fact) (pending : List (Option (Box AbstractState Global))) (view : AbstractState) (live : Bool) (slot k : ℕ) : Type 0 where
+pub record IsSureOf (x : Fact) (pending : List (Option (Box AbstractState Global))) (state : AbstractState) (live : Bool) (slot k : ℕ) : Type 0 where
   pub waiting : HasWaiting x pending k
-  pub transferred : live ≡ true → k ≡ slot → Has x view
+  pub transferred : live ≡ true → k ≡ slot → Has x state
 
 -- what was sure at a slot stays so over one more instruction, if it is so after the instruction where control goes from there to the slot
 abbrev pub GoesOnSure : List (Option Insn) → ℕ → Insn → AbstractState → List (Option (Box AbstractState Global)) → List (Option (Box AbstractState Global)) → AbstractState → Bool → Type 0
-GoesOnSure slots slot insn view old new after live =
-    (x : Fact) (k : ℕ) → HasWaiting x old k → (IsEdge slots slot k → After x slot k insn view) → IsSureOf x new after live (slot + 1) k
+GoesOnSure slots slot insn state old new after live =
+    (x : Fact) (k : ℕ) → HasWaiting x old k → (IsEdge slots slot k → After x slot k insn state) → IsSureOf x new after live (slot + 1) k
 
 -- the fact lasts, and is true of the abstract state with that word in the register, if control goes there
 abbrev pub HasOnSide : Fact → AbstractState → ℕ → Option AbstractValue → Type 0
-HasOnSide x view dst None = Unit {0}
-HasOnSide x view dst (Some word) = IsLasting x × HasLearnt x view dst word
+HasOnSide x state dst None = Unit {0}
+HasOnSide x state dst (Some word) = IsLasting x × HasLearnt x state dst word

@@ -21,7 +21,7 @@ use crate::waiting::wait;
 use bq_graph::passes::target;
 use bq_graph::single::is_counter_call;
 use bq_insn::{Condition, Insn, Source, Width};
-use bq_states::abstract_state::{AbstractState, AbstractValue, Kind};
+use bq_states::abstract_state::{AbstractState, AbstractValue, ValueKind};
 use bq_states::registers::{known, operand};
 use bq_states::told::tell;
 use bq_transfer::counters::ask;
@@ -54,7 +54,7 @@ pub fn visit(
     subject: &Subject,
     slot: usize,
     insn: Insn,
-    view: &mut AbstractState,
+    state: &mut AbstractState,
     pending: &mut [Option<Box<AbstractState>>],
 ) -> Result<bool, PassStop>
     requires here { instruction_at subject.now.slots.now slot ≡ Some insn }
@@ -66,16 +66,16 @@ pub fn visit(
     requires few { length subject.now.shapes.now ≤ 8 }
     requires below { WritesBelowFrame insn }
     ensures long { length pending.new ≡ length pending.old }
-    ensures goes { IfOk result (λ live. ((f : Setting) (s : State) → WaitsBoxed f pending.old s → WaitsBoxed f pending.new s) × Goes subject.now.slots.now subject.now.shapes.now subject.now.context slot view.old (IsKnown pending.new view.new live (slot + 1))) }
+    ensures goes { IfOk result (λ live. ((f : Setting) (s : State) → WaitsBoxed f pending.old s → WaitsBoxed f pending.new s) × Goes subject.now.slots.now subject.now.shapes.now subject.now.context slot state.old (IsKnown pending.new state.new live (slot + 1))) }
     ensures doubts { IfErr result (λ stop. MayStop stop insn) }
-    ensures accepts { IsReady subject.now.shapes.now subject.now.context view.old insn ⊎ IsReadyToAsk view.old insn → IfErr result IsWantOfMemory }
-    ensures sure { IsReady subject.now.shapes.now subject.now.context view.old insn ⊎ IsReadyToAsk view.old insn → IfOk result (GoesOnSure subject.now.slots.now slot insn view.old pending.old pending.new view.new) }
+    ensures accepts { IsReady subject.now.shapes.now subject.now.context state.old insn ⊎ IsReadyToAsk state.old insn → IfErr result IsWantOfMemory }
+    ensures sure { IsReady subject.now.shapes.now subject.now.context state.old insn ⊎ IsReadyToAsk state.old insn → IfOk result (GoesOnSure subject.now.slots.now slot insn state.old pending.old pending.new state.new) }
 {
     if is_counter_call(insn) {
-        ask(view, insn)?;
+        ask(state, insn)?;
         return Ok(true);
     }
-    go_on(alloc, subject, slot, insn, view, pending)
+    go_on(alloc, subject, slot, insn, state, pending)
 }
 
 /// The same, of an instruction that calls no counter.
@@ -84,7 +84,7 @@ fn go_on(
     subject: &Subject,
     slot: usize,
     insn: Insn,
-    view: &mut AbstractState,
+    state: &mut AbstractState,
     pending: &mut [Option<Box<AbstractState>>],
 ) -> Result<bool, PassStop>
     requires here { instruction_at subject.now.slots.now slot ≡ Some insn }
@@ -96,24 +96,24 @@ fn go_on(
     requires few { length subject.now.shapes.now ≤ 8 }
     requires below { WritesBelowFrame insn }
     ensures long { length pending.new ≡ length pending.old }
-    ensures goes { IfOk result (λ live. ((f : Setting) (s : State) → WaitsBoxed f pending.old s → WaitsBoxed f pending.new s) × Goes subject.now.slots.now subject.now.shapes.now subject.now.context slot view.old (IsKnown pending.new view.new live (slot + 1))) }
+    ensures goes { IfOk result (λ live. ((f : Setting) (s : State) → WaitsBoxed f pending.old s → WaitsBoxed f pending.new s) × Goes subject.now.slots.now subject.now.shapes.now subject.now.context slot state.old (IsKnown pending.new state.new live (slot + 1))) }
     ensures doubts { IfErr result (λ stop. MayStop stop insn) }
-    ensures accepts { IsReady subject.now.shapes.now subject.now.context view.old insn → IfErr result IsWantOfMemory }
-    ensures sure { IsReady subject.now.shapes.now subject.now.context view.old insn → IfOk result (GoesOnSure subject.now.slots.now slot insn view.old pending.old pending.new view.new) }
+    ensures accepts { IsReady subject.now.shapes.now subject.now.context state.old insn → IfErr result IsWantOfMemory }
+    ensures sure { IsReady subject.now.shapes.now subject.now.context state.old insn → IfOk result (GoesOnSure subject.now.slots.now slot insn state.old pending.old pending.new state.new) }
 {
     match insn {
         Insn::Exit => {
-            leave(view)?;
+            leave(state)?;
             Ok(false)
         }
         Insn::Goto { off } => {
             let to = target(subject.slots, slot, insn, i64::from(off));
-            wait(alloc, pending, to, view)?;
+            wait(alloc, pending, to, state)?;
             Ok(false)
         }
         Insn::Goto32 { imm } => {
             let to = target(subject.slots, slot, insn, i64::from(imm));
-            wait(alloc, pending, to, view)?;
+            wait(alloc, pending, to, state)?;
             Ok(false)
         }
         Insn::Branch {
@@ -130,30 +130,30 @@ fn go_on(
                 dst,
                 src,
             };
-            branch(alloc, test, to, slot + 1, view, pending)
+            branch(alloc, test, to, slot + 1, state, pending)
         }
         _ => {
-            transfer(view, subject.shapes, subject.context, insn)?;
+            transfer(state, subject.shapes, subject.context, insn)?;
             let count = insn.slots();
             if count == 1 {
                 return Ok(true);
             }
-            wait(alloc, pending, slot + count, view)?;
+            wait(alloc, pending, slot + count, state)?;
             Ok(false)
         }
     }
 }
 
 /// An EXIT, whose answer has to be a number.
-fn leave(view: &AbstractState) -> Result<(), Doubt>
-    ensures answers { OnOk result ((f : Setting) (s : State) → Contains f view.now s → (answer : ℕ) × (s.register 0 ≡ Some answer)) }
+fn leave(state: &AbstractState) -> Result<(), Doubt>
+    ensures answers { OnOk result ((f : Setting) (s : State) → Contains f state.now s → (answer : ℕ) × (s.register 0 ≡ Some answer)) }
     ensures doubts { IfErr result (λ doubt. MayDoubt doubt Insn.Exit) }
-    ensures accepts { StandsAt Scalar view.now 0 → IsOk result }
+    ensures accepts { StandsAt Scalar state.now 0 → IsOk result }
 {
-    let Some(answer) = known(view, 0) else {
+    let Some(answer) = known(state, 0) else {
         return Err(Doubt::Answer);
     };
-    if answer.kind != Kind::Number {
+    if answer.kind != ValueKind::Number {
         return Err(Doubt::Answer);
     }
     Ok(())
@@ -165,23 +165,23 @@ fn branch(
     test: Test,
     to: usize,
     next: usize,
-    view: &mut AbstractState,
+    state: &mut AbstractState,
     pending: &mut [Option<Box<AbstractState>>],
 ) -> Result<bool, PassStop>
     requires to { to < length pending.old }
     ensures long { length pending.new ≡ length pending.old }
     ensures parts { IfOk result (λ live. ((f : Setting) (s : State) → WaitsBoxed f pending.old s → WaitsBoxed f pending.new s)
-        × ((f : Setting) (s : State) → Contains f view.old s → PartsTo (IsKnown pending.new view.new live next) f s test.width test.cond test.dst test.src to next)) }
+        × ((f : Setting) (s : State) → Contains f state.old s → PartsTo (IsKnown pending.new state.new live next) f s test.width test.cond test.dst test.src to next)) }
     ensures doubts { IfErr result (λ stop. (insn : Insn) → ReadsOperand insn → UsesWord insn → MayStop stop insn) }
-    ensures accepts { test.dst < 10 → StandsAt Scalar view.old test.dst → IsScalarOperand view.old test.src → IfErr result IsWantOfMemory }
-    ensures checks { (map : ℕ) → test.dst < 10 → IsNullCheck test.width test.cond test.src → StandsAt (Pointer (Kind.EntryOrNull map) 0) view.old test.dst → IfErr result IsWantOfMemory }
-    ensures checked { (map : ℕ) → IsNullCheck test.width test.cond test.src → StandsAt (Pointer (Kind.EntryOrNull map) 0) view.old test.dst → IfOk result (λ live. (x : Fact) (k : ℕ) → HasWaiting x pending.old k → (k ≡ to → AfterTest x view.old test.dst map (is_found test.cond true)) → (k ≡ next → AfterTest x view.old test.dst map (is_found test.cond false)) → IsSureOf x pending.new view.new live next k) }
-    ensures sure { StandsAt Scalar view.old test.dst → IsScalarOperand view.old test.src → IfOk result (λ live. (x : Fact) (k : ℕ) → HasWaiting x pending.old k → ((k ≡ to) ⊎ (k ≡ next) → Outlasts x test.dst × IsLasting x × Has x view.old) → IsSureOf x pending.new view.new live next k) }
+    ensures accepts { test.dst < 10 → StandsAt Scalar state.old test.dst → IsScalarOperand state.old test.src → IfErr result IsWantOfMemory }
+    ensures checks { (map : ℕ) → test.dst < 10 → IsNullCheck test.width test.cond test.src → StandsAt (Pointer (ValueKind.EntryOrNull map) 0) state.old test.dst → IfErr result IsWantOfMemory }
+    ensures checked { (map : ℕ) → IsNullCheck test.width test.cond test.src → StandsAt (Pointer (ValueKind.EntryOrNull map) 0) state.old test.dst → IfOk result (λ live. (x : Fact) (k : ℕ) → HasWaiting x pending.old k → (k ≡ to → AfterTest x state.old test.dst map (is_found test.cond true)) → (k ≡ next → AfterTest x state.old test.dst map (is_found test.cond false)) → IsSureOf x pending.new state.new live next k) }
+    ensures sure { StandsAt Scalar state.old test.dst → IsScalarOperand state.old test.src → IfOk result (λ live. (x : Fact) (k : ℕ) → HasWaiting x pending.old k → ((k ≡ to) ⊎ (k ≡ next) → Outlasts x test.dst × IsLasting x × Has x state.old) → IsSureOf x pending.new state.new live next k) }
 {
-    let Some(right) = operand(view, test.src) else {
+    let Some(right) = operand(state, test.src) else {
         return Err(PassStop::Doubted(Doubt::Unset));
     };
-    let Some(left) = known(view, test.dst) else {
+    let Some(left) = known(state, test.dst) else {
         return Err(PassStop::Doubted(Doubt::Unset));
     };
     if test.dst >= 10 {
@@ -195,14 +195,14 @@ fn branch(
         left: yes,
         right: right_side(test.width, test.cond, left, right, true),
     };
-    wait_on_side(alloc, pending, to, view, taken)?;
+    wait_on_side(alloc, pending, to, state, taken)?;
     let other = Told {
         dst: test.dst,
         src: test.src,
         left: no,
         right: right_side(test.width, test.cond, left, right, false),
     };
-    Ok(carry_on(view, other))
+    Ok(carry_on(state, other))
 }
 
 /// The abstract state waits for the slot with what is told of both operands there, if control goes there.
@@ -210,33 +210,33 @@ fn wait_on_side(
     alloc: Global,
     pending: &mut [Option<Box<AbstractState>>],
     slot: usize,
-    view: &AbstractState,
+    state: &AbstractState,
     told: Told,
 ) -> Result<(), AllocError>
     requires here { slot < length pending.old }
     requires dst { told.dst < 11 }
     ensures long { length pending.new ≡ length pending.old }
     ensures kept { OnOk result ((f : Setting) (s : State) → WaitsBoxed f pending.old s → WaitsBoxed f pending.new s) }
-    ensures added { OnOk result ((f : Setting) (s : State) → s.slot ≡ slot → IsOnSide f view.now told.dst told.src told.left told.right s → WaitsBoxed f pending.new s) }
-    ensures has { OnOk result ((x : Fact) (k : ℕ) → HasWaiting x pending.old k → (k ≡ slot → HasOnSide x view.now told.dst told.left) → HasWaiting x pending.new k) }
+    ensures added { OnOk result ((f : Setting) (s : State) → s.slot ≡ slot → IsOnSide f state.now told.dst told.src told.left told.right s → WaitsBoxed f pending.new s) }
+    ensures has { OnOk result ((x : Fact) (k : ℕ) → HasWaiting x pending.old k → (k ≡ slot → HasOnSide x state.now told.dst told.left) → HasWaiting x pending.new k) }
 {
     let Some(left) = told.left else {
         return Ok(());
     };
-    let mut there = *view;
+    let mut there = *state;
     tell(&mut there, told.dst, told.src, left, told.right);
     wait(alloc, pending, slot, &there)
 }
 
 /// The abstract state is transferred on with what is told of both operands there, if control goes there.
-fn carry_on(view: &mut AbstractState, told: Told) -> bool
+fn carry_on(state: &mut AbstractState, told: Told) -> bool
     requires { told.dst < 11 }
-    ensures contains { (f : Setting) (s : State) → IsOnSide f view.old told.dst told.src told.left told.right s → (result ≡ true) × Contains f view.new s }
-    ensures has { (x : Fact) → HasOnSide x view.old told.dst told.left → result ≡ true → Has x view.new }
+    ensures contains { (f : Setting) (s : State) → IsOnSide f state.old told.dst told.src told.left told.right s → (result ≡ true) × Contains f state.new s }
+    ensures has { (x : Fact) → HasOnSide x state.old told.dst told.left → result ≡ true → Has x state.new }
 {
     let Some(left) = told.left else {
         return false;
     };
-    tell(view, told.dst, told.src, left, told.right);
+    tell(state, told.dst, told.src, left, told.right);
     true
 }

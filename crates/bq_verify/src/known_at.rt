@@ -111,11 +111,11 @@ fn known_with(
     ensures contains { IfOk result (λ known. IfSome known (ContainsRuns subject.now.slots.now subject.now.shapes.now subject.now.context slot)) }
     ensures none { ((k : ℕ) → slice_index_or pending.old k None ≡ None) → IsStraightBefore subject.now.slots.now subject.now.shapes.now subject.now.context slot → IfOk result (λ known. IfNone known (IsNotReached subject.now.slots.now subject.now.shapes.now subject.now.context slot)) }
 {
-    let mut view = start();
-    match pass_before(alloc, subject, slot, &mut view, pending) {
+    let mut state = start();
+    match pass_before(alloc, subject, slot, &mut state, pending) {
         Ok(live) => {
-            if arrive(&mut view, live, pending, slot) {
-                Ok(Some(view))
+            if arrive(&mut state, live, pending, slot) {
+                Ok(Some(state))
             } else {
                 Ok(None)
             }
@@ -130,7 +130,7 @@ fn pass_before(
     alloc: Global,
     subject: &Subject,
     until: usize,
-    view: &mut AbstractState,
+    state: &mut AbstractState,
     pending: &mut [Option<Box<AbstractState>>],
 ) -> Result<bool, Refused>
     requires sound { IsSound subject.now.slots.now }
@@ -141,13 +141,13 @@ fn pass_before(
     requires frame { SparesFrame subject.now.slots.now }
     requires inside { until < length subject.now.slots.now }
     ensures long { length pending.new ≡ length pending.old }
-    ensures accepts { IsStraightBefore subject.now.slots.now subject.now.shapes.now subject.now.context until → IsSure subject.now.slots.now pending.old view.old true 0 → IfErr result IsOutOfMemory }
-    ensures covered { IfOk result (λ live. (seen : Knowledge) → RestIsCovered subject.now.slots.now subject.now.shapes.now subject.now.context until seen until (IsKnown pending.new view.new live until)
-        → RestIsCovered subject.now.slots.now subject.now.shapes.now subject.now.context until seen 0 (IsKnown pending.old view.old true 0)) }
+    ensures accepts { IsStraightBefore subject.now.slots.now subject.now.shapes.now subject.now.context until → IsSure subject.now.slots.now pending.old state.old true 0 → IfErr result IsOutOfMemory }
+    ensures covered { IfOk result (λ live. (seen : Knowledge) → RestIsCovered subject.now.slots.now subject.now.shapes.now subject.now.context until seen until (IsKnown pending.new state.new live until)
+        → RestIsCovered subject.now.slots.now subject.now.shapes.now subject.now.context until seen 0 (IsKnown pending.old state.old true 0)) }
 {
     let mut live = true;
     for slot in 0..until {
-        live = pass_slot(alloc, subject, slot, view, live, pending)?;
+        live = pass_slot(alloc, subject, slot, state, live, pending)?;
     }
     Ok(live)
 }

@@ -20,7 +20,7 @@ use crate::waiting::{arrive, nothing_waits};
 use bq_bpf::addresses::STACK_SIZE;
 use bq_graph::edges::instruction;
 use bq_ranges::Range;
-use bq_states::abstract_state::{AbstractState, AbstractValue, Kind, Part};
+use bq_states::abstract_state::{AbstractState, AbstractValue, ValueKind, StackPart};
 use bq_states::registers::learn;
 use std::alloc::Global;
 
@@ -41,8 +41,8 @@ pub fn judge(alloc: Global, subject: &Subject, heights: &[u32]) -> Result<(), Re
     ensures accepts { IsStraightProgram subject.now.slots.now subject.now.shapes.now subject.now.context → IfErr result IsOutOfMemory }
 {
     let mut pending = nothing_waits(alloc, subject.slots.len())?;
-    let mut view = start();
-    pass(alloc, subject, heights, &mut view, pending.as_mut_slice())?;
+    let mut state = start();
+    pass(alloc, subject, heights, &mut state, pending.as_mut_slice())?;
     Ok(())
 }
 
@@ -51,7 +51,7 @@ fn pass(
     alloc: Global,
     subject: &Subject,
     heights: &[u32],
-    view: &mut AbstractState,
+    state: &mut AbstractState,
     pending: &mut [Option<Box<AbstractState>>],
 ) -> Result<(), Refused>
     requires sound { IsSound subject.now.slots.now }
@@ -61,13 +61,13 @@ fn pass(
     requires context { subject.now.context < 2 ^ 16 }
     requires few { length subject.now.shapes.now ≤ 8 }
     requires frame { SparesFrame subject.now.slots.now }
-    ensures safe { OnOk result ((made : ℕ → ℕ) → AreMade subject.now.slots.now made → RestIsSafe subject.now.slots.now subject.now.shapes.now subject.now.context heights.now made 0 (IsKnown pending.old view.old true 0)) }
+    ensures safe { OnOk result ((made : ℕ → ℕ) → AreMade subject.now.slots.now made → RestIsSafe subject.now.slots.now subject.now.shapes.now subject.now.context heights.now made 0 (IsKnown pending.old state.old true 0)) }
     ensures stopped { IfErr result (IsStopped subject.now.slots.now) }
-    ensures accepts { IsStraightProgram subject.now.slots.now subject.now.shapes.now subject.now.context → IsSure subject.now.slots.now pending.old view.old true 0 → IfErr result IsOutOfMemory }
+    ensures accepts { IsStraightProgram subject.now.slots.now subject.now.shapes.now subject.now.context → IsSure subject.now.slots.now pending.old state.old true 0 → IfErr result IsOutOfMemory }
 {
     let mut live = true;
     for slot in 0..subject.slots.len() {
-        live = pass_slot(alloc, subject, slot, view, live, pending)?;
+        live = pass_slot(alloc, subject, slot, state, live, pending)?;
     }
     Ok(())
 }
@@ -77,7 +77,7 @@ pub(crate) fn pass_slot(
     alloc: Global,
     subject: &Subject,
     slot: usize,
-    view: &mut AbstractState,
+    state: &mut AbstractState,
     live: bool,
     pending: &mut [Option<Box<AbstractState>>],
 ) -> Result<bool, Refused>
@@ -89,18 +89,18 @@ pub(crate) fn pass_slot(
     requires few { length subject.now.shapes.now ≤ 8 }
     requires frame { SparesFrame subject.now.slots.now }
     ensures long { length pending.new ≡ length pending.old }
-    ensures passes { IfOk result (λ on. PassesOn subject.now.slots.now subject.now.shapes.now subject.now.context slot (IsKnown pending.old view.old live slot) (IsKnown pending.new view.new on (slot + 1))) }
+    ensures passes { IfOk result (λ on. PassesOn subject.now.slots.now subject.now.shapes.now subject.now.context slot (IsKnown pending.old state.old live slot) (IsKnown pending.new state.new on (slot + 1))) }
     ensures stopped { IfErr result (IsStopped subject.now.slots.now) }
-    ensures accepts { IsStraightBefore subject.now.slots.now subject.now.shapes.now subject.now.context (slot + 1) → IsSure subject.now.slots.now pending.old view.old live slot → IfErr result IsOutOfMemory }
-    ensures sure { IsStraightBefore subject.now.slots.now subject.now.shapes.now subject.now.context (slot + 1) → IsSure subject.now.slots.now pending.old view.old live slot → IfOk result (λ on. IsSure subject.now.slots.now pending.new view.new on (slot + 1)) }
+    ensures accepts { IsStraightBefore subject.now.slots.now subject.now.shapes.now subject.now.context (slot + 1) → IsSure subject.now.slots.now pending.old state.old live slot → IfErr result IsOutOfMemory }
+    ensures sure { IsStraightBefore subject.now.slots.now subject.now.shapes.now subject.now.context (slot + 1) → IsSure subject.now.slots.now pending.old state.old live slot → IfOk result (λ on. IsSure subject.now.slots.now pending.new state.new on (slot + 1)) }
 {
-    if !arrive(view, live, pending, slot) {
+    if !arrive(state, live, pending, slot) {
         return Ok(false);
     }
     let Some(insn) = instruction(subject.slots, slot) else {
         return Ok(false);
     };
-    match visit(alloc, subject, slot, insn, view, pending) {
+    match visit(alloc, subject, slot, insn, state, pending) {
         Ok(on) => Ok(on),
         Err(stop) => Err(refuse(slot, stop)),
     }
@@ -109,28 +109,28 @@ pub(crate) fn pass_slot(
 /// What is known at the start.
 pub(crate) fn start() -> AbstractState
     ensures contains { (f : Setting) (maps : List (List ℕ)) → HaveShapes f.shapes maps → Contains f result (beginning maps) }
-    ensures context { StandsAt (Pointer Kind.Context 0) result 1 }
-    ensures frame { StandsAt (Pointer Kind.Stack STACK_SIZE) result 10 }
+    ensures context { StandsAt (Pointer ValueKind.Context 0) result 1 }
+    ensures frame { StandsAt (Pointer ValueKind.Stack STACK_SIZE) result 10 }
     ensures plain { (j : ℕ) → Has (IsPlainAt j) result }
 {
-    let mut view = blank();
+    let mut state = blank();
     learn(
-        &mut view,
+        &mut state,
         1,
         AbstractValue {
-            kind: Kind::Context,
+            kind: ValueKind::Context,
             offset: Range::single(0),
         },
     );
     learn(
-        &mut view,
+        &mut state,
         10,
         AbstractValue {
-            kind: Kind::Stack,
+            kind: ValueKind::Stack,
             offset: Range::single(STACK_SIZE),
         },
     );
-    view
+    state
 }
 
 /// Nothing is known of registers and stack.
@@ -153,7 +153,7 @@ fn nothing<const N: usize>() -> [Option<AbstractValue>; N]
     [None; N]
 }
 
-fn no_parts<const N: usize>() -> [Option<Part>; N]
+fn no_parts<const N: usize>() -> [Option<StackPart>; N]
     ensures { (k : ℕ) → slice_index_or result k None ≡ None }
 {
     [None; N]

@@ -28,7 +28,7 @@ pub fn nothing_waits(
 
 /// Joins what waits at the slot into the abstract state that is transferred to it; whether anything is known there.
 pub fn arrive(
-    view: &mut AbstractState,
+    state: &mut AbstractState,
     live: bool,
     pending: &mut [Option<Box<AbstractState>>],
     slot: usize,
@@ -36,27 +36,27 @@ pub fn arrive(
     requires here { slot < length pending.old }
     ensures long { length pending.new ≡ length pending.old }
     ensures empty { slice_index_or pending.new slot None ≡ None }
-    ensures known { (f : Setting) (s : State) → IsKnown pending.old view.old live slot f s → IsKnown pending.new view.new result slot f s }
+    ensures known { (f : Setting) (s : State) → IsKnown pending.old state.old live slot f s → IsKnown pending.new state.new result slot f s }
     ensures waits { (x : Fact) (k : ℕ) → HasWaiting x pending.old k → HasWaiting x pending.new k }
-    ensures has { (x : Fact) → IsSureOf x pending.old view.old live slot slot → result ≡ true → Has x view.new }
+    ensures has { (x : Fact) → IsSureOf x pending.old state.old live slot slot → result ≡ true → Has x state.new }
 {
-    take_over(view, live, &mut pending[slot])
+    take_over(state, live, &mut pending[slot])
 }
 
-fn take_over(view: &mut AbstractState, live: bool, waiting: &mut Option<Box<AbstractState>>) -> bool
+fn take_over(state: &mut AbstractState, live: bool, waiting: &mut Option<Box<AbstractState>>) -> bool
     ensures empty { waiting.new ≡ None }
-    ensures transferred { (f : Setting) (s : State) → live ≡ true → Contains f view.old s → (result ≡ true) × Contains f view.new s }
-    ensures waited { (f : Setting) (s : State) → IsIn f waiting.old s → (result ≡ true) × Contains f view.new s }
-    ensures has { (x : Fact) → (live ≡ true → Has x view.old) → HasIn x waiting.old → result ≡ true → Has x view.new }
+    ensures transferred { (f : Setting) (s : State) → live ≡ true → Contains f state.old s → (result ≡ true) × Contains f state.new s }
+    ensures waited { (f : Setting) (s : State) → IsIn f waiting.old s → (result ≡ true) × Contains f state.new s }
+    ensures has { (x : Fact) → (live ≡ true → Has x state.old) → HasIn x waiting.old → result ≡ true → Has x state.new }
 {
     let Some(boxed) = waiting.take() else {
         return live;
     };
     if live {
-        join_states(view, &boxed);
+        join_states(state, &boxed);
         return true;
     }
-    *view = *boxed;
+    *state = *boxed;
     true
 }
 
@@ -65,30 +65,30 @@ pub fn wait(
     alloc: Global,
     pending: &mut [Option<Box<AbstractState>>],
     slot: usize,
-    view: &AbstractState,
+    state: &AbstractState,
 ) -> Result<(), AllocError>
     requires here { slot < length pending.old }
     ensures long { length pending.new ≡ length pending.old }
     ensures kept { OnOk result ((f : Setting) (s : State) → WaitsBoxed f pending.old s → WaitsBoxed f pending.new s) }
-    ensures added { OnOk result ((f : Setting) (s : State) → s.slot ≡ slot → Contains f view.now s → WaitsBoxed f pending.new s) }
-    ensures has { OnOk result ((x : Fact) (k : ℕ) → HasWaiting x pending.old k → (k ≡ slot → Has x view.now) → HasWaiting x pending.new k) }
+    ensures added { OnOk result ((f : Setting) (s : State) → s.slot ≡ slot → Contains f state.now s → WaitsBoxed f pending.new s) }
+    ensures has { OnOk result ((x : Fact) (k : ℕ) → HasWaiting x pending.old k → (k ≡ slot → Has x state.now) → HasWaiting x pending.new k) }
 {
-    join(alloc, &mut pending[slot], view)
+    join(alloc, &mut pending[slot], state)
 }
 
 fn join(
     alloc: Global,
     waiting: &mut Option<Box<AbstractState>>,
-    view: &AbstractState,
+    state: &AbstractState,
 ) -> Result<(), AllocError>
     ensures kept { OnOk result ((f : Setting) (s : State) → IsIn f waiting.old s → IsIn f waiting.new s) }
-    ensures added { OnOk result ((f : Setting) (s : State) → Contains f view.now s → IsIn f waiting.new s) }
-    ensures has { OnOk result ((x : Fact) → HasIn x waiting.old → Has x view.now → HasIn x waiting.new) }
+    ensures added { OnOk result ((f : Setting) (s : State) → Contains f state.now s → IsIn f waiting.new s) }
+    ensures has { OnOk result ((x : Fact) → HasIn x waiting.old → Has x state.now → HasIn x waiting.new) }
 {
     if let Some(boxed) = waiting {
-        join_states(boxed, view);
+        join_states(boxed, state);
         return Ok(());
     }
-    *waiting = Some(Box::new(alloc, *view)?);
+    *waiting = Some(Box::new(alloc, *state)?);
     Ok(())
 }

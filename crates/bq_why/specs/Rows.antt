@@ -3,7 +3,7 @@ use Rattle.std.specs.Prelude.{ℕ, ◌+◌, ◌-◌, List, unwrap_or}
 use Rattle.bq_weights.specs.VirtualTime.{time_of}
 use Rattle.bq_disc.specs.Tasks.{Task}
 use Rattle.bq_disc.specs.Totals.{total_weight, weighted_sum, is_at_most_mean, mean_of}
-use Rattle.bq_why.specs.declared.table.Row.{Row}
+use Rattle.bq_why.specs.declared.table.TaskRow.{TaskRow}
 
 -- how far two numbers are apart
 abbrev pub apart : ℕ → ℕ → ℕ
@@ -11,10 +11,10 @@ apart m n = (m - n) + (n - m)
 
 -- A task's row, by the weight, the sum of weight times v, and the mean v of all. What it is owed, or has had too much, is the
 -- time that takes its distance from the mean
-abbrev pub row_by : ℕ → ℕ → ℕ → Task → Row
+abbrev pub row_by : ℕ → ℕ → ℕ → Task → TaskRow
 row_by weight sum mean t =
     record { task = t.id; weight = t.weight; v = t.v; deadline = t.deadline; is_eligible = is_at_most_mean weight sum t; lag = time_of (apart t.v mean) t.weight }
 
 -- a task's row among all
-abbrev pub row_of : List Task → Task → Row
+abbrev pub row_of : List Task → Task → TaskRow
 row_of xs t = row_by (total_weight xs) (weighted_sum xs) (unwrap_or (mean_of xs) 0) t

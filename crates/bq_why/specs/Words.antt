@@ -3,7 +3,7 @@ use Rattle.std.specs.Prelude.{◌^◌, ◌-◌, ℕ, min, Bool, true, false, Lis
 use Rattle.bq_parts.specs.declared.event.Event.{Event}
 use Rattle.bq_parts.specs.declared.event.Event.TheVariants.{EndWake, Drain, Tick, Block, Pull}
 use Rattle.bq_forms.specs.Amounts.{millis_text}
-use Rattle.bq_why.specs.declared.table.Row.{Row}
+use Rattle.bq_why.specs.declared.table.TaskRow.{TaskRow}
 
 -- the processor at which an event may choose, and its time
 abbrev pub place_of : Event → Option (ℕ × ℕ)
@@ -20,7 +20,7 @@ sign_of true = codes "+"
 sign_of false = codes "-"
 
 -- a row's lag, in milliseconds, of as many nanoseconds as 64 bits hold
-abbrev pub lag_text : Row → List ℕ
+abbrev pub lag_text : TaskRow → List ℕ
 lag_text row = sign_of row.is_eligible ++ millis_text (min row.lag (2 ^ 64 - 1))
 
 -- whether a task may run, in words
@@ -29,5 +29,5 @@ eligibility_text true = codes "eligible"
 eligibility_text false = codes "not eligible"
 
 -- the same of a row
-abbrev pub eligibility : Row → List ℕ
+abbrev pub eligibility : TaskRow → List ℕ
 eligibility row = eligibility_text row.is_eligible

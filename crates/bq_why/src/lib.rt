@@ -19,5 +19,5 @@ pub use choices::choice;
 pub use happenings::{Because, InWords};
 pub use presence::present;
 pub use reasons::{Reason, why};
-pub use table::{Row, rows};
+pub use table::{TaskRow, rows};
 pub use why_text::{Occurrence, Why, place_of};

@@ -9,7 +9,7 @@ use std::alloc::{AllocError, Global};
 
 /// A task as a choice saw it.
 #[derive(Clone, Copy)]
-pub struct Row {
+pub struct TaskRow {
     /// Its number.
     pub task: u16,
     /// Its weight.
@@ -25,7 +25,7 @@ pub struct Row {
 }
 
 /// A row a task, in the order of the tasks.
-pub fn rows(alloc: Global, tasks: &[Entity]) -> Result<Vec<Row>, AllocError>
+pub fn rows(alloc: Global, tasks: &[Entity]) -> Result<Vec<TaskRow>, AllocError>
     requires { length tasks.now ≤ 1024 }
     ensures { IfOk result (λ rows. rows.items ≡ map (row_of tasks.now) tasks.now) }
 {
@@ -42,11 +42,11 @@ pub fn rows(alloc: Global, tasks: &[Entity]) -> Result<Vec<Row>, AllocError>
 }
 
 /// The row of a task, among tasks of this weight, this sum of weight times v, and this mean.
-fn row_among(task: &Entity, weight: u64, moment: u128, mean: u64) -> Row
+fn row_among(task: &Entity, weight: u64, moment: u128, mean: u64) -> TaskRow
     ensures { result ≡ row_by weight moment mean task.now }
 {
     let distance = task.v().abs_diff(mean);
-    Row {
+    TaskRow {
         task: task.id(),
         weight: task.weight(),
         v: task.v(),

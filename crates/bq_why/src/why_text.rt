@@ -6,7 +6,7 @@ use crate::answers::answer;
 use crate::happenings::InWords;
 use crate::presence::present;
 use crate::reasons::{Reason, why};
-use crate::table::{Row, rows};
+use crate::table::{TaskRow, rows};
 use crate::words_of::{Ids, Lag, Virtual, Who, eligibility};
 use bq_cfs::GRANULARITY;
 use bq_core::{By, Event, Hook, Reply};
@@ -292,7 +292,7 @@ impl Why {
         text: &mut String,
         names: &Names,
         rule: Rule,
-        rows: &[Row],
+        rows: &[TaskRow],
         run: Option<u16>,
     ) -> Result<(), AllocError> {
         match rule {
@@ -331,7 +331,7 @@ impl Why {
         names: &Names,
         choice: &RunChoice,
         reason: Reason,
-        rows: &[Row],
+        rows: &[TaskRow],
     ) -> Result<(), AllocError> {
         let Some(run) = choice.run else {
             return text.push_str("    nothing runs: nobody is there\n");

@@ -2,7 +2,7 @@
 ghost use Rattle.std.specs.Prelude.{◌≡◌, ◌^◌, ◌-◌, min, Some};
 ghost use Rattle.bq_why.specs.Words.{lag_text, sign_of, eligibility};
 
-use crate::table::Row;
+use crate::table::TaskRow;
 use bq_disc::limits::FIRST_MARK;
 use bq_forms::{Millis, Names};
 use std::fmt;
@@ -30,7 +30,7 @@ impl fmt::Display for Who<'_> {
 #[derive(Clone, Copy)]
 pub struct Ids<'a> {
     pub names: &'a Names,
-    pub rows: &'a [Row],
+    pub rows: &'a [TaskRow],
 }
 
 impl fmt::Display for Ids<'_> {
@@ -68,7 +68,7 @@ impl fmt::Display for Virtual {
 
 /// The lag of a row, in milliseconds of the processor: above 0 where it is owed.
 #[derive(Clone, Copy)]
-pub struct Lag<'a>(pub &'a Row);
+pub struct Lag<'a>(pub &'a TaskRow);
 
 impl fmt::Display for Lag<'_> {
     ghost output = { λ l. Some (lag_text l.0.now) };
@@ -81,21 +81,21 @@ impl fmt::Display for Lag<'_> {
 }
 
 /// The nanoseconds of a row's lag, as many as 64 bits hold.
-fn amount(row: &Row) -> u64
+fn amount(row: &TaskRow) -> u64
     ensures { result ≡ min row.now.lag (2 ^ 64 - 1) }
 {
     u64::try_from(row.lag).unwrap_or(u64::MAX)
 }
 
 /// The sign of a row's lag.
-fn sign(row: &Row) -> &'static str
+fn sign(row: &TaskRow) -> &'static str
     ensures { result.now ≡ sign_of row.now.is_eligible }
 {
     if row.is_eligible { "+" } else { "-" }
 }
 
 /// Whether a row may run, in words.
-pub fn eligibility(row: &Row) -> &'static str
+pub fn eligibility(row: &TaskRow) -> &'static str
     ensures { result.now ≡ eligibility row.now }
 {
     if row.is_eligible {

@@ -2,8 +2,8 @@ use Rattle.std.proofs.Common.{rules, ◌≡◌, ◌+◌, ◌<◌, List, [], ◌�
 use Rattle.std.proofs.lemmas.List.{length-take, take_more}
 use Rattle.bq_comparison.specs.declared.naming.Figure.TheVariants.{Task}
 use Rattle.bq_comparison.specs.declared.naming.TaskFigure.TheVariants.{Ran}
-use Rattle.bq_comparison.specs.declared.summing.Row.{Row}
-use Rattle.bq_comparison.specs.declared.line.Line.{Line}
+use Rattle.bq_comparison.specs.declared.summing.FigureRow.{FigureRow}
+use Rattle.bq_comparison.specs.declared.line.FigureLine.{FigureLine}
 use Rattle.bq_comparison.specs.Lines.{Selects, beside, IsShown, row_at}
 use Rattle.bq_comparison.proofs.LineLemmas.{Selects-take, Selects-leave, beside-more}
 use Rattle.bq_comparison.proofs.line.lines.Goals as goal
@@ -13,11 +13,11 @@ pub rows-preserved : goal.rows-preserved
 rows-preserved c =
     let rows = c.args.sides.now.ours.items in
     let theirs = c.args.sides.now.theirs in
-    let shows : Line → Type 0 = IsShown c.args.window.now in
+    let shows : FigureLine → Type 0 = IsShown c.args.window.now in
     let i = c.rows.place in
-    let none : Row = record { figure = Task 0 Ran; runs = 0; mean = None; deviation = None } in
-    let row : Row = get_or rows i none in
-    let line : Line = record { ours = row; theirs = row_at theirs i } in
+    let none : FigureRow = record { figure = Task 0 Ran; runs = 0; mean = None; deviation = None } in
+    let row : FigureRow = get_or rows i none in
+    let line : FigureLine = record { ours = row; theirs = row_at theirs i } in
     let all : c.deref-row-items.result.now ≡ rows = search rules in
     let inside : i < length rows = search (rules, arith) in
     let place : 0 + length (take i rows) ≡ i = omega (arith, length-take i rows) in
@@ -26,9 +26,9 @@ rows-preserved c =
     ∙ ap (λ n. beside 0 (take i rows) theirs ++ record { ours = row; theirs = row_at theirs n } ∷ []) place in
     let made : record { ours = get_or c.deref-row-items.result.now i none; theirs = c.their.result } ≡ line =
     ap (λ l. record { ours = get_or l i none; theirs = c.their.result }) all ∙ ap (λ t. record { ours = row; theirs = t }) c.their.ensures in
-    let of : List Line → Type 0 = λ ys. Selects shows (beside 0 (take (i + 1) rows) theirs) ys in
-    let from : List Line → Type 0 = λ xs. Selects shows xs (c.rows.lines.items ++ line ∷ []) in
-    let kept : List Line → Type 0 = λ xs. Selects shows xs c.rows.lines.items in
+    let of : List FigureLine → Type 0 = λ ys. Selects shows (beside 0 (take (i + 1) rows) theirs) ys in
+    let from : List FigureLine → Type 0 = λ xs. Selects shows xs (c.rows.lines.items ++ line ∷ []) in
+    let kept : List FigureLine → Type 0 = λ xs. Selects shows xs c.rows.lines.items in
     elim c.if-is_shown.branch [
       | then-is_shown+in_ok-push w ↦
           subst of (sym (ap (λ v. v.items) w.lines-is ∙ w.in_ok-push.ensures.items ∙ ap (λ x. c.rows.lines.items ++ x ∷ []) made))

@@ -3,8 +3,8 @@ use Rattle.bq_history.specs.Items.{journal_item, caller_item, part_item, receipt
 use Rattle.bq_history.proofs.RecordingLemmas.{commits_at}
 use Rattle.bq_history.proofs.commits.commit_parts.Goals as goal
 
-pub settle-requires : goal.settle-requires
-settle-requires g c =
+pub change_jointly-requires : goal.change_jointly-requires
+change_jointly-requires g c =
     let m = c.requires.moves in
     let j = c.journal.inside in
     let k = c.caller.inside in

@@ -6,5 +6,5 @@ returns c =
     let words = rw c.in_ok-told.ensures.text at c.in_ok-text.ensures.ok in
     let rule = rw c.pointer_rule-rule.ensures at words in (
       (c.in-Some.pointer.register, c.in-Some.pointer.known, c.in-Some.ensures, rule),
-      pointer_no_number c.args.view.now c.args.insn c.in-Some.pointer.register c.in-Some.pointer.known c.in-Some.ensures,
+      pointer_no_number c.args.state.now c.args.insn c.in-Some.pointer.register c.in-Some.pointer.known c.in-Some.ensures,
     )

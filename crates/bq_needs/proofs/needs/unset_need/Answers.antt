@@ -6,11 +6,11 @@ use Rattle.bq_needs.proofs.needs.unset_need.Goals as goal
 pub returns-then-is_empty : goal.returns-then-is_empty
 returns-then-is_empty c =
     let none : length (string_bytes c.in_ok-registers.registers) ≡ 0 = search rules in
-    empty_known c.args.view.now c.args.insn (string_bytes c.in_ok-registers.registers) c.in_ok-registers.ensures (no_length (string_bytes c.in_ok-registers.registers) none)
+    empty_known c.args.state.now c.args.insn (string_bytes c.in_ok-registers.registers) c.in_ok-registers.ensures (no_length (string_bytes c.in_ok-registers.registers) none)
 
 pub returns : goal.returns
 returns c =
     let some : string_bytes c.in_ok-registers.registers ≢ [] = search rules in (
       rw c.in_ok-registers.ensures at c.in_ok-text.ensures.ok,
-      told_not_known c.args.view.now c.args.insn (string_bytes c.in_ok-registers.registers) c.in_ok-registers.ensures some,
+      told_not_known c.args.state.now c.args.insn (string_bytes c.in_ok-registers.registers) c.in_ok-registers.ensures some,
     )

@@ -5,7 +5,7 @@ use Rattle.bq_policy_runs.proofs.traces.steps_text.Given as goal
 
 -- what is told so far, before what tells the rest, tells all
 abbrev pub invariant-loop-rest : goal.invariant-loop-rest
-invariant-loop-rest l = (more : List ℕ) → AreSteps l.verified l.rest more → AreSteps l.verified l.moments (string_bytes l.text ++ more)
+invariant-loop-rest l = (more : List ℕ) → AreSteps l.verified l.rest more → AreSteps l.verified l.snapshots (string_bytes l.text ++ more)
 
 abbrev pub decreases-loop-rest : goal.decreases-loop-rest
 decreases-loop-rest l = length l.rest

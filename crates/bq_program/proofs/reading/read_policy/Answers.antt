@@ -1,7 +1,7 @@
 use Rattle.std.proofs.Common.{◌≡◌, IfErr, List, ℕ, rules, subst}
 use Rattle.bq_program.specs.Files.{IsImageFault, kind_of}
 use Rattle.bq_program.specs.HexText.{SpellsBytes}
-use Rattle.bq_program.specs.declared.kind.Kind.TheVariants as kind
+use Rattle.bq_program.specs.declared.kind.FileKind.TheVariants as kind
 use Rattle.bq_program.proofs.HeadLemmas.{hex_fault}
 use Rattle.bq_program.proofs.reading.read_policy.Goals as goal
 

@@ -13,7 +13,7 @@ loop-seat-preserved g c =
     let s = c.in-Some.seat in
     record {
       items = c.leave.ensures.caller ∙ mapped_more caller_of l.all c.args.all.now l.yielded s s l.invariant.items refl;
-      account = c.leave.ensures.tally ∙ accounts_more g.R.Told.calls l.yielded s l.account (account_of g.R.Told.calls s.1) l.invariant.account refl;
+      account = c.leave.ensures.tally ∙ accounts_more g.R.TellsCalls.calls l.yielded s l.account (account_of g.R.TellsCalls.calls s.1) l.invariant.account refl;
     }
 
 pub returns-clause-items : goal.returns-clause-items

@@ -9,23 +9,23 @@ use Rattle.bq_states.proofs.told.sharpen.Goals as goal
 pub returns-then-class-eq0-clause-contains : goal.returns-then-class-eq0-clause-contains
 returns-then-class-eq0-clause-contains c = λ f s n contains is d.
     let same : c.from-register.result ≡ c.args.register = search rules in
-    let there : c.from-register.result < length c.args.view.now.registers = omega arith in
-    contains_sharper_one f c.args.view.now s c.args.told c.from-register.result n contains (subst (λ (r : ℕ). s.register r ≡ Some n) (sym same) is) d c.index-view-register.result c.sharper.result there c.index-view-register.is (subst (λ (v : Option AbstractValue). IsSharper c.args.told v c.sharper.result) (sym c.index-view-register.is) c.sharper.ensures.sharper)
+    let there : c.from-register.result < length c.args.state.now.registers = omega arith in
+    contains_sharper_one f c.args.state.now s c.args.told c.from-register.result n contains (subst (λ (r : ℕ). s.register r ≡ Some n) (sym same) is) d c.index-state-register.result c.sharper.result there c.index-state-register.is (subst (λ (v : Option AbstractValue). IsSharper c.args.told v c.sharper.result) (sym c.index-state-register.is) c.sharper.ensures.sharper)
 
 pub returns-then-class-eq0-clause-has : goal.returns-then-class-eq0-clause-has
 returns-then-class-eq0-clause-has c = λ x lasting has.
     let same : c.from-register.result ≡ c.args.register = search rules in
-    let there : c.from-register.result < length c.args.view.now.registers = omega arith in
-    has_sharper x c.args.view.now _ c.args.view.now.kept
-    (λ s. set_each (λ k a b. IsLastingWord s → Stands s a → Stands s b) c.args.view.now.registers c.args.view.now.registers c.from-register.result c.sharper.result c.index-view-register.result there c.index-view-register.is refl (subst (λ (v : Option AbstractValue). IsLastingWord s → Stands s v → Stands s c.sharper.result) (sym c.index-view-register.is) (c.sharper.ensures.stands s)) (λ k lasts stands. stands))
+    let there : c.from-register.result < length c.args.state.now.registers = omega arith in
+    has_sharper x c.args.state.now _ c.args.state.now.kept
+    (λ s. set_each (λ k a b. IsLastingWord s → Stands s a → Stands s b) c.args.state.now.registers c.args.state.now.registers c.from-register.result c.sharper.result c.index-state-register.result there c.index-state-register.is refl (subst (λ (v : Option AbstractValue). IsLastingWord s → Stands s v → Stands s c.sharper.result) (sym c.index-state-register.is) (c.sharper.ensures.stands s)) (λ k lasts stands. stands))
     (λ s k lasts stands. stands) lasting has
 
 pub returns-clause-contains : goal.returns-clause-contains
 returns-clause-contains c = λ f s n contains is d.
     let same : c.from-register.result ≡ c.args.register = search rules in
     let low : c.from-register.result < 11 = omega arith in
-    let short : length c.args.view.now.registers ≤ 11 = omega arith in
-    contains_sharper_all f c.args.view.now s c.args.told c.from-register.result n contains (subst (λ (r : ℕ). s.register r ≡ Some n) (sym same) is) d (slice_index c.args.view.now.classes c.from-register.result) c.sharpen_all.new.words c.sharpen_all-2.new.words refl c.if-class-eq0.false low short c.sharpen_all.ensures.sharper c.sharpen_all.ensures.others c.sharpen_all-2.ensures.sharper c.sharpen_all-2.ensures.others
+    let short : length c.args.state.now.registers ≤ 11 = omega arith in
+    contains_sharper_all f c.args.state.now s c.args.told c.from-register.result n contains (subst (λ (r : ℕ). s.register r ≡ Some n) (sym same) is) d (slice_index c.args.state.now.classes c.from-register.result) c.sharpen_all.new.words c.sharpen_all-2.new.words refl c.if-class-eq0.false low short c.sharpen_all.ensures.sharper c.sharpen_all.ensures.others c.sharpen_all-2.ensures.sharper c.sharpen_all-2.ensures.others
 
 pub returns-clause-has : goal.returns-clause-has
-returns-clause-has c = λ x lasting has. has_sharper x c.args.view.now c.sharpen_all.new.words c.sharpen_all-2.new.words c.sharpen_all.ensures.stands c.sharpen_all-2.ensures.stands lasting has
+returns-clause-has c = λ x lasting has. has_sharper x c.args.state.now c.sharpen_all.new.words c.sharpen_all-2.new.words c.sharpen_all.ensures.stands c.sharpen_all-2.ensures.stands lasting has

@@ -15,12 +15,12 @@ use Rattle.bq_transfer.proofs.alu.copy.Goals as goal
 
 pub returns-clause-transfers : goal.returns-clause-transfers
 returns-clause-transfers c = λ shapes context_length f s suits contains.
-    let there : c.args.dst < length c.args.view.now.registers = omega (arith, c.requires) in
+    let there : c.args.dst < length c.args.state.now.registers = omega (arith, c.requires) in
     let right = c.in-Some.ensures.finds f s contains in
     let value : ℕ = alu_result c.args.width Mov 0 right.0 in
-    let put_contains : Contains f (knowing c.args.view.now c.args.dst c.in-Some-copied.word) (put s 1 c.args.dst value) =
-    contains_put f c.args.view.now s 1 c.args.dst value c.in-Some-copied.word there contains (c.in-Some-copied.ensures.describes f.shapes 0 right.0 right.2) in
-    let learnt : Contains f c.learn.new.view (put s 1 c.args.dst value) = subst (λ (v : AbstractState). Contains f v (put s 1 c.args.dst value)) (sym c.learn.ensures.is) put_contains in
+    let put_contains : Contains f (knowing c.args.state.now c.args.dst c.in-Some-copied.word) (put s 1 c.args.dst value) =
+    contains_put f c.args.state.now s 1 c.args.dst value c.in-Some-copied.word there contains (c.in-Some-copied.ensures.describes f.shapes 0 right.0 right.2) in
+    let learnt : Contains f c.learn.new.state (put s 1 c.args.dst value) = subst (λ (v : AbstractState). Contains f v (put s 1 c.args.dst value)) (sym c.learn.ensures.is) put_contains in
     let copies = c.link_copy.ensures (put s 1 c.args.dst value) learnt.copies
     (λ r is other. record {
       shapes = f.shapes;
@@ -40,12 +40,12 @@ some_known a b e = cc
 
 pub returns-clause-exact : goal.returns-clause-exact
 returns-clause-exact c = λ i is whole.
-    let there : c.args.dst < length c.args.view.now.registers = omega (arith, c.requires) in
+    let there : c.args.dst < length c.args.state.now.registers = omega (arith, c.requires) in
     let word = c.in-Some.ensures.immediate i is in
     let same : c.in-Some-copied.word ≡ c.in-Some.right = some_known c.in-Some-copied.word c.in-Some.right (c.in-Some-copied.ensures.same whole) in
     let stands : Stands (Exact (word_of i)) (Some c.in-Some-copied.word) = subst (λ (k : AbstractValue). Stands (Exact (word_of i)) (Some k)) (sym same) word in
-    made_classes (Exact (word_of i)) c.args.view.now c.learn.new.view c.args.dst c.link_copy.new.classes
-    (subst (λ (v : AbstractState). IsMade (Exact (word_of i)) c.args.view.now v c.args.dst) (sym c.learn.ensures.is) (knowing_made (Exact (word_of i)) c.args.view.now c.args.dst c.in-Some-copied.word there stands))
+    made_classes (Exact (word_of i)) c.args.state.now c.learn.new.state c.args.dst c.link_copy.new.classes
+    (subst (λ (v : AbstractState). IsMade (Exact (word_of i)) c.args.state.now v c.args.dst) (sym c.learn.ensures.is) (knowing_made (Exact (word_of i)) c.args.state.now c.args.dst c.in-Some-copied.word there stands))
 
 pub returns-then-is_whole-clause-transfers : goal.returns-then-is_whole-clause-transfers
 returns-then-is_whole-clause-transfers c = λ shapes context_length f s suits contains.
@@ -55,6 +55,6 @@ returns-then-is_whole-clause-transfers c = λ shapes context_length f s suits co
     let here : IsOperand s (Reg c.args.dst) right.0 = subst (λ (x : Source). IsOperand s x right.0) itself right.1 in (
       put s 1 c.args.dst (alu_result c.args.width Mov 0 right.0),
       (0, right.0, tt, right.1, c.requires, refl),
-      rw whole (contains_same f c.args.view.now s 1 c.args.dst right.0 here contains),
+      rw whole (contains_same f c.args.state.now s 1 c.args.dst right.0 here contains),
       refl,
     )

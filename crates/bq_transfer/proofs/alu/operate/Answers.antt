@@ -1,7 +1,7 @@
 use Rattle.std.proofs.Common.{ℕ, Option, Some, refl, sym, subst, arith, length, ◌<◌}
 use Rattle.bq_insn.specs.declared.Insn.TheVariants.{Alu}
 use Rattle.bq_bpf.specs.Meaning.{alu_result, word_of}
-use Rattle.bq_states.specs.declared.abstract_state.Kind.TheVariants.{Stack}
+use Rattle.bq_states.specs.declared.abstract_state.ValueKind.TheVariants.{Stack}
 use Rattle.bq_states.specs.declared.abstract_state.AbstractValue.{AbstractValue}
 use Rattle.bq_states.specs.declared.abstract_state.AbstractState.{AbstractState}
 use Rattle.bq_states.specs.Certainty.{IsMade, IsWord, Pointer, Stands}
@@ -13,12 +13,12 @@ use Rattle.bq_transfer.proofs.alu.operate.Goals as goal
 
 pub returns-clause-transfers : goal.returns-clause-transfers
 returns-clause-transfers c = λ shapes context_length.
-    let there : c.args.dst < length c.args.view.now.registers = omega (arith, c.requires.below) in
+    let there : c.args.dst < length c.args.state.now.registers = omega (arith, c.requires.below) in
     rw c.learn.ensures.is
-    (carries_put shapes context_length (Alu c.args.width c.args.op c.args.dst c.args.src) c.args.view.now c.args.dst c.in-Some-combine.word there
+    (carries_put shapes context_length (Alu c.args.width c.args.op c.args.dst c.args.src) c.args.state.now c.args.dst c.in-Some-combine.word there
     (λ f s suits contains.
     let right = c.in-Some.ensures.finds f s contains in
-    let left = found_at f c.args.view.now s c.args.dst c.in-Some-known.left c.in-Some-known.ensures contains in (
+    let left = found_at f c.args.state.now s c.args.dst c.in-Some-known.left c.in-Some-known.ensures contains in (
       alu_result c.args.width c.args.op left.0 right.0,
       (left.0, right.0, left_from_set c.args.op (s.register c.args.dst) left.0 left.1, right.1, c.requires.below, refl),
       c.in-Some-combine.ensures.describes f.shapes left.0 right.0 left.2 right.2,
@@ -26,9 +26,9 @@ returns-clause-transfers c = λ shapes context_length.
 
 pub returns-clause-moves : goal.returns-clause-moves
 returns-clause-moves c = λ m.
-    let there : c.args.dst < length c.args.view.now.registers = omega (arith, c.requires.below) in
+    let there : c.args.dst < length c.args.state.now.registers = omega (arith, c.requires.below) in
     let left : Stands (Pointer Stack m.base) (Some c.in-Some-known.left) = subst (λ (v : Option AbstractValue). Stands (Pointer Stack m.base) v) (sym c.in-Some-known.ensures) m.stands in
     let right : IsWord (word_of m.distance) (Some c.in-Some.right) = c.in-Some.ensures.immediate m.distance m.by_distance in
     let moved = c.in-Some-combine.ensures.moves m.base (word_of m.distance) m.whole m.is_sum left right in
     let stands : Stands (Pointer Stack m.at) (Some c.in-Some-combine.word) = subst (λ (n : ℕ). Stands (Pointer Stack n) (Some c.in-Some-combine.word)) (sum_on_stack m.base m.at m.distance m.below m.small m.at_is) moved in
-    (refl, subst (λ (v : AbstractState). IsMade (Pointer Stack m.at) c.args.view.now v c.args.dst) (sym c.learn.ensures.is) (knowing_made (Pointer Stack m.at) c.args.view.now c.args.dst c.in-Some-combine.word there stands))
+    (refl, subst (λ (v : AbstractState). IsMade (Pointer Stack m.at) c.args.state.now v c.args.dst) (sym c.learn.ensures.is) (knowing_made (Pointer Stack m.at) c.args.state.now c.args.dst c.in-Some-combine.word there stands))

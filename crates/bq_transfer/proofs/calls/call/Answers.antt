@@ -50,8 +50,8 @@ returns-then-helper-eq-LOOKUP-clause-accepts c = λ ready.
             | inl n ↦ (
               (c.look_up.ensures.accepts n.1 n.2).0,
               λ x slot k after.
-                  has_looked_up x slot k n.1 c.args.view.now c.look_up.new.view n.2.names (c.look_up.ensures.accepts n.1 n.2).1
-                  (subst (λ (i : Insn). After x slot k i c.args.view.now) (ap (λ (h : ℤ). Call h) is) after),
+                  has_looked_up x slot k n.1 c.args.state.now c.look_up.new.state n.2.names (c.look_up.ensures.accepts n.1 n.2).1
+                  (subst (λ (i : Insn). After x slot k i c.args.state.now) (ap (λ (h : ℤ). Call h) is) after),
             )
             | inr n ↦ absurd (let numbers = pos_is 2 1 (sym n.0 ∙ is) in omega (arith, numbers))
           ]
@@ -71,6 +71,6 @@ returns-then-helper-eq-UPDATE-clause-accepts c = λ ready.
       | inr rest ↦
           elim rest [
             | inl n ↦ absurd (other n.0)
-            | inr n ↦ ((c.update.ensures.accepts n.1 n.2).0, λ x slot k after. has_answered x slot k c.args.helper c.args.view.now c.update.new.view other (c.update.ensures.accepts n.1 n.2).1 after)
+            | inr n ↦ ((c.update.ensures.accepts n.1 n.2).0, λ x slot k after. has_answered x slot k c.args.helper c.args.state.now c.update.new.state other (c.update.ensures.accepts n.1 n.2).1 after)
           ]
     ]

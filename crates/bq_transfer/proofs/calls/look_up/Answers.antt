@@ -1,5 +1,5 @@
 use Rattle.std.proofs.Common.{◌≡◌, ◌<◌, Some, length, refl, sym, subst, arith}
-use Rattle.bq_states.specs.declared.abstract_state.Kind.TheVariants.{EntryOrNull}
+use Rattle.bq_states.specs.declared.abstract_state.ValueKind.TheVariants.{EntryOrNull}
 use Rattle.bq_states.specs.declared.abstract_state.AbstractState.{AbstractState}
 use Rattle.bq_states.specs.Certainty.{IsCalled, Pointer}
 use Rattle.bq_transfer.proofs.CertaintyLemmas.{answer_stands, called_by}
@@ -10,7 +10,7 @@ pub returns-clause-transfers : goal.returns-clause-transfers
 returns-clause-transfers c =
     let there : 0 < length c.clear.new.registers = omega arith in
     rw c.learn.ensures.is
-    (carries_look_up c.args.shapes.now c.args.context c.args.view.now c.clear.new.registers c.part_first.new.classes c.in-Some.map c.single.result there c.clear.ensures c.part_first.ensures c.single.ensures.lo (omega arith) c.in-Some.ensures.names (c.reads.ensures.finds c.if-not-reads.false))
+    (carries_look_up c.args.shapes.now c.args.context c.args.state.now c.clear.new.registers c.part_first.new.classes c.in-Some.map c.single.result there c.clear.ensures c.part_first.ensures c.single.ensures.lo (omega arith) c.in-Some.ensures.names (c.reads.ensures.finds c.if-not-reads.false))
 
 pub returns-in_default-clause-accepts : goal.returns-in_default-clause-accepts
 returns-in_default-clause-accepts c = λ m naming. absurd (c.in_default.not-Some m (c.map_of.ensures.found m naming.names))
@@ -21,6 +21,6 @@ returns-clause-accepts c = λ m naming.
     let found : Some c.in-Some.map ≡ Some m = c.in-Some.ensures.found m naming.names in
     let same : c.in-Some.map ≡ m = cc in (
       refl,
-      subst (λ (v : AbstractState). IsCalled (Pointer (EntryOrNull m) 0) c.args.view.now v) (sym c.learn.ensures.is)
-          (called_by (Pointer (EntryOrNull m) 0) c.args.view.now c.clear.new.registers c.part_first.new.classes _ there c.clear.ensures (answer_stands c.in-Some.map m c.single.result same c.single.ensures.lo c.single.ensures.hi)),
+      subst (λ (v : AbstractState). IsCalled (Pointer (EntryOrNull m) 0) c.args.state.now v) (sym c.learn.ensures.is)
+          (called_by (Pointer (EntryOrNull m) 0) c.args.state.now c.clear.new.registers c.part_first.new.classes _ there c.clear.ensures (answer_stands c.in-Some.map m c.single.result same c.single.ensures.lo c.single.ensures.hi)),
     )

@@ -14,8 +14,8 @@ returns-then-helper-eq-ADD_COUNTER-clause-asks c =
     let is : c.in-Call.helper ≡ pos 100 = omega (arith, ints) in
     on_ok_weaker c.add.result
     (λ asks.
-    subst (λ (i : Insn). AsksFrom i c.args.view.now c.add.new.view) (sym c.in-Call.is)
-    (subst (λ (h : ℤ). AsksFrom (Call h) c.args.view.now c.add.new.view) (sym is) asks))
+    subst (λ (i : Insn). AsksFrom i c.args.state.now c.add.new.state) (sym c.in-Call.is)
+    (subst (λ (h : ℤ). AsksFrom (Call h) c.args.state.now c.add.new.state) (sym is) asks))
     c.add.ensures.asks
 
 pub returns-clause-asks : goal.returns-clause-asks
@@ -25,6 +25,6 @@ returns-clause-asks c =
     let is : c.in-Call.helper ≡ pos 101 = ⊎_elim (λ (e : c.in-Call.helper ≡ pos 100). absurd (omega (arith, ints, e))) (λ (e : c.in-Call.helper ≡ pos 101). e) counter in
     on_ok_weaker c.read.result
     (λ asks.
-    subst (λ (i : Insn). AsksFrom i c.args.view.now c.read.new.view) (sym c.in-Call.is)
-    (subst (λ (h : ℤ). AsksFrom (Call h) c.args.view.now c.read.new.view) (sym is) asks))
+    subst (λ (i : Insn). AsksFrom i c.args.state.now c.read.new.state) (sym c.in-Call.is)
+    (subst (λ (h : ℤ). AsksFrom (Call h) c.args.state.now c.read.new.state) (sym is) asks))
     c.read.ensures.asks

@@ -1,6 +1,6 @@
 use Rattle.std.proofs.Common.{refl}
 use Rattle.std.proofs.lemmas.Bool.{false≢true}
-use Rattle.bq_states.specs.declared.abstract_state.Kind.TheVariants.{Entry, Number}
+use Rattle.bq_states.specs.declared.abstract_state.ValueKind.TheVariants.{Entry, Number}
 use Rattle.bq_transfer.proofs.CertaintyLemmas.{entry_stands}
 use Rattle.bq_transfer.proofs.ResultLemmas.{null_side, entry_side, equal_true, equal_false, unequal_true, unequal_false}
 use Rattle.bq_states.proofs.WordLemmas.{word_fits}

@@ -1,6 +1,6 @@
 use Rattle.std.proofs.Common.{pos, ◌≡◌, ℕ, refl, subst, arith, rules}
 use Rattle.bq_insn.specs.declared.Source.TheVariants.{Imm}
-use Rattle.bq_states.specs.declared.abstract_state.Kind.TheVariants.{Number}
+use Rattle.bq_states.specs.declared.abstract_state.ValueKind.TheVariants.{Number}
 use Rattle.bq_states.proofs.WordLemmas.{describes_number, number_within}
 use Rattle.bq_transfer.proofs.ResultLemmas.{number_or_null, entry_or_null, same_map}
 use Rattle.bq_transfer.specs.Sides.{IsTestedIfAny, is_found}

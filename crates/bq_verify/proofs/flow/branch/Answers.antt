@@ -1,7 +1,7 @@
 use Rattle.std.proofs.Common.{◌≡◌, Option, Some, true, false, inl, inr, subst, sym, arith}
 use Rattle.std.proofs.lemmas.Bool.{false≢true}
 use Rattle.std.proofs.lemmas.Result.{err_from_is_err_and}
-use Rattle.bq_states.specs.declared.abstract_state.Kind.TheVariants.{EntryOrNull, Number}
+use Rattle.bq_states.specs.declared.abstract_state.ValueKind.TheVariants.{EntryOrNull, Number}
 use Rattle.bq_states.specs.declared.abstract_state.AbstractValue.{AbstractValue}
 use Rattle.bq_states.specs.Certainty.{Pointer, Scalar, Stands}
 use Rattle.bq_transfer.specs.Sides.{is_found}
@@ -15,8 +15,8 @@ returns-clause-parts c = (
   c.in_ok-wait_on_side.ensures.kept,
   λ f s contains.
       let operand = c.in-Some.ensures.finds f s contains in
-      parts_of f s c.args.view.now c.args.test.width c.args.test.cond c.args.test.dst c.args.test.src c.args.to c.args.next
-      (IsKnown c.wait_on_side.new.pending c.carry_on.new.view c.carry_on.result c.args.next)
+      parts_of f s c.args.state.now c.args.test.width c.args.test.cond c.args.test.dst c.args.test.src c.args.to c.args.next
+      (IsKnown c.wait_on_side.new.pending c.carry_on.new.state c.carry_on.result c.args.next)
       c.in-Some-known.left c.in-Some.right c.in_ok-yes.yes c.in_ok-no.no c.right_side.result c.right_side-2.result c.in-Some-known.ensures operand.0 operand.1 operand.2
       c.in_ok-yes.ensures.fits c.in_ok-no.ensures.fits c.right_side.ensures c.right_side-2.ensures
       (λ t at side. inl (c.in_ok-wait_on_side.ensures.added f t at side))
@@ -26,25 +26,25 @@ returns-clause-parts c = (
 
 pub returns-clause-sure : goal.returns-clause-sure
 returns-clause-sure c = λ scalar operand x k waits both.
-    let there = known_inside c.args.view.now.registers c.args.test.dst c.in-Some-known.left c.in-Some-known.ensures in
+    let there = known_inside c.args.state.now.registers c.args.test.dst c.in-Some-known.left c.in-Some-known.ensures in
     let left : c.in-Some-known.left.kind ≡ Number = subst (λ (v : Option AbstractValue). Stands Scalar v) (sym c.in-Some-known.ensures) scalar in
     let right : c.in-Some.right.kind ≡ Number = c.in-Some.ensures.scalar operand in
     record {
-      waiting = c.in_ok-wait_on_side.ensures.has x k waits (λ same. let so = both (inl same) in has_on_side x c.args.view.now c.args.test.dst c.in_ok-yes.yes there so.0 so.1 scalar (c.in_ok-yes.ensures.number left right) so.2);
+      waiting = c.in_ok-wait_on_side.ensures.has x k waits (λ same. let so = both (inl same) in has_on_side x c.args.state.now c.args.test.dst c.in_ok-yes.yes there so.0 so.1 scalar (c.in_ok-yes.ensures.number left right) so.2);
       transferred = λ live same.
           let so = both (inr same) in
-          c.carry_on.ensures.has x (has_on_side x c.args.view.now c.args.test.dst c.in_ok-no.no there so.0 so.1 scalar (c.in_ok-no.ensures.number left right) so.2) live;
+          c.carry_on.ensures.has x (has_on_side x c.args.state.now c.args.test.dst c.in_ok-no.no there so.0 so.1 scalar (c.in_ok-no.ensures.number left right) so.2) live;
     }
 
 pub returns-clause-checked : goal.returns-clause-checked
 returns-clause-checked c = λ map check answer x k waits yes_side no_side.
-    let there = known_inside c.args.view.now.registers c.args.test.dst c.in-Some-known.left c.in-Some-known.ensures in
+    let there = known_inside c.args.state.now.registers c.args.test.dst c.in-Some-known.left c.in-Some-known.ensures in
     let left : Stands (Pointer (EntryOrNull map) 0) (Some c.in-Some-known.left) = subst (λ (v : Option AbstractValue). Stands (Pointer (EntryOrNull map) 0) v) (sym c.in-Some-known.ensures) answer in
     record {
       waiting = c.in_ok-wait_on_side.ensures.has x k waits
-          (λ same. has_on_tested x c.args.view.now c.args.test.dst map (is_found c.args.test.cond true) c.in_ok-yes.yes there (c.in_ok-yes.ensures.tested map check left) (yes_side same));
+          (λ same. has_on_tested x c.args.state.now c.args.test.dst map (is_found c.args.test.cond true) c.in_ok-yes.yes there (c.in_ok-yes.ensures.tested map check left) (yes_side same));
       transferred = λ live same.
-          c.carry_on.ensures.has x (has_on_tested x c.args.view.now c.args.test.dst map (is_found c.args.test.cond false) c.in_ok-no.no there (c.in_ok-no.ensures.tested map check left) (no_side same)) live;
+          c.carry_on.ensures.has x (has_on_tested x c.args.state.now c.args.test.dst map (is_found c.args.test.cond false) c.in_ok-no.no there (c.in_ok-no.ensures.tested map check left) (no_side same)) live;
     }
 
 pub returns-in_default-clause-accepts : goal.returns-in_default-clause-accepts

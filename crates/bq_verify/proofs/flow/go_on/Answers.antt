@@ -1,7 +1,7 @@
 use Rattle.bq_states.specs.Told.{IsLasting}
 use Rattle.std.proofs.Common.{rules, ℕ, Bool, Some, ◌≡◌, ◌+◌, ◌<◌, length, arith, refl, sym, ap, subst, ◌∙◌, true, false, inl, inr}
 use Rattle.bq_insn.specs.declared.Insn.{Insn}
-use Rattle.bq_states.specs.declared.abstract_state.Kind.TheVariants.{EntryOrNull}
+use Rattle.bq_states.specs.declared.abstract_state.ValueKind.TheVariants.{EntryOrNull}
 use Rattle.bq_transfer.specs.After.{After, IsFoundSide}
 use Rattle.bq_transfer.specs.Ready.{IsReady}
 use Rattle.bq_states.specs.Certainty.{Has, Outlasts}
@@ -30,7 +30,7 @@ returns-in_ok-wait-in-Goto-clause-goes c =
     let leads : LeadsTo c.args.slot c.in-Goto.off c.target-to.result = omega (arith, ints, c.target-to.ensures.to) in
     let here : instruction_at c.args.subject.now.slots.now c.args.slot ≡ Some (Goto c.in-Goto.off) = rw c.in-Goto.is at c.requires.here in (
       c.in_ok-wait-in-Goto.ensures.kept,
-      goes_there c.args.subject.now.slots.now c.args.subject.now.shapes.now c.args.subject.now.context c.args.slot c.args.view.now (IsKnown c.wait.new.pending c.args.view.now false (c.args.slot + 1))
+      goes_there c.args.subject.now.slots.now c.args.subject.now.shapes.now c.args.subject.now.context c.args.slot c.args.state.now (IsKnown c.wait.new.pending c.args.state.now false (c.args.slot + 1))
           c.in-Goto.off c.target-to.result here leads (λ f s at contains. inl (c.in_ok-wait-in-Goto.ensures.added f s at contains)),
     )
 
@@ -41,7 +41,7 @@ returns-in_ok-wait-in-Goto32-clause-goes c =
     let leads : LeadsTo c.args.slot c.in-Goto32.imm c.target-to-in-Goto32.result = omega (arith, ints, c.target-to-in-Goto32.ensures.to) in
     let here : instruction_at c.args.subject.now.slots.now c.args.slot ≡ Some (Goto32 c.in-Goto32.imm) = rw c.in-Goto32.is at c.requires.here in (
       c.in_ok-wait-in-Goto32.ensures.kept,
-      goes_far c.args.subject.now.slots.now c.args.subject.now.shapes.now c.args.subject.now.context c.args.slot c.args.view.now (IsKnown c.wait-in-Goto32.new.pending c.args.view.now false (c.args.slot + 1))
+      goes_far c.args.subject.now.slots.now c.args.subject.now.shapes.now c.args.subject.now.context c.args.slot c.args.state.now (IsKnown c.wait-in-Goto32.new.pending c.args.state.now false (c.args.slot + 1))
           c.in-Goto32.imm c.target-to-in-Goto32.result here leads (λ f s at contains. inl (c.in_ok-wait-in-Goto32.ensures.added f s at contains)),
     )
 
@@ -57,8 +57,8 @@ returns-in_ok-wait-in_default c = record {
   long = search rules;
   goes = (
     c.in_ok-wait-in_default.ensures.kept,
-    goes_on c.args.subject.now.slots.now c.args.subject.now.shapes.now c.args.subject.now.context c.args.slot c.args.view.now (IsKnown c.wait-in_default.new.pending c.transfer.new.view false (c.args.slot + 1))
-        c.args.insn c.transfer.new.view c.requires.here c.in_ok-transfer-in_default.ensures.straight c.in_ok-transfer-in_default.ensures.transfers
+    goes_on c.args.subject.now.slots.now c.args.subject.now.shapes.now c.args.subject.now.context c.args.slot c.args.state.now (IsKnown c.wait-in_default.new.pending c.transfer.new.state false (c.args.slot + 1))
+        c.args.insn c.transfer.new.state c.requires.here c.in_ok-transfer-in_default.ensures.straight c.in_ok-transfer-in_default.ensures.transfers
         (λ f s at contains. inl (c.in_ok-wait-in_default.ensures.added f s (rw c.slots-count.ensures at) contains)),
   );
   doubts = tt;
@@ -83,7 +83,7 @@ returns-in-Branch-clause-goes c =
     IfOk-weaker c.branch-alloc.result _ _
     (λ live parts. (
       parts.0,
-      goes_apart c.args.subject.now.slots.now c.args.subject.now.shapes.now c.args.subject.now.context c.args.slot c.args.view.now (IsKnown c.branch-alloc.new.pending c.branch-alloc.new.view live (c.args.slot + 1))
+      goes_apart c.args.subject.now.slots.now c.args.subject.now.shapes.now c.args.subject.now.context c.args.slot c.args.state.now (IsKnown c.branch-alloc.new.pending c.branch-alloc.new.state live (c.args.slot + 1))
           c.in-Branch.width c.in-Branch.cond c.in-Branch.dst c.in-Branch.src c.in-Branch.off c.target-to-in-Branch.result here leads parts.1,
     ))
     c.branch-alloc.ensures.parts
@@ -93,8 +93,8 @@ returns-then-count-eq1 c = record {
   long = search rules;
   goes = (
     λ f s waits. waits,
-    goes_on c.args.subject.now.slots.now c.args.subject.now.shapes.now c.args.subject.now.context c.args.slot c.args.view.now (IsKnown c.args.pending.now c.transfer.new.view true (c.args.slot + 1))
-        c.args.insn c.transfer.new.view c.requires.here c.in_ok-transfer-in_default.ensures.straight c.in_ok-transfer-in_default.ensures.transfers
+    goes_on c.args.subject.now.slots.now c.args.subject.now.shapes.now c.args.subject.now.context c.args.slot c.args.state.now (IsKnown c.args.pending.now c.transfer.new.state true (c.args.slot + 1))
+        c.args.insn c.transfer.new.state c.requires.here c.in_ok-transfer-in_default.ensures.straight c.in_ok-transfer-in_default.ensures.transfers
         (λ f s at contains. inr (refl, at ∙ ap (λ (n : ℕ). c.args.slot + n) one, contains)),
   );
   doubts = tt;
@@ -122,8 +122,8 @@ returns-in_ok-wait-in-Goto-clause-sure c = λ ready x k waits after.
     record {
       waiting = c.in_ok-wait-in-Goto.ensures.has x k waits
           (λ same.
-          has_left x c.args.slot k (Goto c.in-Goto.off) c.args.view.now (λ r gives. some_none _ _ gives refl) (λ n r gives. gives) (λ kind o r gives. gives) (λ i stores. stores)
-          (subst (λ (i : Insn). After x c.args.slot k i c.args.view.now) c.in-Goto.is (after (subst (λ (n : ℕ). IsEdge c.args.subject.now.slots.now c.args.slot n) (sym same) edge))));
+          has_left x c.args.slot k (Goto c.in-Goto.off) c.args.state.now (λ r gives. some_none _ _ gives refl) (λ n r gives. gives) (λ kind o r gives. gives) (λ i stores. stores)
+          (subst (λ (i : Insn). After x c.args.slot k i c.args.state.now) c.in-Goto.is (after (subst (λ (n : ℕ). IsEdge c.args.subject.now.slots.now c.args.slot n) (sym same) edge))));
       transferred = λ live. absurd (false≢true live);
     }
 
@@ -137,8 +137,8 @@ returns-in_ok-wait-in-Goto32-clause-sure c = λ ready x k waits after.
     record {
       waiting = c.in_ok-wait-in-Goto32.ensures.has x k waits
           (λ same.
-          has_left x c.args.slot k (Goto32 c.in-Goto32.imm) c.args.view.now (λ r gives. some_none _ _ gives refl) (λ n r gives. gives) (λ kind o r gives. gives) (λ i stores. stores)
-          (subst (λ (i : Insn). After x c.args.slot k i c.args.view.now) c.in-Goto32.is (after (subst (λ (n : ℕ). IsEdge c.args.subject.now.slots.now c.args.slot n) (sym same) edge))));
+          has_left x c.args.slot k (Goto32 c.in-Goto32.imm) c.args.state.now (λ r gives. some_none _ _ gives refl) (λ n r gives. gives) (λ kind o r gives. gives) (λ i stores. stores)
+          (subst (λ (i : Insn). After x c.args.slot k i c.args.state.now) c.in-Goto32.is (after (subst (λ (n : ℕ). IsEdge c.args.subject.now.slots.now c.args.slot n) (sym same) edge))));
       transferred = λ live. absurd (false≢true live);
     }
 
@@ -151,17 +151,17 @@ returns-in-Branch-clause-sure c = λ ready.
     let here : instruction_at c.args.subject.now.slots.now c.args.slot ≡ Some insn = rw c.in-Branch.is at c.requires.here in
     let there : IsEdge c.args.subject.now.slots.now c.args.slot c.target-to-in-Branch.result = record { insn = insn; here = here; leaves = inr (c.in-Branch.off, refl, leads) } in
     let next : IsEdge c.args.subject.now.slots.now c.args.slot (c.args.slot + 1) = record { insn = insn; here = here; leaves = inl (refl, refl) } in
-    let needs = subst (λ (i : Insn). IsReady c.args.subject.now.shapes.now c.args.subject.now.context c.args.view.now i) c.in-Branch.is ready in
+    let needs = subst (λ (i : Insn). IsReady c.args.subject.now.shapes.now c.args.subject.now.context c.args.state.now i) c.in-Branch.is ready in
     elim needs.1 [
       | inl numbers ↦
           IfOk-weaker c.branch-alloc.result _ _
           (λ live sure x k waits after.
           let left = λ (edge : IsEdge c.args.subject.now.slots.now c.args.slot k).
-          let after' = subst (λ (i : Insn). After x c.args.slot k i c.args.view.now) c.in-Branch.is (after edge) in
-          let on : Outlasts x c.in-Branch.dst × IsLasting x × Has x c.args.view.now = (
-            sure_outlasts_test x c.args.slot k c.in-Branch.width c.in-Branch.cond c.in-Branch.dst c.in-Branch.src c.in-Branch.off c.args.view.now after',
-            lasting_after x c.args.slot k c.in-Branch.width c.in-Branch.cond c.in-Branch.dst c.in-Branch.src c.in-Branch.off c.args.view.now after',
-            has_left x c.args.slot k insn c.args.view.now (λ r gives. some_none _ _ gives refl) (λ n r gives. gives) (λ kind o r gives. not_both _ (EntryOrNull gives.1) 0 numbers.0 gives.4) (λ i stores. stores) after',
+          let after' = subst (λ (i : Insn). After x c.args.slot k i c.args.state.now) c.in-Branch.is (after edge) in
+          let on : Outlasts x c.in-Branch.dst × IsLasting x × Has x c.args.state.now = (
+            sure_outlasts_test x c.args.slot k c.in-Branch.width c.in-Branch.cond c.in-Branch.dst c.in-Branch.src c.in-Branch.off c.args.state.now after',
+            lasting_after x c.args.slot k c.in-Branch.width c.in-Branch.cond c.in-Branch.dst c.in-Branch.src c.in-Branch.off c.args.state.now after',
+            has_left x c.args.slot k insn c.args.state.now (λ r gives. some_none _ _ gives refl) (λ n r gives. gives) (λ kind o r gives. not_both _ (EntryOrNull gives.1) 0 numbers.0 gives.4) (λ i stores. stores) after',
           ) in
           on in
           sure x k waits
@@ -174,8 +174,8 @@ returns-in-Branch-clause-sure c = λ ready.
           IfOk-weaker c.branch-alloc.result _ _
           (λ live sure x k waits after.
           let tested = λ (found : Bool) (edge : IsEdge c.args.subject.now.slots.now c.args.slot k) (side : IsFoundSide c.in-Branch.cond c.in-Branch.off c.args.slot k → found ≡ true).
-          has_tested x c.args.slot k c.in-Branch.width c.in-Branch.cond c.in-Branch.dst c.in-Branch.src c.in-Branch.off check.1 found c.args.view.now check.2 side
-          (subst (λ (i : Insn). After x c.args.slot k i c.args.view.now) c.in-Branch.is (after edge)) in
+          has_tested x c.args.slot k c.in-Branch.width c.in-Branch.cond c.in-Branch.dst c.in-Branch.src c.in-Branch.off check.1 found c.args.state.now check.2 side
+          (subst (λ (i : Insn). After x c.args.slot k i c.args.state.now) c.in-Branch.is (after edge)) in
           sure x k waits
           (λ same.
           let at = subst (λ (n : ℕ). LeadsTo c.args.slot c.in-Branch.off n) (sym same) leads in
@@ -186,7 +186,7 @@ returns-in-Branch-clause-sure c = λ ready.
 
 pub returns-in-Branch-clause-accepts : goal.returns-in-Branch-clause-accepts
 returns-in-Branch-clause-accepts c = λ ready.
-    let needs = subst (λ (i : Insn). IsReady c.args.subject.now.shapes.now c.args.subject.now.context c.args.view.now i) c.in-Branch.is ready in
+    let needs = subst (λ (i : Insn). IsReady c.args.subject.now.shapes.now c.args.subject.now.context c.args.state.now i) c.in-Branch.is ready in
     elim needs.1 [
       | inl numbers ↦ c.branch-alloc.ensures.accepts needs.0 numbers.0 numbers.1
       | inr check ↦ c.branch-alloc.ensures.checks check.1 needs.0 check.0 check.2
@@ -202,7 +202,7 @@ returns-in_err-leave-in-Exit-clause-doubts c =
 
 pub returns-in_err-leave-in-Exit-clause-accepts : goal.returns-in_err-leave-in-Exit-clause-accepts
 returns-in_err-leave-in-Exit-clause-accepts c = λ ready.
-    absurd (false≢true (c.in_err-leave-in-Exit.ensures.accepts (subst (λ (i : Insn). IsReady c.args.subject.now.shapes.now c.args.subject.now.context c.args.view.now i) c.in-Exit.is ready)))
+    absurd (false≢true (c.in_err-leave-in-Exit.ensures.accepts (subst (λ (i : Insn). IsReady c.args.subject.now.shapes.now c.args.subject.now.context c.args.state.now i) c.in-Exit.is ready)))
 
 pub returns-in_err-transfer-in_default-clause-doubts : goal.returns-in_err-transfer-in_default-clause-doubts
 returns-in_err-transfer-in_default-clause-doubts c =

@@ -9,7 +9,7 @@ pub returns-clause-added : goal.returns-clause-added
 returns-clause-added c =
     on_ok_weaker c.wait.result
     (λ added f s at side.
-    let on = subst (λ (k : Option AbstractValue). IsOnSide f c.args.view.now c.args.told.dst c.args.told.src k c.args.told.right s) c.in-Some.is side in
+    let on = subst (λ (k : Option AbstractValue). IsOnSide f c.args.state.now c.args.told.dst c.args.told.src k c.args.told.right s) c.in-Some.is side in
     added f s at (c.tell.ensures.contains f s on.0 on.1))
     c.wait.ensures.added
 
@@ -18,6 +18,6 @@ returns-clause-has c =
     on_ok_weaker c.wait.result
     (λ has x k waits there.
     has x k waits (λ same.
-    let on = subst (λ (side : Option AbstractValue). HasOnSide x c.args.view.now c.args.told.dst side) c.in-Some.is (there same) in
+    let on = subst (λ (side : Option AbstractValue). HasOnSide x c.args.state.now c.args.told.dst side) c.in-Some.is (there same) in
     c.tell.ensures.has x on.0 on.1))
     c.wait.ensures.has

@@ -6,25 +6,25 @@ use Rattle.bq_verify.proofs.known_at.known_with.Goals as goal
 
 pub returns-then-arrive-clause-contains : goal.returns-then-arrive-clause-contains
 returns-then-arrive-clause-contains c =
-    contains_runs c.args.subject.now.slots.now c.args.subject.now.shapes.now c.args.subject.now.context c.args.slot c.arrive.new.view c.args.pending.now c.start-view.result
-    c.requires.first c.start-view.ensures.contains
-    (c.in-Ok.ensures.covered c.arrive.new.view
+    contains_runs c.args.subject.now.slots.now c.args.subject.now.shapes.now c.args.subject.now.context c.args.slot c.arrive.new.state c.args.pending.now c.start-state.result
+    c.requires.first c.start-state.ensures.contains
+    (c.in-Ok.ensures.covered c.arrive.new.state
     (covered_at c.args.subject.now.slots.now c.args.subject.now.shapes.now c.args.subject.now.context c.requires.sound c.requires.context c.args.slot
-    c.pass_before.new.pending c.arrive.new.pending c.pass_before.new.view c.arrive.new.view c.in-Ok.live c.arrive.result c.arrive.ensures.known c.arrive.ensures.empty))
+    c.pass_before.new.pending c.arrive.new.pending c.pass_before.new.state c.arrive.new.state c.in-Ok.live c.arrive.result c.arrive.ensures.known c.arrive.ensures.empty))
 
 pub returns-else-arrive-clause-none : goal.returns-else-arrive-clause-none
 returns-else-arrive-clause-none c = λ blank straight.
     let any = nowhere c.args.subject.now.shapes.now in
     not_reached c.args.subject.now.slots.now c.args.subject.now.shapes.now c.args.subject.now.context c.args.slot
-    (contains_runs c.args.subject.now.slots.now c.args.subject.now.shapes.now c.args.subject.now.context c.args.slot any c.args.pending.now c.start-view.result
-    c.requires.first c.start-view.ensures.contains
+    (contains_runs c.args.subject.now.slots.now c.args.subject.now.shapes.now c.args.subject.now.context c.args.slot any c.args.pending.now c.start-state.result
+    c.requires.first c.start-state.ensures.contains
     (c.in-Ok.ensures.covered any
     (covered_by_any c.args.subject.now.slots.now c.args.subject.now.shapes.now c.args.subject.now.context c.requires.sound c.requires.context c.args.slot
-    c.pass_before.new.pending c.arrive.new.pending c.pass_before.new.view c.arrive.new.view any c.in-Ok.live c.arrive.result c.arrive.ensures.known c.arrive.ensures.empty c.if-arrive.false)))
+    c.pass_before.new.pending c.arrive.new.pending c.pass_before.new.state c.arrive.new.state any c.in-Ok.live c.arrive.result c.arrive.ensures.known c.arrive.ensures.empty c.if-arrive.false)))
 
 pub returns-in-Err-At-clause-none : goal.returns-in-Err-At-clause-none
 returns-in-Err-At-clause-none c = λ blank straight.
-    let begins = sure_start c.args.subject.now.slots.now c.args.pending.now c.start-view.result c.requires.sound blank c.start-view.ensures.context c.start-view.ensures.frame c.start-view.ensures.plain in
+    let begins = sure_start c.args.subject.now.slots.now c.args.pending.now c.start-state.result c.requires.sound blank c.start-state.ensures.context c.start-state.ensures.frame c.start-state.ensures.plain in
     let memory : c.in-Err-At.field-0 ≡ OutOfMemory = c.in-Err-At.ensures.accepts straight begins in
     let other = c.in-Err-At.field-0-is in
     absurd (let no : ⊥ = cc in no)

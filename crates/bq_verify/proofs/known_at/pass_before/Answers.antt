@@ -14,8 +14,8 @@ loop-slot-preserved c =
       rest = λ seen rest.
           c.loop-slot.invariant.rest seen
           (covered_before c.args.subject.now.slots.now c.args.subject.now.shapes.now c.args.subject.now.context c.requires.sound c.requires.context c.args.until seen c.loop-slot.slot
-          (IsKnown c.loop-slot.pending c.loop-slot.view c.loop-slot.live c.loop-slot.slot)
-          (IsKnown c.pass_slot.new.pending c.pass_slot.new.view c.in_ok-live.live (c.loop-slot.slot + 1))
+          (IsKnown c.loop-slot.pending c.loop-slot.state c.loop-slot.live c.loop-slot.slot)
+          (IsKnown c.pass_slot.new.pending c.pass_slot.new.state c.in_ok-live.live (c.loop-slot.slot + 1))
           before c.in_ok-live.ensures.passes rest);
       sure = λ straight begins.
           c.in_ok-live.ensures.sure (straight_earlier c.args.subject.now.slots.now c.args.subject.now.shapes.now c.args.subject.now.context (c.loop-slot.slot + 1) c.args.until (omega arith) straight) (c.loop-slot.invariant.sure straight begins);
@@ -25,7 +25,7 @@ pub returns-clause-covered : goal.returns-clause-covered
 returns-clause-covered c = λ seen rest.
     let same : c.args.until ≡ c.loop-slot.slot = omega arith in
     c.loop-slot.invariant.rest seen
-    (subst (λ (n : ℕ). RestIsCovered c.args.subject.now.slots.now c.args.subject.now.shapes.now c.args.subject.now.context c.args.until seen n (IsKnown c.loop-slot.pending c.loop-slot.view c.loop-slot.live n)) same rest)
+    (subst (λ (n : ℕ). RestIsCovered c.args.subject.now.slots.now c.args.subject.now.shapes.now c.args.subject.now.context c.args.until seen n (IsKnown c.loop-slot.pending c.loop-slot.state c.loop-slot.live n)) same rest)
 
 pub returns-in_err-live-clause-accepts : goal.returns-in_err-live-clause-accepts
 returns-in_err-live-clause-accepts c = λ straight begins.

@@ -9,7 +9,7 @@ use Rattle.bq_verify.proofs.known_at.pass_before.Given as goal
 abbrev pub invariant-loop-slot : goal.invariant-loop-slot
 invariant-loop-slot l = record {
   long : length l.pending ≡ length l.subject.slots.now;
-  rest : (seen : AbstractState) → RestIsCovered l.subject.slots.now l.subject.shapes.now l.subject.context l.until seen l.slot (IsKnown l.pending l.view l.live l.slot)
-      → RestIsCovered l.subject.slots.now l.subject.shapes.now l.subject.context l.until seen 0 (IsKnown l.initial.pending l.initial.view true 0);
-  sure : IsStraightBefore l.subject.slots.now l.subject.shapes.now l.subject.context l.until → IsSure l.subject.slots.now l.initial.pending l.initial.view true 0 → IsSure l.subject.slots.now l.pending l.view l.live l.slot;
+  rest : (seen : AbstractState) → RestIsCovered l.subject.slots.now l.subject.shapes.now l.subject.context l.until seen l.slot (IsKnown l.pending l.state l.live l.slot)
+      → RestIsCovered l.subject.slots.now l.subject.shapes.now l.subject.context l.until seen 0 (IsKnown l.initial.pending l.initial.state true 0);
+  sure : IsStraightBefore l.subject.slots.now l.subject.shapes.now l.subject.context l.until → IsSure l.subject.slots.now l.initial.pending l.initial.state true 0 → IsSure l.subject.slots.now l.pending l.state l.live l.slot;
 }

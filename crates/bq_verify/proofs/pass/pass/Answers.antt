@@ -11,8 +11,8 @@ loop-slot-preserved c = record {
   rest = λ made rise rest.
       c.loop-slot.invariant.rest made rise
       (rest_before c.args.subject.now.slots.now c.args.subject.now.shapes.now c.args.subject.now.context c.args.heights.now made c.requires.sound c.requires.heights rise c.loop-slot.slot
-      (IsKnown c.loop-slot.pending c.loop-slot.view c.loop-slot.live c.loop-slot.slot)
-      (IsKnown c.pass_slot.new.pending c.pass_slot.new.view c.in_ok-live.live (c.loop-slot.slot + 1))
+      (IsKnown c.loop-slot.pending c.loop-slot.state c.loop-slot.live c.loop-slot.slot)
+      (IsKnown c.pass_slot.new.pending c.pass_slot.new.state c.in_ok-live.live (c.loop-slot.slot + 1))
       c.in_ok-live.ensures.passes rest);
   sure = λ straight begins. c.in_ok-live.ensures.sure (straight_before c.args.subject.now.slots.now c.args.subject.now.shapes.now c.args.subject.now.context (c.loop-slot.slot + 1) straight) (c.loop-slot.invariant.sure straight begins);
 }

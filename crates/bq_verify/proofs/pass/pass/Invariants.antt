@@ -7,7 +7,7 @@ use Rattle.bq_verify.proofs.pass.pass.Given as goal
 abbrev pub invariant-loop-slot : goal.invariant-loop-slot
 invariant-loop-slot l = record {
   long : length l.pending ≡ length l.subject.slots.now;
-  rest : (made : ℕ → ℕ) → AreMade l.subject.slots.now made → RestIsSafe l.subject.slots.now l.subject.shapes.now l.subject.context l.heights made l.slot (IsKnown l.pending l.view l.live l.slot)
-      → RestIsSafe l.subject.slots.now l.subject.shapes.now l.subject.context l.heights made 0 (IsKnown l.initial.pending l.initial.view true 0);
-  sure : IsStraightProgram l.subject.slots.now l.subject.shapes.now l.subject.context → IsSure l.subject.slots.now l.initial.pending l.initial.view true 0 → IsSure l.subject.slots.now l.pending l.view l.live l.slot;
+  rest : (made : ℕ → ℕ) → AreMade l.subject.slots.now made → RestIsSafe l.subject.slots.now l.subject.shapes.now l.subject.context l.heights made l.slot (IsKnown l.pending l.state l.live l.slot)
+      → RestIsSafe l.subject.slots.now l.subject.shapes.now l.subject.context l.heights made 0 (IsKnown l.initial.pending l.initial.state true 0);
+  sure : IsStraightProgram l.subject.slots.now l.subject.shapes.now l.subject.context → IsSure l.subject.slots.now l.initial.pending l.initial.state true 0 → IsSure l.subject.slots.now l.pending l.state l.live l.slot;
 }

@@ -5,11 +5,11 @@ use Rattle.bq_recording.proofs.recorder.Recorder.admit.Goals as goal
 
 pub commit_one-requires-clause-moves : goal.commit_one-requires-clause-moves
 commit_one-requires-clause-moves g c =
-    let own = c.place.inside.cell.content.state in
+    let own = c.lobby.inside.cell.content.state in
     let k = c.deref_mut-journal.result.now.1 in
     let a = c.args.admission in (
       lobby_part own,
-      c.place.invariant.0,
+      c.lobby.invariant.0,
       rw (c.quiet_twice-logged.ensures.entry, c.event.ensures)
           (admit_moves g.Q.R.Discipline.discipline c.args.self.now.history.about a.task a.nice a.mask a.slice own c.admit-reply.new.self k c.admit-reply.result c.requires.fits (rw c.requires.new at c.admit-reply.ensures.share)),
     )

@@ -10,11 +10,11 @@ pub drain-reply-requires-clause-once : goal.drain-reply-requires-clause-once
 drain-reply-requires-clause-once g c =
     let d = g.Q.R.Discipline.discipline in
     let n = c.args.self.now.history.about in
-    let own = c.place.inside.cell.content in
+    let own = c.cpu.inside.cell.content in
     let box = c.inbox.inside.cell.content in
-    let P = c.args.place.now in
+    let P = c.args.cpu.now in
     let B = c.args.inbox.now in
-    let here = c.place.view_is ∙ c.look_at_both.ensures.a in
+    let here = c.cpu.view_is ∙ c.look_at_both.ensures.a in
     let there = c.inbox.view_is ∙ c.look_at_both.ensures.b in
     let k = c.look_at_both.ensures.world in
     let both : SeenBoth d n P.number P.state B.state = (k.0, k.1, k.2, subst (λ (x : ℕ). HasPart k.0 (inbox_part x B.state)) c.requires.own k.3) in
@@ -25,11 +25,11 @@ pub drain-reply-requires-clause-ids : goal.drain-reply-requires-clause-ids
 drain-reply-requires-clause-ids g c =
     let d = g.Q.R.Discipline.discipline in
     let n = c.args.self.now.history.about in
-    let own = c.place.inside.cell.content in
+    let own = c.cpu.inside.cell.content in
     let box = c.inbox.inside.cell.content in
-    let P = c.args.place.now in
+    let P = c.args.cpu.now in
     let B = c.args.inbox.now in
-    let here = c.place.view_is ∙ c.look_at_both.ensures.a in
+    let here = c.cpu.view_is ∙ c.look_at_both.ensures.a in
     let there = c.inbox.view_is ∙ c.look_at_both.ensures.b in
     let k = c.look_at_both.ensures.world in
     let both : SeenBoth d n P.number P.state B.state = (k.0, k.1, k.2, subst (λ (x : ℕ). HasPart k.0 (inbox_part x B.state)) c.requires.own k.3) in
@@ -40,16 +40,16 @@ pub commit_two-requires-clause-moves : goal.commit_two-requires-clause-moves
 commit_two-requires-clause-moves g c =
     let d = g.Q.R.Discipline.discipline in
     let n = c.args.self.now.history.about in
-    let own = c.place.inside.cell.content in
+    let own = c.cpu.inside.cell.content in
     let box = c.inbox.inside.cell.content in
-    let here = c.place.view_is ∙ c.look_at_both.ensures.a in
+    let here = c.cpu.view_is ∙ c.look_at_both.ensures.a in
     let there = c.inbox.view_is ∙ c.look_at_both.ensures.b in
     let same : box.number ≡ own.number = ap (λ x. x.number) there ∙ c.requires.own ∙ sym (ap (λ x. x.number) here) in
     let k = c.deref_mut-journal.result.now.1 in
     let t = c.drain-reply in (
       cpu_part own.number own.state,
       inbox_part box.number box.state,
-      c.place.invariant.0,
+      c.cpu.invariant.0,
       c.inbox.invariant.0,
       rw (c.told_twice-logged.ensures.entry, c.hold_calls-calls.ensures.receipt, c.calls.ensures.value, t.ensures.emptied, same)
           (drain_moves d n own.number c.args.now own.state t.new.self box.state t.new.scratch k t.result t.ensures.share),

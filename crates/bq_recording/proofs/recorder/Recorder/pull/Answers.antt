@@ -12,20 +12,20 @@ pub pull-reply-requires-clause-inside : goal.pull-reply-requires-clause-inside
 pull-reply-requires-clause-inside g c =
     let d = g.Q.R.Discipline.discipline in
     let n = c.args.self.now.history.about in
-    let own = c.place.inside.cell.content in
-    let here = c.place.view_is ∙ c.look_at_both.ensures.a in
+    let own = c.cpu.inside.cell.content in
+    let here = c.cpu.view_is ∙ c.look_at_both.ensures.a in
     let k = c.look_at_both.ensures.world in
     let s = reached_sound d n k.0 k.1 in
-    let same : own.number ≡ c.args.place.now.number = ap (λ x. x.number) here in
+    let same : own.number ≡ c.args.cpu.now.number = ap (λ x. x.number) here in
     omega (arith, k.2.0, s.many, same, c.args.self.now.few)
 
 pub pull-reply-requires-clause-once : goal.pull-reply-requires-clause-once
 pull-reply-requires-clause-once g c =
     let d = g.Q.R.Discipline.discipline in
     let n = c.args.self.now.history.about in
-    let own = c.place.inside.cell.content in
+    let own = c.cpu.inside.cell.content in
     let other = c.source.inside.cell.content in
-    let here = c.place.view_is ∙ c.look_at_both.ensures.a in
+    let here = c.cpu.view_is ∙ c.look_at_both.ensures.a in
     let there = c.source.view_is ∙ c.look_at_both.ensures.b in
     let apart : own.number ≢ other.number = rw (here, there) c.requires.apart in
     let seen : SeenTwo d n own.number other.number own.state other.state apart = rw (here, there) c.look_at_both.ensures.world in
@@ -35,9 +35,9 @@ pub pull-reply-requires-clause-ids : goal.pull-reply-requires-clause-ids
 pull-reply-requires-clause-ids g c =
     let d = g.Q.R.Discipline.discipline in
     let n = c.args.self.now.history.about in
-    let own = c.place.inside.cell.content in
+    let own = c.cpu.inside.cell.content in
     let other = c.source.inside.cell.content in
-    let here = c.place.view_is ∙ c.look_at_both.ensures.a in
+    let here = c.cpu.view_is ∙ c.look_at_both.ensures.a in
     let there = c.source.view_is ∙ c.look_at_both.ensures.b in
     let apart : own.number ≢ other.number = rw (here, there) c.requires.apart in
     let seen : SeenTwo d n own.number other.number own.state other.state apart = rw (here, there) c.look_at_both.ensures.world in
@@ -47,9 +47,9 @@ pub commit_two-requires-clause-moves : goal.commit_two-requires-clause-moves
 commit_two-requires-clause-moves g c =
     let d = g.Q.R.Discipline.discipline in
     let n = c.args.self.now.history.about in
-    let own = c.place.inside.cell.content in
+    let own = c.cpu.inside.cell.content in
     let other = c.source.inside.cell.content in
-    let here = c.place.view_is ∙ c.look_at_both.ensures.a in
+    let here = c.cpu.view_is ∙ c.look_at_both.ensures.a in
     let there = c.source.view_is ∙ c.look_at_both.ensures.b in
     let apart : own.number ≢ other.number = rw (here, there) c.requires.apart in
     let k = c.deref_mut-journal.result.now.1 in
@@ -57,7 +57,7 @@ commit_two-requires-clause-moves g c =
     let after : kept_after k c.after_pull-kept.result ≡ kept_by_pull own.number other.number t.result k = rw c.kept.ensures at c.after_pull-kept.ensures in (
       cpu_part own.number own.state,
       cpu_part other.number other.state,
-      c.place.invariant.0,
+      c.cpu.invariant.0,
       c.source.invariant.0,
       rw (c.told_twice-logged.ensures.entry, c.hold_calls-calls.ensures.receipt, c.calls.ensures.value, after)
           (pull_moves d n own.number other.number c.args.now own.state t.new.self other.state t.new.source t.new.scratch k t.result apart t.ensures.share),

@@ -12,12 +12,12 @@ quiet_twice-logged-requires-clause-answer g c = retires_brief c.args.task _ c.re
 
 pub commit_one-requires-clause-moves : goal.commit_one-requires-clause-moves
 commit_one-requires-clause-moves g c =
-    let own = c.place.inside.cell.content.state in
+    let own = c.lobby.inside.cell.content.state in
     let k = c.deref_mut-journal.result.now.1 in
     let a = c.args in
     let bound : a.task < 1024 = below_from_not_at_most a.task 1024 (first_refusal_passed _ no.NoTask None c.requires.fits).0 in (
       lobby_part own,
-      c.place.invariant.0,
+      c.lobby.invariant.0,
       rw c.quiet_twice-logged.ensures.entry
           (retire_moves g.Q.R.Discipline.discipline a.self.now.history.about a.task own c.retire-reply.new.self k c.retire-reply.result bound c.requires.fits c.retire-reply.ensures.share),
     )

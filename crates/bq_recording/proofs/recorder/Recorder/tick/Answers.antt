@@ -9,8 +9,8 @@ pub tick-reply-requires-clause-once : goal.tick-reply-requires-clause-once
 tick-reply-requires-clause-once g c =
     let d = g.Q.R.Discipline.discipline in
     let n = c.args.self.now.history.about in
-    let own = c.place.inside.cell.content in
-    let here = c.place.view_is ∙ c.look.ensures.same in
+    let own = c.cpu.inside.cell.content in
+    let here = c.cpu.view_is ∙ c.look.ensures.same in
     let seen : Seen d n own.number own.state = rw here c.look.ensures.world in
     seen_once d n own.number own.state seen
 
@@ -18,18 +18,18 @@ pub tick-reply-requires-clause-ids : goal.tick-reply-requires-clause-ids
 tick-reply-requires-clause-ids g c =
     let d = g.Q.R.Discipline.discipline in
     let n = c.args.self.now.history.about in
-    let own = c.place.inside.cell.content in
-    let here = c.place.view_is ∙ c.look.ensures.same in
+    let own = c.cpu.inside.cell.content in
+    let here = c.cpu.view_is ∙ c.look.ensures.same in
     let seen : Seen d n own.number own.state = rw here c.look.ensures.world in
     seen_ids d n own.number own.state seen
 
 pub commit_one-requires-clause-moves : goal.commit_one-requires-clause-moves
 commit_one-requires-clause-moves g c =
-    let own = c.place.inside.cell.content in
+    let own = c.cpu.inside.cell.content in
     let k = c.deref_mut-journal.result.now.1 in
     let t = c.tick-reply in (
       cpu_part own.number own.state,
-      c.place.invariant.0,
+      c.cpu.invariant.0,
       rw (c.both_records-logged.ensures.entry, c.event_twice-events.ensures.entry, c.ticked-2.ensures, sym c.in-Ticked.is, c.hold_calls-calls.ensures.receipt, c.calls.ensures.value)
           (tick_moves g.Q.R.Discipline.discipline c.args.self.now.history.about own.number c.args.now own.state t.new.self t.new.scratch k t.result t.ensures.share),
     )

@@ -34,5 +34,5 @@ abbrev pub with_worlds : App
 with_worlds = with_subcommand (with_subcommand with_programs par_app.top) replay_app.top
 
 -- all commands: with those whose options are taken elsewhere
-abbrev pub program : App
-program = with_subcommand (with_subcommand (with_subcommand (with_subcommand with_worlds (named_app (codes "timeline")).top) (named_app (codes "simulate")).top) (named_app (codes "run")).top) (named_app (codes "import")).top
+abbrev pub bqsim_app : App
+bqsim_app = with_subcommand (with_subcommand (with_subcommand (with_subcommand with_worlds (named_app (codes "timeline")).top) (named_app (codes "simulate")).top) (named_app (codes "run")).top) (named_app (codes "import")).top

@@ -6,7 +6,7 @@ use Rattle.bq_states.specs.AbstractStates.{Contains, Holds, Keeps}
 use Rattle.bq_states.specs.declared.abstract_state.AbstractValue.{AbstractValue}
 use Rattle.bq_states.specs.declared.abstract_state.AbstractState.{AbstractState}
 use Rattle.bq_explain.specs.Telling.{TellsRegisters, no_register, one_register, TellsRuns, no_run_told, one_run_told, TellsStack, TellsKept, no_kept, one_kept, TellsState}
-use Rattle.bq_explain.specs.Texts.{register_text, registers_below, kept_text, kept_below, AreRuns, no_byte, unset_byte, one_run, IsStackText, IsViewText, stack_text, unset_text}
+use Rattle.bq_explain.specs.Texts.{register_text, registers_below, kept_text, kept_below, AreRuns, no_byte, unset_byte, one_run, IsStackText, IsStateText, stack_text, unset_text}
 use Rattle.bq_explain.proofs.UnsetLemmas.{names_unset}
 use Rattle.bq_needs.specs.Texts.{known_text}
 use Rattle.bq_needs.proofs.SayingLemmas.{says_known}
@@ -51,12 +51,12 @@ tells_stack f s v text contains (runs, are, is) =
     tells_line s runs text is (tells_runs s (λ i set. let told = contains.set i set in (told.0, told.1)) are)
 
 -- the parts of the text make it whole
-pub is_view_text : (v : AbstractState) (registers unset stack kept text : List ℕ) → registers ≡ registers_below 11 v.registers → unset ≡ unset_text v.registers → IsStackText v.set stack → kept ≡ kept_below 64 v.kept → text ≡ codes " " ++ (registers ++ (unset ++ (stack ++ kept))) → IsViewText v text
-is_view_text v registers unset stack kept text registers_are unset_are is_stack kept_are is =
+pub is_state_text : (v : AbstractState) (registers unset stack kept text : List ℕ) → registers ≡ registers_below 11 v.registers → unset ≡ unset_text v.registers → IsStackText v.set stack → kept ≡ kept_below 64 v.kept → text ≡ codes " " ++ (registers ++ (unset ++ (stack ++ kept))) → IsStateText v text
+is_state_text v registers unset stack kept text registers_are unset_are is_stack kept_are is =
     record { stack = stack; text_is = rw registers_are at rw unset_are at rw kept_are at is; is_stack = is_stack }
 
 -- the whole text
-pub tells_state : (v : AbstractState) (text : List ℕ) → IsViewText v text → (f : Setting) (s : State) → Contains f v s → TellsState f s text
+pub tells_state : (v : AbstractState) (text : List ℕ) → IsStateText v text → (f : Setting) (s : State) → Contains f v s → TellsState f s text
 tells_state v text is f s contains =
     record {
       registers = registers_below 11 v.registers;

@@ -3,7 +3,7 @@ use Rattle.std.proofs.Common.{refl, string_bytes, ap, ◌∙◌, ◌++◌, ◌�
 use Rattle.bq_trace.proofs.TakingLemmas.{OnOk-weaker}
 use Rattle.bq_simulate.specs.Texts.{image_at}
 use Rattle.bq_simulate.proofs.TextLemmas.{writes_line, writes_none}
-use Rattle.bq_simulate.proofs.trace_text.TraceTextSink.skipped.Goals as goal
+use Rattle.bq_simulate.proofs.trace_writer.TraceWriterSink.skipped.Goals as goal
 
 pub returns-in-Ok : goal.returns-in-Ok
 returns-in-Ok c =

@@ -25,5 +25,5 @@ abbrev pub dis_app : App
 dis_app = with_rule (with_policy (new_app (codes "dis"))) (flag_rule (codes "slots"))
 
 -- the program with the commands on policies
-abbrev pub program : App
-program = with_subcommand (with_subcommand (with_subcommand named check_app.top) run_app.top) dis_app.top
+abbrev pub policy_app : App
+policy_app = with_subcommand (with_subcommand (with_subcommand named check_app.top) run_app.top) dis_app.top

@@ -15,19 +15,19 @@ use std::fmt::Write;
 
 /// The text of a trace that asks for what was told, as far as it has come. Installs are written with their images.
 #[derive(Drop)]
-pub struct TraceText<'a> {
+pub struct TraceWriter<'a> {
     alloc: Global,
     images: Images<'a>,
     pub text: String,
 }
 
-impl<'a> TraceText<'a> {
+impl<'a> TraceWriter<'a> {
     /// Nothing has come.
-    pub fn new(alloc: Global, images: Images<'a>) -> TraceText<'a>
+    pub fn new(alloc: Global, images: Images<'a>) -> TraceWriter<'a>
         ensures text { string_bytes result.text ≡ [] }
         ensures images { result.images ≡ images.entry }
     {
-        TraceText {
+        TraceWriter {
             alloc,
             images,
             text: String::new(alloc),
@@ -45,7 +45,7 @@ impl<'a> TraceText<'a> {
     }
 }
 
-impl Sink for TraceText<'_> {
+impl Sink for TraceWriter<'_> {
     ghost takes = { λ old n news new. (new.images ≡ old.images) × Writes (image_at old.images) (string_bytes old.text) news (string_bytes new.text) };
 
     fn opened(&mut self, _number: u64, rule: Rule, size: ProcessorCount) -> Result<(), AllocError> {

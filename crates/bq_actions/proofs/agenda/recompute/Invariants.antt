@@ -1,6 +1,6 @@
 use Rattle.std.proofs.Common.{◌≡◌, ◌≤◌, ◌<◌, ◌/◌, ℕ, slice_index}
 use Rattle.bq_actions.specs.Minima.{HasOtherMinima}
-use Rattle.bq_actions.proofs.agenda.settle.Given as goal
+use Rattle.bq_actions.proofs.agenda.recompute.Given as goal
 
 abbrev pub invariant-up : goal.invariant-up
 invariant-up l = record {

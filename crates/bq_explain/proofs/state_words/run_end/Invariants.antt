@@ -1,5 +1,5 @@
 use Rattle.bq_needs.specs.Accesses.{AreSet}
-use Rattle.bq_explain.proofs.view_words.run_end.Given as goal
+use Rattle.bq_explain.proofs.state_words.run_end.Given as goal
 
 abbrev pub invariant-loop-byte : goal.invariant-loop-byte
 invariant-loop-byte l = AreSet l.set l.first l.byte

@@ -4,7 +4,7 @@ ghost use Rattle.bq_bpf.specs.Memory.{Setting, State, stack_size};
 ghost use Rattle.bq_states.specs.AbstractStates.{Contains};
 ghost use Rattle.bq_explain.specs.Telling.{TellsState};
 ghost use Rattle.bq_needs.specs.Accesses.{AreSet};
-ghost use Rattle.bq_explain.specs.Texts.{AreRuns, EndsAt, IsStackText, IsViewText, kept_below, kept_text, register_text, registers_below, run_text, unset_below, unset_name, unset_text};
+ghost use Rattle.bq_explain.specs.Texts.{AreRuns, EndsAt, IsStackText, IsStateText, kept_below, kept_text, register_text, registers_below, run_text, unset_below, unset_name, unset_text};
 
 use bq_bpf::addresses::STACK_SIZE;
 use bq_needs::known_text;
@@ -16,34 +16,34 @@ const STACK: usize = STACK_SIZE as usize;
 
 /// One line with what each register is known to be and the stack's written bytes, and a line for each word that is kept there.
 /// It holds of every state that the abstract state contains.
-#[tactic(auto, using(crate::proofs::ViewLemmas::tells_state))]
-pub(crate) fn view_text(alloc: Global, view: &AbstractState) -> Result<String, AllocError>
-    ensures text { IfOk result (λ text. IsViewText view.now (string_bytes text)) }
-    ensures tells { IfOk result (λ text. (f : Setting) (s : State) → Contains f view.now s → TellsState f s (string_bytes text)) }
+#[tactic(auto, using(crate::proofs::StateTextLemmas::tells_state))]
+pub(crate) fn state_text(alloc: Global, state: &AbstractState) -> Result<String, AllocError>
+    ensures text { IfOk result (λ text. IsStateText state.now (string_bytes text)) }
+    ensures tells { IfOk result (λ text. (f : Setting) (s : State) → Contains f state.now s → TellsState f s (string_bytes text)) }
 {
-    let text = lines_of(alloc, view)?;
+    let text = lines_of(alloc, state)?;
     Ok(text)
 }
 
 /// The same, by what is printed.
-#[tactic(auto, using(crate::proofs::ViewLemmas::is_view_text))]
-fn lines_of(alloc: Global, view: &AbstractState) -> Result<String, AllocError>
-    ensures { IfOk result (λ text. IsViewText view.now (string_bytes text)) }
+#[tactic(auto, using(crate::proofs::StateTextLemmas::is_state_text))]
+fn lines_of(alloc: Global, state: &AbstractState) -> Result<String, AllocError>
+    ensures { IfOk result (λ text. IsStateText state.now (string_bytes text)) }
 {
-    let registers = registers_text(alloc, view)?;
-    let unset = unset_text(alloc, view)?;
-    let stack = stack_line(alloc, view)?;
-    let kept = kept_lines(alloc, view)?;
+    let registers = registers_text(alloc, state)?;
+    let unset = unset_text(alloc, state)?;
+    let stack = stack_line(alloc, state)?;
+    let kept = kept_lines(alloc, state)?;
     format!(in alloc; " {registers}{unset}{stack}{kept}")
 }
 
 /// The registers of which something is known.
-fn registers_text(alloc: Global, view: &AbstractState) -> Result<String, AllocError>
-    ensures { IfOk result (λ text. string_bytes text ≡ registers_below 11 view.now.registers) }
+fn registers_text(alloc: Global, state: &AbstractState) -> Result<String, AllocError>
+    ensures { IfOk result (λ text. string_bytes text ≡ registers_below 11 state.now.registers) }
 {
     let mut text = String::new(alloc);
     for number in 0..11usize {
-        let told = register_text(alloc, number, &view.registers[number])?;
+        let told = register_text(alloc, number, &state.registers[number])?;
         text.push_str(told.as_str())?;
     }
     Ok(text)
@@ -68,10 +68,10 @@ fn register_text(
 
 /// The registers of which nothing is known, and that they are unset; nothing where each is known.
 #[tactic(auto, using(crate::proofs::UnsetLemmas::none_unset, crate::proofs::UnsetLemmas::some_unset))]
-fn unset_text(alloc: Global, view: &AbstractState) -> Result<String, AllocError>
-    ensures { IfOk result (λ text. string_bytes text ≡ unset_text view.now.registers) }
+fn unset_text(alloc: Global, state: &AbstractState) -> Result<String, AllocError>
+    ensures { IfOk result (λ text. string_bytes text ≡ unset_text state.now.registers) }
 {
-    let names = unset_names(alloc, view)?;
+    let names = unset_names(alloc, state)?;
     if names.is_empty() {
         return Ok(names);
     }
@@ -79,12 +79,12 @@ fn unset_text(alloc: Global, view: &AbstractState) -> Result<String, AllocError>
 }
 
 /// The registers of which nothing is known, by their names.
-fn unset_names(alloc: Global, view: &AbstractState) -> Result<String, AllocError>
-    ensures { IfOk result (λ text. string_bytes text ≡ unset_below 11 view.now.registers) }
+fn unset_names(alloc: Global, state: &AbstractState) -> Result<String, AllocError>
+    ensures { IfOk result (λ text. string_bytes text ≡ unset_below 11 state.now.registers) }
 {
     let mut text = String::new(alloc);
     for number in 0..11usize {
-        let name = unset_name(alloc, number, &view.registers[number])?;
+        let name = unset_name(alloc, number, &state.registers[number])?;
         text.push_str(name.as_str())?;
     }
     Ok(text)
@@ -106,10 +106,10 @@ fn unset_name(
 
 /// The bytes of the stack that are set.
 #[tactic(auto, using(crate::proofs::RunLemmas::none_written, crate::proofs::RunLemmas::some_written))]
-fn stack_line(alloc: Global, view: &AbstractState) -> Result<String, AllocError>
-    ensures { IfOk result (λ text. IsStackText view.now.set (string_bytes text)) }
+fn stack_line(alloc: Global, state: &AbstractState) -> Result<String, AllocError>
+    ensures { IfOk result (λ text. IsStackText state.now.set (string_bytes text)) }
 {
-    let runs = runs_text(alloc, view)?;
+    let runs = runs_text(alloc, state)?;
     if runs.is_empty() {
         return String::from_str(alloc, " stack: nothing written\n");
     }
@@ -118,8 +118,8 @@ fn stack_line(alloc: Global, view: &AbstractState) -> Result<String, AllocError>
 
 /// Each run of bytes that are set, by their distance from the stack's end.
 #[tactic(auto, using(crate::proofs::RunLemmas::none_yet, crate::proofs::RunLemmas::all_told, crate::proofs::RunLemmas::byte_in_last_run, crate::proofs::RunLemmas::byte_not_set, crate::proofs::RunLemmas::with_run))]
-fn runs_text(alloc: Global, view: &AbstractState) -> Result<String, AllocError>
-    ensures { IfOk result (λ text. AreRuns view.now.set stack_size (string_bytes text)) }
+fn runs_text(alloc: Global, state: &AbstractState) -> Result<String, AllocError>
+    ensures { IfOk result (λ text. AreRuns state.now.set stack_size (string_bytes text)) }
 {
     let mut text = String::new(alloc);
     let mut past = 0;
@@ -127,10 +127,10 @@ fn runs_text(alloc: Global, view: &AbstractState) -> Result<String, AllocError>
         if byte < past {
             continue;
         }
-        if !view.set[byte] {
+        if !state.set[byte] {
             continue;
         }
-        past = run_end(&view.set, byte);
+        past = run_end(&state.set, byte);
         let run = run_text(alloc, byte, past)?;
         text.push_str(run.as_str())?;
     }
@@ -169,12 +169,12 @@ fn run_text(alloc: Global, first: usize, past: usize) -> Result<String, AllocErr
 }
 
 /// The words that are kept whole on the stack, a line for each.
-fn kept_lines(alloc: Global, view: &AbstractState) -> Result<String, AllocError>
-    ensures { IfOk result (λ text. string_bytes text ≡ kept_below 64 view.now.kept) }
+fn kept_lines(alloc: Global, state: &AbstractState) -> Result<String, AllocError>
+    ensures { IfOk result (λ text. string_bytes text ≡ kept_below 64 state.now.kept) }
 {
     let mut text = String::new(alloc);
     for slot in 0..64usize {
-        let told = kept_line(alloc, slot, &view.kept[slot])?;
+        let told = kept_line(alloc, slot, &state.kept[slot])?;
         text.push_str(told.as_str())?;
     }
     Ok(text)

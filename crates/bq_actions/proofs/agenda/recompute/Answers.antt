@@ -1,7 +1,7 @@
 use Rattle.std.proofs.Common.{◌∙◌, refl, arith}
 use Rattle.std.proofs.lemmas.List.{get_or-set_other}
-use Rattle.bq_actions.proofs.TreeLemmas.{settled-node}
-use Rattle.bq_actions.proofs.agenda.settle.Goals as goal
+use Rattle.bq_actions.proofs.TreeLemmas.{recomputed-node}
+use Rattle.bq_actions.proofs.agenda.recompute.Goals as goal
 
 pub up-init : goal.up-init
 up-init c = record { low = omega arith; high = c.requires.high; others = c.requires.others; leaves = λ k low. refl }
@@ -10,7 +10,7 @@ pub up-preserved : goal.up-preserved
 up-preserved c = record {
   low = omega arith;
   high = omega arith;
-  others = settled-node _ _ _ (omega arith) (omega arith) c.min.ensures c.up.invariant.others;
+  others = recomputed-node _ _ _ (omega arith) (omega arith) c.min.ensures c.up.invariant.others;
   leaves = λ k low. get_or-set_other _ _ k _ 0 (omega arith) ∙ c.up.invariant.leaves k low;
 }
 

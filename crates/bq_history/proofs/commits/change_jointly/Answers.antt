@@ -1,5 +1,5 @@
 use Rattle.std.proofs.Common.{◌≡◌, ◌++◌, ap, ◌∙◌}
-use Rattle.bq_history.proofs.commits.settle.Goals as goal
+use Rattle.bq_history.proofs.commits.change_jointly.Goals as goal
 
 pub change-requires : goal.change-requires
 change-requires g c =
