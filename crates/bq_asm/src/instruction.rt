@@ -45,14 +45,21 @@ pub fn kinds_of(mnemonic: Mnemonic) -> Kinds
         Mnemonic::Alu(_, _) => Kinds::Two(OperandKind::Register, OperandKind::Source),
         Mnemonic::MovSx(_, _) => Kinds::Two(OperandKind::Register, OperandKind::Register),
         Mnemonic::Neg(_) | Mnemonic::End(_, _) => Kinds::One(OperandKind::Register),
-        Mnemonic::Load(_) | Mnemonic::LoadSigned(_) => Kinds::Two(OperandKind::Register, OperandKind::Memory),
+        Mnemonic::Load(_) | Mnemonic::LoadSigned(_) => Kinds::Two(
+            OperandKind::Register,
+            OperandKind::Memory,
+        ),
         Mnemonic::StoreImm(_) => Kinds::Two(OperandKind::Memory, OperandKind::Number),
         Mnemonic::StoreReg(_) => Kinds::Two(OperandKind::Memory, OperandKind::Register),
         Mnemonic::Imm64 => Kinds::Two(OperandKind::Register, OperandKind::Wide),
         Mnemonic::MapRef => Kinds::Two(OperandKind::Register, OperandKind::Number),
         Mnemonic::Goto => Kinds::One(OperandKind::Near),
         Mnemonic::Goto32 => Kinds::One(OperandKind::Far),
-        Mnemonic::Branch(_, _) => Kinds::Three(OperandKind::Register, OperandKind::Source, OperandKind::Near),
+        Mnemonic::Branch(_, _) => Kinds::Three(
+            OperandKind::Register,
+            OperandKind::Source,
+            OperandKind::Near,
+        ),
         Mnemonic::Call => Kinds::One(OperandKind::Number),
         Mnemonic::Exit => Kinds::Zero,
     }
@@ -110,7 +117,11 @@ fn two_of(pair: Result<(Operand, Operand), Cause>) -> Result<Operands, Cause>
 }
 
 /// Two operands, or the lesser of their causes.
-fn pair_of(first: OperandKind, second: OperandKind, words: &[&[u8]]) -> Result<(Operand, Operand), Cause>
+fn pair_of(
+    first: OperandKind,
+    second: OperandKind,
+    words: &[&[u8]],
+) -> Result<(Operand, Operand), Cause>
     requires { length words.now ≡ 2 }
     ensures { both result ≡ each_operand (first ∷ second ∷ []) (texts words.now) (Some (pos 0)) }
 {

@@ -76,7 +76,11 @@ impl JournalState {
 
     /// What is kept once a processor has answered a block, or nothing where that is the same: its task has left, unless that
     /// was refused.
-    pub fn after_block(&self, processor: u8, answer: &Result<Reply, Refusal>) -> Option<JournalState>
+    pub fn after_block(
+        &self,
+        processor: u8,
+        answer: &Result<Reply, Refusal>,
+    ) -> Option<JournalState>
         ensures { kept_after self.now result ≡ kept_by_block processor answer.now self.now }
     {
         if answer.is_err() {

@@ -16,6 +16,6 @@ pub use again::{event_again, policy_again};
 pub use answer::PackedAnswer;
 pub use bq_seats::{CallRooms, Calls, hold_calls};
 pub use cells::{NumberedCpu, NumberedInbox, OneLobby, UnderLock};
-pub use law::{CpuState, JournalState, WorldPart, Sched, Shared, WorldState};
+pub use law::{CpuState, JournalState, Sched, Shared, WorldPart, WorldState};
 pub use record::{Record, call_rooms, loads_room, record_room};
 pub use same::{is_same_answer, is_same_event, is_same_reply};

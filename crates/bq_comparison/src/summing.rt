@@ -21,7 +21,11 @@ pub struct FigureRow {
 }
 
 /// What some runs of the same figures say of each.
-pub fn rows(alloc: Global, figures: &[Figure], runs: &[RunFigures]) -> Result<Vec<FigureRow>, AllocError>
+pub fn rows(
+    alloc: Global,
+    figures: &[Figure],
+    runs: &[RunFigures],
+) -> Result<Vec<FigureRow>, AllocError>
     requires { length runs.now ≤ 65536 }
     ensures { IfOk result (λ v. AreRows runs.now figures.now v.items) }
 {

@@ -14,10 +14,10 @@ mod limits;
 mod pass_needs;
 mod program_words;
 mod registers;
+mod state_words;
 mod summary;
 mod trail;
 mod verdict;
-mod state_words;
 mod vocabulary;
 
 pub use bq_needs::range_text;

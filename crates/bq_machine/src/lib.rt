@@ -15,7 +15,7 @@ mod pulling_calls;
 mod running_calls;
 pub mod waking_calls;
 
-pub use bq_cells::{Calls, CpuState, JournalState, WorldPart, Record, Sched, Shared, WorldState};
+pub use bq_cells::{Calls, CpuState, JournalState, Record, Sched, Shared, WorldPart, WorldState};
 pub use bq_history::Receipt;
 pub use bq_recording::{Admission, Closed, Prepared, Seat, prepare};
 pub use bq_seats::{Counting, UnnamedCounters};

@@ -211,7 +211,10 @@ fn register_text(alloc: Global, register: u8, known: AbstractValue) -> Result<St
 fn is_followed(kind: ValueKind) -> bool
     ensures { IsTrue result ↔ Follows kind }
 {
-    matches!(kind, ValueKind::Context | ValueKind::Stack | ValueKind::Entry(_))
+    matches!(
+        kind,
+        ValueKind::Context | ValueKind::Stack | ValueKind::Entry(_)
+    )
 }
 
 /// Why an access is not good, in words.

@@ -54,7 +54,11 @@ fn told(
 }
 
 /// The registers that the instruction reads and that may be unset, if there are any.
-fn unset_need(alloc: Global, state: &AbstractState, insn: Insn) -> Result<Option<String>, AllocError>
+fn unset_need(
+    alloc: Global,
+    state: &AbstractState,
+    insn: Insn,
+) -> Result<Option<String>, AllocError>
     ensures { IfOk result (λ told. MatchOption told (AreKnown state.now insn) (λ text. (string_bytes text ≡ unset_need state.now insn) × ¬ (AreKnown state.now insn))) }
 {
     let registers = unset_registers(alloc, state, insn)?;

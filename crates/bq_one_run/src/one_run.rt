@@ -8,7 +8,7 @@ ghost use Rattle.bq_one_run.specs.Runs.{AreRuns, Fits, IsRun, kept_in};
 
 use crate::inputs::Inputs;
 use bq_bpf::{context_length, same_shapes};
-use bq_interp::{Snapshot, Ran, Stack, run, run_traced};
+use bq_interp::{Ran, Snapshot, Stack, run, run_traced};
 use bq_verify::Verified;
 use std::alloc::AllocError;
 

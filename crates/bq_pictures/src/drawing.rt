@@ -3,8 +3,8 @@
 use crate::lanes::{Lanes, Wait};
 use crate::scale::Scale;
 use crate::shapes::{
-    LANE, DrawnRun, Shades, write_axis, write_end, write_head, write_legend, write_row_name, write_run,
-    write_tick, write_wait,
+    DrawnRun, LANE, Shades, write_axis, write_end, write_head, write_legend, write_row_name,
+    write_run, write_tick, write_wait,
 };
 use bq_forms::{Extent, Names, Window};
 use bq_schedule::{Slice, Start, Wake};

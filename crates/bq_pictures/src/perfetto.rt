@@ -3,8 +3,8 @@ ghost use Rattle.std.specs.Prelude.{◌≡◌, IfOk, string_bytes};
 ghost use Rattle.bq_pictures.specs.Events.{run_event};
 
 use bq_disc::limits::PROCESSORS;
-use bq_forms::{ScheduleForm, Label, Micros, Names, Window};
-use bq_schedule::{Change, Decision, ClockReading, Schedule, Slice, Start, Wake};
+use bq_forms::{Label, Micros, Names, ScheduleForm, Window};
+use bq_schedule::{Change, ClockReading, Decision, Schedule, Slice, Start, Wake};
 use serde_json::{Value, json};
 use std::alloc::{AllocError, Global};
 use std::collections::BTreeMap;

@@ -213,7 +213,11 @@ fn write_run_name(
 }
 
 /// The tooltip of a run.
-fn write_run_title(run: &DrawnRun, shades: &Shades<'_>, text: &mut String) -> Result<(), AllocError> {
+fn write_run_title(
+    run: &DrawnRun,
+    shades: &Shades<'_>,
+    text: &mut String,
+) -> Result<(), AllocError> {
     text.push_str("<title>")?;
     shades.write_name(run.task, usize::MAX, text)?;
     write_run_times(run, text)?;

@@ -3,7 +3,7 @@
 use crate::drawing::Drawing;
 use crate::lanes::Wait;
 use bq_disc::limits::{PROCESSORS, TASKS};
-use bq_forms::{Extent, ScheduleForm, Names, Window};
+use bq_forms::{Extent, Names, ScheduleForm, Window};
 use bq_schedule::{Change, PulledTask, Schedule, Slice, Start, Wake};
 use std::alloc::{AllocError, Global};
 

@@ -13,7 +13,9 @@ ghost use Rattle.bq_recording.specs.AllParts.{all_parts};
 
 use crate::closed::Closed;
 use crate::closing_room::ClosingRoom;
-use bq_cells::{JournalState, NumberedCpu, NumberedInbox, OneLobby, WorldPart, Record, Shared, UnderLock};
+use bq_cells::{
+    JournalState, NumberedCpu, NumberedInbox, OneLobby, Record, Shared, UnderLock, WorldPart,
+};
 use bq_core::Core;
 use bq_disc::RunQueue;
 use bq_history::{Item, Journal, gather};
@@ -91,7 +93,10 @@ fn all_out<Q: RunQueue + Drop, N: Naming + Counting, const P: usize>(
     inboxes: Vec<Mutex<UnderLock<NumberedInbox, N>>>,
     lobby: Mutex<UnderLock<OneLobby, N>>,
     room: Mutex<ClosingRoom<Q, P>>,
-) -> (Contents<Q, P>, Holder<Item<Record, WorldPart, JournalState>, N>)
+) -> (
+    Contents<Q, P>,
+    Holder<Item<Record, WorldPart, JournalState>, N>,
+)
     requires cpus { vec_len cpus ≡ P }
     requires inboxes { vec_len inboxes ≡ P }
     ensures { result.1 ≡ map part_item (all_parts result.0.lobby result.0.cpus.items result.0.inboxes.items (λ c. cpu_part c.number c.state) (λ i. inbox_part i.number i.state)) }

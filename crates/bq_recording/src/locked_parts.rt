@@ -4,7 +4,9 @@ ghost use Rattle.bq_history.specs.Items.{callers_from, part_item};
 ghost use Rattle.bq_cells.specs.Parts.{first_parts};
 ghost use Rattle.bq_cells.specs.Opened.{ItemOf, cpu_items, inbox_items};
 
-use bq_cells::{JournalState, NumberedCpu, NumberedInbox, OneLobby, WorldPart, Record, Shared, UnderLock};
+use bq_cells::{
+    JournalState, NumberedCpu, NumberedInbox, OneLobby, Record, Shared, UnderLock, WorldPart,
+};
 use bq_disc::RunQueue;
 use bq_history::{Item, Locked};
 use bq_parts::{Cpu, Inbox, Lobby, Scratch};

@@ -8,7 +8,7 @@ ghost use Rattle.bq_cells.specs.Parts.{first_parts};
 use crate::locked_parts::{PartLocks, part_locks};
 use crate::prepared::Prepared;
 use crate::{ClosingRoom, Recorder, Seat};
-use bq_cells::{JournalState, NumberedCpu, NumberedInbox, OneLobby, WorldPart, Record, UnderLock};
+use bq_cells::{JournalState, NumberedCpu, NumberedInbox, OneLobby, Record, UnderLock, WorldPart};
 use bq_disc::RunQueue;
 use bq_history::{Item, Journal};
 use bq_parts::Loads;

@@ -1,7 +1,7 @@
 //! The world at the start, before the machine has a name.
 ghost use Rattle.std.specs.Prelude.{◌≡◌, IfOk};
 
-use bq_cells::{JournalState, WorldPart, Record, Sched, WorldState};
+use bq_cells::{JournalState, Record, Sched, WorldPart, WorldState};
 use bq_disc::RunQueue;
 use bq_history::{FixedAtStart, Opened, open};
 use bq_seats::UnnamedCounters;

@@ -2,7 +2,7 @@
 ghost use Rattle.std.specs.Prelude.{◌≡◌, ◌≤◌, ◌<◌, ◌+◌, ◌^◌, length};
 ghost use Rattle.std.specs.Sync.Mutex.{mutex_guard_value};
 
-use bq_cells::{JournalState, NumberedCpu, WorldPart, Record, Shared};
+use bq_cells::{JournalState, NumberedCpu, Record, Shared, WorldPart};
 use bq_disc::RunQueue;
 use bq_history::{Cell, Journal};
 use bq_seats::{Counters, Counting, Working};

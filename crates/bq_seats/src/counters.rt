@@ -4,8 +4,8 @@ ghost use Rattle.bq_bpf.specs.declared.board.Call.TheVariants.{Add, Read};
 ghost use Rattle.bq_seats.specs.Sums.{AreSumsOf, both, calling, opened, spent, without_one};
 
 use crate::account::{
-    Account, Adding, Apart, UnseatedLook, CounterTally, Counting, Looking, Reading, Summed, Together,
-    Whole,
+    Account, Adding, Apart, CounterTally, Counting, Looking, Reading, Summed, Together,
+    UnseatedLook, Whole,
 };
 use atomic_table::{Seat, Table};
 use bq_bpf::board::COUNTERS;

@@ -3,7 +3,8 @@
 use crate::cases;
 use crate::steps::Step;
 use bq_schedule::{
-    Change, PulledTask, ProcessorFigures, ClockReading, Schedule, Slice, Start, Stop, TaskFigures, Wake,
+    Change, ClockReading, ProcessorFigures, PulledTask, Schedule, Slice, Start, Stop, TaskFigures,
+    Wake,
 };
 use std::alloc::{AllocError, Global};
 use std::process::Abort;

@@ -5,7 +5,7 @@ use crate::facts::{Fact, tells};
 use crate::steps::Step;
 use bq_parts::{By, Hook};
 use bq_schedule::{
-    Change, Decision, Latencies, Left, PulledTask, PARTS, ClockReading, Slice, Start, Stop, Wake,
+    Change, ClockReading, Decision, Latencies, Left, PARTS, PulledTask, Slice, Start, Stop, Wake,
 };
 use std::alloc::{AllocError, Global};
 

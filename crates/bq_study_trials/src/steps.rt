@@ -1,7 +1,7 @@
 //! The steps of small traces, each an event and its answer, and what a form shows of one.
 
 use crate::cases::holds;
-use bq_forms::{ScheduleForm, Names};
+use bq_forms::{Names, ScheduleForm};
 use bq_parts::{By, Event, Refusal, Reply};
 use bq_schedule::{Change, Schedule};
 use std::alloc::{AllocError, Global};

@@ -2,7 +2,7 @@
 ghost use Rattle.bq_timeline.specs.Shown.{IsShown};
 
 use crate::form_names::FormName;
-use bq_forms::{Csv, ScheduleForm, Json, Map, Names, Report, Timehist, Window};
+use bq_forms::{Csv, Json, Map, Names, Report, ScheduleForm, Timehist, Window};
 use bq_pictures::{Perfetto, Svg};
 use bq_schedule::{Change, Schedule};
 use bq_why::Why;

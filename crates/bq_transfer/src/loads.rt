@@ -62,7 +62,12 @@ pub fn load(
 }
 
 /// The word that is kept where a load of eight bytes reads, if one is.
-fn kept_at(state: &AbstractState, place: Location, size: Size, signed: bool) -> Option<AbstractValue>
+fn kept_at(
+    state: &AbstractState,
+    place: Location,
+    size: Size,
+    signed: bool,
+) -> Option<AbstractValue>
     ensures { IfSome result (λ word. (place.kind ≡ ValueKind.Stack) × (size ≡ Size.Double) × (signed ≡ false) × (place.at.lo ≡ place.at.hi) × (slot : ℕ) × (slot < 64) × (place.at.lo ≡ 8 * slot) × (slice_index_or state.now.kept slot None ≡ Some word)) }
 {
     if place.kind != ValueKind::Stack || size != Size::Double || signed {

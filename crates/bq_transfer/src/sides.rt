@@ -74,7 +74,13 @@ fn outcome(
     ensures tested { (map : ℕ) → IsNullCheck width cond src → Stands (Pointer (ValueKind.EntryOrNull map) 0) (Some left) → IsTestedIfAny map (is_found cond goes) result }
 {
     match (left.kind, right.kind) {
-        (ValueKind::Number, ValueKind::Number) => match narrow(cond, width, left.offset, right.offset, goes) {
+        (ValueKind::Number, ValueKind::Number) => match narrow(
+            cond,
+            width,
+            left.offset,
+            right.offset,
+            goes,
+        ) {
             Some(offset) => Some(Some(AbstractValue {
                 kind: ValueKind::Number,
                 offset,

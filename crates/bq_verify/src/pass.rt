@@ -20,7 +20,7 @@ use crate::waiting::{arrive, nothing_waits};
 use bq_bpf::addresses::STACK_SIZE;
 use bq_graph::edges::instruction;
 use bq_ranges::Range;
-use bq_states::abstract_state::{AbstractState, AbstractValue, ValueKind, StackPart};
+use bq_states::abstract_state::{AbstractState, AbstractValue, StackPart, ValueKind};
 use bq_states::registers::learn;
 use std::alloc::Global;
 

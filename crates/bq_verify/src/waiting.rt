@@ -43,7 +43,11 @@ pub fn arrive(
     take_over(state, live, &mut pending[slot])
 }
 
-fn take_over(state: &mut AbstractState, live: bool, waiting: &mut Option<Box<AbstractState>>) -> bool
+fn take_over(
+    state: &mut AbstractState,
+    live: bool,
+    waiting: &mut Option<Box<AbstractState>>,
+) -> bool
     ensures empty { waiting.new ≡ None }
     ensures transferred { (f : Setting) (s : State) → live ≡ true → Contains f state.old s → (result ≡ true) × Contains f state.new s }
     ensures waited { (f : Setting) (s : State) → IsIn f waiting.old s → (result ≡ true) × Contains f state.new s }
