@@ -93,6 +93,8 @@ DEFINED = [
     ('which processors a mask has', r'/ 2 \^ \w+ % 2 == 1', {'bq_disc/specs/Masks.antt'}),
     ('which words are numbers', r'codes "0x"|IsNumeral 10', {'bq_words/specs/Numbers.antt'}),
     ('which numbers are nice values', r'negsuc 19\b', {'bq_weights/specs/VirtualTime.antt'}),
+    ('from which to which length slices are', r'slice 100000\b|(?:nat_le|span_in) 100000\b', set()),
+    ('how long a name may be', r'nat_le \(length [^)]*\)+ 1024\b', set()),
     ('how many counters there are', r'replicate 64 0|nat_lt i 64\b|counter < 64\b|length words ≡ 64\b', set()),
     ('how many calls of counters a run makes at most', r'calls ≤ 16\b|16 ≤ count', {'bq_bpf/specs/Safe.antt'}),
     ('the size of the stack', r'(?<!the )\b51[23]\b', {'bq_bpf/specs/Memory.antt'}),

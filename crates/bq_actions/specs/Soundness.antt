@@ -10,7 +10,9 @@ use Rattle.bq_actions.specs.declared.workload.TaskKind.{TaskKind}
 use Rattle.bq_actions.specs.declared.workload.Workload.{Workload}
 use Rattle.bq_actions.specs.Kinds.{tasks_in}
 use Rattle.bq_actions.specs.Lengths.{is_length, is_long, longest, takes_time}
+use Rattle.bq_actions.specs.declared.limits.TheConstants.{LONGEST_NAME}
 use Rattle.bq_disc.specs.Masks.{allows}
+use Rattle.bq_disc.specs.declared.limits.TheConstants.{GREATEST_SLICE, LEAST_SLICE}
 use Rattle.bq_weights.specs.VirtualTime.{is_nice}
 use Rattle.bq_words.specs.Sizes.{processors_in}
 
@@ -30,12 +32,12 @@ goes_round (Some loops) = nat_le 1 loops
 
 -- the name of a kind has at most so many bytes
 abbrev pub has_name : TaskKind → Bool
-has_name kind = nat_le (length (string_bytes kind.name)) 1024
+has_name kind = nat_le (length (string_bytes kind.name)) LONGEST_NAME
 
 -- there are tasks of a kind, and its numbers are in their ranges
 abbrev pub has_numbers : TaskKind → Bool
 has_numbers kind =
-    nat_le 1 kind.count && is_nice kind.nice && nat_le 100000 kind.slice && nat_le kind.slice 100000000
+    nat_le 1 kind.count && is_nice kind.nice && nat_le LEAST_SLICE kind.slice && nat_le kind.slice GREATEST_SLICE
     && nat_le kind.start longest && goes_round kind.loops
 
 -- a mask allows one of so many processors

@@ -1,6 +1,7 @@
 -- Which events are refused, and why: by their arguments, or by what the world holds. The first that holds is named.
 use Rattle.std.specs.Prelude.{ℕ, ◌%◌, ◌^◌, Bool, true, false, not, ◌==◌, ◌||◌, ◌&&◌, nat_lt, nat_le, List, [], ◌∷◌, Option, Some, None, if◌then◌else◌, is_some, is_none}
 use Rattle.bq_weights.specs.VirtualTime.{is_nice}
+use Rattle.bq_disc.specs.declared.limits.TheConstants.{GREATEST_SLICE, LEAST_SLICE}
 use Rattle.bq_parts.specs.declared.carried.Carried.{Carried}
 use Rattle.bq_parts.specs.declared.lobby_entry.LobbyEntry.{LobbyEntry}
 use Rattle.bq_parts.specs.declared.lobby_entry.LobbyEntry.TheVariants.{Absent, Blocked, Away}
@@ -45,7 +46,7 @@ no_processor count processor = (nat_le count processor, no.NoProcessor)
 -- an argument that no world of so many processors takes
 abbrev pub argument_refusal : ℕ → Event → Option Refusal
 argument_refusal count (Admit id nice mask slice) =
-    first_refusal ((nat_le 1024 id, no.NoTask) ∷ (mask % 2 ^ count == 0, no.EmptyMask) ∷ (not (is_nice nice), no.Nice) ∷ (nat_lt slice 100000 || nat_lt 100000000 slice, no.Slice) ∷ [])
+    first_refusal ((nat_le 1024 id, no.NoTask) ∷ (mask % 2 ^ count == 0, no.EmptyMask) ∷ (not (is_nice nice), no.Nice) ∷ (nat_lt slice LEAST_SLICE || nat_lt GREATEST_SLICE slice, no.Slice) ∷ [])
 argument_refusal count (Retire id) = first_refusal ((nat_le 1024 id, no.NoTask) ∷ [])
 argument_refusal count Draw = None
 argument_refusal count (Install processor h g policy) = first_refusal (no_processor count processor ∷ (not (is_for h policy), no.WrongHook) ∷ [])

@@ -2,6 +2,7 @@
 use Rattle.std.specs.Prelude.{ℕ, length, ◌&&◌, ◌==◌, nat_le, nat_lt, ℤ, pos, negsuc, List, Option, Some, None, option_map, option_and_then, if◌then◌else◌, bit_and}
 use Rattle.toml.specs.Data.{Data, as_str, as_integer}
 use Rattle.bq_weights.specs.VirtualTime.{is_nice}
+use Rattle.bq_actions.specs.declared.limits.TheConstants.{LONGEST_NAME}
 use Rattle.bq_words.specs.declared.rule.Rule.{Rule}
 use Rattle.bq_words.specs.declared.processor_count.ProcessorCount.{ProcessorCount}
 use Rattle.bq_words.specs.Sizes.{rule_of, size_numbered}
@@ -54,4 +55,4 @@ size_in d = option_and_then size_numbered (number_in 1 64 d)
 
 -- a text with something in it, and with at most so many bytes
 abbrev pub name_of : Data → Option (List ℕ)
-name_of d = option_and_then (λ s. if nat_lt 0 (length s) && nat_le (length s) 1024 then Some s else None) (as_str d)
+name_of d = option_and_then (λ s. if nat_lt 0 (length s) && nat_le (length s) LONGEST_NAME then Some s else None) (as_str d)

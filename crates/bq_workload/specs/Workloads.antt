@@ -5,6 +5,7 @@ use Rattle.std.specs.Option.{IsSomeAnd}
 use Rattle.std.specs.declared.alloc.Global.{Global}
 use Rattle.toml.specs.Data.{Data, Items, no_items, item, Members, no_members, get_member, as_array, as_table}
 use Rattle.toml.specs.Parse.{parse_document}
+use Rattle.bq_disc.specs.declared.limits.TheConstants.{DEFAULT_SLICE, GREATEST_SLICE, LEAST_SLICE}
 use Rattle.bq_words.specs.Sizes.{processors_in}
 use Rattle.bq_words.specs.declared.rule.Rule.TheVariants.{Cfs}
 use Rattle.bq_words.specs.declared.processor_count.ProcessorCount.{ProcessorCount}
@@ -65,7 +66,7 @@ pub record HasNumbers (all : ℕ) (ms : Members) (count : ℕ) (nice : ℤ) (mas
   pub count_is : or_default 1 (number_in 1 1024) (get_member (codes "count") ms) ≡ Some count
   pub nice_is : or_default (pos 0) nice_of (get_member (codes "nice") ms) ≡ Some nice
   pub mask_is : or_default all (mask_of all) (get_member (codes "cpus") ms) ≡ Some mask
-  pub slice_is : or_default 3000000 (span_in 100000 100000000) (get_member (codes "slice") ms) ≡ Some slice
+  pub slice_is : or_default DEFAULT_SLICE (span_in LEAST_SLICE GREATEST_SLICE) (get_member (codes "slice") ms) ≡ Some slice
   pub start_is : or_default 0 (span_in 0 longest) (get_member (codes "start") ms) ≡ Some start
   pub loops_is : loops_of (get_member (codes "loops") ms) ≡ Some loops
 
