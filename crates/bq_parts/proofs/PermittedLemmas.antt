@@ -1,9 +1,9 @@
 -- A settled choice is permitted: a policy's by the test that it passed, and the discipline's own by what it is.
 use Rattle.std.proofs.Common.{◌≡◌, ℕ, ◌+◌, ◌<◌, ◌≤◌, Bool, true, false, cond, List, [], ◌∷◌, filter, Option, Some, None, refl, sym, subst, ap, ◌∙◌, arith}
-use Rattle.std.specs.Prelude.{◌||◌, ◌&&◌, ◌==◌, nat_lt, nat_le, is_some, unwrap_or}
+use Rattle.std.specs.Prelude.{◌||◌, ◌&&◌, ◌==◌, ◌^◌, nat_lt, nat_le, is_some, unwrap_or, IfSome}
 use Rattle.std.proofs.lemmas.Bool.Decides.{nat_tests}
 use Rattle.bq_hooks.specs.declared.settled.By.TheVariants as who
-use Rattle.std.specs.Option.{option_map_or}
+use Rattle.std.specs.Option.{option_map, option_map_or}
 use Rattle.bq_disc.specs.Tasks.{Task, has_id, with_id, first_by, former, id_of}
 use Rattle.bq_disc.specs.Queues.{can_use}
 use Rattle.bq_disc.specs.Pulls.{movable, pulled_before}
@@ -18,7 +18,7 @@ use Rattle.bq_hooks.specs.Permitted.{may_place, may_pull, task_numbered}
 use Rattle.bq_hooks.specs.Settled.{Settled as Chosen, settled as chosen}
 use Rattle.bq_hooks.proofs.PlaceLemmas.{own_place_there}
 use Rattle.bq_parts.specs.Processors.{Processor, count_of, size_of, HasEachOnce}
-use Rattle.bq_parts.specs.Choices.{Regime, Decision, SettlesBy, Settles, own_pull}
+use Rattle.bq_parts.specs.Choices.{Regime, Decision, SettlesBy, Settles, SettlesPull, own_pull, unasked}
 use Rattle.bq_parts.proofs.CountLemmas.{one}
 use Rattle.bq_parts.proofs.NumberTestLemmas.{below_from_test, test_from_below}
 
@@ -143,6 +143,21 @@ own_pull_by_test false processor queue once = refl
 -- the own choice of a task to pull is permitted
 pub own_pull_permitted : (processor : ℕ) (p from : Processor) → HasEachOnce from.running.queue → may_pull processor from.running.queue (or_nobody (own_pull processor p from)) ≡ true
 own_pull_permitted processor p from once = own_pull_by_test (nat_le (size_of p + 2) (size_of from)) processor from.running.queue once
+
+stands_for : (o : Option ℕ) → IfSome o (λ id. id < 2 ^ 16) → o ≡ task_numbered (or_nobody o)
+stands_for None small = refl
+stands_for (Some id) small = grind (arith, nat_tests)
+
+none_stands : (policy : Option Accepted) (version : Option Version) → version ≡ option_map (λ p. p.version) policy → version ≡ None → policy ≡ None
+none_stands None version e none = refl
+none_stands (Some policy) version e none = cc
+
+-- where no policy stands at the hook, a pull is settled by the discipline's own choice
+pub settles_unasked : (s : Regime) (processor from : ℕ) (p other : Processor) (version : Option Version) →
+    version ≡ option_map (λ policy. policy.version) p.hooks.pull.policy → version ≡ None → IfSome (own_pull processor p other) (λ id. id < 2 ^ 16) →
+    (choice : ℕ) × SettlesPull s processor from p other (unasked choice p.hooks.pull) × (own_pull processor p other ≡ task_numbered choice)
+settles_unasked s processor from p other version e none small =
+    (or_nobody (own_pull processor p other), rw (none_stands p.hooks.pull.policy version e none) refl, stands_for (own_pull processor p other) small)
 
 numbered : (b : Bool) (n id : ℕ) (moves : Bool) → cond b None (Some n) ≡ Some id → (b || moves) ≡ true → (n ≡ id) × (moves ≡ true)
 numbered true n id moves e h = cc

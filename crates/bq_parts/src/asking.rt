@@ -201,7 +201,7 @@ impl<Q: RunQueue> Cpu<Q> {
         let size = self.size();
         let own = source.own_pull(processor, size);
         let Some(_) = self.hooks.version(Hook::Pull) else {
-            return Decision::after(settle_pull(None, &source.queue, processor, own), 0);
+            return Decision::unasked(own);
         };
         let facts = Pull {
             puller: processor,
