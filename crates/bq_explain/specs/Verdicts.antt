@@ -15,6 +15,7 @@ use Rattle.bq_verify.specs.Straight.{IsStraightProgram}
 use Rattle.bq_bpf.specs.declared.hook.Hook.{Hook}
 use Rattle.bq_verify.specs.declared.cause.Cause.{Cause}
 use Rattle.bq_verify.specs.declared.refused.Refused.TheVariants as refused
+use Rattle.bq_words.specs.Refused.{refused_line}
 use Rattle.bq_program.specs.Check.{accepted_line}
 use Rattle.bq_program.specs.declared.policy_source.PolicySource.{PolicySource}
 use Rattle.bq_explain.specs.declared.limits.Limits.{Limits}
@@ -72,6 +73,6 @@ is_accepted other = false
 -- the line that tells a verdict
 abbrev pub verdict_line : Hook → Verdict → List ℕ
 verdict_line hook (Accepted budget) = accepted_line hook budget
-verdict_line hook (OverSteps budget most) = codes "refused limit steps " ++ (decimal budget ++ (codes " of " ++ (decimal most ++ codes "\n")))
-verdict_line hook (Forbidden helper) = codes "refused limit helper " ++ (signed_decimal helper ++ codes "\n")
-verdict_line hook (Refused slot cause) = codes "refused " ++ (fault_text (load.Refused slot cause) ++ codes "\n")
+verdict_line hook (OverSteps budget most) = refused_line (codes "limit steps " ++ (decimal budget ++ (codes " of " ++ decimal most)))
+verdict_line hook (Forbidden helper) = refused_line (codes "limit helper " ++ signed_decimal helper)
+verdict_line hook (Refused slot cause) = refused_line (fault_text (load.Refused slot cause))

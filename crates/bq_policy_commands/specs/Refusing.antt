@@ -2,7 +2,7 @@
 use Rattle.std.specs.Prelude.{◌≡◌, ◌≢◌, ℕ, List, ◌++◌, String, string_bytes}
 use Rattle.std.specs.declared.alloc.Global.{Global}
 use Rattle.bq_program.specs.Naming.{fault_text}
-use Rattle.bq_program.specs.Refusals.{refusal}
+use Rattle.bq_words.specs.Refused.{refused_line}
 use Rattle.bq_program.specs.declared.fault.PolicyFault.{PolicyFault}
 use Rattle.bq_program.specs.declared.fault.PolicyFault.TheVariants as fault
 use Rattle.bq_program.specs.declared.head.Head.{Head}
@@ -12,7 +12,7 @@ use Rattle.bq_policy_commands.specs.declared.answered.Answered.TheVariants.{Refu
 
 -- the line by the fault's text
 abbrev pub fault_line : PolicyFault → List ℕ
-fault_line named = refusal (fault_text named)
+fault_line named = refused_line (fault_text named)
 
 -- the text begins with the line that names the fault
 abbrev pub Refuses : PolicyFault → List ℕ → Type 0

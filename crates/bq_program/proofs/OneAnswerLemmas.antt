@@ -21,7 +21,7 @@ use Rattle.bq_program.specs.declared.form.ProgramForm.{ProgramForm}
 use Rattle.bq_program.specs.declared.form.ProgramForm.TheVariants.{Program, Image}
 use Rattle.bq_program.specs.Forms.{SpellsForm}
 use Rattle.bq_program.specs.HexText.{IsNoHex}
-use Rattle.bq_program.specs.Refusals.{refusal}
+use Rattle.bq_words.specs.Refused.{refused_line}
 use Rattle.bq_asm.specs.declared.fault.AsmFault.TheVariants as assembly
 use Rattle.bq_asm.specs.Causes.{fault_text as asm_text}
 use Rattle.bq_insn.specs.Causes.{fault_text as dis_text}
@@ -51,8 +51,8 @@ one_text_refusal text x y (inl p) (inr q) = absurd (p.0 q.0)
 one_text_refusal text x y (inr p) (inl q) = absurd (q.0 p.0)
 one_text_refusal text x y (inr p) (inr q) =
     let same = asm.one_fault text p.1 q.1 p.2 q.2 p.3 q.3 in
-    p.4 ∙ ap (λ n. refusal (asm_text (assembly.At n p.2))) same.0
-    ∙ ap (λ c. refusal (asm_text (assembly.At q.1 c))) same.1 ∙ sym q.4
+    p.4 ∙ ap (λ n. refused_line (asm_text (assembly.At n p.2))) same.0
+    ∙ ap (λ c. refused_line (asm_text (assembly.At q.1 c))) same.1 ∙ sym q.4
 
 same_assembly : (form : ProgramForm) (text x y : List ℕ) → IsAssembled form text x → IsAssembled form text y → x ≡ y
 same_assembly form text x y p q =
@@ -70,22 +70,22 @@ one_assembly form text false false x y p q = (refl, one_text_refusal text x y p 
 all_insns : (insns : List Insn) → is_well_formed insns ≡ true → list_all is_insn insns ≡ true
 all_insns insns h = (both_are_true (list_all is_insn insns) (nat_le 1 (slot_count insns) && nat_le (slot_count insns) 4096) h).0
 
-listed_or_refused : (text x y : List ℕ) → IsListed text x → (IsNoHex text × (y ≡ refusal (codes "hex"))) ⊎ IsFaultyProgram text y → ⊥
+listed_or_refused : (text x y : List ℕ) → IsListed text x → (IsNoHex text × (y ≡ refused_line (codes "hex"))) ⊎ IsFaultyProgram text y → ⊥
 listed_or_refused text x y p (inl q) = cc (p.1, q.0.1)
 listed_or_refused text x y p (inr q) =
     let same : q.0 ≡ spelling p.0 = cc (p.1, q.1) in
     lengths.no_program_is_refused p.0 q.2 q.3 p.2 p.3 (subst (λ b. IsFault b (At q.2 q.3)) same q.4)
 
-one_hex_refusal : (text x y : List ℕ) → (IsNoHex text × (x ≡ refusal (codes "hex"))) ⊎ IsFaultyProgram text x
-    → (IsNoHex text × (y ≡ refusal (codes "hex"))) ⊎ IsFaultyProgram text y → x ≡ y
+one_hex_refusal : (text x y : List ℕ) → (IsNoHex text × (x ≡ refused_line (codes "hex"))) ⊎ IsFaultyProgram text x
+    → (IsNoHex text × (y ≡ refused_line (codes "hex"))) ⊎ IsFaultyProgram text y → x ≡ y
 one_hex_refusal text x y (inl p) (inl q) = p.1 ∙ sym q.1
 one_hex_refusal text x y (inl p) (inr q) = cc (p.0.1, q.1)
 one_hex_refusal text x y (inr p) (inl q) = cc (p.1, q.0.1)
 one_hex_refusal text x y (inr p) (inr q) =
     let bytes : p.0 ≡ q.0 = cc (p.1, q.1) in
     let same = fault.one_fault q.0 p.2 q.2 p.3 q.3 (subst (λ b. IsFault b (At p.2 p.3)) bytes p.4) q.4 in
-    p.5 ∙ ap (λ n. refusal (dis_text (At n p.3))) same.0
-    ∙ ap (λ c. refusal (dis_text (At q.2 c))) same.1 ∙ sym q.5
+    p.5 ∙ ap (λ n. refused_line (dis_text (At n p.3))) same.0
+    ∙ ap (λ c. refused_line (dis_text (At q.2 c))) same.1 ∙ sym q.5
 
 -- a text is either listed or refused, and with one text
 pub one_listing : OneListing

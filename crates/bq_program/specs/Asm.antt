@@ -11,7 +11,7 @@ use Rattle.bq_asm.specs.Assembly.{Assembles}
 use Rattle.bq_asm.specs.Faults.{Faulty}
 use Rattle.bq_program.specs.declared.form.ProgramForm.{ProgramForm}
 use Rattle.bq_program.specs.Forms.{SpellsForm}
-use Rattle.bq_program.specs.Refusals.{refusal}
+use Rattle.bq_words.specs.Refused.{refused_line}
 
 -- the text stands for a program: its bytes in that form as hex in lower case, and the line's end
 pub record IsAssembled (form : ProgramForm) (text written : List ℕ) : Type 0 where
@@ -24,12 +24,12 @@ pub record IsAssembled (form : ProgramForm) (text written : List ℕ) : Type 0 w
 
 -- the bytes are no text
 abbrev pub IsNoText : List ℕ → List ℕ → Type 0
-IsNoText text written = (¬ (IsUtf8 text)) × (written ≡ refusal (codes "text"))
+IsNoText text written = (¬ (IsUtf8 text)) × (written ≡ refused_line (codes "text"))
 
 -- the text has this fault
 abbrev pub IsFaultyText : List ℕ → List ℕ → Type 0
 IsFaultyText text written =
-    IsUtf8 text × (line : ℕ) × (cause : Cause) × Faulty (lines_of text) line cause × (written ≡ refusal (fault_text (At line cause)))
+    IsUtf8 text × (line : ℕ) × (cause : Cause) × Faulty (lines_of text) line cause × (written ≡ refused_line (fault_text (At line cause)))
 
 -- what is written for a text that is accepted, or for one that is not
 abbrev pub AsmWrites : ProgramForm → List ℕ → Bool → List ℕ → Type 0

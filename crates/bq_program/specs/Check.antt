@@ -8,7 +8,7 @@ use Rattle.bq_load.specs.declared.fault.LoadFault.{LoadFault}
 use Rattle.bq_load.specs.declared.fault.LoadFault.TheVariants as fault
 use Rattle.bq_load.specs.Answers.{Loads, IsUnloaded}
 use Rattle.bq_load.specs.Naming.{fault_text}
-use Rattle.bq_program.specs.Refusals.{refusal}
+use Rattle.bq_words.specs.Refused.{refused_line}
 use Rattle.bq_program.specs.HexText.{SpellsBytes, IsNoHex}
 
 -- the line of a program that is accepted: its hook and its budget
@@ -27,9 +27,9 @@ pub record IsAcceptedImage (text written : List ℕ) : Type 0 where
 abbrev pub IsFaultyImage : List ℕ → List ℕ → Type 0
 IsFaultyImage text written =
     (bytes : List ℕ) × SpellsBytes text bytes × (named : LoadFault) × IsUnloaded bytes named × (named ≢ fault.OutOfMemory)
-    × (written ≡ refusal (fault_text named))
+    × (written ≡ refused_line (fault_text named))
 
 -- what is written for a text that is accepted, or for one that is not
 abbrev pub CheckWrites : List ℕ → Bool → List ℕ → Type 0
 CheckWrites text true written = IsAcceptedImage text written
-CheckWrites text false written = (IsNoHex text × (written ≡ refusal (codes "hex"))) ⊎ IsFaultyImage text written
+CheckWrites text false written = (IsNoHex text × (written ≡ refused_line (codes "hex"))) ⊎ IsFaultyImage text written

@@ -9,7 +9,7 @@ use Rattle.bq_insn.specs.Laws.{AllFit}
 use Rattle.bq_insn.specs.Faults.{IsFault}
 use Rattle.bq_asm.specs.Text.{listing_text}
 use Rattle.bq_program.specs.HexText.{SpellsBytes, IsNoHex}
-use Rattle.bq_program.specs.Refusals.{refusal}
+use Rattle.bq_words.specs.Refused.{refused_line}
 
 -- the bytes are those of a program: its listing
 abbrev pub IsListed : List ℕ → List ℕ → Type 0
@@ -20,9 +20,9 @@ IsListed text written =
 abbrev pub IsFaultyProgram : List ℕ → List ℕ → Type 0
 IsFaultyProgram text written =
     (bytes : List ℕ) × SpellsBytes text bytes × (slot : ℕ) × (cause : Cause) × IsFault bytes (At slot cause)
-    × (written ≡ refusal (fault_text (At slot cause)))
+    × (written ≡ refused_line (fault_text (At slot cause)))
 
 -- what is written for a text that is accepted, or for one that is not
 abbrev pub DisWrites : List ℕ → Bool → List ℕ → Type 0
 DisWrites text true written = IsListed text written
-DisWrites text false written = (IsNoHex text × (written ≡ refusal (codes "hex"))) ⊎ IsFaultyProgram text written
+DisWrites text false written = (IsNoHex text × (written ≡ refused_line (codes "hex"))) ⊎ IsFaultyProgram text written

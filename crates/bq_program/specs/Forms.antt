@@ -11,7 +11,7 @@ use Rattle.bq_program.specs.declared.options.OptionsFault.{OptionsFault}
 use Rattle.bq_program.specs.declared.options.OptionsFault.TheVariants.{Maps, Format, OutOfMemory}
 use Rattle.bq_program.specs.declared.form.ProgramForm.{ProgramForm}
 use Rattle.bq_program.specs.declared.form.ProgramForm.TheVariants.{Program, Image}
-use Rattle.bq_program.specs.Refusals.{refusal}
+use Rattle.bq_words.specs.Refused.{refused_line}
 use Rattle.bq_program.specs.ShapesText.{NamesShapes, NamesNoShapes}
 
 -- the text of an option
@@ -44,7 +44,7 @@ HasOptionsFault o OutOfMemory = Unit {0}
 
 -- the line that refuses the options; of two faults the maps alone
 abbrev pub RefusesOptions : Options → List ℕ → Type 0
-RefusesOptions o written = (HasBadMaps o × (written ≡ refusal (codes "maps"))) ⊎ (HasBadFormat o × (written ≡ refusal (codes "format")))
+RefusesOptions o written = (HasBadMaps o × (written ≡ refused_line (codes "maps"))) ⊎ (HasBadFormat o × (written ≡ refused_line (codes "format")))
 
 -- the bytes are those of the program in this form
 abbrev pub SpellsForm : ProgramForm → List Insn → List ℕ → Type 0

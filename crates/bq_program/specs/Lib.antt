@@ -4,7 +4,6 @@ pub mod Dis
 pub mod Forms
 pub mod HexText
 pub mod Laws
-pub mod Refusals
 pub mod ShapesText
 pub mod MarkLines
 pub mod Listed

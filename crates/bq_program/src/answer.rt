@@ -1,6 +1,6 @@
 //! What a command writes for its input.
 ghost use Rattle.std.specs.Prelude.{◌≡◌, IfOk, true, false, string_bytes};
-ghost use Rattle.bq_program.specs.Refusals.{refusal};
+ghost use Rattle.bq_words.specs.Refused.{refused_line};
 
 use std::alloc::{AllocError, Global};
 
@@ -27,7 +27,7 @@ impl Answer {
 
     /// The line that refuses an input.
     pub fn refused(alloc: Global, reason: &str) -> Result<Answer, AllocError>
-        ensures text { IfOk result (λ a. string_bytes a.text ≡ refusal reason.now) }
+        ensures text { IfOk result (λ a. string_bytes a.text ≡ refused_line reason.now) }
         ensures refused { IfOk result (λ a. a.accepted ≡ false) }
     {
         let text = format!(in alloc; "refused {reason}\n")?;

@@ -1,6 +1,6 @@
 -- The texts of what comes of a trace's lines are what answers them.
 use Rattle.std.proofs.Common.{◌≡◌, ℕ, Bool, true, false, cond, ltb, List, [], ◌∷◌, ◌++◌, map, refl, ap, ◌∙◌, append-nil, subst, Option, Some, None, Result, Ok, Err, inl, inr}
-use Rattle.std.specs.Prelude.{slice_index, codes}
+use Rattle.std.specs.Prelude.{slice_index}
 use Rattle.std.specs.Str.Lines.{strip_carriage_return}
 use Rattle.bq_bpf.specs.declared.hook.Hook.{Hook}
 use Rattle.bq_parts.specs.declared.event.Event.{Event}
@@ -13,7 +13,7 @@ use Rattle.bq_lines.specs.declared.command.LineReading.TheVariants as says
 use Rattle.bq_lines.proofs.KeptLemmas.{reading_heard-line}
 use Rattle.bq_trace.specs.Machines.{Driven}
 use Rattle.bq_trace.specs.Doing.{DoesAndAnswers}
-use Rattle.bq_trace.specs.Loading.{LoadsAndAnswers, fault_line}
+use Rattle.bq_trace.specs.Loading.{LoadsAndAnswers, fault_line, no_hex_line}
 use Rattle.bq_trace.specs.Texts.{event_line, bad_line, counter_line, show_line}
 use Rattle.bq_trace.specs.Trace.{Answers, AnswersLine, AnswersAll, EndsWake, Wakes}
 use Rattle.bq_trace.specs.Feeding.{Continues}
@@ -51,7 +51,7 @@ wake_text m k n c task now told h = record {
 
 load_text : (m k : Driven) (n c generation : ℕ) (hook : Hook) (image : List ℕ) (told : Told) → LoadHappens m n c hook generation image told k
     → LoadsAndAnswers m c hook generation image (texts told) k
-load_text m k n c generation hook image told (inl h) = inl (h.0, h.1, ap texts h.2 ∙ append-nil (codes "refused hex\n"), h.3)
+load_text m k n c generation hook image told (inl h) = inl (h.0, h.1, ap texts h.2 ∙ append-nil no_hex_line, h.3)
 load_text m k n c generation hook image told (inr (inl h)) = inr (inl (h.0, h.1, h.2, h.3, h.4, ap texts h.5 ∙ append-nil (fault_line h.1), h.6))
 load_text m k n c generation hook image told (inr (inr h)) = inr (inr (h.0, h.1, h.2, h.3, h.4, happens_text m k n _ h.2 told h.5))
 

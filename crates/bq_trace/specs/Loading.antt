@@ -1,5 +1,5 @@
 -- Images that a trace installs, and the lines that refuse them.
-use Rattle.std.specs.Prelude.{◌≡◌, ◌≢◌, ℕ, List, ◌++◌, ◌⊎◌, Some, Result, Ok, Err, codes}
+use Rattle.std.specs.Prelude.{◌≡◌, ◌≢◌, ℕ, List, ◌⊎◌, Some, Result, Ok, Err, codes}
 use Rattle.hex.specs.declared.error.FromHexError.{FromHexError}
 use Rattle.hex.specs.Hex.{decode_of}
 use Rattle.bq_verify.specs.Accepted.{Accepted}
@@ -11,16 +11,21 @@ use Rattle.bq_load.specs.declared.fault.LoadFault.TheVariants as fault
 use Rattle.bq_parts.specs.declared.event.Event.TheVariants.{Install}
 use Rattle.bq_parts.specs.declared.reply.Reply.{Reply}
 use Rattle.bq_parts.specs.declared.refusal.Refusal.{Refusal}
+use Rattle.bq_words.specs.Refused.{refused_line}
 use Rattle.bq_trace.specs.Machines.{Driven}
 use Rattle.bq_trace.specs.Doing.{DoesAndAnswers}
 
 -- the line that refuses an image
 abbrev pub fault_line : LoadFault → List ℕ
-fault_line why = codes "refused " ++ (fault_text why ++ codes "\n")
+fault_line why = refused_line (fault_text why)
+
+-- the line that refuses a word that is no hex
+abbrev pub no_hex_line : List ℕ
+no_hex_line = refused_line (codes "hex")
 
 -- the word is no hex
 abbrev pub RefusesHex : Driven → List ℕ → List ℕ → Driven → Type 0
-RefusesHex m image text n = (error : FromHexError) × (decode_of image ≡ Err error) × (text ≡ codes "refused hex\n") × (n ≡ m)
+RefusesHex m image text n = (error : FromHexError) × (decode_of image ≡ Err error) × (text ≡ no_hex_line) × (n ≡ m)
 
 -- it spells bytes that don't load
 abbrev pub RefusesImage : Driven → List ℕ → List ℕ → Driven → Type 0

@@ -1,5 +1,5 @@
 -- What comes of the lines of a trace, whoever takes it, and the text that answers it.
-use Rattle.std.specs.Prelude.{◌≡◌, ℕ, List, [], ◌∷◌, ◌++◌, Option, Result, codes}
+use Rattle.std.specs.Prelude.{◌≡◌, ℕ, List, [], ◌∷◌, ◌++◌, Option, Result}
 use Rattle.bq_load.specs.declared.fault.LoadFault.{LoadFault}
 use Rattle.bq_parts.specs.declared.event.Event.{Event}
 use Rattle.bq_parts.specs.declared.reply.Reply.{Reply}
@@ -7,7 +7,7 @@ use Rattle.bq_parts.specs.declared.refusal.Refusal.{Refusal}
 use Rattle.bq_words.specs.declared.rule.Rule.{Rule}
 use Rattle.bq_words.specs.declared.processor_count.ProcessorCount.{ProcessorCount}
 use Rattle.bq_trace.specs.Machines.{Driven}
-use Rattle.bq_trace.specs.Loading.{fault_line}
+use Rattle.bq_trace.specs.Loading.{fault_line, no_hex_line}
 use Rattle.bq_trace.specs.Texts.{event_line, bad_line, show_line, counter_line}
 
 -- what a line of a trace brings
@@ -41,7 +41,7 @@ text_of n (Opened rule size) = []
 text_of n (Skipped line) = []
 text_of n (Comes event m) = []
 text_of n (Answered event answer m) = event_line answer
-text_of n Unspelled = codes "refused hex\n"
+text_of n Unspelled = no_hex_line
 text_of n (Unloaded why) = fault_line why
 text_of n (Shown c m) = show_line m.world c
 text_of n (Counted i value) = counter_line i value

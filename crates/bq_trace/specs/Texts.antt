@@ -12,6 +12,7 @@ use Rattle.bq_parts.specs.declared.reply.Reply.TheVariants.{Admitted, Retired, D
 use Rattle.bq_parts.specs.declared.refusal.Refusal.{Refusal}
 use Rattle.bq_parts.specs.declared.refusal.Refusal.TheVariants.{NoProcessor}
 use Rattle.bq_parts.specs.RefusalTexts.{refusal_text}
+use Rattle.bq_words.specs.Refused.{refused_line}
 
 -- a task or `none`
 abbrev pub task_text : Option ℕ → List ℕ
@@ -47,7 +48,7 @@ reply_text (Pulled task run by steps) = codes "pull " ++ (task_text task ++ run_
 -- the line that answers an event
 abbrev pub event_line : Result Reply Refusal → List ℕ
 event_line (Ok reply) = reply_text reply ++ codes "\n"
-event_line (Err refusal) = codes "refused " ++ (refusal_text refusal ++ codes "\n")
+event_line (Err refusal) = refused_line (refusal_text refusal)
 
 -- the line for a line that says nothing known
 abbrev pub bad_line : ℕ → List ℕ

@@ -3,3 +3,4 @@ pub mod Units
 pub mod Words
 pub mod Sizes
 pub mod Nearness
+pub mod Refused
