@@ -1,5 +1,4 @@
-//! The lines of a trace: words, numbers, sets of processors, what a line asks and what its words are to be, and the line that has
-//! begun of a text in pieces.
+//! The lines of a trace: words, numbers, sets of processors, what a line asks, and the line that has begun of a text in pieces.
 //! Promises that each line is read as the format says, whatever its bytes.
 //! Stands on the core's events, on the machine that a policy runs on, and on `bq_words` for rules, sizes and decimals.
 #![tactic(auto)]
@@ -10,7 +9,6 @@ pub mod image;
 pub mod keyword;
 pub mod lines;
 pub mod numbers;
-pub mod operands;
 pub mod processor_sets;
 pub mod words;
 

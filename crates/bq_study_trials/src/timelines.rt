@@ -1,10 +1,10 @@
 //! A choice shown, lines that are bad or refused, and the words of options. The values are worked by hand.
 
 use crate::cases::holds;
-use bq_timeline::faults::why_bad;
 use bq_timeline::numbers::{tasks, time, width};
 use bq_timeline::{Settings, Words, show};
 use bq_trace::Counted;
+use bq_why::faults::why_bad;
 use std::alloc::{AllocError, Global};
 use std::process::Abort;
 use std::str::from_utf8;

@@ -6,7 +6,6 @@
 
 pub mod bounds_table;
 pub mod command;
-pub mod faults;
 pub mod form_names;
 pub mod numbers;
 pub mod screen;

@@ -6,7 +6,6 @@ ghost use Rattle.bq_schedule.specs.Figures.{task_of};
 ghost use Rattle.bq_timeline.specs.Shown.{IsAskedFor, is_read_by_lines};
 
 use crate::bounds_table::BoundsTable;
-use crate::faults::{Fault, why_bad};
 use crate::settings::Settings;
 use crate::shown::Shown;
 use bq_core::{Event, Refusal, Reply};
@@ -16,6 +15,7 @@ use bq_lines::with_first_line;
 use bq_load::{FaultInWords, LoadFault};
 use bq_schedule::{Change, Schedule};
 use bq_trace::AnyCore;
+use bq_why::faults::{Fault, why_bad};
 use bq_why::{Because, InWords, Occurrence};
 use bq_words::Rule;
 use std::alloc::{AllocError, Global};

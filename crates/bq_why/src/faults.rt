@@ -1,8 +1,8 @@
 //! Why a line is bad.
 
+use crate::operands::{LineOperand, operands_of};
 use bq_lines::Keyword;
 use bq_lines::lines::LONGEST;
-use bq_lines::operands::{LineOperand, operands_of};
 use bq_lines::words::is_allowed_line;
 use bq_words::next_word;
 use std::{fmt, str};

@@ -1,0 +1,157 @@
+//! The words that follow each keyword: what they are to be, and what one that is not is said to be.
+ghost use Rattle.std.specs.Prelude.{◌≡◌, ◌&&◌, length, nat_lt};
+ghost use Rattle.std.specs.Char.{is_ascii_digit};
+ghost use Rattle.std.specs.List.{list_all};
+
+use bq_bpf::board::COUNTERS;
+use bq_bpf::hook::NO_HOOK;
+use bq_bpf::{Hook, with_counters};
+use bq_lines::{Keyword, numbers, with_tasks};
+use bq_words::numbers::hex_digits;
+use bq_words::{Rule, with_rules};
+use std::fmt;
+
+/// What a word of a line is to be.
+#[derive(Clone, Copy)]
+pub enum LineOperand {
+    Rule,
+    ProcessorCount,
+    Processor,
+    Task,
+    Nice,
+    Mask,
+    Time,
+    Generation,
+    Slice,
+    Hook,
+    Image,
+    Counter,
+}
+
+impl LineOperand {
+    /// Whether a word is that.
+    pub fn fits(self, word: &[u8]) -> bool {
+        match self {
+            LineOperand::Rule => Rule::of_word(word).is_some(),
+            LineOperand::ProcessorCount => numbers::size(word).is_some(),
+            LineOperand::Processor => numbers::processor(word).is_some(),
+            LineOperand::Task => numbers::task(word).is_some(),
+            LineOperand::Nice => numbers::nice(word).is_some(),
+            LineOperand::Mask => numbers::mask(word).is_some(),
+            LineOperand::Time | LineOperand::Generation | LineOperand::Slice => numbers::decimal(
+                word,
+            ).is_some(),
+            LineOperand::Hook => Hook::of_word(word).is_some(),
+            LineOperand::Image => true,
+            LineOperand::Counter => numbers::processor(word).is_some_and(|counter| usize::from(
+                counter,
+            ) < COUNTERS),
+        }
+    }
+
+    /// Whether a word is written as such words are, where they are numbers: in digits, behind `-` for a nice value, or in digits of hex
+    /// behind `0x` for a mask.
+    pub fn has_form(self, word: &[u8]) -> bool {
+        match self {
+            LineOperand::Rule
+            | LineOperand::ProcessorCount
+            | LineOperand::Hook
+            | LineOperand::Image => true,
+            LineOperand::Nice => match word.strip_prefix(b"-") {
+                Some(digits) => are_digits(digits),
+                None => are_digits(word),
+            },
+            LineOperand::Mask => match hex_digits(word) {
+                Some(digits) => {
+                    !digits.is_empty() && digits.iter().all(|byte| byte.is_ascii_hexdigit())
+                }
+                None => are_digits(word),
+            },
+            LineOperand::Processor
+            | LineOperand::Task
+            | LineOperand::Time
+            | LineOperand::Generation
+            | LineOperand::Slice
+            | LineOperand::Counter => are_digits(word),
+        }
+    }
+
+    /// What a word without the form is said to be.
+    pub fn formless(self) -> &'static str {
+        match self {
+            LineOperand::Mask => "is no mask (decimal, or hex after 0x)",
+            _ => "is no number",
+        }
+    }
+
+    /// What a word that is not that is said to be, or not to fit.
+    fn words(self) -> &'static str {
+        match self {
+            LineOperand::Rule => with_rules!("is no rule (", ")"),
+            LineOperand::ProcessorCount => numbers::NO_SIZE,
+            LineOperand::Processor => "does not fit a processor's number (0 to 255)",
+            LineOperand::Task => with_tasks!("does not fit a task's number (", ")"),
+            LineOperand::Nice => "does not fit a nice value (-128 to 127)",
+            LineOperand::Mask => "does not fit a mask (64 bits, decimal or hex after 0x)",
+            LineOperand::Time => "does not fit a clock reading (0 to 2^64 - 1)",
+            LineOperand::Generation => "does not fit a generation (0 to 2^64 - 1)",
+            LineOperand::Slice => "does not fit a slice (0 to 2^64 - 1)",
+            LineOperand::Hook => NO_HOOK,
+            LineOperand::Image => "is no image",
+            LineOperand::Counter => with_counters!("does not fit a counter's number (", ")"),
+        }
+    }
+}
+
+impl fmt::Display for LineOperand {
+    fn fmt<W: fmt::Write>(&self, f: &mut fmt::Formatter<W>) -> fmt::Result {
+        f.write_str(self.words())
+    }
+}
+
+/// Whether a word is digits alone, one or more.
+fn are_digits(word: &[u8]) -> bool
+    ensures { result ≡ (nat_lt 0 (length word.now) && list_all is_ascii_digit word.now) }
+{
+    !word.is_empty() && all_digits(word)
+}
+
+/// Whether a word has no other bytes than digits.
+fn all_digits(word: &[u8]) -> bool
+    ensures { result ≡ list_all is_ascii_digit word.now }
+{
+    word.iter().all(|byte| byte.is_ascii_digit())
+}
+
+/// The words that follow a keyword.
+pub fn operands_of(keyword: Keyword) -> &'static [LineOperand] {
+    match keyword {
+        Keyword::Machine => &[LineOperand::Rule, LineOperand::ProcessorCount],
+        Keyword::Admit => &[
+            LineOperand::Task,
+            LineOperand::Nice,
+            LineOperand::Mask,
+            LineOperand::Slice,
+        ],
+        Keyword::Retire => &[LineOperand::Task],
+        Keyword::Draw => &[],
+        Keyword::Install => &[
+            LineOperand::Processor,
+            LineOperand::Generation,
+            LineOperand::Hook,
+            LineOperand::Image,
+        ],
+        Keyword::Begin => &[LineOperand::Processor, LineOperand::Task],
+        Keyword::Wake => &[LineOperand::Processor, LineOperand::Task, LineOperand::Time],
+        Keyword::End | Keyword::Drain | Keyword::Tick | Keyword::Block => {
+            &[LineOperand::Processor, LineOperand::Time]
+        }
+        Keyword::Pull => &[
+            LineOperand::Processor,
+            LineOperand::Processor,
+            LineOperand::Time,
+        ],
+        Keyword::Show => &[LineOperand::Processor],
+        Keyword::Counter => &[LineOperand::Counter],
+    }
+}
