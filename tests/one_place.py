@@ -92,6 +92,7 @@ DEFINED = [
     ('which discipline a rule names', r'\bCfs = cfs\b', {'bq_trace/specs/Machines.antt'}),
     ('which processors a mask has', r'/ 2 \^ \w+ % 2 == 1', {'bq_disc/specs/Masks.antt'}),
     ('which words are numbers', r'codes "0x"|IsNumeral 10', {'bq_words/specs/Numbers.antt'}),
+    ('the line that refuses', r'codes "refused ', {'bq_words/specs/Refused.antt'}),
     ('which numbers are nice values', r'negsuc 19\b', {'bq_weights/specs/VirtualTime.antt'}),
     ('from which to which length slices are', r'slice 100000\b|(?:nat_le|span_in) 100000\b', set()),
     ('how long a name may be', r'nat_le \(length [^)]*\)+ 1024\b', set()),

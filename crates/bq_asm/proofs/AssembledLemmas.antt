@@ -2,18 +2,18 @@
 use Rattle.std.proofs.Common.{◌≡◌, ℕ, suc, ◌+◌, ◌<◌, ◌≤◌, List, [], ◌∷◌, ◌++◌, length, take, get_or, refl, sym, ap, ◌∙◌, Bool, true, false, Some, None, arith, subst, length-append, append_assoc, append-nil}
 use Rattle.std.specs.Prelude.{Option, Result, Ok, Err, ℤ, pos, ◌-ℤ◌, FitsSigned, option_map, if◌then◌else◌, nat_le, ◌&&◌, IfSome}
 use Rattle.std.specs.Int.{w16}
-use Rattle.std.specs.List.{list_any, list_all, flat_map, AllByRecursion}
+use Rattle.std.specs.List.{list_any, list_all, AllByRecursion}
 use Rattle.std.specs.Map.{lookup, keys_of}
 use Rattle.std.specs.Str.{bytes_eq}
 use Rattle.std.proofs.lemmas.Bool.Decides.{nat_tests}
 use Rattle.std.proofs.lemmas.Int.{ints}
 use Rattle.std.proofs.lemmas.List.{map-append, take_at, get_or_at}
-use Rattle.bq_insn.specs.declared.Source.TheVariants.{Imm, Reg}
 use Rattle.bq_insn.specs.declared.Insn.{Insn}
 use Rattle.bq_insn.specs.declared.Insn.TheVariants as insn
 use Rattle.bq_insn.specs.Slots.{slots_of}
-use Rattle.bq_insn.specs.Spelling.{spelled, slot_count, is_insn, is_well_formed}
+use Rattle.bq_insn.specs.Spelling.{slot_count, is_insn, is_well_formed}
 use Rattle.bq_insn.specs.Laws.{AllFit}
+use Rattle.bq_insn.proofs.CountLemmas.{slots_positive, slot_count-cons}
 use Rattle.bq_asm.specs.declared.fault.Cause.{Cause}
 use Rattle.bq_asm.specs.declared.fault.Cause.TheVariants.{Word, LabelTwice, Slots}
 use Rattle.bq_asm.specs.Lines.{Line, Blank, Label, Instruction, lines_of, last_word}
@@ -77,17 +77,6 @@ new_labels before (Instruction first operands ∷ lines) slot h =
 pub clean_labels : (lines : List Line) → IsClean lines → AreNewLabels [] (keys_of (places_from 0 lines))
 clean_labels lines h = new_labels [] lines 0 (clean_after lines h)
 
-slots_of-spelled : (i : Insn) → length (spelled i) ≡ slots_of i
-slots_of-spelled (insn.Alu w o d (Imm n)) = refl
-slots_of-spelled (insn.Alu w o d (Reg s)) = refl
-slots_of-spelled (insn.Branch w o d (Imm n) off) = refl
-slots_of-spelled (insn.Branch w o d (Reg s) off) = refl
-slots_of-spelled i = refl
-
--- an instruction before others takes its own slots beside theirs
-pub slot_count-cons : (i : Insn) (insns : List Insn) → slot_count (i ∷ insns) ≡ slots_of i + slot_count insns
-slot_count-cons i insns = length-append (spelled i) (flat_map spelled insns) ∙ ap (λ n. n + slot_count insns) (slots_of-spelled i)
-
 -- an instruction takes the slots of its line
 pub slots_same : (first : List ℕ) (operands : List (List ℕ)) (d : Option ℤ) (i : Insn) → instruction_of first operands d ≡ Ok i → slots_of_line (Instruction first operands) ≡ slots_of i
 slots_same first operands d i h = let again = read_again first operands d i h in ap slots_read again.read ∙ again.slots
@@ -129,11 +118,6 @@ pub record AreFine (insns : List Insn) : Type 0 where
   pub in_range : list_all is_insn insns ≡ true
   pub fit : AllFit insns
 
-some_slots : (i : Insn) → 1 ≤ slots_of i
-some_slots (insn.Imm64 d v) = omega arith
-some_slots (insn.MapRef d n) = omega arith
-some_slots i = omega arith
-
 -- the instructions that lines say within 4096 slots are in range, and their numbers are of their fields' types
 pub says_fine : (places : List (List ℕ × ℕ)) (slot : ℕ) (lines : List Line) (insns : List Insn) → AllByRecursion (λ p. p.1 ≤ 4096) places → slot + slot_count insns ≤ 4096 → Says places slot lines insns → AreFine insns
 says_fine places slot [] [] near few h = record { in_range = refl; fit = tt }
@@ -143,7 +127,7 @@ says_fine places slot (Blank ∷ lines) insns near few h = says_fine places slot
 says_fine places slot (Label name ∷ lines) insns near few h = says_fine places slot lines insns near few h
 says_fine places slot (Instruction first operands ∷ lines) (i ∷ insns) near few h =
     let sum = slot_count-cons i insns in
-    let one = some_slots i in
+    let one = slots_positive i in
     let fine = instruction_fine first operands (distance_to places slot (last_word operands)) i (label_distance_fits places slot (last_word operands) near (omega (arith, sum, one))) h.0 in
     let rest = says_fine places (slot + slots_of i) lines insns near (omega (arith, sum)) h.1 in
     record { in_range = ap (λ b. b && list_all is_insn insns) fine.in_range ∙ rest.in_range; fit = (fine.fits, rest.fit) }

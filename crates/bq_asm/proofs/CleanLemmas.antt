@@ -1,8 +1,8 @@
 -- Lines without a fault are read, and what the second pass finds is what they say.
 use Rattle.std.proofs.Common.{◌≡◌, ℕ, zero, suc, ◌<◌, List, [], length, take, get_or, refl, sym, ap, ◌∙◌, Some, None, arith, subst}
-use Rattle.std.specs.Prelude.{Result, Ok, Err, pos, slice_get, option_and_then}
+use Rattle.std.specs.Prelude.{Result, Ok, Err, pos, option_and_then}
 use Rattle.std.specs.List.{AllByRecursion}
-use Rattle.std.proofs.lemmas.Option.{gets}
+use Rattle.std.proofs.lemmas.Option.{slice_get-get_or}
 use Rattle.std.proofs.lemmas.List.Elements.{recursion_from_All}
 use Rattle.bq_insn.specs.declared.Insn.{Insn}
 use Rattle.bq_asm.specs.declared.fault.Cause.{Cause}
@@ -23,13 +23,9 @@ readable before Blank h = tt
 readable before (Label name) h = tt
 readable before (Instruction first operands) h = read_from_cause (slots_in before) (instruction_of first operands (Some (pos 0))) h
 
--- at a place within the lines stands what is read there, whatever is given for one past their end
-pub line_at : (lines : List Line) (k : ℕ) (d : Line) → k < length lines → slice_get lines k ≡ Some (get_or lines k d)
-line_at lines k d h = grind (arith, gets)
-
 -- a line's fault is its cause by the lines before it
 pub fault_at-is : (lines : List Line) (k : ℕ) (d : Line) → k < length lines → fault_at lines (suc k) ≡ cause_at (take k lines) (get_or lines k d)
-fault_at-is lines k d h = ap (option_and_then (cause_at (take k lines))) (line_at lines k d h)
+fault_at-is lines k d h = ap (option_and_then (cause_at (take k lines))) (slice_get-get_or lines k d h)
 
 -- each of some lines without a fault can be read
 pub readable_from_clean : (lines : List Line) → IsClean lines → AllByRecursion IsReadable lines

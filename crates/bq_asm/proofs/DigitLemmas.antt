@@ -1,6 +1,6 @@
 -- The numbers that the listing writes are read again.
 use Rattle.std.proofs.Common.{◌≡◌, ℕ, suc, ◌+◌, ◌-◌, ◌%◌, ◌^◌, ◌<◌, ◌≤◌, List, [], ◌∷◌, ◌++◌, length, drop, refl, sym, ap, ◌∙◌, Bool, true, false, Some, None, arith, ⊎_elim}
-use Rattle.std.specs.Prelude.{Option, ℤ, pos, negsuc, FitsSigned, option_map, nat_lt, nat_le, nat_eq, ◌&&◌, if◌then◌else◌, codes}
+use Rattle.std.specs.Prelude.{ℤ, pos, negsuc, FitsSigned, option_map, nat_lt, nat_le, nat_eq, ◌&&◌, if◌then◌else◌, codes}
 use Rattle.std.specs.Int.{w16, w32}
 use Rattle.std.specs.List.{list_all, starts_with}
 use Rattle.std.specs.Char.{digit_value}
@@ -10,6 +10,7 @@ use Rattle.std.proofs.lemmas.Fmt.{decimal_is_IsNumeral, decimal_by_steps, decima
 use Rattle.std.proofs.lemmas.Bool.{and_from, and_parts, and_right, and_left, lt-ltb, le-leb, ne_eqb, leb-true, cases_lt}
 use Rattle.std.proofs.lemmas.Int.{ints}
 use Rattle.bq_words.specs.Numbers.{number_of, below, value_of}
+use Rattle.bq_words.proofs.NumberLemmas.{below-Some}
 use Rattle.bq_asm.specs.Numbers.{negative, imm_of, offset_of, distance_of, wide_of, register_of}
 use Rattle.bq_asm.specs.Text.{signed_text}
 
@@ -44,7 +45,8 @@ decimal_digits n h = decimal_by_steps (λ m ds. list_all is_digit ds ≡ true) o
     more : (m : ℕ) (ds : List ℕ) → 10 ≤ m → list_all is_digit ds ≡ true → list_all is_digit (ds ++ ((48 + m % 10) ∷ [])) ≡ true
     more m ds ge all = list_all-append is_digit ds ((48 + m % 10) ∷ []) all (one (m % 10) (omega arith))
 
-all_below : (cs : List ℕ) → AllDigits 10 cs → list_all (λ c. nat_lt (digit_value c) 10) cs ≡ true
+-- each digit of a decimal number is below ten
+pub all_below : (cs : List ℕ) → AllDigits 10 cs → list_all (λ c. nat_lt (digit_value c) 10) cs ≡ true
 all_below [] h = refl
 all_below (c ∷ cs) h = and_from (nat_lt (digit_value c) 10) (list_all (λ c. nat_lt (digit_value c) 10) cs) (lt-ltb (digit_value c) 10 h.0) (all_below cs h.1)
 
@@ -85,37 +87,34 @@ first_no_sign (b ∷ bs) s some h lt = no_sign b bs s (and_parts (is_digit b) (l
 pub decimal_no_sign : (n s : ℕ) → n < 2 ^ 64 → s < 48 → starts_with nat_eq (decimal n) (s ∷ []) ≡ false
 decimal_no_sign n s h lt = first_no_sign (decimal n) s (decimal_is_IsNumeral n h).0.0 (decimal_digits n h) lt
 
-below_is : (limit n : ℕ) (o : Option ℕ) → o ≡ Some n → n < limit → below limit o ≡ Some n
-below_is limit n o h lt = ap (below limit) h ∙ ap (λ b. if b then Some n else None) (lt-ltb n limit lt)
-
 -- a number of 32 bits, with a minus where it is negative, is read as itself where an immediate stands
 pub imm_of-signed : (z : ℤ) → FitsSigned w32 z → imm_of (signed_decimal z) ≡ Some z
 imm_of-signed (pos n) h =
     let lt : n < 2 ^ 31 = omega (arith, ints, h) in
     let word = decimal n in
     ap (λ b. if b then option_map negative (below (2 ^ 31 + 1) (value_of (drop 1 word))) else option_map (λ n. pos n) (below (2 ^ 31) (value_of word))) (decimal_no_sign n 45 (omega arith) (omega arith))
-    ∙ ap (option_map (λ n. pos n)) (below_is (2 ^ 31) n (value_of word) (value_of-decimal n (omega arith)) lt)
+    ∙ ap (option_map (λ n. pos n)) (below-Some (2 ^ 31) n (value_of word) (value_of-decimal n (omega arith)) lt)
 imm_of-signed (negsuc n) h =
     let lt : suc n < 2 ^ 31 + 1 = omega (arith, ints, h) in
-    ap (option_map negative) (below_is (2 ^ 31 + 1) (suc n) (value_of (decimal (suc n))) (value_of-decimal (suc n) (omega arith)) lt)
+    ap (option_map negative) (below-Some (2 ^ 31 + 1) (suc n) (value_of (decimal (suc n))) (value_of-decimal (suc n) (omega arith)) lt)
 
 -- a number of 16 bits with its sign is read as itself where an offset stands
 pub offset_of-signed : (z : ℤ) → FitsSigned w16 z → offset_of (signed_text z) ≡ Some z
 offset_of-signed (pos n) h =
     let lt : n < 2 ^ 15 = omega (arith, ints, h) in
-    ap (option_map (λ n. pos n)) (below_is (2 ^ 15) n (value_of (decimal n)) (value_of-decimal n (omega arith)) lt)
+    ap (option_map (λ n. pos n)) (below-Some (2 ^ 15) n (value_of (decimal n)) (value_of-decimal n (omega arith)) lt)
 offset_of-signed (negsuc n) h =
     let lt : suc n < 2 ^ 15 + 1 = omega (arith, ints, h) in
-    ap (option_map negative) (below_is (2 ^ 15 + 1) (suc n) (value_of (decimal (suc n))) (value_of-decimal (suc n) (omega arith)) lt)
+    ap (option_map negative) (below-Some (2 ^ 15 + 1) (suc n) (value_of (decimal (suc n))) (value_of-decimal (suc n) (omega arith)) lt)
 
 -- a number of 32 bits with its sign is read as itself where a distance stands
 pub distance_of-signed : (z : ℤ) → FitsSigned w32 z → distance_of (signed_text z) ≡ Some z
 distance_of-signed (pos n) h =
     let lt : n < 2 ^ 31 = omega (arith, ints, h) in
-    ap (option_map (λ n. pos n)) (below_is (2 ^ 31) n (value_of (decimal n)) (value_of-decimal n (omega arith)) lt)
+    ap (option_map (λ n. pos n)) (below-Some (2 ^ 31) n (value_of (decimal n)) (value_of-decimal n (omega arith)) lt)
 distance_of-signed (negsuc n) h =
     let lt : suc n < 2 ^ 31 + 1 = omega (arith, ints, h) in
-    ap (option_map negative) (below_is (2 ^ 31 + 1) (suc n) (value_of (decimal (suc n))) (value_of-decimal (suc n) (omega arith)) lt)
+    ap (option_map negative) (below-Some (2 ^ 31 + 1) (suc n) (value_of (decimal (suc n))) (value_of-decimal (suc n) (omega arith)) lt)
 
 -- a number below 2^64 in decimal is read as itself where a wide number stands
 pub wide_of-decimal : (n : ℕ) → n < 2 ^ 64 → wide_of (decimal n) ≡ Some n

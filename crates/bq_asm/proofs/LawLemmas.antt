@@ -10,6 +10,7 @@ use Rattle.std.proofs.lemmas.Map.Made.{is_some-lookup}
 use Rattle.bq_insn.specs.declared.Insn.{Insn}
 use Rattle.bq_insn.specs.Slots.{slots_of}
 use Rattle.bq_insn.specs.Spelling.{slot_count}
+use Rattle.bq_insn.proofs.CountLemmas.{slot_count-cons}
 use Rattle.bq_asm.specs.declared.fault.Cause.{Cause}
 use Rattle.bq_asm.specs.declared.fault.Cause.TheVariants.{LabelMissing, Slots}
 use Rattle.bq_asm.specs.declared.mnemonic.Mnemonic.{Mnemonic}
@@ -25,7 +26,7 @@ use Rattle.bq_asm.proofs.DraftLemmas.{slots_in-append, insn_fits, cause_of_label
 use Rattle.bq_asm.proofs.ReadingLemmas.{read_again}
 use Rattle.bq_asm.proofs.PassLemmas.{missing_in, Passes}
 use Rattle.bq_asm.proofs.CleanLemmas.{fault_at-is, first_from_missing, passes_all}
-use Rattle.bq_asm.proofs.AssembledLemmas.{IsCleanAfter, clean_after, labels_in-more, slot_count-cons, slots_same, says_count, assembles_from, fits_from_cause}
+use Rattle.bq_asm.proofs.AssembledLemmas.{IsCleanAfter, clean_after, labels_in-more, slots_same, says_count, assembles_from, fits_from_cause}
 use Rattle.bq_asm.proofs.LineByLineLemmas.{all_clean}
 
 -- the same lines say the same

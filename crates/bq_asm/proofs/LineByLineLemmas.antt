@@ -1,6 +1,6 @@
 -- One line of a text after others, and the first fault.
 use Rattle.std.proofs.Common.{◌≡◌, ℕ, zero, suc, ◌+◌, ◌<◌, ◌≤◌, List, [], ◌∷◌, length, take, get_or, map, refl, sym, ap, ◌∙◌, None, arith, subst, inl, inr, ⊎_elim}
-use Rattle.std.specs.Prelude.{slice_get, option_and_then, Result, Ok, Err, IfOk, IfErr}
+use Rattle.std.specs.Prelude.{option_and_then, Result, Ok, Err, IfOk, IfErr}
 use Rattle.std.specs.Global.{Vec}
 use Rattle.std.proofs.lemmas.Result.{IfOk-weaker}
 use Rattle.bq_insn.specs.declared.Insn.{Insn}
@@ -8,6 +8,7 @@ use Rattle.std.specs.Borrow.{Bor}
 use Rattle.std.specs.Str.Lines.{lines}
 use Rattle.std.proofs.lemmas.List.{length-map, take-map, get_or-map}
 use Rattle.std.proofs.lemmas.Bool.{cases_lt}
+use Rattle.std.proofs.lemmas.Option.{slice_get_past}
 use Rattle.bq_asm.specs.declared.fault.AsmFault.{AsmFault}
 use Rattle.bq_asm.specs.declared.fault.AsmFault.TheVariants.{At, OutOfMemory}
 use Rattle.bq_asm.specs.declared.draft.Draft.{Draft}
@@ -55,11 +56,6 @@ first_fault text draft yielded n line (At k c) count described clean here h =
 pub all_clean : (lines : List Line) (n : ℕ) → length lines ≡ n → ((k : ℕ) → k ≤ n → fault_at lines k ≡ None) → IsClean lines
 all_clean lines n whole h zero = refl
 all_clean lines n whole h (suc k) = ⊎_elim (λ lt. h (suc k) (omega arith)) (λ ge. ap (option_and_then (cause_at (take k lines))) (slice_get_past lines k ge)) (cases_lt k (length lines))
-  where
-    slice_get_past : (ls : List Line) (j : ℕ) → length ls ≤ j → slice_get ls j ≡ None
-    slice_get_past [] j le = refl
-    slice_get_past (l ∷ ls) zero le = absurd (omega arith)
-    slice_get_past (l ∷ ls) (suc j) le = slice_get_past ls j (omega arith)
 
 -- what is wrong with all lines, where none has a fault by itself
 pub whole_fault : (text : List ℕ) (draft : Draft) (e : AsmFault) → Describes (lines_of text) draft → IsClean (lines_of text) → Fails draft e → IsFault text e

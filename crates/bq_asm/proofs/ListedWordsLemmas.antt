@@ -3,7 +3,7 @@ use Rattle.std.proofs.Common.{◌≡◌, ℕ, ◌≤◌, List, [], ◌∷◌, ma
 use Rattle.std.specs.Prelude.{Option, Ok, ℤ, ◌&&◌}
 use Rattle.std.specs.List.{AllByRecursion}
 use Rattle.std.specs.Option.{ok_or}
-use Rattle.std.proofs.lemmas.Bool.{and_parts, leb-true}
+use Rattle.std.proofs.lemmas.Bool.{and_parts, leb-true, false≢true}
 use Rattle.bq_insn.specs.declared.Width.{Width}
 use Rattle.bq_insn.specs.declared.Width.TheVariants.{W32, W64}
 use Rattle.bq_insn.specs.declared.Order.{Order}
@@ -46,9 +46,6 @@ have_kinds [] [] = true
 have_kinds (k ∷ ks) (o ∷ os) = has_kind k o && have_kinds ks os
 have_kinds ks os = false
 
-no : {P : Type 0} → false ≡ true → P
-no h = absurd (let e : false ≡ true = h in cc)
-
 -- an operand's text is read as that operand
 again : (k : OperandKind) (o : Operand) (d : Option ℤ) → has_kind k o ≡ true → IsInRange o → operand_of k (operand_text o) d ≡ Ok o
 unfolding has_kind
@@ -60,13 +57,13 @@ again kind.Wide (operand.Wide n) d h g = wide_again n d g
 again kind.Memory (operand.Memory r z) d h g = memory_again r z d g.0 g.1
 again kind.Near (operand.Near z) d h g = near_again z d g
 again kind.Far (operand.Far z) d h g = far_again z d g
-again k o d h g = no h
+again k o d h g = absurd (false≢true h)
 
 each_again : (ks : List OperandKind) (os : List Operand) (d : Option ℤ) → have_kinds ks os ≡ true → AllByRecursion IsInRange os → each_operand ks (map operand_text os) d ≡ Ok os
 unfolding have_kinds
 each_again [] [] d h g = refl
-each_again [] (o ∷ os) d h g = no h
-each_again (k ∷ ks) [] d h g = no h
+each_again [] (o ∷ os) d h g = absurd (false≢true h)
+each_again (k ∷ ks) [] d h g = absurd (false≢true h)
 each_again (k ∷ ks) (o ∷ os) d h g =
     let parts = and_parts (has_kind k o) (have_kinds ks os) h in
     λ n. with_next (again k o d parts.0 g.0 n) (each_again ks os d parts.1 g.1 n)
@@ -96,17 +93,17 @@ extended : (w : Width) (b : Bits) (d s : ℕ) → is_insn (insn.MovSx w b d s) �
 extended w B8 d s h = both d s h
 extended w B16 d s h = both d s h
 extended W64 B32 d s h = both d s h
-extended W32 B32 d s h = no h
-extended w B64 d s h = no h
+extended W32 B32 d s h = absurd (false≢true h)
+extended w B64 d s h = absurd (false≢true h)
 
 ordered : (order : Order) (b : Bits) (d : ℕ) → is_insn (insn.End order b d) ≡ true → d ≤ 10
-ordered order B8 d h = no h
+ordered order B8 d h = absurd (false≢true h)
 ordered order B16 d h = in_range d h
 ordered order B32 d h = in_range d h
 ordered order B64 d h = in_range d h
 
 loaded : (size : Size) (signed : Bool) (d s : ℕ) (off : ℤ) → is_insn (insn.Load size signed d s off) ≡ true → Two d s
-loaded Double true d s off h = no h
+loaded Double true d s off h = absurd (false≢true h)
 loaded Byte true d s off h = both d s h
 loaded Half true d s off h = both d s h
 loaded Word true d s off h = both d s h

@@ -35,7 +35,7 @@ use Rattle.bq_asm.specs.declared.mnemonic.Mnemonic.TheVariants as name
 use Rattle.bq_asm.specs.declared.operand.Operand.{Operand}
 use Rattle.bq_asm.specs.declared.operand.Operand.TheVariants as operand
 use Rattle.bq_asm.specs.Names.{op_name, cond_name, width_name, size_name, order_name, bits_name, name_of}
-use Rattle.bq_asm.specs.Text.{signed_text, operand_text, mnemonic_of, operands_of, after_first, operands_text, line_text, listing_text}
+use Rattle.bq_asm.specs.Text.{signed_text, operand_text, mnemonic_of, operands_of, after_first, operands_text, line_text, listing_text, line_body}
 use Rattle.bq_asm.specs.Lines.{Line, Instruction, is_comment, is_blank, words, line_of, line_said, lines_of, last_word}
 use Rattle.bq_asm.specs.Assembly.{slots_of_line, places_from, distance_to, Says, AreNewLabels}
 use Rattle.bq_asm.specs.Laws.{ListingAssembles}
@@ -189,11 +189,7 @@ name_some (name.StoreReg size) = omega arith
 name_some (name.Branch w c) = let sum = length-append (cond_name c) (width_name w) in let two = width_some w in omega (arith, sum, two)
 name_some m = omega arith
 
--- an instruction's line without its end
-abbrev body_of : Insn → List ℕ
-body_of i = name_of (mnemonic_of i) ++ operands_text (operands_of i)
-
-words_of-body : (i : Insn) → AllByRecursion IsInRange (operands_of i) → words (body_of i) ≡ name_of (mnemonic_of i) ∷ map operand_text (operands_of i)
+words_of-body : (i : Insn) → AllByRecursion IsInRange (operands_of i) → words (line_body i) ≡ name_of (mnemonic_of i) ∷ map operand_text (operands_of i)
 words_of-body i h =
     let m = mnemonic_of i in
     first_word (name_of m) (operands_text (operands_of i)) (record { some = name_some m; plain = name_plain m }) (operands_end (operands_of i)) ∙ ap (λ ws. name_of m ∷ ws) (words_operands (operands_of i) h)
@@ -210,7 +206,7 @@ operands_inner : (os : List Operand) → AllByRecursion IsInRange os → list_al
 operands_inner [] h = refl
 operands_inner (o ∷ os) h = list_all-append is_inner (operand_text o) (after_first os) (plain_inner (operand_text o) (operand_word o h.0).plain) (after_inner os h.1)
 
-body_inner : (i : Insn) → AllByRecursion IsInRange (operands_of i) → list_all is_inner (body_of i) ≡ true
+body_inner : (i : Insn) → AllByRecursion IsInRange (operands_of i) → list_all is_inner (line_body i) ≡ true
 body_inner i h = list_all-append is_inner (name_of (mnemonic_of i)) (operands_text (operands_of i)) (plain_inner (name_of (mnemonic_of i)) (name_plain (mnemonic_of i))) (operands_inner (operands_of i) h)
 
 no_comment : (bs : List ℕ) → list_all is_inner bs ≡ true → position_or_len is_comment bs ≡ length bs
@@ -225,8 +221,8 @@ without_comment : (bs : List ℕ) → list_all is_inner bs ≡ true → before_f
 without_comment bs h = ap (λ n. take n bs) (no_comment bs h) ∙ take_all (length bs) bs (omega arith)
 
 -- the instruction that a line says, by its words
-line_said-body : (i : Insn) → AllByRecursion IsInRange (operands_of i) → line_said (body_of i) ≡ Instruction (name_of (mnemonic_of i)) (map operand_text (operands_of i))
-line_said-body i h = ap (λ bs. line_of (words bs)) (without_comment (body_of i) (body_inner i h)) ∙ ap line_of (words_of-body i h) ∙ lone i
+line_said-body : (i : Insn) → AllByRecursion IsInRange (operands_of i) → line_said (line_body i) ≡ Instruction (name_of (mnemonic_of i)) (map operand_text (operands_of i))
+line_said-body i h = ap (λ bs. line_of (words bs)) (without_comment (line_body i) (body_inner i h)) ∙ ap line_of (words_of-body i h) ∙ lone i
   where
     lone : (i : Insn) → line_of (name_of (mnemonic_of i) ∷ map operand_text (operands_of i)) ≡ Instruction (name_of (mnemonic_of i)) (map operand_text (operands_of i))
     lone (insn.Alu w o d src) = refl
@@ -259,7 +255,8 @@ no_return (b ∷ bs) zero h e =
     eqb-false b 13 (not-true (b == 13) (and_parts (not (b == 10)) (not (b == 13)) rest).1) e
 no_return (b ∷ bs) (suc k) h e = no_return bs k (and_parts (is_inner b) (list_all is_inner bs) h).1 e
 
-parts_more : (line : List ℕ) (parts : List (List ℕ)) → 0 < length parts → lines_of_parts (line ∷ parts) ≡ strip_carriage_return line ∷ lines_of_parts parts
+-- the first of some parts is a line, and the others are the lines after it
+pub parts_more : (line : List ℕ) (parts : List (List ℕ)) → 0 < length parts → lines_of_parts (line ∷ parts) ≡ strip_carriage_return line ∷ lines_of_parts parts
 parts_more line [] h = absurd (omega arith)
 parts_more line (p ∷ parts) h = refl
 
@@ -283,8 +280,8 @@ lines_of-listing (i ∷ insns) h k =
     let m = name_of (mnemonic_of i) in
     let os = operands_text (operands_of i) in
     let rest = listing_text insns in
-    let regrouped : line_text i ++ rest ≡ body_of i ++ 10 ∷ rest = append_assoc m (os ++ codes "\n") rest ∙ ap (λ bs. m ++ bs) (append_assoc os (codes "\n") rest) ∙ sym (append_assoc m os (10 ∷ rest)) in
-    ap (λ bs. map line_said (lines bs)) regrouped ∙ ap (map line_said) (lines-body (body_of i) rest (body_inner i good))
+    let regrouped : line_text i ++ rest ≡ line_body i ++ 10 ∷ rest = append_assoc m (os ++ codes "\n") rest ∙ ap (λ bs. m ++ bs) (append_assoc os (codes "\n") rest) ∙ sym (append_assoc m os (10 ∷ rest)) in
+    ap (λ bs. map line_said (lines bs)) regrouped ∙ ap (map line_said) (lines-body (line_body i) rest (body_inner i good))
     ∙ (λ n. line_said-body i good n ∷ lines_of-listing insns parts.1 k.1 n)
 
 -- a listing sets no label

@@ -3,6 +3,7 @@ use Rattle.std.proofs.Common.{◌≡◌, ℕ, List, [], ◌∷◌, length, refl,
 use Rattle.std.specs.Prelude.{Option, Result, Ok, Err, ℤ, pos, ◌⊎◌, if◌then◌else◌, option_map}
 use Rattle.std.specs.List.{list_all}
 use Rattle.std.specs.Option.{ok_or}
+use Rattle.std.proofs.lemmas.Bool.{false≢true}
 use Rattle.bq_insn.specs.declared.Width.{Width}
 use Rattle.bq_insn.specs.declared.Condition.{Condition}
 use Rattle.bq_insn.specs.declared.Insn.{Insn}
@@ -92,9 +93,6 @@ is_steady kind.Near = false
 is_steady kind.Far = false
 is_steady k = true
 
-not_false : {P : Type 0} → false ≡ true → P
-not_false h = absurd (let e : false ≡ true = h in cc)
-
 steady_operands : (ks : List OperandKind) (ws : List (List ℕ)) (d e : Option ℤ) → list_all is_steady ks ≡ true → each_operand ks ws d ≡ each_operand ks ws e
 unfolding is_steady
 steady_operands [] [] d e h = refl
@@ -105,8 +103,8 @@ steady_operands (kind.Source ∷ ks) (w ∷ ws) d e h = ap (with_next (operand_o
 steady_operands (kind.Number ∷ ks) (w ∷ ws) d e h = ap (with_next (operand_of kind.Number w d)) (steady_operands ks ws d e h)
 steady_operands (kind.Wide ∷ ks) (w ∷ ws) d e h = ap (with_next (operand_of kind.Wide w d)) (steady_operands ks ws d e h)
 steady_operands (kind.Memory ∷ ks) (w ∷ ws) d e h = ap (with_next (operand_of kind.Memory w d)) (steady_operands ks ws d e h)
-steady_operands (kind.Near ∷ ks) (w ∷ ws) d e h = not_false h
-steady_operands (kind.Far ∷ ks) (w ∷ ws) d e h = not_false h
+steady_operands (kind.Near ∷ ks) (w ∷ ws) d e h = absurd (false≢true h)
+steady_operands (kind.Far ∷ ks) (w ∷ ws) d e h = absurd (false≢true h)
 
 -- the distance does not matter, and no label waits for it
 pub record IsSteady (m : Mnemonic) (operands : List (List ℕ)) : Type 0 where
@@ -320,7 +318,7 @@ pub jump_slots : (i : Insn) → is_jump i ≡ true → slots_of i ≡ 1
 jump_slots (insn.Goto off) h = refl
 jump_slots (insn.Goto32 n) h = refl
 jump_slots (insn.Branch w c d src off) h = refl
-jump_slots i h = not_false h
+jump_slots i h = absurd (false≢true h)
 
 -- a jump takes the same slots whatever its distance, and other instructions do not change
 pub aimed_slots : (i : Insn) (z : ℤ) → slots_of (aimed i z) ≡ slots_of i

@@ -1,6 +1,7 @@
 -- The words of an instruction say that instruction.
 use Rattle.std.proofs.Common.{◌≡◌, refl, true, false}
 use Rattle.std.specs.Prelude.{Some}
+use Rattle.std.proofs.lemmas.Bool.{false≢true}
 use Rattle.bq_insn.specs.declared.Width.{Width}
 use Rattle.bq_insn.specs.declared.Width.TheVariants.{W32, W64}
 use Rattle.bq_insn.specs.declared.Operation.{Operation}
@@ -30,9 +31,6 @@ insn_from-parts (insn.Load size false d s off) = refl
 insn_from-parts (insn.Load size true d s off) = refl
 insn_from-parts i = refl
 
-not_false : {P : Type 0} → false ≡ true → P
-not_false h = absurd (let e : false ≡ true = h in cc)
-
 named-alu : (w : Width) (o : Operation) → named (name_of (name.Alu w o)) ≡ Some (name.Alu w o)
 named-alu W32 op.Add = refl
 named-alu W64 op.Add = refl
@@ -54,10 +52,10 @@ named-again (insn.MovSx W32 B16 d s) h = refl
 named-again (insn.MovSx W64 B8 d s) h = refl
 named-again (insn.MovSx W64 B16 d s) h = refl
 named-again (insn.MovSx W64 B32 d s) h = refl
-named-again (insn.MovSx W32 B32 d s) h = not_false h
-named-again (insn.MovSx W32 B64 d s) h = not_false h
-named-again (insn.MovSx W64 B64 d s) h = not_false h
-named-again (insn.End order B8 d) h = not_false h
+named-again (insn.MovSx W32 B32 d s) h = absurd (false≢true h)
+named-again (insn.MovSx W32 B64 d s) h = absurd (false≢true h)
+named-again (insn.MovSx W64 B64 d s) h = absurd (false≢true h)
+named-again (insn.End order B8 d) h = absurd (false≢true h)
 named-again (insn.End Little B16 d) h = refl
 named-again (insn.End Little B32 d) h = refl
 named-again (insn.End Little B64 d) h = refl
@@ -67,7 +65,7 @@ named-again (insn.End Big B64 d) h = refl
 named-again (insn.End Swapped B16 d) h = refl
 named-again (insn.End Swapped B32 d) h = refl
 named-again (insn.End Swapped B64 d) h = refl
-named-again (insn.Load Double true d s off) h = not_false h
+named-again (insn.Load Double true d s off) h = absurd (false≢true h)
 named-again (insn.Load Byte true d s off) h = refl
 named-again (insn.Load Half true d s off) h = refl
 named-again (insn.Load Word true d s off) h = refl

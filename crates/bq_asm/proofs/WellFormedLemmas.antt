@@ -6,6 +6,7 @@ use Rattle.std.specs.List.{list_all, AllByRecursion}
 use Rattle.std.specs.Str.{bytes_eq}
 use Rattle.std.proofs.lemmas.Bool.Decides.{nat_tests}
 use Rattle.std.proofs.lemmas.Int.{ints}
+use Rattle.std.proofs.lemmas.Bool.{and_from, false≢true}
 use Rattle.bq_insn.specs.declared.Width.TheVariants.{W32, W64}
 use Rattle.bq_insn.specs.declared.Bits.TheVariants.{B8, B16, B32, B64}
 use Rattle.bq_insn.specs.declared.Size.TheVariants.{Byte, Half, Word, Double}
@@ -147,18 +148,11 @@ IfFine (Some i) = IsFine i
 register_is : (r : ℕ) → r ≤ 10 → is_register r ≡ true
 register_is r h = grind (arith, nat_tests)
 
-both : (a b : Bool) → a ≡ true → b ≡ true → (a && b) ≡ true
-both true b h k = k
-both false b h k = absurd (let no : false ≡ true = h in cc)
-
 two_registers : (r s : ℕ) → r ≤ 10 → s ≤ 10 → (is_register r && is_register s) ≡ true
-two_registers r s h k = both (is_register r) (is_register s) (register_is r h) (register_is s k)
+two_registers r s h k = and_from (is_register r) (is_register s) (register_is r h) (register_is s k)
 
 one_register : (r : ℕ) → r ≤ 10 → (is_register r && true) ≡ true
-one_register r h = both (is_register r) true (register_is r h) refl
-
-no : {P : Type 0} → false ≡ true → P
-no h = absurd (let e : false ≡ true = h in cc)
+one_register r h = and_from (is_register r) true (register_is r h) refl
 
 insn_fine : (m : Mnemonic) (os : List Operand) → is_name m ≡ true → AllByRecursion IsInRange os → IfFine (insn_from m os)
 unfolding is_name IfFine
@@ -167,10 +161,10 @@ insn_fine (name.Alu w o) (operand.Register d ∷ operand.Register s ∷ []) h g 
 insn_fine (name.MovSx w B8) (operand.Register d ∷ operand.Register s ∷ []) h g = record { in_range = two_registers d s g.0 g.1.0; fits = tt }
 insn_fine (name.MovSx w B16) (operand.Register d ∷ operand.Register s ∷ []) h g = record { in_range = two_registers d s g.0 g.1.0; fits = tt }
 insn_fine (name.MovSx W64 B32) (operand.Register d ∷ operand.Register s ∷ []) h g = record { in_range = two_registers d s g.0 g.1.0; fits = tt }
-insn_fine (name.MovSx W32 B32) (operand.Register d ∷ operand.Register s ∷ []) h g = no h
-insn_fine (name.MovSx w B64) (operand.Register d ∷ operand.Register s ∷ []) h g = no h
+insn_fine (name.MovSx W32 B32) (operand.Register d ∷ operand.Register s ∷ []) h g = absurd (false≢true h)
+insn_fine (name.MovSx w B64) (operand.Register d ∷ operand.Register s ∷ []) h g = absurd (false≢true h)
 insn_fine (name.Neg w) (operand.Register d ∷ []) h g = record { in_range = register_is d g.0; fits = tt }
-insn_fine (name.End order B8) (operand.Register d ∷ []) h g = no h
+insn_fine (name.End order B8) (operand.Register d ∷ []) h g = absurd (false≢true h)
 insn_fine (name.End order B16) (operand.Register d ∷ []) h g = record { in_range = register_is d g.0; fits = tt }
 insn_fine (name.End order B32) (operand.Register d ∷ []) h g = record { in_range = register_is d g.0; fits = tt }
 insn_fine (name.End order B64) (operand.Register d ∷ []) h g = record { in_range = register_is d g.0; fits = tt }
@@ -178,7 +172,7 @@ insn_fine (name.Load Byte) (operand.Register d ∷ operand.Memory s off ∷ []) 
 insn_fine (name.Load Half) (operand.Register d ∷ operand.Memory s off ∷ []) h g = record { in_range = two_registers d s g.0 g.1.0.0; fits = g.1.0.1 }
 insn_fine (name.Load Word) (operand.Register d ∷ operand.Memory s off ∷ []) h g = record { in_range = two_registers d s g.0 g.1.0.0; fits = g.1.0.1 }
 insn_fine (name.Load Double) (operand.Register d ∷ operand.Memory s off ∷ []) h g = record { in_range = two_registers d s g.0 g.1.0.0; fits = g.1.0.1 }
-insn_fine (name.LoadSigned Double) (operand.Register d ∷ operand.Memory s off ∷ []) h g = no h
+insn_fine (name.LoadSigned Double) (operand.Register d ∷ operand.Memory s off ∷ []) h g = absurd (false≢true h)
 insn_fine (name.LoadSigned Byte) (operand.Register d ∷ operand.Memory s off ∷ []) h g = record { in_range = two_registers d s g.0 g.1.0.0; fits = g.1.0.1 }
 insn_fine (name.LoadSigned Half) (operand.Register d ∷ operand.Memory s off ∷ []) h g = record { in_range = two_registers d s g.0 g.1.0.0; fits = g.1.0.1 }
 insn_fine (name.LoadSigned Word) (operand.Register d ∷ operand.Memory s off ∷ []) h g = record { in_range = two_registers d s g.0 g.1.0.0; fits = g.1.0.1 }
@@ -203,7 +197,7 @@ entries_named word (e ∷ es) h = by (bytes_eq e.0 word) (is_name e.1) refl h (�
         → IfSome (if b then Some e.1 else entry_with word es) (λ m. is_name m ≡ true)
     by true true k l more = k
     by false true k l more = more l
-    by b false k l more = no l
+    by b false k l more = absurd (false≢true l)
 
 is_named : (word : List ℕ) → IfSome (named word) (λ m. is_name m ≡ true)
 unfolding is_name

@@ -74,7 +74,11 @@ abbrev pub operands_text : List Operand → List ℕ
 operands_text [] = []
 operands_text (o ∷ rest) = codes " " ++ (operand_text o ++ after_first rest)
 
--- the line of an instruction, with its end
+-- the line of an instruction, without its end
+abbrev pub line_body : Insn → List ℕ
+line_body insn = name_of (mnemonic_of insn) ++ operands_text (operands_of insn)
+
+-- and with its end
 abbrev pub line_text : Insn → List ℕ
 line_text insn = name_of (mnemonic_of insn) ++ (operands_text (operands_of insn) ++ codes "\n")
 

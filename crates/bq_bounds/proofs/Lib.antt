@@ -2,7 +2,6 @@ pub mod PassLemmas
 pub mod NearnessLemmas
 pub mod GreatestLemmas
 pub mod OwedLemmas
-pub mod FromTheBackLemmas
 pub mod UnchangedLagLemmas
 pub mod MeasureLemmas
 pub mod LagBoundLemmas

@@ -17,7 +17,7 @@ use Rattle.bq_fair.specs.Work.{weight_at, moment_at}
 use Rattle.bq_fair.specs.EevdfFairness.{most_ahead, IsBalanced}
 use Rattle.bq_fair.specs.Steps.{Step, Pass, Decide, Enter, Leave, Mark, stepped, after, DecidesWithin}
 use Rattle.bq_fair.proofs.TickLemmas.{Change, Stays, Runs, charge_came}
-use Rattle.bq_fair.proofs.SoundLemmas.{of_each, vdelta_of-le, IsWellFormed, well_formed}
+use Rattle.bq_fair.proofs.SoundLemmas.{of_each, vdelta_of-le, IsWellFormed, well_formed, vdelta_of-add}
 use Rattle.bq_fair.proofs.SumLemmas.{total_weight-decided, weighted_sum-decided, total_weight-ticked, weighted_sum-busy}
 use Rattle.bq_fair.proofs.ListLemmas.{All-from_ids, of_some, weights_split}
 use Rattle.bq_fair.proofs.PlaceLemmas.{current_present}
@@ -29,7 +29,6 @@ use Rattle.bq_fair.proofs.OwedLemmas.{none_is_owed_long}
 use Rattle.bq_bounds.specs.Lags.{mean_at, furthest, owed, allowed}
 use Rattle.bq_bounds.specs.Owing.{KeepsAll, EevdfOwesWithin}
 use Rattle.bq_bounds.proofs.NearnessLemmas.{eligible_at_most_mean, at_most_of_same}
-use Rattle.bq_bounds.proofs.PassLemmas.{vdelta_of-add}
 
 -- The clock has risen by s since the last decision: the task that runs is ahead by no more than E and what s takes at its weight,
 -- and each task by no more than E and what r takes

@@ -1,21 +1,12 @@
 -- The task that runs while the clock is read a few times and nobody decides.
-use Rattle.std.proofs.Common.{◌≡◌, ℕ, ◌+◌, ◌-◌, ◌*◌, ◌/◌, ◌≤◌, List, [], ◌∷◌, map, Option, Some, refl, sym, subst, arith}
-use Rattle.std.proofs.lemmas.Nat.{le-div}
-use Rattle.std.proofs.Math.Nat.{div-mul-le_self}
+use Rattle.std.proofs.Common.{◌≡◌, ℕ, ◌+◌, ◌-◌, ◌≤◌, List, [], ◌∷◌, map, Option, Some, refl, sym, subst, arith}
 use Rattle.bq_weights.specs.VirtualTime.{vdelta_of}
 use Rattle.bq_disc.specs.Tasks.{Task}
 use Rattle.bq_disc.specs.Discipline.{Discipline, charged}
 use Rattle.bq_disc.specs.OneProcessor.{Running, reading}
 use Rattle.bq_fair.specs.Steps.{Pass, after}
 use Rattle.bq_fair.proofs.PlaceLemmas.{busy}
-use Rattle.bq_fair.proofs.SoundLemmas.{vdelta_of-le}
-
--- the virtual times of two rises are together no more than that of both
-pub vdelta_of-add : (x y w : ℕ) → 15 ≤ w → vdelta_of x w + vdelta_of y w ≤ vdelta_of (x + y) w
-vdelta_of-add x y w low =
-    let a = x * 1024 / w in
-    let b = y * 1024 / w in
-    le-div (a + b) ((x + y) * 1024) w (omega arith) (omega (arith, div-mul-le_self (x * 1024) w, div-mul-le_self (y * 1024) w))
+use Rattle.bq_fair.proofs.SoundLemmas.{vdelta_of-le, vdelta_of-add}
 
 -- a task that ran before the readings runs after them, by no more than the rise takes at its weight
 pub record Ran (d : Discipline) (p : Running) (a : Task) (nows : List ℕ) : Type 0 where

@@ -7,13 +7,14 @@ use Rattle.std.proofs.lemmas.Nat.{le-div}
 use Rattle.std.proofs.Math.Nat.{div-mul-le_self}
 use Rattle.bq_disc.specs.Tasks.{Task}
 use Rattle.bq_disc.specs.Totals.{total_weight}
+use Rattle.bq_parts.specs.Counts.{counted}
 use Rattle.bq_bounds.specs.declared.charge.Charge.{Charge}
 use Rattle.bq_bounds.specs.declared.stretch.Stretch.{Stretch}
 use Rattle.bq_bounds.specs.declared.lags.Effect.{Effect}
 use Rattle.bq_bounds.specs.declared.lags.Effect.TheVariants.{Passes, Decides, Breaks}
 use Rattle.bq_bounds.specs.declared.lags.Lags.{Lags}
 use Rattle.bq_bounds.specs.declared.glance.Glance.{Glance}
-use Rattle.bq_bounds.specs.Watches.{one_more, greater}
+use Rattle.bq_bounds.specs.Watches.{greater}
 use Rattle.bq_bounds.specs.Lags.{mean_at, lag_by, most_owed_by, most_owed, stretched}
 use Rattle.bq_bounds.specs.LagWatches.{decided_in, owing, gone_on, lags_by}
 use Rattle.bq_bounds.specs.Glances.{IsGlance, IsGlanceOf, at_most_owed}
@@ -56,16 +57,16 @@ stays best c false e h = absurd (grind (arith, nat_tests))
 greatest_stays : (best c : Charge) (o : Option Charge) → o ≡ Some best → c.difference ≤ best.difference → Some (greater o c) ≡ o
 greatest_stays best c o e h = let P : Option Charge → Type 0 = λ o. Some (greater o c) ≡ o in subst P (sym e) (ap (λ k. Some k) (stays best c (leb c.difference best.difference) refl h))
 
-owing_stays : (l : Lags) (best : Charge) (o : Option Charge) → l.greatest ≡ Some best → IsBelow best.difference o → owing o l ≡ record l { measured = one_more l.measured }
+owing_stays : (l : Lags) (best : Charge) (o : Option Charge) → l.greatest ≡ Some best → IsBelow best.difference o → owing o l ≡ record l { measured = counted l.measured 1 }
 owing_stays l best None e r = absurd r
-owing_stays l best (Some c) e r = ap (λ (k : Option Charge). record l { measured = one_more l.measured; greatest = k }) (greatest_stays best c l.greatest e r)
+owing_stays l best (Some c) e r = ap (λ (k : Option Charge). record l { measured = counted l.measured 1; greatest = k }) (greatest_stays best c l.greatest e r)
 
 raised : (m n : ℕ) (o : Option Charge) → m ≤ n → IsBelow m o → IsBelow n o
 raised m n None le h = h
 raised m n (Some c) le h = omega (arith, le, h)
 
 unseen : (c : Effect) (rise : ℕ) (g : Glance) (s : Stretch) (l : Lags) (best : Charge) (t : Task) (xs : List Task) → l.greatest ≡ Some best → min (at_most_owed g s) (2 ^ 64 - 1) ≤ best.difference → IsGlanceOf g s t xs →
-    gone_on c rise (t ∷ xs) s l ≡ record l { stretch = Some (decided_in c (stretched rise s)); measured = one_more l.measured }
+    gone_on c rise (t ∷ xs) s l ≡ record l { stretch = Some (decided_in c (stretched rise s)); measured = counted l.measured 1 }
 unseen c rise g s l best t xs e low seen =
     let z = stretched rise s in
     let mean = mean_at (t ∷ xs) in
@@ -78,7 +79,7 @@ unseen c rise g s l best t xs e low seen =
 
 -- where a stretch goes on and none can be owed more than the greatest, only the stretch and the count change
 pub only_stretch_changes : (c : Effect) (rise : ℕ) (g : Glance) (s : Stretch) (l : Lags) (best : Charge) (xs : List Task) → (c ≡ Breaks → ⊥) → l.greatest ≡ Some best → min (at_most_owed g s) (2 ^ 64 - 1) ≤ best.difference → IsGlance g (Some s) xs →
-    lags_by c (Some s) rise xs l ≡ record l { stretch = Some (decided_in c (stretched rise s)); measured = one_more l.measured }
+    lags_by c (Some s) rise xs l ≡ record l { stretch = Some (decided_in c (stretched rise s)); measured = counted l.measured 1 }
 only_stretch_changes c rise g s l best [] goes e low seen = absurd seen
 only_stretch_changes Passes rise g s l best (t ∷ xs) goes e low seen = unseen Passes rise g s l best t xs e low seen
 only_stretch_changes Decides rise g s l best (t ∷ xs) goes e low seen = unseen Decides rise g s l best t xs e low seen

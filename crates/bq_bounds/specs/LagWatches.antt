@@ -7,6 +7,7 @@ use Rattle.bq_parts.specs.declared.event.Event.TheVariants.{EndWake, Drain, Tick
 use Rattle.bq_parts.specs.declared.reply.Reply.{Reply}
 use Rattle.bq_parts.specs.declared.reply.Reply.TheVariants.{Placed, Drained, Ticked, Pulled}
 use Rattle.bq_disc.specs.Tasks.{Task}
+use Rattle.bq_parts.specs.Counts.{counted}
 use Rattle.bq_bounds.specs.declared.charge.Charge.{Charge}
 use Rattle.bq_bounds.specs.declared.stretch.Stretch.{Stretch}
 use Rattle.bq_bounds.specs.declared.lags.Effect.{Effect}
@@ -15,7 +16,7 @@ use Rattle.bq_bounds.specs.declared.lags.Lags.{Lags}
 use Rattle.bq_bounds.specs.declared.glance.Glance.{Glance}
 use Rattle.bq_bounds.specs.Glances.{at_most_owed}
 use Rattle.bq_bounds.specs.Lags.{beginning, stretched, most_owed}
-use Rattle.bq_bounds.specs.Watches.{one_more, greater}
+use Rattle.bq_bounds.specs.Watches.{greater}
 
 abbrev pub unasked : Lags
 unasked = record { stretch = None; measured = 0; left_out = 0; greatest = None }
@@ -39,7 +40,7 @@ effect_of e r = Breaks
 -- the greatest of what any is owed
 abbrev pub owing : Option Charge → Lags → Lags
 owing None l = l
-owing (Some c) l = record l { measured = one_more l.measured; greatest = Some (greater l.greatest c) }
+owing (Some c) l = record l { measured = counted l.measured 1; greatest = Some (greater l.greatest c) }
 
 abbrev pub forgotten : Lags → Lags
 forgotten l = record l { stretch = None }
@@ -60,7 +61,7 @@ needs_no_look c g l = is_within_of c g l.stretch l.greatest
 
 -- a stretch begins
 abbrev pub begun_anew : List Task → Lags → Lags
-begun_anew xs l = record l { stretch = Some (beginning xs); left_out = one_more l.left_out }
+begun_anew xs l = record l { stretch = Some (beginning xs); left_out = counted l.left_out 1 }
 
 -- where the discipline decides the clock's rise is counted from there
 abbrev pub decided_in : Effect → Stretch → Stretch

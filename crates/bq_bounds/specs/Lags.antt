@@ -4,6 +4,7 @@ use Rattle.std.specs.Option.{option_map_or}
 use Rattle.bq_weights.specs.VirtualTime.{time_of}
 use Rattle.bq_disc.specs.Tasks.{Task}
 use Rattle.bq_disc.specs.Totals.{total_weight, mean_of}
+use Rattle.bq_parts.specs.Counts.{counted}
 use Rattle.bq_bounds.specs.declared.charge.Charge.{Charge}
 use Rattle.bq_bounds.specs.declared.stretch.Stretch.{Stretch}
 use Rattle.bq_bounds.specs.Watches.{greater}
@@ -37,7 +38,7 @@ beginning xs = record { ahead = furthest (mean_at xs) xs; heaviest = heaviest xs
 
 -- the clock has risen
 abbrev pub stretched : ℕ → Stretch → Stretch
-stretched rise s = let since = min (s.since + rise) (2 ^ 64 - 1) in record s { since = since; most = max s.most since }
+stretched rise s = let since = counted s.since rise in record s { since = since; most = max s.most since }
 
 -- what a task is owed in a stretch, beside what it may be: of tasks of this mean, number and weight
 abbrev pub lag_by : Stretch → ℕ → ℕ → ℕ → Task → Charge

@@ -1,5 +1,5 @@
 -- The charges of a processor, one after another.
-use Rattle.std.specs.Prelude.{ℕ, ◌+◌, ◌-◌, ◌^◌, min, Bool, true, false, nat_le, if◌then◌else◌, List, [], ◌∷◌, Option, Some, None, is_some, slice_index_or, slice_set}
+use Rattle.std.specs.Prelude.{ℕ, Bool, true, false, nat_le, if◌then◌else◌, List, [], ◌∷◌, Option, Some, None, is_some, slice_index_or, slice_set}
 use Rattle.std.specs.Option.{option_map}
 use Rattle.bq_hooks.specs.declared.settled.By.{By}
 use Rattle.bq_hooks.specs.declared.settled.By.TheVariants as who
@@ -9,21 +9,18 @@ use Rattle.bq_parts.specs.declared.event.Event.{Event}
 use Rattle.bq_parts.specs.declared.event.Event.TheVariants.{Drain, Tick, Block, Pull}
 use Rattle.bq_parts.specs.declared.reply.Reply.{Reply}
 use Rattle.bq_parts.specs.declared.reply.Reply.TheVariants.{Drained, Ticked, Blocked as Went, Pulled}
+use Rattle.bq_parts.specs.Counts.{counted}
 use Rattle.bq_bounds.specs.declared.running_task.RunningTask.{RunningTask}
 use Rattle.bq_bounds.specs.declared.charge.Charge.{Charge}
 use Rattle.bq_bounds.specs.declared.watch.Watch.{Watch}
 use Rattle.bq_bounds.specs.Charges.{charge_of}
-
--- a count of 64 bits, one further
-abbrev pub one_more : ℕ → ℕ
-one_more n = min (n + 1) (2 ^ 64 - 1)
 
 abbrev pub unwatched : Watch
 unwatched = record { since = None; measured = 0; left_out = 0; greatest = None }
 
 -- the clock has risen
 abbrev pub risen : ℕ → Watch → Watch
-risen rise w = record w { since = option_map (λ (n : ℕ). min (n + rise) (2 ^ 64 - 1)) w.since }
+risen rise w = record w { since = option_map (λ (n : ℕ). counted n rise) w.since }
 
 -- the one of greater difference; of equal ones the first
 abbrev pub greater : Option Charge → Charge → Charge
@@ -32,7 +29,7 @@ greater (Some d) c = if nat_le c.difference d.difference then d else c
 
 -- a charge is measured
 abbrev pub measured : Charge → Watch → Watch
-measured c w = record w { measured = one_more w.measured; greatest = Some (greater w.greatest c) }
+measured c w = record w { measured = counted w.measured 1; greatest = Some (greater w.greatest c) }
 
 abbrev pub measured_if : Option Charge → Watch → Watch
 measured_if None w = w
@@ -40,7 +37,7 @@ measured_if (Some c) w = measured c w
 
 -- the task that ran is charged: it is measured as far as the discipline decided last, and nothing has disturbed that since
 abbrev pub charged : Rule → RunningTask → ℕ → ℕ → Option ℕ → Watch → Watch
-charged rule s rise mean None w = record w { left_out = one_more w.left_out }
+charged rule s rise mean None w = record w { left_out = counted w.left_out 1 }
 charged rule s rise mean (Some since) w = measured_if (charge_of rule s rise since mean) w
 
 abbrev pub charged_if : Rule → Option RunningTask → ℕ → ℕ → Watch → Watch

@@ -1,9 +1,9 @@
 //! What the tasks of one processor are owed under EEVDF, as far as no task comes or goes.
 ghost use Rattle.std.specs.Prelude.{◌≡◌, ◌≤◌, length, List, IsTrue, false, Some};
 ghost use Rattle.bq_disc.specs.Tasks.{Task};
+ghost use Rattle.bq_parts.specs.Counts.{counted};
 ghost use Rattle.bq_bounds.specs.Glances.{IsGlance};
 ghost use Rattle.bq_bounds.specs.Lags.{stretched};
-ghost use Rattle.bq_bounds.specs.Watches.{one_more};
 ghost use Rattle.bq_bounds.specs.LagWatches.{effect_by, effect_of, decided_in, forgotten, gone_on, lags_after, needs_no_look, unasked};
 
 use crate::charge::Charge;
@@ -104,7 +104,7 @@ impl Lags {
 
     /// The stretch goes on, and no task is owed more than one was before.
     fn go_on_unseen(&mut self, stretch: Stretch, effect: Effect, rise: u64)
-        ensures { self.new ≡ record self.old { stretch = Some (decided_in effect (stretched rise stretch)); measured = one_more self.old.measured } }
+        ensures { self.new ≡ record self.old { stretch = Some (decided_in effect (stretched rise stretch)); measured = counted self.old.measured 1 } }
     {
         let mut stretch = stretch;
         stretch.rise(rise);

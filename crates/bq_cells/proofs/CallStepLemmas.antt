@@ -1,7 +1,7 @@
 -- What each commit asks, from the share of its call.
-use Rattle.std.proofs.Common.{◌≡◌, ℕ, ◌+◌, ◌-◌, ◌<◌, List, [], ◌∷◌, ◌++◌, length, false, Option, Some, None, ◌≤◌, refl, sym, ap, ◌∙◌, arith, get_or, set, ◌^◌, min, length-append}
-use Rattle.std.specs.Prelude.{ℤ, Result, Ok, Err, ◌==◌, nat_le}
-use Rattle.std.proofs.lemmas.Bool.Decides.{nat_tests}
+use Rattle.std.proofs.Common.{◌≡◌, ℕ, ◌+◌, ◌-◌, ◌<◌, List, [], ◌∷◌, ◌++◌, length, Option, Some, None, ◌≤◌, refl, sym, ap, ◌∙◌, arith, get_or, set, ◌^◌, min, length-append}
+use Rattle.std.specs.Prelude.{ℤ, Result, Ok, Err, ◌==◌}
+use Rattle.std.proofs.lemmas.Bool.{lt-leb}
 use Rattle.bq_disc.specs.Tasks.{Task}
 use Rattle.bq_disc.specs.Discipline.{Discipline}
 use Rattle.bq_disc.specs.OneProcessor.{present_at, charge, enter_all}
@@ -43,10 +43,6 @@ ones i mask = 1
 pub length_is : (xs : List Task) → length xs ≡ tally ones xs
 length_is [] = refl
 length_is (x ∷ xs) = omega (arith, length_is xs)
-
--- the number of an entry is not refused
-has_entry : (id : ℕ) → id < 1024 → nat_le 1024 id ≡ false
-has_entry id h = grind (arith, nat_tests)
 
 -- it is decided who runs: the size stays
 decided_size : (s : Regime) (p : Processor) (settled : Decision) → size_of (decided_by s p settled) ≡ size_of p
@@ -140,7 +136,7 @@ module _ (d : Discipline) (n : ℕ) where
   begin_moves c id p q l m k r bound b =
       moves_cpu_lobby d n c p q l m k k (record { event = BeginWake c id; reply = r; calls = [] })
       (λ w s kw there at is. (
-        (begins_step d w c id r q m there bound (rw (at, is, ap (λ (x : JournalState). x.loads) kw) b), rw (in_range_not_refused w c there, has_entry id bound) refl, begins_named id k.loads p l r q m b),
+        (begins_step d w c id r q m there bound (rw (at, is, ap (λ (x : JournalState). x.loads) kw) b), rw (in_range_not_refused w c there, lt-leb 1024 id bound) refl, begins_named id k.loads p l r q m b),
         kept_same w c p q k kw at (begin_size id k.loads p l r q m b),
       ))
 

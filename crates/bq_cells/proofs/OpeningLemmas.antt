@@ -9,6 +9,7 @@ use Rattle.std.proofs.lemmas.List.{length-replicate}
 use Rattle.bq_parts.specs.Processors.{opening}
 use Rattle.bq_core.proofs.OnTheWayLemmas.{same_everywhere}
 use Rattle.bq_parts.specs.World.{opening_world}
+use Rattle.bq_seats.proofs.OpeningLemmas.{left_over}
 use Rattle.bq_cells.specs.Parts.{same_part, HasPart, first_parts, cpus_from, inboxes_from}
 use Rattle.bq_cells.specs.Opened.{ItemOf, cpu_items, inbox_items}
 use Rattle.bq_cells.specs.declared.law.WorldPart.{WorldPart}
@@ -90,17 +91,13 @@ inboxes_there all c (suc n) e = ((rw length-replicate (omega arith), same_everyw
 pub parts_there : (n : ℕ) → Each (HasPart (opening_world n)) (first_parts n)
 parts_there n = (refl, each-append (HasPart (opening_world n)) (cpus_from 0 n) (inboxes_from 0 n) (cpus_there n 0 n (omega arith)) (inboxes_there n 0 n (omega arith)))
 
--- one turn of a loop that gives the items out
-more : (i n : ℕ) → i < n → n - i ≡ suc (n - (i + 1))
-more i n b = omega arith
-
 -- of the processors' items that are left the next comes first, and then the others
 pub cpu_turn : (i n : ℕ) (rest : List ItemOf) → i < n → cpu_items i (n - i) ++ rest ≡ part_item (part.Cpu i opening) ∷ (cpu_items (i + 1) (n - (i + 1)) ++ rest)
-cpu_turn i n rest b = ap (λ (k : ℕ). cpu_items i k ++ rest) (more i n b)
+cpu_turn i n rest b = ap (λ (k : ℕ). cpu_items i k ++ rest) (left_over i n b)
 
 -- of the inboxes' items that are left the next comes first, and then the others
 pub inbox_turn : (i n : ℕ) (rest : List ItemOf) → i < n → inbox_items i (n - i) ++ rest ≡ part_item (part.Inbox i []) ∷ (inbox_items (i + 1) (n - (i + 1)) ++ rest)
-inbox_turn i n rest b = ap (λ (k : ℕ). inbox_items i k ++ rest) (more i n b)
+inbox_turn i n rest b = ap (λ (k : ℕ). inbox_items i k ++ rest) (left_over i n b)
 
 -- the items of the parts, given out in this order
 cpus_first : (c n : ℕ) (ps : List WorldPart) (rest : List ItemOf) → map part_item (cpus_from c n ++ ps) ++ rest ≡ cpu_items c n ++ (map part_item ps ++ rest)

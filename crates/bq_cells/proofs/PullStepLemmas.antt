@@ -1,5 +1,5 @@
 -- A pull is a move of the history: where a task goes from the one processor to the other, so do the loads that are kept.
-use Rattle.std.proofs.Common.{◌≡◌, ◌≢◌, ℕ, ◌+◌, ◌<◌, true, false, eqb, List, [], ◌∷◌, length, Option, Some, None, refl, sym, ap, ◌∙◌, subst, arith}
+use Rattle.std.proofs.Common.{◌≡◌, ◌≢◌, ℕ, ◌+◌, ◌<◌, true, false, List, [], ◌∷◌, length, Option, Some, None, refl, sym, ap, ◌∙◌, subst, arith, ne_eqb}
 use Rattle.std.specs.Prelude.{Ok}
 use Rattle.std.specs.Option.{option_map, option_map_or, option_to_list}
 use Rattle.std.proofs.lemmas.List.{length-set, get_or-set_other, set_comm}
@@ -24,7 +24,6 @@ use Rattle.bq_parts.specs.Shares.{after_time, remarked, Pulls}
 use Rattle.bq_parts.proofs.CountLemmas.{each_once_queue}
 use Rattle.bq_parts.proofs.OnceLemmas.{each_once_running, few_at}
 use Rattle.bq_parts.proofs.PermittedLemmas.{settled_permitted, own_pull_permitted, may_pull_names}
-use Rattle.std.proofs.lemmas.Bool.Decides.{nat_tests}
 use Rattle.bq_core.proofs.StepLemmas.{in_range_not_refused}
 use Rattle.bq_core.proofs.MoveLemmas.{tally-pulled, tally-without_task}
 use Rattle.bq_core.proofs.ShareStepLemmas.{pulls_step}
@@ -88,10 +87,6 @@ chosen_there d processor from now id p o settled once h e =
 beside : (w : World) (c b : ℕ) (q o : Processor) → b ≢ c → processor_at w b ≡ o → processor_at (with_processor w c q) b ≡ o
 beside w c b q o apart at = get_or-set_other w.processors c b q opening apart ∙ at
 
--- two numbers that differ
-differ : (a b : ℕ) → a ≢ b → eqb a b ≡ false
-differ a b h = grind (arith, nat_tests)
-
 module _ (d : Discipline) (n : ℕ) where
   kept_by_task : (w : World) (c b : ℕ) (p q o r : Processor) (k : JournalState) (task run : Option ℕ) (by : By) (steps t : ℕ) → IsSound n w → kept_of w ≡ k → c < count_in w → processor_at w c ≡ p → b < count_in w → processor_at w b ≡ o → c ≢ b →
       size_of q ≡ size_of p + t → size_of r + t ≡ size_of o → ((id : ℕ) → task ≡ Some id → t ≡ 1) → (task ≡ None → t ≡ 0) →
@@ -133,4 +128,4 @@ module _ (d : Discipline) (n : ℕ) where
       MovesHere d n k (cpu_part c p ∷ cpu_part b o ∷ []) (record { event = Pull c b now; reply = Ok x; calls = calls }) (kept_by_pull c b x k) (cpu_part c q ∷ cpu_part b r ∷ [])
   pull_moves c b now p q o r calls k x apart u =
       moves_two_cpus d n c b p q o r k (kept_by_pull c b x k) (record { event = Pull c b now; reply = Ok x; calls = calls }) apart
-      (λ w s kw here at there at'. ((pulls_step d w c b now calls x q r here there apart (rw (at, at') u), rw (in_range_not_refused w c here, in_range_not_refused w b there, differ c b apart) refl, tt), pull_kept w c b now p q o r calls k x s kw here at there at' apart u))
+      (λ w s kw here at there at'. ((pulls_step d w c b now calls x q r here there apart (rw (at, at') u), rw (in_range_not_refused w c here, in_range_not_refused w b there, ne_eqb c b apart) refl, tt), pull_kept w c b now p q o r calls k x s kw here at there at' apart u))

@@ -1,6 +1,6 @@
 -- Two of some processors, as a list is cut between them and put together again.
 use Rattle.std.proofs.Common.{◌≡◌, ℕ, zero, suc, ◌<◌, ◌++◌, List, [], ◌∷◌, length, refl, ap, ◌∙◌, arith, get_or, set, take, drop}
-use Rattle.std.proofs.lemmas.List.{set_comm}
+use Rattle.std.proofs.lemmas.List.{set_comm, get_or_default}
 
 -- a place below the cut
 read_low : {X : Type 0} (xs : List X) (i j : ℕ) (d : X) → i < j → get_or (take j xs) i d ≡ get_or xs i d
@@ -35,19 +35,13 @@ set_two (x ∷ xs) (suc i) (suc j) a b h = ap (λ ys. x ∷ ys) (set_two xs i j 
 set_two_back : {X : Type 0} (xs : List X) (i j : ℕ) (a b : X) → j < i → set (take i xs) j b ++ set (drop i xs) 0 a ≡ set (set xs i a) j b
 set_two_back xs i j a b h = set_two xs j i b a h ∙ set_comm xs j i b a (λ e. absurd (omega (arith, e)))
 
--- where a place is in a list, what is read past it doesn't matter
-any_default : {X : Type 0} (xs : List X) (i : ℕ) (e d : X) → i < length xs → get_or xs i e ≡ get_or xs i d
-any_default [] i e d h = absurd (omega arith)
-any_default (x ∷ xs) zero e d h = refl
-any_default (x ∷ xs) (suc i) e d h = any_default xs i e d (omega arith)
-
 -- the first of the two parts has at a place below the cut what the whole list has there
 pub first_part_reads : {X : Type 0} (xs ys : List X) (i k j m : ℕ) (e d : X) → ys ≡ take m xs → m ≡ j → k ≡ i → i < j → i < length xs → get_or ys k e ≡ get_or xs i d
-first_part_reads xs ys i k j m e d f g h l n = rw (f, g, h) (read_low xs i j e l ∙ any_default xs i e d n)
+first_part_reads xs ys i k j m e d f g h l n = rw (f, g, h) (read_low xs i j e l ∙ get_or_default xs i e d n)
 
 -- the second part has at its beginning what the whole list has at the cut
 pub second_part_reads : {X : Type 0} (xs ys : List X) (j m : ℕ) (e d : X) → ys ≡ drop m xs → m ≡ j → j < length xs → get_or ys 0 e ≡ get_or xs j d
-second_part_reads xs ys j m e d f g n = rw (f, g) (read_high xs j e ∙ any_default xs j e d n)
+second_part_reads xs ys j m e d f g n = rw (f, g) (read_high xs j e ∙ get_or_default xs j e d n)
 
 -- the parts, once a place of the first and then the beginning of the second are written, make the list written at both
 pub written_parts_joined : {X : Type 0} (xs ys zs : List X) (i j k m : ℕ) (a b : X) → ys ≡ take m xs → zs ≡ drop m xs → m ≡ j → k ≡ i → i < j → set ys k a ++ set zs 0 b ≡ set (set xs i a) j b

@@ -1,6 +1,7 @@
 -- What an Install tells whose arguments nothing refuses.
 use Rattle.std.proofs.Common.{◌≡◌, ℕ, ◌<◌, true, Option, Some, None, refl}
 use Rattle.std.specs.Prelude.{not}
+use Rattle.std.proofs.lemmas.Bool.{not-false}
 use Rattle.bq_parts.specs.declared.event.Event.TheVariants.{Install}
 use Rattle.bq_bpf.specs.declared.hook.Hook.{Hook}
 use Rattle.bq_bpf.specs.declared.hook.Hook.TheVariants.{Place, Preempt, Pull}
@@ -8,7 +9,7 @@ use Rattle.bq_verify.specs.Accepted.{Accepted}
 use Rattle.bq_policies.specs.Attachments.{IsFor}
 use Rattle.bq_parts.specs.declared.refusal.Refusal.TheVariants as no
 use Rattle.bq_parts.specs.Refusals.{argument_refusal, same_hook, is_for}
-use Rattle.bq_core.proofs.OrderLemmas.{not_refused_is_there, first_refusal_passed, not_false}
+use Rattle.bq_core.proofs.OrderLemmas.{not_refused_is_there, first_refusal_passed}
 
 -- equal hooks are one
 one_hook : (a b : Hook) → same_hook a b ≡ true → b ≡ a
@@ -32,4 +33,4 @@ install_there count processor g h o e = (not_refused_is_there count processor _ 
 
 -- and the policy was verified for the hook
 pub install_suits : (count processor g : ℕ) (h : Hook) (o : Option Accepted) → argument_refusal count (Install processor h g o) ≡ None → IsFor h o
-install_suits count processor g h o e = for_by_case h o (not_false (is_for h o) (first_refusal_passed (not (is_for h o)) no.WrongHook None (not_refused_is_there count processor _ e).1).0)
+install_suits count processor g h o e = for_by_case h o (not-false (is_for h o) (first_refusal_passed (not (is_for h o)) no.WrongHook None (not_refused_is_there count processor _ e).1).0)

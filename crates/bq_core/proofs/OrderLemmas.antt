@@ -1,6 +1,6 @@
 -- The laws of order: each event keeps it, by what its refusals leave and what it does; and so does each run.
-use Rattle.std.proofs.Common.{◌≡◌, ℕ, zero, suc, ◌<◌, ◌%◌, ◌^◌, Bool, true, false, cond, List, [], ◌∷◌, Option, Some, None, refl, subst, sym}
-use Rattle.std.specs.Prelude.{ℤ, Result, Ok, Err, ◌==◌, not, nat_le, is_some, unwrap_or}
+use Rattle.std.proofs.Common.{◌≡◌, ℕ, zero, suc, ◌<◌, ◌%◌, ◌^◌, Bool, true, false, cond, List, [], ◌∷◌, Option, Some, None, refl, subst, sym, eqb-false, leb-false}
+use Rattle.std.specs.Prelude.{ℤ, Result, Ok, Err, ◌==◌, nat_le, is_some, unwrap_or}
 use Rattle.std.proofs.lemmas.List.{length-replicate}
 use Rattle.std.proofs.lemmas.Nat.{pow_pos, mod_below}
 use Rattle.bq_parts.specs.declared.carried.Carried.{Carried}
@@ -12,6 +12,7 @@ use Rattle.bq_policies.specs.Attachments.{Attached, with_attached}
 use Rattle.bq_hooks.specs.Contexts.{or_nobody}
 use Rattle.bq_hooks.specs.OwnPlace.{own_place, HasPlace}
 use Rattle.bq_hooks.specs.Permitted.{may_place, may_pull, task_numbered}
+use Rattle.bq_hooks.proofs.PermittedLemmas.{own_place_permitted}
 use Rattle.bq_parts.specs.declared.event.Event.{Event}
 use Rattle.bq_parts.specs.declared.event.Event.TheVariants.{Admit, Retire, Draw, Install, BeginWake, EndWake, Drain, Tick, Block, Pull}
 use Rattle.bq_parts.specs.declared.reply.Reply.{Reply}
@@ -27,11 +28,10 @@ use Rattle.bq_parts.specs.Steps.{WorldStep, Performs}
 use Rattle.bq_parts.specs.StandsOnce.{IsOrderly}
 use Rattle.bq_core.specs.Laws.{OpeningIsOrderly, StepKeeps, RunKeeps, StepKeepsOrder, StepKeepsOrderAnyhow, RunKeepsOrder, HistoryIsOrderly, under_any_answers}
 use Rattle.bq_parts.proofs.CountLemmas.{each_once_queue}
-use Rattle.bq_parts.proofs.NumberTestLemmas.{below_from_not_at_most, differ_from_test}
 use Rattle.bq_parts.proofs.OnceLemmas.{each_once_running}
 use Rattle.bq_core.proofs.EachProcessorLemmas.{IsWell, AllWell, opening_well, performs_well}
 use Rattle.bq_core.proofs.OnTheWayLemmas.{IsTidy, tidy_of, orderly_of, well_of, opening_tidy, same_everywhere}
-use Rattle.bq_parts.proofs.PermittedLemmas.{settled_permitted, own_place_permitted, own_pull_permitted, may_place_fits}
+use Rattle.bq_parts.proofs.PermittedLemmas.{settled_permitted, own_pull_permitted, may_place_fits}
 use Rattle.bq_core.proofs.EventLemmas
 
 -- the opening world is in order
@@ -46,7 +46,7 @@ neither None p h = (refl, h)
 neither (Some r) p h = cc
 
 -- none is refused: neither by its arguments nor by the world
-accepted : (w : World) (e : Event) → refusal w e ≡ None → (argument_refusal (count_in w) e ≡ None) × (state_refusal w e ≡ None)
+pub accepted : (w : World) (e : Event) → refusal w e ≡ None → (argument_refusal (count_in w) e ≡ None) × (state_refusal w e ≡ None)
 accepted w e h = neither (argument_refusal (count_in w) e) (state_refusal w e) h
 
 -- the first of some refusals doesn't hold, and none of the others does
@@ -54,20 +54,15 @@ pub first_refusal_passed : (b : Bool) (r : Refusal) (rest : Option Refusal) → 
 first_refusal_passed true r rest h = cc
 first_refusal_passed false r rest h = (refl, h)
 
--- a test whose contrary fails holds
-pub not_false : (b : Bool) → not b ≡ false → b ≡ true
-not_false true h = refl
-not_false false h = cc
-
 -- a processor that is not refused is there
 pub not_refused_is_there : (count processor : ℕ) (rest : Option Refusal) → cond (nat_le count processor) (Some no.NoProcessor) rest ≡ None → (processor < count) × (rest ≡ None)
-not_refused_is_there count processor rest h = let f = first_refusal_passed (nat_le count processor) no.NoProcessor rest h in (below_from_not_at_most processor count f.0, f.1)
+not_refused_is_there count processor rest h = let f = first_refusal_passed (nat_le count processor) no.NoProcessor rest h in (leb-false count processor f.0, f.1)
 
 -- the mask of a task that is admitted has a processor of the machine
 admitted_has_place : (count id : ℕ) (nice : ℤ) (mask slice : ℕ) → argument_refusal count (Admit id nice mask slice) ≡ None → HasPlace count (admitted count id nice mask slice)
 admitted_has_place count id nice mask slice h =
     let some = (first_refusal_passed (mask % 2 ^ count == 0) no.EmptyMask _ (first_refusal_passed (nat_le 1024 id) no.NoTask _ h).1).0 in
-    (mod_below mask (2 ^ count) (pow_pos count), differ_from_test (mask % 2 ^ count) 0 some)
+    (mod_below mask (2 ^ count) (pow_pos count), eqb-false (mask % 2 ^ count) 0 some)
 
 -- the world after an event is tidy, with as many processors
 abbrev Keeps : World → World → Type 0
@@ -136,7 +131,7 @@ pull_keeps : (s : Regime) (w : World) (processor from now : ℕ) (calls : List A
 pull_keeps s w processor from now calls r w' o y h k =
     let f = not_refused_is_there (count_in w) processor _ (accepted w (Pull processor from now) h).0 in
     let g = not_refused_is_there (count_in w) from _ f.1 in
-    let apart = differ_from_test processor from (first_refusal_passed (processor == from) no.SameProcessor None g.1).0 in
+    let apart = eqb-false processor from (first_refusal_passed (processor == from) no.SameProcessor None g.1).0 in
     let p : Processor = after_time s.discipline now (processor_at w processor) in
     let source : Processor = remarked s.discipline (processor_at w from) in
     let x = k.2 in

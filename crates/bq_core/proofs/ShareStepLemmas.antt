@@ -1,8 +1,8 @@
 -- A share is its event's step in any world that has the parts.
-use Rattle.std.proofs.Common.{◌≡◌, ◌≢◌, ℕ, ◌<◌, eqb, List, [], ◌∷◌, ◌++◌, false, Some, None, refl, sym, subst, ap, ◌∙◌, inl, Option, arith}
-use Rattle.std.specs.Prelude.{ℤ, Result, Ok, Err, nat_le, IfSome, slice_index_or, slice_set}
-use Rattle.std.proofs.lemmas.Bool.Decides.{nat_tests}
+use Rattle.std.proofs.Common.{◌≡◌, ◌≢◌, ℕ, ◌<◌, List, [], ◌∷◌, ◌++◌, Some, None, refl, sym, subst, ap, ◌∙◌, inl, Option, ne_eqb}
+use Rattle.std.specs.Prelude.{ℤ, Result, Ok, Err, IfSome, slice_index_or, slice_set}
 use Rattle.std.proofs.lemmas.List.{set-get_or}
+use Rattle.std.proofs.lemmas.Bool.{lt-leb}
 use Rattle.bq_disc.specs.Tasks.{Task}
 use Rattle.bq_disc.specs.Discipline.{Discipline}
 use Rattle.bq_bpf.specs.declared.board.Call.{Call as Asked}
@@ -26,10 +26,6 @@ use Rattle.bq_verify.specs.Accepted.{Accepted}
 use Rattle.bq_policies.specs.Answers.{fresh_maps}
 use Rattle.bq_core.proofs.StepLemmas.{in_range_not_refused, still_runs, block_idle}
 
--- the number of an entry is not refused
-has_entry : (id : ℕ) → id < 1024 → nat_le 1024 id ≡ false
-has_entry id h = grind (arith, nat_tests)
-
 -- the lobby's share of an admission, done or refused, is the world's step, where no argument is refused
 pub admits_step : (d : Discipline) (w : World) (id : ℕ) (nice : ℤ) (mask slice : ℕ) (r : Result Reply Refusal) (lobby : List LobbyEntry) → argument_refusal (count_in w) (Admit id nice mask slice) ≡ None →
     Admits id (admitted (count_in w) id nice mask slice) w.lobby r lobby → WorldStep (policies d) w (Admit id nice mask slice) [] r (with_lobby w lobby)
@@ -38,8 +34,8 @@ admits_step d w id nice mask slice (Err e) lobby h a = (refl, ap (with_lobby w) 
 
 -- the lobby's share of a retirement, done or refused, is the world's step, where the id is that of an entry
 pub retires_step : (d : Discipline) (w : World) (id : ℕ) (r : Result Reply Refusal) (lobby : List LobbyEntry) → id < 1024 → Retires id w.lobby r lobby → WorldStep (policies d) w (Retire id) [] r (with_lobby w lobby)
-retires_step d w id (Ok r) lobby l b = (rw (has_entry id l, b.0) refl, (lobby, b, refl, refl))
-retires_step d w id (Err e) lobby l b = (refl, ap (with_lobby w) b.1, inl (rw (has_entry id l, b.0) refl))
+retires_step d w id (Ok r) lobby l b = (rw (lt-leb 1024 id l, b.0) refl, (lobby, b, refl, refl))
+retires_step d w id (Err e) lobby l b = (refl, ap (with_lobby w) b.1, inl (rw (lt-leb 1024 id l, b.0) refl))
 
 -- a processor's share of a tick is the world's step, where the world has that processor
 pub ticks_step : (d : Discipline) (w : World) (processor now : ℕ) (calls : List Asked) (r : Reply) (q : Processor) → processor < count_in w → Ticks (policies d) processor now (processor_at w processor) calls r q →
@@ -68,8 +64,8 @@ blocks_step d w processor now (Err e) q lobby h b = (refl, same_lobby_too w proc
 -- what a wake's beginning makes of the hand and the lobby is the world's step, done or refused, for an id of an entry
 pub begins_step : (d : Discipline) (w : World) (processor id : ℕ) (r : Result Reply Refusal) (q : Processor) (lobby : List LobbyEntry) → processor < count_in w → id < 1024 → Begins id (loads_of w.processors w.inboxes) (processor_at w processor) w.lobby r q lobby →
     WorldStep (policies d) w (BeginWake processor id) [] r (with_lobby (with_processor w processor q) lobby)
-begins_step d w processor id (Ok r) q lobby h l b = (rw (in_range_not_refused w processor h, has_entry id l, b.1) refl, (q, lobby, b, refl, refl))
-begins_step d w processor id (Err e) q lobby h l b = (refl, same_lobby_too w processor q lobby b.1 b.2, inl (rw (in_range_not_refused w processor h, has_entry id l, b.0) refl))
+begins_step d w processor id (Ok r) q lobby h l b = (rw (in_range_not_refused w processor h, lt-leb 1024 id l, b.1) refl, (q, lobby, b, refl, refl))
+begins_step d w processor id (Err e) q lobby h l b = (refl, same_lobby_too w processor q lobby b.1 b.2, inl (rw (in_range_not_refused w processor h, lt-leb 1024 id l, b.0) refl))
 
 -- a processor's share of a wake's end is the world's step, which puts the task at the end of the chosen inbox
 pub places_step : (d : Discipline) (w : World) (processor now : ℕ) (calls : List Asked) (x : Placement) (q : Processor) → processor < count_in w → Places (policies d) (count_in w) processor now (processor_at w processor) calls (Some x) q →
@@ -92,14 +88,11 @@ pub installs_step : (d : Discipline) (w : World) (processor g : ℕ) (h : Hook) 
 installs_step d w processor g h o (Ok r) q l k = (rw (l, k.0) refl, (q, k, refl, refl))
 installs_step d w processor g h o (Err e) q l k = (refl, same_processor w processor q k.1, inl (rw (l, k.0) refl))
 
-apart : (processor from : ℕ) → processor ≢ from → eqb processor from ≡ false
-apart processor from h = grind (arith, nat_tests)
-
 -- what a pull makes of two processors that differ is the world's step
 pub pulls_step : (d : Discipline) (w : World) (processor from now : ℕ) (calls : List Asked) (r : Reply) (q other : Processor) → processor < count_in w → from < count_in w → processor ≢ from →
     Pulls (policies d) processor from now (processor_at w processor) (processor_at w from) calls r q other →
     WorldStep (policies d) w (Pull processor from now) calls (Ok r) (with_processor (with_processor w processor q) from other)
-pulls_step d w processor from now calls r q other h k n p = (rw (in_range_not_refused w processor h, in_range_not_refused w from k, apart processor from n) refl, (q, other, p, refl))
+pulls_step d w processor from now calls r q other h k n p = (rw (in_range_not_refused w processor h, in_range_not_refused w from k, ne_eqb processor from n) refl, (q, other, p, refl))
 
 -- the same of a wake's end, where the parts are known by equations
 pub places_at : (d : Discipline) (w w' : World) (processor now count task : ℕ) (calls : List Asked) (x : Placement) (q p : Processor) (xs : List Task) → processor < count_in w → p ≡ processor_at w processor → count ≡ count_in w →

@@ -1,5 +1,5 @@
 -- Tasks that suit a processor: their masks allow it, and have processors of the machine alone.
-use Rattle.std.proofs.Common.{◌≡◌, ℕ, ◌^◌, Bool, true, false, cond, List, [], ◌∷◌, refl, arith}
+use Rattle.std.proofs.Common.{◌≡◌, ℕ, ◌^◌, Bool, true, false, cond, List, [], ◌∷◌, refl, arith, ltb-true, lt-ltb, eqb-false, ne_eqb}
 use Rattle.std.specs.Prelude.{◌&&◌, ◌==◌, not, nat_lt, All}
 use Rattle.std.specs.List.{AllByRecursion}
 use Rattle.std.proofs.lemmas.List.Elements.{All-from_recursion, recursion_from_All}
@@ -8,7 +8,6 @@ use Rattle.bq_disc.specs.Queues.{can_use}
 use Rattle.bq_disc.specs.Masks.{allows}
 use Rattle.bq_hooks.specs.OwnPlace.{HasPlace}
 use Rattle.bq_parts.proofs.TallyLemmas.{tally, worth}
-use Rattle.bq_parts.proofs.NumberTestLemmas.{below_from_test, test_from_below, differ_from_test, test_from_differ}
 
 -- a processor that a task may use, and a mask of the machine's processors
 abbrev pub suits : ℕ → ℕ → ℕ → Bool
@@ -34,11 +33,11 @@ tests_of false b c h = absurd (omega arith)
 pub suits_of : (count processor : ℕ) (t : Task) → worth (unsuited count processor) t ≡ 0 → Suits count processor t
 suits_of count processor t h =
     let f = tests_of (allows t.mask processor) (nat_lt t.mask (2 ^ count)) (t.mask == 0) h in
-    record { can = f.0; place = (below_from_test t.mask (2 ^ count) f.1, differ_from_test t.mask 0 f.2) }
+    record { can = f.0; place = (ltb-true t.mask (2 ^ count) f.1, eqb-false t.mask 0 f.2) }
 
 -- and one that suits it doesn't count
 pub of_suits : (count processor : ℕ) (t : Task) → can_use processor t ≡ true → HasPlace count t → worth (unsuited count processor) t ≡ 0
-of_suits count processor t e h = rw (e, test_from_below t.mask (2 ^ count) h.0, test_from_differ t.mask 0 h.1) refl
+of_suits count processor t e h = rw (e, lt-ltb t.mask (2 ^ count) h.0, ne_eqb t.mask 0 h.1) refl
 
 unsuited_by_recursion : (count processor : ℕ) (xs : List Task) → AllByRecursion (λ t. can_use processor t ≡ true) xs → AllByRecursion (HasPlace count) xs → tally (unsuited count processor) xs ≡ 0
 unsuited_by_recursion count processor [] h k = refl

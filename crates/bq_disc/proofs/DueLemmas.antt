@@ -1,8 +1,8 @@
 -- When the first of some tasks is due.
 use Rattle.std.proofs.Common.{◌≡◌, true, false, cond, List, ◌∷◌, Option, Some, None, refl, ap}
 use Rattle.std.specs.Option.{option_map}
-use Rattle.bq_disc.specs.Tasks.{Task, first_by, former, due_before}
-use Rattle.bq_disc.specs.Dues.{due_of, first_due, earliest_of}
+use Rattle.bq_disc.specs.Tasks.{Task, first_by, former}
+use Rattle.bq_disc.specs.Dues.{due_of, first_due, earliest_of, due_before}
 
 due_of_former : (x : Task) (o : Option Task) → due_of (former due_before x o) ≡ earliest_of (due_of x) (option_map due_of o)
 due_of_former x None = refl

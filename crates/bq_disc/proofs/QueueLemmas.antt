@@ -1,19 +1,19 @@
 -- What a queue keeps when a task comes or goes.
-use Rattle.std.proofs.Common.{◌≡◌, ℕ, suc, ◌+◌, ◌<◌, ◌≤◌, ◌^◌, Bool, true, false, cond, ◌||◌, eqb, List, [], ◌∷◌, length, Option, Some, None, refl, ap, ◌∙◌, arith}
-use Rattle.std.specs.Prelude.{map, IsSome}
+use Rattle.std.proofs.Common.{◌≡◌, ℕ, suc, ◌+◌, ◌<◌, ◌≤◌, ◌^◌, Bool, true, false, cond, ◌||◌, eqb, List, [], ◌∷◌, length, Option, Some, None, refl, ap, ◌∙◌, arith, eqb-true}
+use Rattle.std.specs.Prelude.{IsSome}
 use Rattle.std.specs.List.{list_any, AllByRecursion, IsDistinct}
 use Rattle.std.proofs.lemmas.Bool.Decides.{nat_tests}
 use Rattle.std.proofs.lemmas.Map.Steps.{length-le_from_distinct_below}
 use Rattle.bq_disc.specs.Tasks.{Task, with_id, without, place, runs_before}
 use Rattle.bq_disc.specs.Queues.{HasDistinctIds, HasSmallIds}
+use Rattle.bq_disc.specs.Movable.{ids}
 
-abbrev ids : List Task → List ℕ
-ids xs = map (λ (t : Task). t.id) xs
-
-eqb_comm : (a b : ℕ) → eqb a b ≡ false → eqb b a ≡ false
+-- numbers that fail the test for equality fail it the other way round too
+pub eqb_comm : (a b : ℕ) → eqb a b ≡ false → eqb b a ≡ false
 eqb_comm a b h = grind (arith, nat_tests)
 
-cond_none : (b : Bool) (x : Task) (o : Option Task) → cond b (Some x) o ≡ None → (b ≡ false) × (o ≡ None)
+-- where a test would find one and none is found, the test fails and none is in the rest
+pub cond_none : (b : Bool) (x : Task) (o : Option Task) → cond b (Some x) o ≡ None → (b ≡ false) × (o ≡ None)
 cond_none true x o h = cc
 cond_none false x o h = (refl, h)
 
@@ -40,7 +40,8 @@ small : (xs : List Task) (q : ℕ) → HasSmallIds xs → list_any (eqb q) (ids 
 small [] q s h = cc
 small (x ∷ xs) q s h = small_at q x.id (list_any (eqb q) (ids xs)) (eqb q x.id) refl s.0 h (small xs q s.1)
 
-length-ids : (xs : List Task) → length (ids xs) ≡ length xs
+-- there are as many ids as tasks
+pub length-ids : (xs : List Task) → length (ids xs) ≡ length xs
 length-ids [] = refl
 length-ids (x ∷ xs) = ap suc (length-ids xs)
 
@@ -129,11 +130,8 @@ without-absent j (x ∷ xs) h =
     let s = with_id-none j x xs h in
     rw s.0 (ap (λ ys. x ∷ ys) (without-absent j xs s.1))
 
-same_number : (a b : ℕ) → eqb a b ≡ true → a ≡ b
-same_number a b h = grind (arith, nat_tests)
-
 gone_by_test : (i : ℕ) (b : Bool) (x : Task) (xs ys : List Task) → eqb x.id i ≡ b → with_id x.id xs ≡ None → with_id i ys ≡ None → with_id i (cond b xs (x ∷ ys)) ≡ None
-gone_by_test i true x xs ys e d rest = rw (same_number x.id i e) at d
+gone_by_test i true x xs ys e d rest = rw (eqb-true x.id i e) at d
 gone_by_test i false x xs ys e d rest = rw e rest
 
 -- once taken, no task of that id is there

@@ -1,5 +1,5 @@
 -- Lists with distinct ids that hold the same tasks have the same sums, and the same tasks that pass a test.
-use Rattle.std.proofs.Common.{◌≡◌, ℕ, zero, suc, ◌+◌, ◌*◌, ◌<◌, Bool, true, false, cond, eqb, List, [], ◌∷◌, length, Option, Some, None, filter, refl, ap, sym, ◌∙◌, arith}
+use Rattle.std.proofs.Common.{◌≡◌, ℕ, zero, suc, ◌+◌, ◌*◌, ◌<◌, Bool, true, false, cond, eqb, List, [], ◌∷◌, length, Option, Some, None, filter, refl, ap, sym, ◌∙◌, arith, eqb-true, eq-eqb}
 use Rattle.std.specs.Prelude.{Contains, slice_index_or}
 use Rattle.bq_disc.specs.Tasks.{Task, with_id, without}
 use Rattle.bq_disc.specs.Queues.{HasDistinctIds}
@@ -7,9 +7,10 @@ use Rattle.bq_disc.specs.Discipline.{SameSet}
 use Rattle.bq_disc.specs.Totals.{total_weight, weighted_sum}
 use Rattle.bq_disc.specs.Orders.{Contains-later}
 use Rattle.bq_disc.proofs.QueueLemmas.{with_id-none, HasDistinctIds-without, with_id-without_same}
-use Rattle.bq_disc.proofs.SetLemmas.{SameById, SameById-SameSet, equal_from_test, test_from_equal}
+use Rattle.bq_disc.proofs.SetLemmas.{SameById, SameById-SameSet}
 
-abbrev sum_of : (Task → ℕ) → List Task → ℕ
+-- the sum of a number that each of some tasks has
+abbrev pub sum_of : (Task → ℕ) → List Task → ℕ
 sum_of f [] = 0
 sum_of f (x ∷ xs) = f x + sum_of f xs
 
@@ -17,12 +18,13 @@ taken_by_test : (f : Task → ℕ) (b : Bool) (x t : Task) (xs ys : List Task) (
 taken_by_test f true x t xs ys o h rest = let same : x ≡ t = cc in ap (λ s. f s + sum_of f xs) same
 taken_by_test f false x t xs ys o h rest = let r = rest h in omega (arith, r)
 
-sum_of-without : (f : Task → ℕ) (i : ℕ) (xs : List Task) (t : Task) → with_id i xs ≡ Some t → sum_of f xs ≡ f t + sum_of f (without i xs)
+-- what a task adds to a sum, and what is left without it
+pub sum_of-without : (f : Task → ℕ) (i : ℕ) (xs : List Task) (t : Task) → with_id i xs ≡ Some t → sum_of f xs ≡ f t + sum_of f (without i xs)
 sum_of-without f i [] t h = cc
 sum_of-without f i (x ∷ xs) t h = taken_by_test f (eqb x.id i) x t xs (without i xs) (with_id i xs) h (sum_of-without f i xs t)
 
 other_by_test : (i j : ℕ) (b c : Bool) (x : Task) (xs ys : List Task) → eqb x.id i ≡ b → eqb x.id j ≡ c → (i ≡ j → ⊥) → with_id j ys ≡ with_id j xs → with_id j (cond b xs (x ∷ ys)) ≡ cond c (Some x) (with_id j xs)
-other_by_test i j true true x xs ys e g ne rest = absurd (ne (sym (equal_from_test x.id i e) ∙ equal_from_test x.id j g))
+other_by_test i j true true x xs ys e g ne rest = absurd (ne (sym (eqb-true x.id i e) ∙ eqb-true x.id j g))
 other_by_test i j true false x xs ys e g ne rest = refl
 other_by_test i j false c x xs ys e g ne rest = rw g (ap (λ o. cond c (Some x) o) rest)
 
@@ -32,11 +34,11 @@ with_id-without_other i j (x ∷ xs) ne = other_by_test i j (eqb x.id i) (eqb x.
 
 rest_same_at : (x : Task) (xs ys : List Task) → HasDistinctIds (x ∷ xs) → HasDistinctIds ys → SameById (x ∷ xs) ys → (j : ℕ) (b : Bool) → eqb x.id j ≡ b → with_id j xs ≡ with_id j (without x.id ys)
 rest_same_at x xs ys d dy h j true e =
-    let same = equal_from_test x.id j e in
+    let same = eqb-true x.id j e in
     ap (λ i. with_id i xs) (sym same) ∙ d.0 ∙ sym (with_id-without_same x.id ys dy) ∙ ap (λ i. with_id i (without x.id ys)) same
 rest_same_at x xs ys d dy h j false e =
     let here : with_id j (x ∷ xs) ≡ with_id j xs = rw e refl in
-    let ne : x.id ≡ j → ⊥ = λ same. let t = test_from_equal x.id j same in cc in
+    let ne : x.id ≡ j → ⊥ = λ same. let t = eq-eqb x.id j same in cc in
     sym here ∙ h j ∙ sym (with_id-without_other x.id j ys ne)
 
 rest_same : (x : Task) (xs ys : List Task) → HasDistinctIds (x ∷ xs) → HasDistinctIds ys → SameById (x ∷ xs) ys → SameById xs (without x.id ys)
@@ -44,7 +46,7 @@ rest_same x xs ys d dy h = λ j. rest_same_at x xs ys d dy h j (eqb x.id j) refl
 
 first_there : (x : Task) (xs ys : List Task) → SameById (x ∷ xs) ys → with_id x.id ys ≡ Some x
 first_there x xs ys h =
-    let here : with_id x.id (x ∷ xs) ≡ Some x = rw (test_from_equal x.id x.id refl) refl in
+    let here : with_id x.id (x ∷ xs) ≡ Some x = rw (eq-eqb x.id x.id refl) refl in
     sym (h x.id) ∙ here
 
 sum_of-same : (f : Task → ℕ) (xs ys : List Task) → HasDistinctIds xs → HasDistinctIds ys → SameById xs ys → sum_of f xs ≡ sum_of f ys

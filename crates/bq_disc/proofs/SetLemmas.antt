@@ -1,8 +1,9 @@
 -- Lists with distinct ids that hold the same tasks have the same first task and the same sums.
-use Rattle.std.proofs.Common.{◌≡◌, ℕ, zero, suc, ◌<◌, Bool, true, false, cond, eqb, List, [], ◌∷◌, length, Option, Some, None, refl, ap, sym, ◌∙◌, ◌⊎◌, inl, inr, arith}
+use Rattle.std.proofs.Common.{◌≡◌, ℕ, zero, suc, ◌<◌, Bool, true, false, cond, eqb, List, [], ◌∷◌, length, Option, Some, None, refl, ap, sym, ◌∙◌, ◌⊎◌, inl, inr, arith, eqb-true, eq-eqb}
 use Rattle.std.specs.Prelude.{Contains, slice_index_or, IfSome}
 use Rattle.std.proofs.lemmas.Bool.Decides.{nat_tests}
-use Rattle.bq_disc.specs.Tasks.{Task, with_id, first_by, former, runs_before, due_before}
+use Rattle.bq_disc.specs.Tasks.{Task, with_id, first_by, former, runs_before}
+use Rattle.bq_disc.specs.Dues.{due_before}
 use Rattle.bq_disc.specs.Queues.{HasDistinctIds}
 use Rattle.bq_disc.specs.Discipline.{SameSet}
 use Rattle.bq_disc.specs.Orders.{Contains-first, Contains-later}
@@ -11,16 +12,8 @@ use Rattle.bq_disc.specs.Orders.{Contains-first, Contains-later}
 abbrev pub SameById : List Task → List Task → Type 0
 SameById xs ys = (id : ℕ) → with_id id xs ≡ with_id id ys
 
--- numbers that pass the test for equality are one
-pub equal_from_test : (a b : ℕ) → eqb a b ≡ true → a ≡ b
-equal_from_test a b h = grind (arith, nat_tests)
-
--- numbers that are one pass the test for equality
-pub test_from_equal : (a b : ℕ) → a ≡ b → eqb a b ≡ true
-test_from_equal a b h = grind (arith, nat_tests)
-
 found_by_test : (b : Bool) (i : ℕ) (x t : Task) (o : Option Task) → eqb x.id i ≡ b → cond b (Some x) o ≡ Some t → (o ≡ Some t → t.id ≡ i) → t.id ≡ i
-found_by_test true i x t o e h rest = let same : x ≡ t = cc in ap (λ (s : Task). s.id) (sym same) ∙ equal_from_test x.id i e
+found_by_test true i x t o e h rest = let same : x ≡ t = cc in ap (λ (s : Task). s.id) (sym same) ∙ eqb-true x.id i e
 found_by_test false i x t o e h rest = rest h
 
 -- what is found has the id that was sought
@@ -29,7 +22,7 @@ with_id-id i [] t h = cc
 with_id-id i (x ∷ xs) t h = found_by_test (eqb x.id i) i x t (with_id i xs) refl h (with_id-id i xs t)
 
 later_by_test : (b : Bool) (x t : Task) (xs : List Task) → eqb x.id t.id ≡ b → with_id x.id xs ≡ None → with_id t.id xs ≡ Some t → cond b (Some x) (with_id t.id xs) ≡ Some t
-later_by_test true x t xs e none some = let same = equal_from_test x.id t.id e in let here = rw same at none in cc
+later_by_test true x t xs e none some = let same = eqb-true x.id t.id e in let here = rw same at none in cc
 later_by_test false x t xs e none some = some
 
 -- a task that a list has is the one of its id
@@ -37,7 +30,7 @@ pub with_id-Contains : (xs : List Task) (t : Task) (k : ℕ) → HasDistinctIds 
 with_id-Contains [] t k d l e = absurd (omega (arith, l))
 with_id-Contains (x ∷ xs) t zero d l e =
     let here : x ≡ t = e in
-    rw (test_from_equal x.id t.id (ap (λ (s : Task). s.id) here)) (ap (λ (s : Task). Some s) here)
+    rw (eq-eqb x.id t.id (ap (λ (s : Task). s.id) here)) (ap (λ (s : Task). Some s) here)
 with_id-Contains (x ∷ xs) t (suc k) d l e =
     let rest = with_id-Contains xs t k d.1 (omega (arith, l)) e in
     later_by_test (eqb x.id t.id) x t xs refl d.0 rest

@@ -1,20 +1,24 @@
 -- Virtual deadlines, by (deadline, id).
 use Rattle.std.specs.Prelude.{Bool, if◌then◌else◌, List, Option, Some, None}
 use Rattle.std.specs.Option.{option_map}
-use Rattle.bq_disc.specs.Tasks.{Task, first_by, comes_before, due_before}
+use Rattle.bq_disc.specs.Tasks.{Task, first_by, comes_before}
 use Rattle.bq_disc.specs.declared.due.Deadline.{Deadline}
 
 -- when a task is due
 abbrev pub due_of : Task → Deadline
 due_of t = record { deadline = t.deadline; id = t.id }
 
--- when the first of some tasks is due
-abbrev pub first_due : List Task → Option Deadline
-first_due xs = option_map due_of (first_by due_before xs)
-
 -- by least (deadline, id)
 abbrev pub is_earlier : Deadline → Deadline → Bool
 is_earlier a b = comes_before a.deadline a.id b.deadline b.id
+
+-- a task is due before another
+abbrev pub due_before : Task → Task → Bool
+due_before a b = is_earlier (due_of a) (due_of b)
+
+-- when the first of some tasks is due
+abbrev pub first_due : List Task → Option Deadline
+first_due xs = option_map due_of (first_by due_before xs)
 
 -- the earlier of two
 abbrev pub earlier_of : Deadline → Deadline → Deadline

@@ -41,10 +41,6 @@ comes_before time id other_time other_id = nat_lt time other_time || (time == ot
 abbrev pub runs_before : Task → Task → Bool
 runs_before a b = comes_before a.v a.id b.v b.id
 
--- by least (deadline, id)
-abbrev pub due_before : Task → Task → Bool
-due_before a b = comes_before a.deadline a.id b.deadline b.id
-
 -- x, unless one that is given comes before it
 abbrev pub former : (Task → Task → Bool) → Task → Option Task → Task
 former before x None = x

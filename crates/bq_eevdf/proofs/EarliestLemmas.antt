@@ -1,7 +1,8 @@
 -- The choice is the earliest of the eligible.
 use Rattle.std.proofs.Common.{◌≡◌, false, List, Option, Some, None}
 use Rattle.std.specs.Prelude.{Contains, IfSome, IsTrue}
-use Rattle.bq_disc.specs.Tasks.{Task, due_before}
+use Rattle.bq_disc.specs.Tasks.{Task}
+use Rattle.bq_disc.specs.Dues.{due_before}
 use Rattle.bq_disc.specs.Orders.{first_by-member}
 use Rattle.bq_disc.proofs.SetLemmas.{first_by-least, due_before-IsOrder}
 use Rattle.bq_disc.proofs.SameSumLemmas.{Contains-filter, filter-Contains}

@@ -1,6 +1,7 @@
 -- The law of the choice: the eligible task of earliest deadline.
 use Rattle.std.specs.Prelude.{◌≡◌, false, List, Contains, IfSome, IsTrue}
-use Rattle.bq_disc.specs.Tasks.{Task, due_before}
+use Rattle.bq_disc.specs.Tasks.{Task}
+use Rattle.bq_disc.specs.Dues.{due_before}
 use Rattle.bq_eevdf.specs.Eevdf.{eevdf, is_eligible}
 
 -- the choice of some tasks is one of them and eligible, and none of them that is eligible comes before it by (deadline, id)

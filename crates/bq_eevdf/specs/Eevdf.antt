@@ -2,7 +2,8 @@
 use Rattle.std.specs.Prelude.{Bool, false, not, ◌==◌, nat_le, List, ◌∷◌, Option, None, Some, filter, if◌then◌else◌, unwrap_or}
 use Rattle.bq_weights.specs.VirtualTime.{advance_of, shift_of, vdelta_of, held_within}
 use Rattle.bq_disc.specs.Totals.{total_weight, weighted_sum, is_at_most_mean, mean_of}
-use Rattle.bq_disc.specs.Tasks.{Task, first_by, due_before}
+use Rattle.bq_disc.specs.Tasks.{Task, first_by}
+use Rattle.bq_disc.specs.Dues.{due_before}
 use Rattle.bq_disc.specs.Discipline.{Discipline}
 
 -- a task whose lag is at least 0 among those that are considered: its v is at most their weighted mean

@@ -1,7 +1,8 @@
 -- EEVDF keeps the laws of a discipline.
 use Rattle.std.specs.Prelude.{◌≡◌, List, Contains, filter, refl}
 use Rattle.std.proofs.Common.{ap, ◌∙◌}
-use Rattle.bq_disc.specs.Tasks.{Task, first_by, due_before}
+use Rattle.bq_disc.specs.Tasks.{Task, first_by}
+use Rattle.bq_disc.specs.Dues.{due_before}
 use Rattle.bq_disc.specs.Queues.{HasDistinctIds}
 use Rattle.bq_disc.specs.Discipline.{IsLawful, SameSet}
 use Rattle.bq_disc.specs.Orders.{first_by-member, first_by-exists}

@@ -1,12 +1,13 @@
 -- EEVDF: the task that runs after a decision is the choice of all that are present: eligible, and due first of those.
-use Rattle.std.proofs.Common.{◌≡◌, ℕ, Bool, true, false, cond, eqb, not, List, ◌∷◌, Option, Some, None, refl, ap, sym, ◌∙◌}
+use Rattle.std.proofs.Common.{◌≡◌, ℕ, Bool, true, false, cond, eqb, not, List, ◌∷◌, Option, Some, None, refl, ap, sym, ◌∙◌, eqb-true, eq-eqb}
 use Rattle.std.specs.Prelude.{IfSome, IsSome, Contains, unwrap_or, if◌then◌else◌, ◌==◌}
-use Rattle.bq_disc.specs.Tasks.{Task, with_id, due_before, id_of}
+use Rattle.bq_disc.specs.Tasks.{Task, with_id, id_of}
+use Rattle.bq_disc.specs.Dues.{due_before}
 use Rattle.bq_disc.specs.Queues.{HasDistinctIds}
 use Rattle.bq_disc.specs.Discipline.{next_of}
 use Rattle.bq_disc.specs.Orders.{first_by-member}
 use Rattle.bq_disc.specs.OneProcessor.{Running, present_at, decided, own_preempt, exchanged, run_id}
-use Rattle.bq_disc.proofs.SetLemmas.{equal_from_test, test_from_equal, with_id-Contains, first_by-least, due_before-IsOrder}
+use Rattle.bq_disc.proofs.SetLemmas.{with_id-Contains, first_by-least, due_before-IsOrder}
 use Rattle.bq_disc.proofs.SameSumLemmas.{Contains-filter}
 use Rattle.bq_eevdf.specs.Eevdf.{eevdf, earliest, eligible, is_eligible, is_other}
 use Rattle.bq_eevdf.specs.Lawful.{eevdf_lawful}
@@ -52,7 +53,7 @@ next_is_chosen q u m f e =
 
 -- a chosen task that is not the current one is in the queue
 later_by_test : (q : List Task) (u m : Task) (b : Bool) → eqb u.id m.id ≡ b → eqb m.id u.id ≡ false → cond b (Some u) (with_id m.id q) ≡ Some m → with_id m.id q ≡ Some m
-later_by_test q u m true g e h = let same = test_from_equal m.id u.id (sym (equal_from_test u.id m.id g)) in cc
+later_by_test q u m true g e h = let same = eq-eqb m.id u.id (sym (eqb-true u.id m.id g)) in cc
 later_by_test q u m false g e h = h
 
 abbrev RunsEarliestOf : List Task → Running → Type 0
@@ -64,7 +65,7 @@ exchanged_earliest q kept last next u m e f h = rw (e, f) h
 -- of the earliest, by whether it is the current task
 decided_by_test : (q : List Task) (kept last : ℕ) (u m : Task) (b : Bool) → eqb m.id u.id ≡ b → earliest (u ∷ q) ≡ Some m → IsChosen (u ∷ q) m → RunsEarliestOf (u ∷ q) (decided eevdf (busy q kept u last) (Some u) (not b))
 decided_by_test q kept last u m true e f h =
-    let same = equal_from_test m.id u.id e in
+    let same = eqb-true m.id u.id e in
     let here : u ≡ m = let one = with_id-own u q in let two = ap (λ k. with_id k (u ∷ q)) same in let three = h.0 in cc in
     f ∙ ap (λ (x : Task). Some x) (sym here)
 decided_by_test q kept last u m false e f h =

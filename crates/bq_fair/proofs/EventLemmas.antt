@@ -1,11 +1,10 @@
 -- Each event of a processor is some steps.
-use Rattle.std.proofs.Common.{◌≡◌, ℕ, Bool, true, false, cond, eqb, List, [], ◌∷◌, Option, None, Some, refl, ap, sym, ◌∙◌}
+use Rattle.std.proofs.Common.{◌≡◌, ℕ, Bool, true, false, cond, eqb, List, [], ◌∷◌, Option, None, Some, refl, ap, sym, ◌∙◌, eqb-true, eq-eqb}
 use Rattle.bq_disc.specs.Tasks.{Task, with_id, without, place, present}
 use Rattle.bq_disc.specs.Queues.{HasDistinctIds}
 use Rattle.bq_disc.specs.Discipline.{Discipline, woken}
 use Rattle.bq_disc.specs.OneProcessor.{Running, present_at, marked, charge, start, decided, own_preempt, entered}
 use Rattle.bq_disc.proofs.QueueLemmas.{without-absent}
-use Rattle.bq_disc.proofs.SetLemmas.{equal_from_test, test_from_equal}
 use Rattle.bq_fair.specs.Steps.{Decide, Leave, stepped, after, kept_current}
 use Rattle.bq_fair.specs.Events.{entries, EventsAreSteps}
 use Rattle.bq_fair.proofs.TickLemmas.{charged_distinct}
@@ -17,7 +16,7 @@ stops d q kept (Some u) last t h e =
     let same : u ≡ t = cc in
     let id = ap (λ (x : Task). x.id) same in
     let absent : with_id t.id q ≡ None = ap (λ k. with_id k q) (sym id) ∙ h.0 in
-    let gone : kept_current t.id (Some u) ≡ None = rw (test_from_equal u.id t.id id) refl in
+    let gone : kept_current t.id (Some u) ≡ None = rw (eq-eqb u.id t.id id) refl in
     let full : Option Task → List Task → Running = λ o q. record { queue = q; kept = kept; current = o; last = last } in
     sym (ap (λ o. full o (without t.id q)) gone ∙ ap (λ q. full None q) (without-absent t.id q absent))
 
@@ -31,7 +30,7 @@ starts d q kept (Some t) last e = cc
 
 -- the current task is not the one of the queue that leaves
 keeps_by : (k : ℕ) (q : List Task) (c t : Task) (b : Bool) → eqb c.id k ≡ b → with_id c.id q ≡ None → with_id k q ≡ Some t → Some c ≡ cond b None (Some c)
-keeps_by k q c t true e n f = let same = ap (λ k. with_id k q) (equal_from_test c.id k e) in cc
+keeps_by k q c t true e n f = let same = ap (λ k. with_id k q) (eqb-true c.id k e) in cc
 keeps_by k q c t false e n f = refl
 
 keeps_current : (k : ℕ) (q : List Task) (o : Option Task) (t : Task) → HasDistinctIds (present o q) → with_id k q ≡ Some t → o ≡ kept_current k o

@@ -6,7 +6,8 @@ use Rattle.bq_disc.specs.Tasks.{Task, with_id, without}
 use Rattle.bq_disc.specs.Totals.{total_weight, weighted_sum}
 use Rattle.bq_disc.specs.Queues.{HasDistinctIds}
 use Rattle.bq_disc.proofs.SetLemmas.{with_id-Contains}
-use Rattle.bq_fair.proofs.SumLemmas.{sum_over-without, total_weight-sum, weighted_sum-sum}
+use Rattle.bq_disc.proofs.SameSumLemmas.{sum_of-without}
+use Rattle.bq_fair.proofs.SumLemmas.{total_weight-sum, weighted_sum-sum}
 
 -- of each id, so of each
 pub All-from_ids : (P : Task → Type 0) (xs : List Task) → HasDistinctIds xs → ((i : ℕ) (t : Task) → with_id i xs ≡ Some t → P t) → All P xs
@@ -28,11 +29,11 @@ IfSome-from P (Some x) h = h x refl
 -- the weights together are one's own and the others'
 pub weights_split : (i : ℕ) (xs : List Task) (t : Task) → with_id i xs ≡ Some t → total_weight xs ≡ t.weight + total_weight (without i xs)
 weights_split i xs t f =
-    let e = sum_over-without (λ (x : Task). x.weight) i xs t f in
+    let e = sum_of-without (λ (x : Task). x.weight) i xs t f in
     omega (arith, e, total_weight-sum xs, total_weight-sum (without i xs))
 
 -- and so is the weighted sum
 pub moments_split : (i : ℕ) (xs : List Task) (t : Task) → with_id i xs ≡ Some t → weighted_sum xs ≡ t.weight * t.v + weighted_sum (without i xs)
 moments_split i xs t f =
-    let e = sum_over-without (λ (x : Task). x.weight * x.v) i xs t f in
+    let e = sum_of-without (λ (x : Task). x.weight * x.v) i xs t f in
     omega (arith, e, weighted_sum-sum xs, weighted_sum-sum (without i xs))

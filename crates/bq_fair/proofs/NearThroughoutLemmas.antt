@@ -1,8 +1,6 @@
 -- Of two tasks that are present throughout one stays near the other, where the rule lets none run that is beyond what each other
 -- reaches: a number that does not fall while time passes.
-use Rattle.std.proofs.Common.{◌≡◌, ℕ, ◌+◌, ◌-◌, ◌*◌, ◌/◌, ◌^◌, ◌≤◌, max, Bool, true, false, cond, eqb, List, [], ◌∷◌, Option, Some, None, refl, ap, sym, ◌∙◌, arith, subst}
-use Rattle.std.proofs.lemmas.Nat.{le-div}
-use Rattle.std.proofs.Math.Nat.{div-mul-le_self}
+use Rattle.std.proofs.Common.{◌≡◌, ℕ, ◌+◌, ◌-◌, ◌^◌, ◌≤◌, max, Bool, true, false, cond, eqb, List, [], ◌∷◌, Option, Some, None, refl, ap, sym, ◌∙◌, arith, subst}
 use Rattle.bq_weights.specs.VirtualTime.{vdelta_of}
 use Rattle.bq_disc.specs.Tasks.{Task}
 use Rattle.bq_disc.specs.Discipline.{Discipline, charged}
@@ -13,7 +11,7 @@ use Rattle.bq_fair.specs.Steps.{Step, Pass, Decide, Enter, Leave, Mark, stepped,
 use Rattle.bq_fair.proofs.PlaceLemmas.{current_present}
 use Rattle.bq_fair.proofs.TickLemmas.{Change, Stays, Runs, charge_changed}
 use Rattle.bq_fair.proofs.DecideLemmas.{keeps_present}
-use Rattle.bq_fair.proofs.SoundLemmas.{vdelta_of-le, IsWellFormed, change_rises, HasRoomAt, tick_leaves_room}
+use Rattle.bq_fair.proofs.SoundLemmas.{vdelta_of-le, IsWellFormed, change_rises, HasRoomAt, tick_leaves_room, vdelta_of-add}
 use Rattle.bq_fair.proofs.StepLemmas.{Came, Was, Charged, Entered, step_came, ChangesBy, step_goes, well_formed_stepped}
 
 -- a premise on each that is present
@@ -38,10 +36,6 @@ pub record IsReach (d : Discipline) (reach : Task → ℕ) (P : Task → Type 0)
   pub keeps : (t : Task) (x : ℕ) → t.v ≤ 2 ^ 62 → P t → P (charged d t x)
   pub up : (t : Task) (x : ℕ) → t.v ≤ 2 ^ 62 → P t → reach t ≤ reach (charged d t x)
   pub near : (p : Running) (j : ℕ) (m t : Task) → IsWellFormed p → Each P p → (stepped d p Decide).current ≡ Some m → task_at j p ≡ Some t → m.v ≤ reach t
-
--- two times one after the other take no more virtual time apart than together
-vdelta_of-add : (x y w : ℕ) → 15 ≤ w → vdelta_of x w + vdelta_of y w ≤ vdelta_of (x + y) w
-vdelta_of-add x y w low = le-div (x * 1024 / w + y * 1024 / w) ((x + y) * 1024) w (omega arith) (omega (arith, div-mul-le_self (x * 1024) w, div-mul-le_self (y * 1024) w))
 
 -- The premise is kept
 

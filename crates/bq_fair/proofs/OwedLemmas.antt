@@ -7,11 +7,12 @@ use Rattle.bq_weights.specs.VirtualTime.{vdelta_of}
 use Rattle.bq_disc.specs.Tasks.{Task, without}
 use Rattle.bq_disc.specs.Totals.{total_weight, weighted_sum}
 use Rattle.bq_disc.specs.OneProcessor.{present_at}
+use Rattle.bq_disc.proofs.SameSumLemmas.{sum_of-without}
 use Rattle.bq_cfs.proofs.MoveLemmas.{each-without}
 use Rattle.bq_fair.specs.Work.{weight_at, moment_at}
 use Rattle.bq_fair.specs.EevdfFairness.{most_ahead, ahead_together, NoneIsOwedMore, NoneIsOwedLong}
 use Rattle.bq_fair.proofs.SoundLemmas.{vdelta_of-weighted}
-use Rattle.bq_fair.proofs.SumLemmas.{length-sum, sum_over-without}
+use Rattle.bq_fair.proofs.SumLemmas.{length-sum}
 use Rattle.bq_fair.proofs.ListLemmas.{All-from_ids, weights_split, moments_split}
 
 -- what each of some tasks is ahead by, each times its weight, together
@@ -77,6 +78,6 @@ none_is_owed_long E r p j b s bal f =
     let few = All-from_ids (λ t. t.weight ≤ W) xs s.distinct (λ i t e. omega (arith, weights_split i xs t e)) in
     let each = each-without (λ t. t.weight ≤ W) j xs (recursion_from_All (λ t. t.weight ≤ W) xs few) in
     let split = weights_split j xs b f in
-    let n : length xs ≡ length others + 1 = omega (arith, length-sum xs, length-sum others, sum_over-without (λ t. 1) j xs b f) in
+    let n : length xs ≡ length others + 1 = omega (arith, length-sum xs, length-sum others, sum_of-without (λ t. 1) j xs b f) in
     let less : W - b.weight ≡ total_weight others = omega arith in
     rw (n, less) (long_by E r W b.weight b.v (moment_at p) (total_weight others) (length others) (ahead_together E r W others) split (none_is_owed_more E r p j b s bal f) (long E r W others each) (none_ahead E r W others))

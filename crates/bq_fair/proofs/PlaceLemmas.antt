@@ -1,15 +1,15 @@
 -- Where tasks change places, each id stands for the task that it stood for.
-use Rattle.std.proofs.Common.{◌≡◌, ℕ, Bool, true, false, cond, eqb, List, [], ◌∷◌, Option, Some, None, refl, ap, sym, ◌∙◌}
+use Rattle.std.proofs.Common.{◌≡◌, ℕ, Bool, true, false, cond, eqb, List, [], ◌∷◌, Option, Some, None, refl, ap, sym, ◌∙◌, eqb-true, eq-eqb}
 use Rattle.bq_disc.specs.Tasks.{Task, with_id, without, place, present, runs_before}
 use Rattle.bq_disc.specs.Queues.{HasDistinctIds}
 use Rattle.bq_disc.specs.OneProcessor.{Running, present_at, run_id, exchanged}
 use Rattle.bq_disc.proofs.QueueLemmas.{with_id-none, with_id-place_other, with_id-without, without-absent, with_id-without_same, HasDistinctIds-without}
-use Rattle.bq_disc.proofs.SetLemmas.{equal_from_test, test_from_equal, with_id-id}
+use Rattle.bq_disc.proofs.SetLemmas.{with_id-id}
 use Rattle.bq_cfs.proofs.MoveLemmas.{distinct-exchanged}
 
 -- the first task is the one of its id
 pub with_id-own : (t : Task) (xs : List Task) → with_id t.id (t ∷ xs) ≡ Some t
-with_id-own t xs = rw (test_from_equal t.id t.id refl) refl
+with_id-own t xs = rw (eq-eqb t.id t.id refl) refl
 
 with_id-place_same : (t : Task) (xs : List Task) → with_id t.id xs ≡ None → with_id t.id (place t xs) ≡ Some t
 with_id-place_same t [] n = with_id-own t []
@@ -21,7 +21,7 @@ with_id-place_same t (x ∷ xs) n =
     ]
 
 placed_by_test : (i : ℕ) (t : Task) (xs : List Task) (b : Bool) → eqb t.id i ≡ b → with_id t.id xs ≡ None → with_id i (place t xs) ≡ cond b (Some t) (with_id i xs)
-placed_by_test i t xs true e n = ap (λ k. with_id k (place t xs)) (sym (equal_from_test t.id i e)) ∙ with_id-place_same t xs n
+placed_by_test i t xs true e n = ap (λ k. with_id k (place t xs)) (sym (eqb-true t.id i e)) ∙ with_id-place_same t xs n
 placed_by_test i t xs false e n = with_id-place_other i t xs e
 
 -- a task that enters is found as the first would be
@@ -29,7 +29,7 @@ pub with_id-place : (i : ℕ) (t : Task) (xs : List Task) → with_id t.id xs �
 with_id-place i t xs n = placed_by_test i t xs (eqb t.id i) refl n
 
 other_by_test : (i j : ℕ) (b c : Bool) (x : Task) (xs ys : List Task) → eqb x.id i ≡ b → eqb x.id j ≡ c → eqb i j ≡ false → with_id j ys ≡ with_id j xs → with_id j (cond b xs (x ∷ ys)) ≡ cond c (Some x) (with_id j xs)
-other_by_test i j true true x xs ys e g ne rest = let same = test_from_equal i j (sym (equal_from_test x.id i e) ∙ equal_from_test x.id j g) in cc
+other_by_test i j true true x xs ys e g ne rest = let same = eq-eqb i j (sym (eqb-true x.id i e) ∙ eqb-true x.id j g) in cc
 other_by_test i j true false x xs ys e g ne rest = refl
 other_by_test i j false c x xs ys e g ne rest = rw g (ap (λ o. cond c (Some x) o) rest)
 
@@ -39,7 +39,7 @@ with_id-without_other i j [] ne = refl
 with_id-without_other i j (x ∷ xs) ne = other_by_test i j (eqb x.id i) (eqb x.id j) x xs (without i xs) refl refl ne (with_id-without_other i j xs ne)
 
 first_by_test : (i j : ℕ) (q : List Task) (m : Task) (b : Bool) → eqb i j ≡ b → with_id i q ≡ Some m → cond b (Some m) (with_id j (without i q)) ≡ with_id j q
-first_by_test i j q m true e f = sym (ap (λ k. with_id k q) (sym (equal_from_test i j e)) ∙ f)
+first_by_test i j q m true e f = sym (ap (λ k. with_id k q) (sym (eqb-true i j e)) ∙ f)
 first_by_test i j q m false e f = with_id-without_other i j q e
 
 -- a task that is taken out and put first is found as before
@@ -82,7 +82,8 @@ last_started q kept last (Some i) = refl
 abbrev pub busy : List Task → ℕ → Task → ℕ → Running
 busy q kept u last = record { queue = q; kept = kept; current = Some u; last = last }
 
-either_order : (b c : Bool) (m u : Task) (o : Option Task) → (b ≡ true → c ≡ true → ⊥) → cond b (Some m) (cond c (Some u) o) ≡ cond c (Some u) (cond b (Some m) o)
+-- of two that are sought first, where not both are the one that is sought, either may stand first
+pub either_order : (b c : Bool) (m u : Task) (o : Option Task) → (b ≡ true → c ≡ true → ⊥) → cond b (Some m) (cond c (Some u) o) ≡ cond c (Some u) (cond b (Some m) o)
 either_order true true m u o apart = absurd (apart refl refl)
 either_order true false m u o apart = refl
 either_order false c m u o apart = refl
@@ -91,7 +92,7 @@ changed_places : (j : ℕ) (u m : Task) (q : List Task) → with_id m.id q ≡ S
 changed_places j u m q f n =
     let rest = without m.id q in
     let apart : eqb m.id j ≡ true → eqb u.id j ≡ true → ⊥ =
-    λ a b. let same = equal_from_test m.id j a ∙ sym (equal_from_test u.id j b) in let there = ap (λ k. with_id k q) same in cc
+    λ a b. let same = eqb-true m.id j a ∙ sym (eqb-true u.id j b) in let there = ap (λ k. with_id k q) same in cc
     in
     ap (λ o. cond (eqb m.id j) (Some m) o) (with_id-place j u rest (with_id-without u.id m.id q n))
     ∙ either_order (eqb m.id j) (eqb u.id j) m u (with_id j rest) apart

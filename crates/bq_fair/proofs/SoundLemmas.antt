@@ -22,6 +22,10 @@ of_each P p i t h f = All-contains P (present_at p) t h (Contains-with_id i (pre
 pub vdelta_of-le : (x r w : ℕ) → 15 ≤ w → x ≤ r → vdelta_of x w ≤ vdelta_of r w
 vdelta_of-le x r w low le = le-div (x * 1024 / w) (r * 1024) w (omega arith) (omega (arith, div-mul-le_self (x * 1024) w))
 
+-- two times one after the other take no more virtual time apart than together
+pub vdelta_of-add : (x y w : ℕ) → 15 ≤ w → vdelta_of x w + vdelta_of y w ≤ vdelta_of (x + y) w
+vdelta_of-add x y w low = le-div (x * 1024 / w + y * 1024 / w) ((x + y) * 1024) w (omega arith) (omega (arith, div-mul-le_self (x * 1024) w, div-mul-le_self (y * 1024) w))
+
 -- the virtual time of a time, times the weight, is no more than the time
 pub vdelta_of-weighted : (x w : ℕ) → w * vdelta_of x w ≤ x * 1024
 vdelta_of-weighted x w = omega (arith, div-mul-le_self (x * 1024) w)

@@ -1,44 +1,34 @@
 -- What a step does to the tasks that are present: those that do not leave stay, and none comes but the one that enters.
-use Rattle.std.proofs.Common.{◌≡◌, ℕ, ◌^◌, ◌≤◌, Bool, true, false, cond, eqb, List, ◌∷◌, Option, Some, None, ◌⊎◌, inl, inr, refl, ap, sym, ◌∙◌, subst, arith}
-use Rattle.std.proofs.lemmas.Bool.Decides.{nat_tests}
+use Rattle.std.proofs.Common.{◌≡◌, ℕ, ◌^◌, ◌≤◌, Bool, true, false, cond, eqb, List, ◌∷◌, Option, Some, None, ◌⊎◌, inl, inr, refl, ap, sym, ◌∙◌, subst, arith, eqb-true, eq-eqb}
 use Rattle.bq_weights.specs.VirtualTime.{IsWeight}
 use Rattle.bq_disc.specs.Tasks.{Task, with_id, without, place, present}
 use Rattle.bq_disc.specs.Queues.{HasDistinctIds}
 use Rattle.bq_disc.specs.Discipline.{Discipline}
 use Rattle.bq_disc.specs.OneProcessor.{Running, present_at, own_preempt}
-use Rattle.bq_disc.proofs.QueueLemmas.{with_id-none, with_id-place_other, HasDistinctIds-place, with_id-without, HasDistinctIds-without, with_id-without_same}
-use Rattle.bq_disc.proofs.SetLemmas.{equal_from_test, test_from_equal}
+use Rattle.bq_disc.proofs.QueueLemmas.{with_id-none, with_id-place_other, HasDistinctIds-place, with_id-without, HasDistinctIds-without, with_id-without_same, eqb_comm}
 use Rattle.bq_fair.specs.Histories.{task_at}
 use Rattle.bq_fair.specs.Steps.{Step, Pass, Decide, Enter, Leave, Mark, stepped, kept_current, EntersNew, leaves}
-use Rattle.bq_fair.proofs.PlaceLemmas.{with_id-place, with_id-without_other}
+use Rattle.bq_fair.proofs.PlaceLemmas.{with_id-place, with_id-without_other, either_order}
 use Rattle.bq_fair.proofs.DecideLemmas.{keeps_present}
 use Rattle.bq_fair.proofs.TickLemmas.{Change, charge_changed, charge_came, charged_distinct}
 use Rattle.bq_fair.proofs.SoundLemmas.{IsWellFormed, change_rises}
 
-turned : (a b : ℕ) → eqb a b ≡ false → eqb b a ≡ false
-turned a b h = grind (arith, nat_tests)
-
 -- A task enters
-
-either_first : (b c : Bool) (m u : Task) (o : Option Task) → (b ≡ true → c ≡ true → ⊥) → cond b (Some m) (cond c (Some u) o) ≡ cond c (Some u) (cond b (Some m) o)
-either_first true true m u o apart = absurd (apart refl refl)
-either_first true false m u o apart = refl
-either_first false c m u o apart = refl
 
 entered_stays : (o : Option Task) (q : List Task) (t : Task) (i : ℕ) → with_id t.id (present o q) ≡ None → with_id i (present o (place t q)) ≡ with_id i (t ∷ present o q)
 entered_stays None q t i n = with_id-place i t q n
 entered_stays (Some c) q t i n =
     let s = with_id-none t.id c q n in
-    ap (λ x. cond (eqb c.id i) (Some c) x) (with_id-place i t q s.1) ∙ either_first (eqb c.id i) (eqb t.id i) c t (with_id i q) (λ a b. let e = equal_from_test c.id i a ∙ sym (equal_from_test t.id i b) in let f = test_from_equal c.id t.id e in cc)
+    ap (λ x. cond (eqb c.id i) (Some c) x) (with_id-place i t q s.1) ∙ either_order (eqb c.id i) (eqb t.id i) c t (with_id i q) (λ a b. let e = eqb-true c.id i a ∙ sym (eqb-true t.id i b) in let f = eq-eqb c.id t.id e in cc)
 
 entered_distinct : (o : Option Task) (q : List Task) (t : Task) → with_id t.id (present o q) ≡ None → HasDistinctIds (present o q) → HasDistinctIds (present o (place t q))
 entered_distinct None q t n d = HasDistinctIds-place t q n d
 entered_distinct (Some c) q t n d =
     let s = with_id-none t.id c q n in
-    (with_id-place_other c.id t q (turned c.id t.id s.0) ∙ d.0, HasDistinctIds-place t q s.1 d.1)
+    (with_id-place_other c.id t q (eqb_comm c.id t.id s.0) ∙ d.0, HasDistinctIds-place t q s.1 d.1)
 
 stays_by : (i : ℕ) (t u : Task) (xs : List Task) (b : Bool) → eqb t.id i ≡ b → with_id t.id xs ≡ None → with_id i xs ≡ Some u → cond b (Some t) (with_id i xs) ≡ Some u
-stays_by i t u xs true e n f = let k = ap (λ k. with_id k xs) (equal_from_test t.id i e) in cc
+stays_by i t u xs true e n f = let k = ap (λ k. with_id k xs) (eqb-true t.id i e) in cc
 stays_by i t u xs false e n f = f
 
 comes_by : (i : ℕ) (t u : Task) (o : Option Task) (b : Bool) → cond b (Some t) o ≡ Some u → (o ≡ Some u) ⊎ (t ≡ u)
@@ -57,7 +47,7 @@ left_distinct k q (Some c) d = left_distinct_by k q c (eqb c.id k) d
 
 gone : (a b i : ℕ) (x : Option Task) (c : Task) → eqb a b ≡ true → eqb b i ≡ false → cond (eqb a i) (Some c) x ≡ x
 gone a b i x c e f =
-    let same = equal_from_test a b e in
+    let same = eqb-true a b e in
     let other : eqb a i ≡ false = ap (λ k. eqb k i) same ∙ f in
     rw other refl
 
@@ -79,7 +69,7 @@ left_none k q (Some c) d = left_none_by k q c (eqb c.id k) refl d
 
 left_came_by : (k i : ℕ) (q : List Task) (o : Option Task) (u : Task) (b : Bool) → eqb k i ≡ b → HasDistinctIds (present o q) → with_id i (present (kept_current k o) (without k q)) ≡ Some u → with_id i (present o q) ≡ Some u
 left_came_by k i q o u true e d f =
-    let none = ap (λ n. with_id n (present (kept_current k o) (without k q))) (sym (equal_from_test k i e)) ∙ left_none k q o d in
+    let none = ap (λ n. with_id n (present (kept_current k o) (without k q))) (sym (eqb-true k i e)) ∙ left_none k q o d in
     cc
 left_came_by k i q o u false e d f = sym (left_stays k i q o e) ∙ f
 

@@ -5,7 +5,8 @@ use Rattle.bq_schedule.specs.declared.change.Start.{Start}
 use Rattle.bq_schedule.specs.declared.figures.TaskFigures.{TaskFigures}
 use Rattle.bq_schedule.specs.declared.figures.HookFigures.{HookFigures}
 use Rattle.bq_schedule.specs.declared.figures.ProcessorFigures.{ProcessorFigures}
-use Rattle.bq_schedule.specs.Counts.{counted, counted_wide, parts}
+use Rattle.bq_parts.specs.Counts.{counted}
+use Rattle.bq_schedule.specs.Counts.{counted_wide, parts}
 use Rattle.bq_schedule.specs.Passing.{idle_of}
 use Rattle.bq_schedule.specs.declared.percentiles.Percentiles.{Percentiles}
 use Rattle.bq_forms.specs.Amounts.{three_decimals}

@@ -45,7 +45,7 @@ if_one true = omega arith
 if_one false = omega arith
 
 -- an instruction is at most one counter call
-one_call : (v : Option Insn) → calls_of v ≤ 1
+pub one_call : (v : Option Insn) → calls_of v ≤ 1
 one_call None = omega arith
 one_call (Some insn) = if_one (asks_counter insn)
 

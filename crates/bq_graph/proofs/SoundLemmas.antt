@@ -2,7 +2,6 @@
 use Rattle.std.proofs.Common.{◌≡◌, ℕ, ◌+◌, ◌<◌, ◌≤◌, true, List, Option, Some, None, length, refl, arith, sym, subst, ◌⊎◌, inl, inr, ℤ}
 use Rattle.std.proofs.lemmas.Bool.{cases_lt}
 use Rattle.bq_insn.specs.declared.Insn.{Insn}
-use Rattle.bq_insn.specs.declared.Insn.TheVariants.{Imm64, MapRef}
 use Rattle.bq_insn.specs.Slots.{slots_of}
 use Rattle.bq_bpf.specs.Steps.{LeadsTo, instruction_at}
 use Rattle.bq_graph.specs.Edges.{IsStart, IsWhole, Leaves, distance_of, goes_on}
@@ -10,13 +9,8 @@ use Rattle.bq_graph.specs.Paths.{IsGreatest, CallsOnWay, asks_counter}
 use Rattle.bq_graph.specs.Faults.{IsBadJump, RunsOut, IsLateCall}
 use Rattle.bq_graph.specs.Passes.{IsSound}
 use Rattle.bq_insn.proofs.OptionLemmas.{some_none}
+use Rattle.bq_insn.proofs.CountLemmas.{slots_positive}
 use Rattle.bq_graph.proofs.EdgeLemmas.{leads_same}
-
--- each instruction has a slot
-pub slots_positive : (insn : Insn) → 1 ≤ slots_of insn
-slots_positive (Imm64 d v) = omega arith
-slots_positive (MapRef d i) = omega arith
-slots_positive _ = omega arith
 
 -- an instruction begins at the slot, or none does
 pub start_or_not : (slots : List (Option Insn)) (slot : ℕ) (v : Option Insn) → instruction_at slots slot ≡ v → IsStart slots slot ⊎ (IsStart slots slot → ⊥)

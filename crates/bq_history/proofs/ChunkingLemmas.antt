@@ -2,6 +2,7 @@
 use Rattle.std.proofs.Common.{◌≡◌, ℕ, zero, suc, ◌+◌, ◌*◌, ◌/◌, ◌%◌, ◌<◌, ◌≤◌, List, [], ◌∷◌, ◌++◌, length, refl, sym, ap, ◌∙◌, arith, length-append, append-nil, append_assoc, Some, None}
 use Rattle.std.specs.Prelude.{slice_get}
 use Rattle.std.proofs.lemmas.List.Concat.{flat_map-append}
+use Rattle.std.proofs.lemmas.Option.{slice_get_past}
 use Rattle.bq_history.specs.Chunks.{joined, AreChunks}
 use Rattle.bq_history.proofs.HalvingLemmas.{get_left, get_right}
 
@@ -57,11 +58,6 @@ module _ {R : Type 0} where
   joined_more [] last r = append-nil (last ++ r ∷ []) ∙ ap (λ x. x ++ r ∷ []) (sym (append-nil last))
   joined_more (c ∷ cs) last r = ap (λ x. c ++ x) (joined_more cs last r) ∙ sym (append_assoc c (joined (cs ++ last ∷ [])) (r ∷ []))
 
-  beyond : (xs : List R) (k : ℕ) → length xs ≤ k → slice_get xs k ≡ None
-  beyond [] k le = refl
-  beyond (x ∷ xs) zero le = absurd (omega (arith, le))
-  beyond (x ∷ xs) (suc k) le = beyond xs k (omega (arith, le))
-
   found_at : (cs : List (List R)) (q r : ℕ) (d : List R) → AreChunks cs → r < 16 → slice_get cs q ≡ Some d → slice_get d r ≡ slice_get (joined cs) (16 * q + r)
   found_at [] q r d h lt e = absurd (cc)
   found_at (c ∷ []) zero r d h lt e =
@@ -88,7 +84,7 @@ module _ {R : Type 0} where
   none_at : (cs : List (List R)) (q r : ℕ) → AreChunks cs → slice_get cs q ≡ None → slice_get (joined cs) (16 * q + r) ≡ None
   none_at [] q r h e = refl
   none_at (c ∷ []) zero r h e = absurd (cc)
-  none_at (c ∷ []) (suc q) r h e = let both = length-append c [] in let few = h.1 in beyond (c ++ []) (16 * suc q + r) (omega (arith, both, few))
+  none_at (c ∷ []) (suc q) r h e = let both = length-append c [] in let few = h.1 in slice_get_past (c ++ []) (16 * suc q + r) (omega (arith, both, few))
   none_at (c ∷ b ∷ cs) zero r h e = absurd (cc)
   none_at (c ∷ b ∷ cs) (suc q) r h e =
       let full = h.0 in

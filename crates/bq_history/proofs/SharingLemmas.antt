@@ -1,9 +1,10 @@
 -- Lists of receipts that share a history out tell what it tells.
-use Rattle.std.proofs.Common.{◌≡◌, ◌≢◌, ℕ, zero, suc, ◌+◌, ◌<◌, ◌≤◌, Bool, true, false, cond, eqb, List, [], ◌∷◌, Option, Some, None, length, refl, sym, ap, ◌∙◌, subst, ◌⊎◌, inl, inr, arith, zero-le}
+use Rattle.std.proofs.Common.{◌≡◌, ◌≢◌, ℕ, zero, suc, ◌+◌, ◌<◌, ◌≤◌, Bool, true, false, cond, eqb, List, [], ◌∷◌, Some, length, refl, sym, ap, ◌∙◌, subst, ◌⊎◌, inl, inr, arith, zero-le}
 use Rattle.std.specs.Prelude.{slice_get}
 use mathlib.Core.Option.{some, some-injective}
 use lib.ListN.{get_elem?}
 use Rattle.std.proofs.lemmas.Bool.Decides.{eqb_tells}
+use Rattle.std.proofs.lemmas.Option.{none-some, same_Some}
 use Rattle.bq_tie.specs.Whole.{total, Each}
 use Rattle.bq_history.specs.declared.law.Receipt.{Receipt}
 use Rattle.bq_history.specs.History.{IsRising, HasPlace, Stands, SharesOut}
@@ -30,12 +31,6 @@ module _ {R : Type 0} (f : Receipt R → ℕ) (owner : ℕ → ℕ) where
   abbrev StandsFrom : ℕ → List R → Receipt R → Type 0
   StandsFrom n rest x = (k : ℕ) × (x.place ≡ n + k) × (slice_get rest k ≡ Some x.entry)
 
-  no_entry : (r : R) → None ≡ Some r → ⊥
-  no_entry r e = cc
-
-  same_entry : (r q : R) → Some r ≡ Some q → r ≡ q
-  same_entry r q e = cc
-
   rising_has : (m p : ℕ) (l : List (Receipt R)) → IsRising m l → HasPlace p l → m ≤ p
   rising_has m p [] rising has = absurd has
   rising_has m p (x ∷ xs) (le, rest) (inl e) = omega arith
@@ -50,7 +45,7 @@ module _ {R : Type 0} (f : Receipt R → ℕ) (owner : ℕ → ℕ) where
   shift n m r rs (x ∷ xs) le (low, rest) (first, others) = (shift_at n r rs x (omega arith) first, shift n (x.place + 1) r rs xs (omega arith) rest others)
 
   first_entry : (n : ℕ) (r : R) (rs : List R) (x : Receipt R) → x.place ≡ n → StandsFrom n (r ∷ rs) x → r ≡ x.entry
-  first_entry n r rs x e (zero, is, at) = same_entry r x.entry at
+  first_entry n r rs x e (zero, is, at) = same_Some r x.entry at
   first_entry n r rs x e (suc k, is, at) = absurd (omega arith)
 
   at_test : (s n : ℕ) (r : R) (rs : List R) (l : List (Receipt R)) (b : Bool) → ((b ≡ true) × (owner n ≡ s)) ⊎ ((b ≡ false) × (owner n ≢ s)) → IsRising n l → Each (StandsFrom n (r ∷ rs)) l → Each (λ (x : Receipt R). owner x.place ≡ s) l → ((p : ℕ) → n ≤ p → p < n + length (r ∷ rs) → owner p ≡ s → HasPlace p l) → ((m : List (Receipt R)) → IsRising (n + 1) m → Each (StandsFrom (n + 1) rs) m → Each (λ (x : Receipt R). owner x.place ≡ s) m → ((p : ℕ) → n + 1 ≤ p → p < n + 1 + length rs → owner p ≡ s → HasPlace p m) → told m ≡ weigh s (n + 1) rs) → told l ≡ cond {A = ℕ} b (f (receipt n r)) 0 + weigh s (n + 1) rs
@@ -83,7 +78,7 @@ module _ {R : Type 0} (f : Receipt R → ℕ) (owner : ℕ → ℕ) where
 
   list_weighs : (s n : ℕ) (rest : List R) (l : List (Receipt R)) → IsRising n l → Each (StandsFrom n rest) l → Each (λ (x : Receipt R). owner x.place ≡ s) l → ((p : ℕ) → n ≤ p → p < n + length rest → owner p ≡ s → HasPlace p l) → told l ≡ weigh s n rest
   list_weighs s n [] [] rising stands owned has = refl
-  list_weighs s n [] (x ∷ xs) rising stands owned has = absurd (no_entry x.entry (stands.0.2))
+  list_weighs s n [] (x ∷ xs) rising stands owned has = absurd (none-some x.entry (stands.0.2))
   list_weighs s n (r ∷ rs) l rising stands owned has = at_test s n r rs l _ (eqb_tells (owner n) s) rising stands owned has (list_weighs s (n + 1) rs)
 
   -- what the records of the owners s, s + 1 and so on tell
@@ -151,8 +146,5 @@ shared_total f log lists (owner, own, each) =
     in
     by_list ∙ weighs_all f owner (length lists) 0 log (λ p low high. let m = each p (omega arith) in at_below lists (owner p) m.0 m.1)
   where
-    same_list : {A : Type 0} (o : Option A) (x y : A) → o ≡ Some x → o ≡ Some y → x ≡ y
-    same_list o x y p q = cc
-
     owned_there : {R : Type 0} (f : Receipt R → ℕ) (owner : ℕ → ℕ) (lists : List (List (Receipt R))) (j : ℕ) (l : List (Receipt R)) → get_elem? lists j ≡ some l → (p : ℕ) (m : List (Receipt R)) → get_elem? lists j ≡ some m → HasPlace p m → HasPlace p l
     owned_there f owner lists j l at p m at' has = subst (λ (x : List (Receipt _)). HasPlace p x) (some-injective m l (sym at' ∙ at)) has

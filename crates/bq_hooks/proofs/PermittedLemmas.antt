@@ -1,7 +1,7 @@
 -- The own choices are permitted, and so is what is settled.
-use Rattle.std.proofs.Common.{◌≡◌, ℕ, ◌<◌, Bool, true, false, cond, List, Option, Some, None, refl, ap, ◌∙◌, arith}
-use Rattle.std.specs.Prelude.{◌||◌, ◌==◌, nat_lt, unwrap_or, Contains, IfSome}
-use Rattle.std.proofs.lemmas.Bool.Decides.{nat_tests}
+use Rattle.std.proofs.Common.{◌≡◌, ℕ, Bool, true, false, cond, List, Option, Some, None, refl, ap, ◌∙◌, lt-ltb}
+use Rattle.std.specs.Prelude.{◌==◌, unwrap_or, Contains, IfSome}
+use Rattle.std.proofs.lemmas.Bool.{or_right}
 use Rattle.bq_disc.specs.Tasks.{Task, id_of}
 use Rattle.bq_disc.specs.Queues.{HasDistinctIds, can_use}
 use Rattle.bq_disc.specs.Pulls.{pull_of}
@@ -15,32 +15,26 @@ use Rattle.bq_hooks.specs.declared.settled.By.TheVariants.{Policy, Discipline}
 use Rattle.bq_hooks.specs.Laws.{OwnChoicesArePermitted, SettledIsPermitted}
 use Rattle.bq_hooks.proofs.PlaceLemmas.{own_place_there}
 
-below_to : (m n : ℕ) → m < n → nat_lt m n ≡ true
-below_to m n h = grind (arith, nat_tests)
-
-place_permitted : (count : ℕ) (loads : List ℕ) (t : Task) → HasPlace count t → may_place count t (unwrap_or (own_place count loads t) 0) ≡ true
-place_permitted count loads t h =
+-- the own place is permitted
+pub own_place_permitted : (count : ℕ) (loads : List ℕ) (t : Task) → HasPlace count t → may_place count t (unwrap_or (own_place count loads t) 0) ≡ true
+own_place_permitted count loads t h =
     let there = own_place_there count loads t h in
-    ap (λ o. may_place count t (unwrap_or o 0)) there.1 ∙ rw (below_to there.0 count there.2, there.3) refl
+    ap (λ o. may_place count t (unwrap_or o 0)) there.1 ∙ rw (lt-ltb there.0 count there.2, there.3) refl
 
 preempt_permitted : (own : Bool) → may_preempt (as_number own) ≡ true
 preempt_permitted true = refl
 preempt_permitted false = refl
 
-or_true : (b : Bool) → (b || true) ≡ true
-or_true true = refl
-or_true false = refl
-
 pull_by_case : (puller : ℕ) (queue : List Task) (o : Option Task) → HasDistinctIds queue → IfSome o (λ t. Contains queue t × (can_use puller t ≡ true)) → may_pull puller queue (or_nobody (id_of o)) ≡ true
 pull_by_case puller queue None d h = refl
 pull_by_case puller queue (Some t) d h =
     let found = with_id-Contains queue t h.0.0 d h.0.1 h.0.2 in
-    rw (found, h.1) (or_true (t.id == nobody))
+    rw (found, h.1) (or_right (t.id == nobody) true refl)
 
 -- each own choice is permitted: the place where the mask has one, the answer about giving way, and the pull
 pub own_choices_are_permitted : OwnChoicesArePermitted
 own_choices_are_permitted = record {
-  place = place_permitted;
+  place = own_place_permitted;
   preempt = preempt_permitted;
   pull = λ puller size from queue d. pull_by_case puller queue (pull_of puller size from queue) d (pull_is_lawful.member puller size from queue);
 }

@@ -1,39 +1,14 @@
 -- How many slots stand before an address, and what is wrong with a program that bytes spell.
-use Rattle.std.proofs.Common.{◌≡◌, ℕ, zero, suc, ◌+◌, ◌-◌, ◌<◌, ◌≤◌, true, false, List, [], ◌∷◌, ◌++◌, Some, None, Option, length, replicate, get_or, take, drop, refl, sym, ap, ◌∙◌, arith, length-append, drop-cons}
+use Rattle.std.proofs.Common.{◌≡◌, ℕ, suc, ◌+◌, ◌-◌, ◌<◌, ◌≤◌, true, false, List, ◌++◌, length, get_or, take, drop, sym, ap, ◌∙◌, arith, drop-cons}
 use Rattle.std.specs.List.{list_any}
-use Rattle.std.proofs.lemmas.List.{length-replicate, take-append-drop}
+use Rattle.std.proofs.lemmas.List.{take-append-drop}
 use Rattle.bq_insn.specs.declared.Insn.{Insn}
 use Rattle.bq_insn.specs.declared.Insn.TheVariants.{Imm64, MapRef}
-use Rattle.bq_insn.specs.Slots.{slots_of, spread}
+use Rattle.bq_insn.specs.Slots.{slots_of}
 use Rattle.bq_insn.specs.Spelling.{slot_count, is_well_formed}
+use Rattle.bq_insn.proofs.CountLemmas.{count_within}
 use Rattle.bq_graph.proofs.SlotLemmas.{spread_long, few_slots}
 use Rattle.bq_import.specs.Importing.{IsFirstAddress, is_address}
-
-some : (i : Insn) → suc (slots_of i - 1) ≡ slots_of i
-some (Imm64 dst value) = refl
-some (MapRef dst index) = refl
-some _ = refl
-
-count_cons : (i : Insn) (insns : List Insn) → slot_count (i ∷ insns) ≡ slots_of i + slot_count insns
-count_cons i insns =
-    let all = spread_long (i ∷ insns) in
-    let rest = spread_long insns in
-    let gap = length-replicate {A = Option Insn} (slots_of i - 1) None in
-    let here = some i in
-    omega (arith, all, rest, gap, here, length-append (Some i ∷ replicate (slots_of i - 1) None) (spread insns))
-
--- so many of the instructions take so many slots, and one more
-pub count_more : (insns : List Insn) (k : ℕ) (d : Insn) → k < length insns → slot_count (take (suc k) insns) ≡ slot_count (take k insns) + slots_of (get_or insns k d)
-count_more [] k d h = absurd (omega arith)
-count_more (i ∷ insns) zero d h = omega (arith, count_cons i [])
-count_more (i ∷ insns) (suc k) d h =
-    let rest = count_more insns k d (omega arith) in
-    omega (arith, count_cons i (take (suc k) insns), count_cons i (take k insns), rest)
-
-count_within : (insns : List Insn) (k : ℕ) → slot_count (take k insns) ≤ slot_count insns
-count_within insns zero = omega arith
-count_within [] (suc k) = omega arith
-count_within (i ∷ insns) (suc k) = omega (arith, count_cons i (take k insns), count_cons i insns, count_within insns k)
 
 -- of a program they take at most 4096
 pub count_few : (insns : List Insn) (k : ℕ) → is_well_formed insns ≡ true → slot_count (take k insns) ≤ 4096

@@ -1,10 +1,12 @@
 -- One more instruction in front of a copy that is written from its end.
 use Rattle.std.proofs.Common.{◌≡◌, ℕ, zero, suc, ◌+◌, ◌-◌, ◌<◌, ◌≤◌, Bool, true, false, List, [], ◌∷◌, ◌++◌, reverse, length, replicate, get_or, Option, Some, None, refl, arith, sym, ap, ◌∙◌, subst, ◌⊎◌, inl, inr, ℤ, length-append}
-use Rattle.std.specs.Prelude.{slice_index, FitsSigned, ◌&&◌}
+use Rattle.std.specs.Prelude.{slice_index, FitsSigned}
 use Rattle.std.specs.Int.{w16}
 use Rattle.std.specs.List.{filter_map, list_all}
 use Rattle.std.proofs.lemmas.Int.{ints}
 use Rattle.std.proofs.lemmas.List.{length-replicate, get_or_append_left, append_assoc, reverse-append, get_or-append-add, get_or-replicate}
+use Rattle.std.proofs.lemmas.Option.{none-some}
+use Rattle.std.proofs.lemmas.Bool.{and_from}
 use Rattle.bq_insn.specs.declared.Insn.{Insn}
 use Rattle.bq_insn.specs.declared.Insn.TheVariants.{Alu, MovSx, Neg, End, Load, StoreImm, StoreReg, Imm64, MapRef, Goto, Goto32, Branch, Call, Exit}
 use Rattle.bq_insn.specs.Slots.{slots_of, spread}
@@ -13,8 +15,8 @@ use Rattle.bq_insn.specs.Laws.{Fits, AllFit}
 use Rattle.bq_bpf.specs.Steps.{instruction_at}
 use Rattle.bq_graph.specs.Edges.{distance_of, goes_on, IsStart}
 use Rattle.bq_insn.proofs.OptionLemmas.{some_none}
+use Rattle.bq_insn.proofs.CountLemmas.{slots_positive}
 use Rattle.bq_graph.proofs.EdgeLemmas.{start_inside}
-use Rattle.bq_graph.proofs.SoundLemmas.{slots_positive}
 use Rattle.bq_graph.proofs.SpreadLemmas.{one_or_two}
 use Rattle.bq_import.specs.Copies.{is_reference, wide_copy, copied, Stands}
 use Rattle.bq_import.specs.Backward.{AreGood, JumpsBack, GoesBack, IsPlaced, insns_of, IsBuilt, Keeps, IsLengthened, MayStand}
@@ -26,13 +28,10 @@ append_right xs ys n d le =
     let sum : n ≡ length xs + (n - length xs) = omega (arith, le) in
     ap (λ (k : ℕ). get_or (xs ++ ys) k d) sum ∙ get_or-append-add xs ys (n - length xs) d
 
-none_some : (z : ℤ) → None ≡ Some z → ⊥
-none_some z e = cc
-
 -- a jump takes one slot
 pub jump_is_short : (insn : Insn) (far : ℤ) → distance_of insn ≡ Some far → slots_of insn ≡ 1
-jump_is_short (Imm64 dst value) far e = absurd (none_some far e)
-jump_is_short (MapRef dst index) far e = absurd (none_some far e)
+jump_is_short (Imm64 dst value) far e = absurd (none-some far e)
+jump_is_short (MapRef dst index) far e = absurd (none-some far e)
 jump_is_short insn far e = refl
 
 -- a copy has numbers in range, as the original has
@@ -224,11 +223,6 @@ module _ (maps : ℕ) (old back : List (Option Insn)) (origins : List ℕ) (from
       ∙ (ap (λ (xs : List (Option Insn)). (Some (copied maps insn distance) ∷ second) ++ xs) built.spread_is
       ∙ sym reversed))
 
-  both_true : (a b : Bool) → a ≡ true → b ≡ true → (a && b) ≡ true
-  both_true true true e f = refl
-  both_true true false e f = f
-  both_true false b e f = e
-
   lengthened : maps ≤ 8 → FitsSigned w16 distance → AreGood old → MayStand old back origins from insn distance → length back + slots_of insn ≤ 4096 → IsLengthened maps old back origins (back ++ tail) (origins ++ tail_from) from
   unfolding place_of
   lengthened few near good may room =
@@ -246,7 +240,7 @@ module _ (maps : ℕ) (old back : List (Option Insn)) (origins : List ℕ) (from
           short = omega (arith, long, more, room);
           placed = all_placed may;
           spread_is = spread_again;
-          in_range = ap (λ (xs : List Insn). list_all is_insn xs) insns_are ∙ both_true (is_insn (copied maps insn distance)) _ ok.0 built.in_range;
+          in_range = ap (λ (xs : List Insn). list_all is_insn xs) insns_are ∙ and_from (is_insn (copied maps insn distance)) _ ok.0 built.in_range;
           fit = subst AllFit (sym insns_are) (ok.1, built.fit);
           front = λ place e. let is : place ≡ length back + (slots_of insn - 1) = omega (arith, long, more, positive, e) in
               subst (λ (k : ℕ). IsStart (back ++ tail) k) (sym is) (record { insn = copied maps insn distance; here = here_is });

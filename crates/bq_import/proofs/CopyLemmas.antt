@@ -1,6 +1,6 @@
 -- A step of a program is a step of its copy, and the other way.
-use Rattle.std.proofs.Common.{◌≡◌, ℕ, ◌+◌, ◌-◌, ◌<◌, ◌≤◌, Bool, true, false, List, Option, Some, None, length, refl, arith, sym, ap, ◌∙◌, subst, inl, inr, ℤ, pos}
-use Rattle.std.specs.Prelude.{◌&&◌, nat_le, nat_lt}
+use Rattle.std.proofs.Common.{◌≡◌, ℕ, ◌+◌, ◌-◌, ◌<◌, Bool, true, false, List, Option, Some, None, length, refl, arith, sym, ap, ◌∙◌, subst, inl, inr, ℤ, pos, ltb-true, leb-true}
+use Rattle.std.proofs.lemmas.Bool.{and_parts}
 use Rattle.bq_insn.specs.declared.Insn.{Insn}
 use Rattle.bq_insn.specs.declared.Insn.TheVariants.{Alu, MovSx, Neg, End, Load, StoreImm, StoreReg, Imm64, MapRef, Goto, Goto32, Branch, Call, Exit}
 use Rattle.bq_insn.specs.Slots.{slots_of}
@@ -15,17 +15,6 @@ use Rattle.bq_import.specs.Laws.{beside}
 use Rattle.bq_import.specs.Copies.{is_reference, wide_copy, copied, Stands, JumpsAlike, IsCopy}
 use Rattle.bq_import.proofs.StepLemmas.{moved, takes_moved}
 
-true_and : (a b : Bool) → (a && b) ≡ true → (a ≡ true) × (b ≡ true)
-true_and true true e = (refl, refl)
-true_and true false e = absurd (let no : ⊥ = cc in no)
-true_and false b e = absurd (let no : ⊥ = cc in no)
-
-le_of : (a b : ℕ) → nat_le a b ≡ true → a ≤ b
-le_of a b e = grind arith
-
-lt_of : (a b : ℕ) → nat_lt a b ≡ true → a < b
-lt_of a b e = grind arith
-
 -- a number that is a reference is that of the map of this number
 pub record Refers (maps value : ℕ) : Type 0 where
   pub there : value - reference 0 < maps
@@ -34,9 +23,9 @@ pub record Refers (maps value : ℕ) : Type 0 where
 -- a number that tests as a reference is that of a map which is there
 pub reference_refers : (maps value : ℕ) → is_reference maps value ≡ true → Refers maps value
 reference_refers maps value e =
-    let both = true_and _ _ e in
-    let low = le_of (reference 0) value both.0 in
-    let high = lt_of value (reference maps) both.1 in
+    let both = and_parts _ _ e in
+    let low = leb-true (reference 0) value both.0 in
+    let high = ltb-true value (reference maps) both.1 in
     record { there = omega (arith, low, high); is = omega (arith, low, high) }
 
 wide_exit : (b : Bool) (dst value : ℕ) → wide_copy b dst value ≡ Exit → ⊥

@@ -1,6 +1,7 @@
 -- A copy has the same paths, instruction by instruction.
 use Rattle.std.proofs.Common.{◌≡◌, ℕ, suc, ◌+◌, ◌<◌, arith, Bool, true, false, List, [], ◌∷◌, Option, Some, None, length, refl, sym, ap, ◌∙◌, subst, ◌⊎◌, inl, inr, ℤ}
 use Rattle.std.specs.Prelude.{slice_index}
+use Rattle.std.proofs.lemmas.Option.{none-some}
 use Rattle.bq_insn.specs.declared.Insn.{Insn}
 use Rattle.bq_insn.specs.declared.Insn.TheVariants.{Alu, MovSx, Neg, End, Load, StoreImm, StoreReg, Imm64, MapRef, Goto, Goto32, Branch, Call, Exit}
 use Rattle.bq_insn.specs.Slots.{slots_of}
@@ -9,8 +10,8 @@ use Rattle.bq_graph.specs.Edges.{IsEdge, IsStart, distance_of, goes_on}
 use Rattle.bq_graph.specs.Paths.{IsPath, PathOut, end_of}
 use Rattle.bq_graph.specs.Faults.{IsBadJump, RunsOut}
 use Rattle.bq_insn.proofs.OptionLemmas.{some_same}
+use Rattle.bq_insn.proofs.CountLemmas.{slots_positive}
 use Rattle.bq_graph.proofs.EdgeLemmas.{leads_same, start_inside}
-use Rattle.bq_graph.proofs.SoundLemmas.{slots_positive}
 use Rattle.bq_import.specs.Copies.{is_reference, wide_copy, copied, Stands, IsCopy}
 use Rattle.bq_import.specs.Laws.{GoesForward, SameBudget}
 use Rattle.bq_import.proofs.CopyLemmas.{copied_exit}
@@ -22,18 +23,12 @@ pub record HasShape (insn copy : Insn) (distance : ℤ) : Type 0 where
   pub jumps : (far : ℤ) → distance_of insn ≡ Some far → distance_of copy ≡ Some distance
   pub stays : distance_of insn ≡ None → distance_of copy ≡ None
 
-none_some : (z : ℤ) → None ≡ Some z → ⊥
-none_some z e = cc
-
-some_none : (z : ℤ) → Some z ≡ None → ⊥
-some_none z e = cc
-
 plain : (insn : Insn) (distance : ℤ) → distance_of insn ≡ None → HasShape insn insn distance
-plain insn distance none = record { on = refl; long = refl; jumps = λ far e. absurd (none_some far (sym none ∙ e)); stays = λ e. e }
+plain insn distance none = record { on = refl; long = refl; jumps = λ far e. absurd (none-some far (sym none ∙ e)); stays = λ e. e }
 
 wide_shape : (b : Bool) (dst value : ℕ) (distance : ℤ) → HasShape (Imm64 dst value) (wide_copy b dst value) distance
-wide_shape true dst value distance = record { on = refl; long = refl; jumps = λ far e. absurd (none_some far e); stays = λ e. e }
-wide_shape false dst value distance = record { on = refl; long = refl; jumps = λ far e. absurd (none_some far e); stays = λ e. e }
+wide_shape true dst value distance = record { on = refl; long = refl; jumps = λ far e. absurd (none-some far e); stays = λ e. e }
+wide_shape false dst value distance = record { on = refl; long = refl; jumps = λ far e. absurd (none-some far e); stays = λ e. e }
 
 -- a copy goes on where its instruction does, is as long, and jumps where it jumps
 pub copy_has_shape : (maps : ℕ) (insn : Insn) (distance : ℤ) → HasShape insn (copied maps insn distance) distance
@@ -48,9 +43,9 @@ copy_has_shape maps (MapRef dst index) distance = plain (MapRef dst index) dista
 copy_has_shape maps (Call helper) distance = plain (Call helper) distance refl
 copy_has_shape maps Exit distance = plain Exit distance refl
 copy_has_shape maps (Imm64 dst value) distance = wide_shape (is_reference maps value) dst value distance
-copy_has_shape maps (Goto off) distance = record { on = refl; long = refl; jumps = λ far e. refl; stays = λ e. absurd (some_none off e) }
-copy_has_shape maps (Goto32 imm) distance = record { on = refl; long = refl; jumps = λ far e. refl; stays = λ e. absurd (some_none imm e) }
-copy_has_shape maps (Branch w c dst src off) distance = record { on = refl; long = refl; jumps = λ far e. refl; stays = λ e. absurd (some_none off e) }
+copy_has_shape maps (Goto off) distance = record { on = refl; long = refl; jumps = λ far e. refl; stays = λ e. absurd (none-some off (sym e)) }
+copy_has_shape maps (Goto32 imm) distance = record { on = refl; long = refl; jumps = λ far e. refl; stays = λ e. absurd (none-some imm (sym e)) }
+copy_has_shape maps (Branch w c dst src off) distance = record { on = refl; long = refl; jumps = λ far e. refl; stays = λ e. absurd (none-some off (sym e)) }
 
 module _ (maps : ℕ) (old new : List (Option Insn)) (origin : List ℕ) (copy : IsCopy maps old new origin) where
   record EdgeAhead (slot to : ℕ) : Type 0 where
@@ -108,7 +103,7 @@ module _ (maps : ℕ) (old new : List (Option Insn)) (origin : List ℕ) (copy :
         | inr (near, is, leads) ↦
             let is' : distance_of (copied maps at.original at.distance) ≡ Some near = ap distance_of (sym same) ∙ is in
             elim (far_of (distance_of at.original)) [
-              | inl none ↦ absurd (none_some near (sym (shape.stays none) ∙ is'))
+              | inl none ↦ absurd (none-some near (sym (shape.stays none) ∙ is'))
               | inr (far, jumps) ↦
                   let alike = at.jumps far jumps in
                   let near' : near ≡ at.distance = some_same _ near at.distance is' (shape.jumps far jumps) in
@@ -186,7 +181,7 @@ module _ (maps : ℕ) (old new : List (Option Insn)) (origin : List ℕ) (copy :
         | inr (near, is, leads) ↦
             let is' : distance_of (copied maps at.original at.distance) ≡ Some near = ap distance_of (sym same) ∙ is in
             elim (far_of maps old new origin copy (distance_of at.original)) [
-              | inl none ↦ absurd (none_some near (sym (shape.stays none) ∙ is'))
+              | inl none ↦ absurd (none-some near (sym (shape.stays none) ∙ is'))
               | inr (far, jumps) ↦
                   let alike = at.jumps far jumps in
                   let near' : near ≡ at.distance = some_same _ near at.distance is' (shape.jumps far jumps) in
@@ -202,7 +197,7 @@ module _ (maps : ℕ) (old new : List (Option Insn)) (origin : List ℕ) (copy :
       let same = some_same _ bad.insn (copied maps at.original at.distance) bad.here at.copy in
       let is' : distance_of (copied maps at.original at.distance) ≡ Some bad.distance = ap distance_of (sym same) ∙ bad.jumps in
       elim (far_of maps old new origin copy (distance_of at.original)) [
-        | inl none ↦ absurd (none_some bad.distance (sym (shape.stays none) ∙ is'))
+        | inl none ↦ absurd (none-some bad.distance (sym (shape.stays none) ∙ is'))
         | inr (far, jumps) ↦
             let alike = at.jumps far jumps in
             let near' : at.distance ≡ bad.distance = some_same _ at.distance bad.distance (shape.jumps far jumps) is' in

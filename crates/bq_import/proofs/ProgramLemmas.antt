@@ -1,9 +1,9 @@
 -- What is known of a well-formed program's slots.
-use Rattle.std.proofs.Common.{◌≡◌, ℕ, zero, suc, ◌-◌, ◌<◌, ◌≤◌, Bool, true, false, List, [], ◌∷◌, ◌++◌, Option, None, length, replicate, refl, arith, ap, ◌∙◌, subst}
+use Rattle.std.proofs.Common.{◌≡◌, ℕ, zero, suc, ◌-◌, ◌<◌, ◌≤◌, true, List, [], ◌∷◌, ◌++◌, Option, None, length, replicate, refl, arith, ap, ◌∙◌, subst, le-leb}
 use Rattle.std.specs.Prelude.{nat_le, ◌&&◌}
 use Rattle.std.specs.List.{list_all}
 use Rattle.std.proofs.lemmas.List.{length-reverse}
-use Rattle.std.proofs.lemmas.Bool.Decides.{nat_tests}
+use Rattle.std.proofs.lemmas.Bool.{and_parts, and_from}
 use Rattle.bq_insn.specs.declared.Insn.{Insn}
 use Rattle.bq_insn.specs.Slots.{slots_of, spread}
 use Rattle.bq_insn.specs.Laws.{Fits, AllFit}
@@ -11,11 +11,6 @@ use Rattle.bq_insn.specs.Spelling.{slot_count, is_insn, is_well_formed}
 use Rattle.bq_insn.proofs.OptionLemmas.{some_same, some_none}
 use Rattle.bq_graph.proofs.SlotLemmas.{spread_long}
 use Rattle.bq_import.specs.Backward.{AreGood, IsBuilt, IsFront, insns_of}
-
-both : (a b : Bool) → (a && b) ≡ true → (a ≡ true) × (b ≡ true)
-both true true e = (refl, refl)
-both true false e = absurd (let never : ⊥ = cc in never)
-both false b e = absurd (let never : ⊥ = cc in never)
 
 gap_good : (n : ℕ) (rest : List (Option Insn)) → AreGood rest → AreGood (replicate n None ++ rest)
 gap_good zero rest good slot insn here = good slot insn here
@@ -26,27 +21,20 @@ all_good : (insns : List Insn) → list_all is_insn insns ≡ true → AllFit in
 all_good [] all fits zero insn here = absurd (some_none _ insn here refl)
 all_good [] all fits (suc slot) insn here = absurd (some_none _ insn here refl)
 all_good (i ∷ rest) all fits zero insn here =
-    subst (λ (k : Insn). (is_insn k ≡ true) × Fits k) (some_same _ i insn refl here) ((both (is_insn i) (list_all is_insn rest) all).0, fits.0)
-all_good (i ∷ rest) all fits (suc slot) insn here = gap_good (slots_of i - 1) (spread rest) (all_good rest (both (is_insn i) (list_all is_insn rest) all).1 fits.1) slot insn here
+    subst (λ (k : Insn). (is_insn k ≡ true) × Fits k) (some_same _ i insn refl here) ((and_parts (is_insn i) (list_all is_insn rest) all).0, fits.0)
+all_good (i ∷ rest) all fits (suc slot) insn here = gap_good (slots_of i - 1) (spread rest) (all_good rest (and_parts (is_insn i) (list_all is_insn rest) all).1 fits.1) slot insn here
 
 -- the instructions of a well-formed program whose numbers fit are in range
 pub are_good : (insns : List Insn) → is_well_formed insns ≡ true → AllFit insns → AreGood (spread insns)
-are_good insns whole fits = all_good insns (both (list_all is_insn insns) (nat_le 1 (slot_count insns) && nat_le (slot_count insns) 4096) whole).0 fits
+are_good insns whole fits = all_good insns (and_parts (list_all is_insn insns) (nat_le 1 (slot_count insns) && nat_le (slot_count insns) 4096) whole).0 fits
 
 -- the other way: a program of so many slots, all in range
 pub well_formed : (insns : List Insn) → list_all is_insn insns ≡ true → 0 < length (spread insns) → length (spread insns) ≤ 4096 → is_well_formed insns ≡ true
 well_formed insns all some few =
     let long = spread_long insns in
-    let low : nat_le 1 (slot_count insns) ≡ true = le_true 1 (slot_count insns) (omega (arith, long, some)) in
-    let high : nat_le (slot_count insns) 4096 ≡ true = le_true (slot_count insns) 4096 (omega (arith, long, few)) in
-    and_true _ _ all (and_true _ _ low high)
-  where
-    le_true : (a b : ℕ) → a ≤ b → nat_le a b ≡ true
-    le_true a b le = grind (arith, nat_tests)
-
-    and_true : (a b : Bool) → a ≡ true → b ≡ true → (a && b) ≡ true
-    and_true true b e f = f
-    and_true false b e f = e
+    let low : nat_le 1 (slot_count insns) ≡ true = le-leb 1 (slot_count insns) (omega (arith, long, some)) in
+    let high : nat_le (slot_count insns) 4096 ≡ true = le-leb (slot_count insns) 4096 (omega (arith, long, few)) in
+    and_from _ _ all (and_from _ _ low high)
 
 -- what was written from its end is a program
 pub written_is_well_formed : (maps : ℕ) (old back : List (Option Insn)) (origins : List ℕ) → IsBuilt maps old back origins → IsFront back origins 0 → is_well_formed (insns_of back) ≡ true

@@ -12,8 +12,8 @@ use Rattle.bq_graph.specs.Edges.{distance_of, goes_on, IsStart}
 use Rattle.bq_graph.specs.Passes.{LeadsOut, IsOf}
 use Rattle.bq_graph.specs.declared.edges.Targets.{Targets}
 use Rattle.bq_insn.proofs.OptionLemmas.{some_same, some_none}
+use Rattle.bq_insn.proofs.CountLemmas.{slots_positive}
 use Rattle.bq_graph.proofs.EdgeLemmas.{leads_same, leads_out}
-use Rattle.bq_graph.proofs.SoundLemmas.{slots_positive}
 use Rattle.bq_import.specs.Copies.{Stands}
 use Rattle.bq_import.specs.Backward.{JumpsBack, IsFront, IsLengthened, MayStand}
 use Rattle.bq_import.specs.Search.{AreTargets, JumpsTo}

@@ -2,13 +2,13 @@
 use Rattle.std.proofs.Common.{◌≡◌, ℕ, true, sym, ap, ◌∙◌, List, [], ◌∷◌, ◌++◌, append-nil, append_assoc, subst, arith}
 use Rattle.std.specs.Prelude.{Option, Some, None}
 use Rattle.std.specs.List.{flat_map, list_all}
+use Rattle.std.proofs.lemmas.Bool.{and_parts}
 use Rattle.bq_insn.specs.declared.Insn.{Insn}
 use Rattle.bq_insn.specs.declared.slot.Slot.{Slot}
 use Rattle.bq_insn.specs.declared.fault.Cause.{Cause}
 use Rattle.bq_insn.specs.Spelling.{slot_bytes, spelled, is_insn, insn_bytes, spelling}
 use Rattle.bq_insn.specs.Laws.{AllFit}
 use Rattle.bq_insn.specs.Faults.{IsSlot, BeginsWith, FrontHasCause, cause_of, NoProgramIsFaulty}
-use Rattle.bq_insn.proofs.FormLemmas.{both_are_true}
 use Rattle.bq_insn.proofs.SpelledSlotsLemmas.{head_of, after}
 use Rattle.bq_insn.proofs.CleanLemmas.{spelled_is_clean}
 use Rattle.bq_insn.proofs.UniqueLemmas.{IsRead, is_read, same_front, some_bytes, front_cancelled, one_spelling}
@@ -47,15 +47,15 @@ apart : (insns before : List Insn) (rest : List ℕ) (c : Cause) → list_all is
     → spelling insns ≡ spelling before ++ rest → FrontHasCause rest c → ⊥
 apart [] [] rest c h f hb fb e front = no_front front.slot front.next (subst (λ (l : List ℕ). BeginsWith l front.slot front.next) (sym e) front.begins)
 apart (i ∷ insns) [] rest c h f hb fb e front =
-    let p = both_are_true (is_insn i) (list_all is_insn insns) h in
+    let p = and_parts (is_insn i) (list_all is_insn insns) h in
     front_clean (spelled i) i (spelling insns) front.slot front.next c (is_read i p.0 f.0) (spelled_is_clean i p.0) front.is_slot
     (subst (λ (l : List ℕ). BeginsWith l front.slot front.next) (sym e) front.begins) front.cause_is
 apart [] (b ∷ before) rest c h f hb fb e front =
-    let p = both_are_true (is_insn b) (list_all is_insn before) hb in
+    let p = and_parts (is_insn b) (list_all is_insn before) hb in
     some_bytes b (spelling before ++ rest) p.0 fb.0 (e ∙ append_assoc (insn_bytes b) (spelling before) rest)
 apart (i ∷ insns) (b ∷ before) rest c h f hb fb e front =
-    let p = both_are_true (is_insn i) (list_all is_insn insns) h in
-    let q = both_are_true (is_insn b) (list_all is_insn before) hb in
+    let p = and_parts (is_insn i) (list_all is_insn insns) h in
+    let q = and_parts (is_insn b) (list_all is_insn before) hb in
     let e2 = e ∙ append_assoc (insn_bytes b) (spelling before) rest in
     let same = one_spelling i b (spelling insns) (spelling before ++ rest) p.0 q.0 f.0 fb.0 e2 in
     let left = front_cancelled (insn_bytes b) (spelling insns) (spelling before ++ rest) (ap (λ (x : Insn). insn_bytes x ++ spelling insns) (sym same) ∙ e2) in

@@ -2,6 +2,7 @@
 use Rattle.std.proofs.Common.{◌≡◌, ℕ, ◌+◌, ◌*◌, Bool, true, false, refl, sym, ap, ◌∙◌, subst, inl, inr, ◌⊎◌, arith}
 use Rattle.std.specs.Prelude.{◌&&◌, ◌||◌, ◌==◌, not, nat_lt, Option, if◌then◌else◌}
 use Rattle.std.proofs.lemmas.Bool.Decides.{nat_tests}
+use Rattle.std.proofs.lemmas.Bool.{and_from, false≢true}
 use Rattle.bq_insn.specs.declared.Width.{Width}
 use Rattle.bq_insn.specs.declared.Width.TheVariants.{W32, W64}
 use Rattle.bq_insn.specs.declared.Operation.{Operation}
@@ -18,8 +19,7 @@ use Rattle.bq_insn.specs.Spelling.{is_insn, is_register, variant_of, bits_number
 use Rattle.bq_insn.specs.Reading.{variant, bits_of, move_of, alu_of}
 use Rattle.bq_insn.specs.Faults.{IsSlot, is_variant}
 use Rattle.bq_insn.proofs.FaultLemmas.{IsClean, kept}
-use Rattle.bq_insn.proofs.ReadsLemmas.{Reads, and_true, word32_of_signed32, reads_by, one_slot, two_registers, one_register}
-use Rattle.bq_insn.proofs.FormLemmas.{not_false}
+use Rattle.bq_insn.proofs.ReadsLemmas.{Reads, word32_of_signed32, reads_by, one_slot, two_registers, one_register}
 
 -- a variant has the code of its operation
 code_of-variant : (o : Operation) (n : ℕ) → code_of (variant o n) ≡ code_of o
@@ -29,8 +29,8 @@ code_of-variant o n = refl
 
 -- the table names an operation and not a variant of it
 pub plain_of : (w : Width) (o : Operation) (r : Bool) → is_form (form.Alu w o r) ≡ true → variant_of o ≡ 0
-plain_of w op.Sdiv r h = not_false h
-plain_of w op.Srem r h = not_false h
+plain_of w op.Sdiv r h = absurd (false≢true h)
+plain_of w op.Srem r h = absurd (false≢true h)
 plain_of w o r h = refl
 
 -- an offset below 2
@@ -54,7 +54,7 @@ pub reads_alu_imm : (w : Width) (o : Operation) (s : Slot) (next : Option Slot) 
 reads_alu_imm w o s next fits plain opcode clean =
     let same : opcode_of (form.Alu w (variant o s.offset) false) ≡ opcode_of (form.Alu w o false) = ap (λ (c : ℕ). alu_class w + 0 + 16 * c) (code_of-variant o s.offset) in
     reads_by (form.Alu w o false) s next (alu_of w o false s) opcode clean
-    (and_true (is_register s.dst) true (one_register s.dst clean.registers) refl)
+    (and_from (is_register s.dst) true (one_register s.dst clean.registers) refl)
     (one_slot _ _ _ _ _ _ _ _ _ _ same refl refl (offset_imm w o s.offset plain clean.variant) (word32_of_signed32 s.imm fits.imm))
 
 -- what a move that extends the sign names

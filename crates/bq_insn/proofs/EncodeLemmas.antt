@@ -6,6 +6,7 @@ use Rattle.std.specs.Option.{option_to_list}
 use Rattle.std.proofs.Math.Seq.{take-suc}
 use Rattle.std.proofs.lemmas.List.Concat.{flat_map-append}
 use Rattle.std.proofs.lemmas.Bool.Decides.{nat_tests}
+use Rattle.std.proofs.lemmas.Bool.{and_parts, false≢true}
 use Rattle.bq_insn.specs.declared.Insn.{Insn}
 use Rattle.bq_insn.specs.declared.Insn.TheVariants as insn
 use Rattle.bq_insn.specs.declared.Source.TheVariants.{Imm, Reg}
@@ -15,7 +16,6 @@ use Rattle.bq_insn.specs.declared.Bits.TheVariants.{B8, B16, B32, B64}
 use Rattle.bq_insn.specs.declared.slot.Slot.{Slot}
 use Rattle.bq_insn.specs.Appending.{StartsWith}
 use Rattle.bq_insn.specs.Spelling.{AreSlots, slot_bytes, spelled, spelling, insn_bytes, is_insn, is_register}
-use Rattle.bq_insn.proofs.FormLemmas.{both_are_true, not_false}
 
 -- the registers of these slots fit their fields
 abbrev pub FitRegisters : List Slot → Type 0
@@ -33,7 +33,7 @@ one_fits d h = (register_fits d h, omega arith, tt)
 -- a slot with two registers
 both_fit : (d r : ℕ) → (is_register d && is_register r) ≡ true → (d < 16) × (r < 16) × Unit {0}
 both_fit d r h =
-    let parts = both_are_true (is_register d) (is_register r) h in
+    let parts = and_parts (is_register d) (is_register r) h in
     (register_fits d parts.0, register_fits r parts.1, tt)
 
 -- a slot with none
@@ -42,20 +42,20 @@ none_fit = (omega arith, omega arith, tt)
 
 -- the registers of an instruction in range fit their fields
 pub registers_fit : (i : Insn) → is_insn i ≡ true → FitRegisters (spelled i)
-registers_fit (insn.Alu w o d (Imm n)) h = one_fits d (both_are_true (is_register d) true h).0
+registers_fit (insn.Alu w o d (Imm n)) h = one_fits d (and_parts (is_register d) true h).0
 registers_fit (insn.Alu w o d (Reg s)) h = both_fit d s h
 registers_fit (insn.MovSx w B8 d s) h = both_fit d s h
 registers_fit (insn.MovSx w B16 d s) h = both_fit d s h
 registers_fit (insn.MovSx W64 B32 d s) h = both_fit d s h
-registers_fit (insn.MovSx W32 B32 d s) h = not_false h
-registers_fit (insn.MovSx W32 B64 d s) h = not_false h
-registers_fit (insn.MovSx W64 B64 d s) h = not_false h
+registers_fit (insn.MovSx W32 B32 d s) h = absurd (false≢true h)
+registers_fit (insn.MovSx W32 B64 d s) h = absurd (false≢true h)
+registers_fit (insn.MovSx W64 B64 d s) h = absurd (false≢true h)
 registers_fit (insn.Neg w d) h = one_fits d h
-registers_fit (insn.End order B8 d) h = not_false h
+registers_fit (insn.End order B8 d) h = absurd (false≢true h)
 registers_fit (insn.End order B16 d) h = one_fits d h
 registers_fit (insn.End order B32 d) h = one_fits d h
 registers_fit (insn.End order B64 d) h = one_fits d h
-registers_fit (insn.Load Double true d s off) h = not_false h
+registers_fit (insn.Load Double true d s off) h = absurd (false≢true h)
 registers_fit (insn.Load Double false d s off) h = both_fit d s h
 registers_fit (insn.Load Byte signed d s off) h = both_fit d s h
 registers_fit (insn.Load Half signed d s off) h = both_fit d s h
@@ -66,7 +66,7 @@ registers_fit (insn.Imm64 d v) h = (register_fits d h, omega arith, none_fit)
 registers_fit (insn.MapRef d n) h = (register_fits d h, omega arith, none_fit)
 registers_fit (insn.Goto off) h = none_fit
 registers_fit (insn.Goto32 n) h = none_fit
-registers_fit (insn.Branch w c d (Imm n) off) h = one_fits d (both_are_true (is_register d) true h).0
+registers_fit (insn.Branch w c d (Imm n) off) h = one_fits d (and_parts (is_register d) true h).0
 registers_fit (insn.Branch w c d (Reg s) off) h = both_fit d s h
 registers_fit (insn.Call n) h = none_fit
 registers_fit insn.Exit h = none_fit
@@ -83,13 +83,13 @@ on_err (Err e) h = h
 
 -- the instruction at a place is in range, where all from it on are
 pub ranged_here : (insns : List Insn) (i : ℕ) (d : Insn) → i < length insns → list_all is_insn (drop i insns) ≡ true → is_insn (get_or insns i d) ≡ true
-ranged_here insns i d h all = (both_are_true (is_insn (get_or insns i d)) (list_all is_insn (drop (suc i) insns)) (ap (list_all is_insn) (sym (drop-cons insns i d h)) ∙ all)).0
+ranged_here insns i d h all = (and_parts (is_insn (get_or insns i d)) (list_all is_insn (drop (suc i) insns)) (ap (list_all is_insn) (sym (drop-cons insns i d h)) ∙ all)).0
 
 -- those after it are in range too
 pub ranged_after : (insns : List Insn) (i : ℕ) → i < length insns → list_all is_insn (drop i insns) ≡ true → list_all is_insn (drop (i + 1) insns) ≡ true
 ranged_after insns i h all =
     let next : i + 1 ≡ suc i = omega arith in
-    ap (λ n. list_all is_insn (drop n insns)) next ∙ (both_are_true (is_insn (get_or insns i insn.Exit)) (list_all is_insn (drop (suc i) insns)) (ap (list_all is_insn) (sym (drop-cons insns i insn.Exit h)) ∙ all)).1
+    ap (λ n. list_all is_insn (drop n insns)) next ∙ (and_parts (is_insn (get_or insns i insn.Exit)) (list_all is_insn (drop (suc i) insns)) (ap (list_all is_insn) (sym (drop-cons insns i insn.Exit h)) ∙ all)).1
 
 -- the bytes of the instruction at a place follow those of the instructions before it
 pub spelled_more : (old out new : List ℕ) (insns : List Insn) (i : ℕ) (d : Insn) → i < length insns → out ≡ old ++ spelling (take i insns) → new ≡ out ++ insn_bytes (get_or insns i d) → new ≡ old ++ spelling (take (i + 1) insns)

@@ -2,6 +2,7 @@
 use Rattle.std.proofs.Common.{◌≡◌, ℕ, ◌≤◌, Bool, true, false, refl, sym, ap, ◌∙◌, inl, inr, ◌⊎◌, List, length, ◌%◌, arith}
 use Rattle.std.specs.Prelude.{◌&&◌, ◌||◌, ◌==◌, nat_lt, nat_le, Option, Some, None, if◌then◌else◌}
 use Rattle.std.proofs.lemmas.Bool.Decides.{nat_tests}
+use Rattle.std.proofs.lemmas.Bool.{or_parts}
 use Rattle.bq_insn.specs.declared.form.Form.{Form}
 use Rattle.bq_insn.specs.declared.uses.Use.{Use}
 use Rattle.bq_insn.specs.declared.uses.Use.TheVariants.{Unused, Register, Value}
@@ -13,11 +14,6 @@ use Rattle.bq_insn.specs.Uses.{uses_of}
 use Rattle.bq_insn.specs.declared.fault.DecodeFault.TheVariants.{At}
 use Rattle.bq_insn.specs.Spelling.{slot, is_register}
 use Rattle.bq_insn.specs.Faults.{is_stray, has_bad_register, has_stray_field, has_stray_second, has_no_variant, has_no_width, is_cut, cause_at, cause_of_form, Faulty, IsFault, is_length}
-
--- where one or the other is false, both are
-pub neither_is_true : (a b : Bool) → (a || b) ≡ false → (a ≡ false) × (b ≡ false)
-neither_is_true true b h = absurd (let e : true ≡ false = h in cc)
-neither_is_true false b h = (refl, h)
 
 -- none of the tests finds a fault
 pub record IsClean (f : Form) (s : Slot) (next : Option Slot) : Type 0 where
@@ -47,7 +43,7 @@ pub is_clean : (f : Form) (s : Slot) (next : Option Slot) → cause_at f s next 
 unfolding chain
 is_clean f s next h =
     let all = chain_none (has_bad_register (uses_of f) s) (has_stray_field (uses_of f) s || has_stray_second f s next) (has_no_variant f s) (has_no_width f s) (is_cut f next) h in
-    let fields = neither_is_true (has_stray_field (uses_of f) s) (has_stray_second f s next) all.1 in
+    let fields = or_parts (has_stray_field (uses_of f) s) (has_stray_second f s next) all.1 in
     record { registers = all.0; fields = fields.0; second = fields.1; variant = all.2; width = all.3; whole = all.4 }
 
 -- what a field without a fault holds
@@ -73,9 +69,9 @@ pub no_strays_is_kept : (f : Form) (s : Slot) (o : ℕ) → o ≡ s.opcode → h
     → slot o (kept (uses_of f).dst s.dst) (kept (uses_of f).src s.src) (kept (uses_of f).offset s.offset) (kept (uses_of f).imm s.imm) ≡ s
 no_strays_is_kept f s o h clean =
     let u = uses_of f in
-    let a = neither_is_true (is_stray u.dst s.dst) (is_stray u.src s.src || (is_stray u.offset s.offset || is_stray u.imm s.imm)) clean in
-    let b = neither_is_true (is_stray u.src s.src) (is_stray u.offset s.offset || is_stray u.imm s.imm) a.1 in
-    let c = neither_is_true (is_stray u.offset s.offset) (is_stray u.imm s.imm) b.1 in
+    let a = or_parts (is_stray u.dst s.dst) (is_stray u.src s.src || (is_stray u.offset s.offset || is_stray u.imm s.imm)) clean in
+    let b = or_parts (is_stray u.src s.src) (is_stray u.offset s.offset || is_stray u.imm s.imm) a.1 in
+    let c = or_parts (is_stray u.offset s.offset) (is_stray u.imm s.imm) b.1 in
     same_slot s o _ _ _ _ h (kept_same u.dst s.dst a.0) (kept_same u.src s.src b.0) (kept_same u.offset s.offset c.0) (kept_same u.imm s.imm c.1)
 
 -- a field that is not over 10 is a register

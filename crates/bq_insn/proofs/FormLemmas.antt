@@ -2,6 +2,7 @@
 use Rattle.std.proofs.Common.{◌≡◌, ℕ, zero, suc, ◌^◌, ◌<◌, Bool, true, false, refl, sym, ap, ◌∙◌, inl, inr, ◌⊎◌, arith}
 use Rattle.std.specs.Prelude.{◌&&◌, ◌==◌, Option, Some, None}
 use Rattle.std.proofs.lemmas.Bool.Decides.{nat_tests}
+use Rattle.std.proofs.lemmas.Bool.{and_parts, false≢true}
 use Rattle.bq_insn.specs.declared.Width.{Width}
 use Rattle.bq_insn.specs.declared.Width.TheVariants.{W32, W64}
 use Rattle.bq_insn.specs.declared.Operation.{Operation}
@@ -20,11 +21,6 @@ below : ℕ → (ℕ → Bool) → Bool
 below zero p = true
 below (suc n) p = p n && below n p
 
--- where one and the other is true, both are
-pub both_are_true : (a b : Bool) → (a && b) ≡ true → (a ≡ true) × (b ≡ true)
-both_are_true true b h = (refl, h)
-both_are_true false b h = absurd (let e : false ≡ true = h in cc)
-
 -- a number below the next is that one, or below it
 place : (k n : ℕ) → k < suc n → (k ≡ n) ⊎ (k < n)
 place k n lt = grind arith
@@ -39,7 +35,7 @@ below-at : (n : ℕ) (p : ℕ → Bool) → below n p ≡ true → (k : ℕ) →
 unfolding below
 below-at zero p h k lt = absurd (omega arith)
 below-at (suc n) p h k lt =
-    let parts = both_are_true (p n) (below n p) h in
+    let parts = and_parts (p n) (below n p) h in
     by_place p k n (place k n lt) parts.0 (below-at n p parts.1 k)
 
 -- a form that stands under an opcode is one of the table, and has that opcode
@@ -56,13 +52,9 @@ all_agree = refl
 pub in_table : (n : ℕ) (f : Form) → n < 2 ^ 8 → form_of n ≡ Some f → (n ≡ opcode_of f) × (is_form f ≡ true)
 unfolding agrees_with
 in_table n f lt h =
-    let parts = both_are_true (opcode_of f == n) (is_form f) (sym (ap (agrees_with n) h) ∙ below-at 256 (λ k. agrees_with k (form_of k)) all_agree n lt) in
+    let parts = and_parts (opcode_of f == n) (is_form f) (sym (ap (agrees_with n) h) ∙ below-at 256 (λ k. agrees_with k (form_of k)) all_agree n lt) in
     let test : (opcode_of f == n) ≡ true = parts.0 in
     (grind (arith, nat_tests), parts.1)
-
--- false is not true
-pub not_false : {P : Type 0} → false ≡ true → P
-not_false h = absurd (let e : false ≡ true = h in cc)
 
 -- the operation that stands in the table
 abbrev pub plain : Operation → Operation
@@ -86,8 +78,8 @@ known_branch W64 c false = elim c as (λ x. form_of (opcode_of (form.Branch W64 
 
 -- a form of the table is plain
 pub is_plain : (w : Width) (o : Operation) (r : Bool) → is_form (form.Alu w o r) ≡ true → plain o ≡ o
-is_plain w op.Sdiv r h = not_false h
-is_plain w op.Srem r h = not_false h
+is_plain w op.Sdiv r h = absurd (false≢true h)
+is_plain w op.Srem r h = absurd (false≢true h)
 is_plain w o r h = refl
 
 -- a form of the table stands under its opcode
@@ -98,7 +90,7 @@ form_is_known (form.Neg W64) h = refl
 form_is_known (form.End Little) h = refl
 form_is_known (form.End Big) h = refl
 form_is_known (form.End Swapped) h = refl
-form_is_known (form.Load Double true) h = not_false h
+form_is_known (form.Load Double true) h = absurd (false≢true h)
 form_is_known (form.Load Byte true) h = refl
 form_is_known (form.Load Half true) h = refl
 form_is_known (form.Load Word true) h = refl

@@ -2,13 +2,14 @@
 use Rattle.std.proofs.Common.{◌≡◌, ℕ, true, refl, sym, ap, ◌∙◌, inl, inr, List, [], ◌∷◌, ◌++◌, append-nil, append_assoc, subst}
 use Rattle.std.specs.Prelude.{Option, Some, None}
 use Rattle.std.specs.List.{list_all}
+use Rattle.std.proofs.lemmas.Option.{same_Some}
+use Rattle.std.proofs.lemmas.Bool.{and_parts}
 use Rattle.bq_insn.specs.declared.Insn.{Insn}
 use Rattle.bq_insn.specs.declared.slot.Slot.{Slot}
 use Rattle.bq_insn.specs.declared.fault.Cause.{Cause}
 use Rattle.bq_insn.specs.Spelling.{slot_bytes, spelled, is_insn, insn_bytes, spelling, slot_count}
 use Rattle.bq_insn.specs.Laws.{Fits, AllFit}
 use Rattle.bq_insn.specs.Faults.{IsSlot, BeginsWith, FrontHasCause, cause_of, is_length, OneFault}
-use Rattle.bq_insn.proofs.FormLemmas.{both_are_true}
 use Rattle.bq_insn.proofs.CleanLemmas.{spelled_is_clean}
 use Rattle.bq_insn.proofs.UniqueLemmas.{is_read, same_front, front_cancelled, one_spelling}
 use Rattle.bq_insn.proofs.FaultLemmas.{fault_parts, not_both}
@@ -32,15 +33,11 @@ same_next s t (Some u) (Some v) x f g p q =
     let second = same_front u v p.1 q.1 p.0.dst q.0.dst p.0.offset q.0.offset p.0.imm q.0.imm same.1 in
     (same.0, ap (λ (y : Slot). Some y) second.0)
 
--- one cause is one
-same_some : (c d : Cause) → Some c ≡ Some d → c ≡ d
-same_some c d e = cc
-
 -- a front has one least cause
 one_cause : (x : List ℕ) (c d : Cause) → FrontHasCause x c → FrontHasCause x d → c ≡ d
 one_cause x c d p q =
     let same = same_next p.slot q.slot p.next q.next x p.is_slot q.is_slot p.begins q.begins in
-    same_some c d (sym p.cause_is ∙ ap (λ (s : Slot). cause_of s p.next) same.0 ∙ ap (λ (n : Option Slot). cause_of q.slot n) same.1 ∙ q.cause_is)
+    same_Some c d (sym p.cause_is ∙ ap (λ (s : Slot). cause_of s p.next) same.0 ∙ ap (λ (n : Option Slot). cause_of q.slot n) same.1 ∙ q.cause_is)
 
 -- an instruction in range stands in front of no fault
 no_fault_in_front : (i : Insn) (x : List ℕ) (c : Cause) → is_insn i ≡ true → Fits i → FrontHasCause (insn_bytes i ++ x) c → ⊥
@@ -52,14 +49,14 @@ one_way : (xs ys : List Insn) (x y : List ℕ) (c d : Cause) → list_all is_ins
     → spelling xs ++ x ≡ spelling ys ++ y → FrontHasCause x c → FrontHasCause y d → (xs ≡ ys) × (c ≡ d)
 one_way [] [] x y c d ha fa hb fb e p q = (refl, one_cause y c d (subst (λ (l : List ℕ). FrontHasCause l c) e p) q)
 one_way [] (b ∷ ys) x y c d ha fa hb fb e p q =
-    let k = both_are_true (is_insn b) (list_all is_insn ys) hb in
+    let k = and_parts (is_insn b) (list_all is_insn ys) hb in
     absurd (no_fault_in_front b (spelling ys ++ y) c k.0 fb.0 (subst (λ (l : List ℕ). FrontHasCause l c) (e ∙ append_assoc (insn_bytes b) (spelling ys) y) p))
 one_way (a ∷ xs) [] x y c d ha fa hb fb e p q =
-    let k = both_are_true (is_insn a) (list_all is_insn xs) ha in
+    let k = and_parts (is_insn a) (list_all is_insn xs) ha in
     absurd (no_fault_in_front a (spelling xs ++ x) d k.0 fa.0 (subst (λ (l : List ℕ). FrontHasCause l d) (sym e ∙ append_assoc (insn_bytes a) (spelling xs) x) q))
 one_way (a ∷ xs) (b ∷ ys) x y c d ha fa hb fb e p q =
-    let k = both_are_true (is_insn a) (list_all is_insn xs) ha in
-    let l = both_are_true (is_insn b) (list_all is_insn ys) hb in
+    let k = and_parts (is_insn a) (list_all is_insn xs) ha in
+    let l = and_parts (is_insn b) (list_all is_insn ys) hb in
     let e2 = sym (append_assoc (insn_bytes a) (spelling xs) x) ∙ e ∙ append_assoc (insn_bytes b) (spelling ys) y in
     let same = one_spelling a b (spelling xs ++ x) (spelling ys ++ y) k.0 l.0 fa.0 fb.0 e2 in
     let left = front_cancelled (insn_bytes b) (spelling xs ++ x) (spelling ys ++ y) (ap (λ (i : Insn). insn_bytes i ++ (spelling xs ++ x)) (sym same) ∙ e2) in

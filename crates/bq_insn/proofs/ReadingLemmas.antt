@@ -2,6 +2,7 @@
 use Rattle.std.proofs.Common.{◌≡◌, ℕ, ◌+◌, ◌*◌, ◌/◌, ◌%◌, ◌^◌, ◌<◌, Bool, true, false, refl, sym, ap, ◌∙◌, inl, inr, ◌⊎◌, [], ◌∷◌, ℤ, arith}
 use Rattle.std.specs.Prelude.{◌&&◌, ◌||◌, ◌==◌, not, nat_lt, Option, Some, None, if◌then◌else◌}
 use Rattle.std.proofs.lemmas.Bool.Decides.{nat_tests}
+use Rattle.std.proofs.lemmas.Bool.{and_from, false≢true, or_parts}
 use Rattle.bq_insn.specs.declared.Source.TheVariants.{Imm, Reg}
 use Rattle.bq_insn.specs.declared.Order.{Order}
 use Rattle.bq_insn.specs.declared.Bits.{Bits}
@@ -16,9 +17,9 @@ use Rattle.bq_insn.specs.Table.{opcode_of, form_of, is_form}
 use Rattle.bq_insn.specs.Spelling.{slot, is_insn, is_register, word32, bits_number}
 use Rattle.bq_insn.specs.Reading.{signed16, signed32, bits_of, insn_of}
 use Rattle.bq_insn.specs.Faults.{IsSlot, cause_at}
-use Rattle.bq_insn.proofs.FaultLemmas.{IsClean, is_clean, no_strays_is_kept, same_slot, neither_is_true}
-use Rattle.bq_insn.proofs.ReadsLemmas.{Reads, and_true, word16_of_signed16, word32_of_signed32, reads_by, one_slot, two_registers, one_register}
-use Rattle.bq_insn.proofs.FormLemmas.{not_false, in_table}
+use Rattle.bq_insn.proofs.FaultLemmas.{IsClean, is_clean, no_strays_is_kept, same_slot}
+use Rattle.bq_insn.proofs.ReadsLemmas.{Reads, word16_of_signed16, word32_of_signed32, reads_by, one_slot, two_registers, one_register}
+use Rattle.bq_insn.proofs.FormLemmas.{in_table}
 use Rattle.bq_insn.proofs.ArithmeticLemmas.{is_zero, plain_of, reads_alu_imm, reads_alu_reg}
 
 -- what a byte order's width names
@@ -45,7 +46,7 @@ has_bits n h = elim (one_width n h) as (λ _. HasBits n) [
 -- a load with a sign has fewer than eight bytes
 load_ranged : (size : Size) (signed : Bool) (d r : ℕ) (off : ℤ) → is_form (form.Load size signed) ≡ true
     → is_insn (insn.Load size signed d r off) ≡ (is_register d && is_register r)
-load_ranged Double true d r off h = not_false h
+load_ranged Double true d r off h = absurd (false≢true h)
 load_ranged Double false d r off h = refl
 load_ranged Byte signed d r off h = refl
 load_ranged Half signed d r off h = refl
@@ -81,16 +82,16 @@ reads_wide s None fits opcode clean = absurd (let e : true ≡ false = clean.who
 reads_wide s (Some t) fits opcode clean = by_test (s.src == 5) refl second.4
   where
     a : (nat_lt 0 t.opcode ≡ false) × ((nat_lt 0 t.dst || (nat_lt 0 t.src || (nat_lt 0 t.offset || ((s.src == 5) && nat_lt 0 t.imm)))) ≡ false)
-    a = neither_is_true (nat_lt 0 t.opcode) _ clean.second
+    a = or_parts (nat_lt 0 t.opcode) _ clean.second
 
     b : (nat_lt 0 t.dst ≡ false) × ((nat_lt 0 t.src || (nat_lt 0 t.offset || ((s.src == 5) && nat_lt 0 t.imm))) ≡ false)
-    b = neither_is_true (nat_lt 0 t.dst) _ a.1
+    b = or_parts (nat_lt 0 t.dst) _ a.1
 
     d : (nat_lt 0 t.src ≡ false) × ((nat_lt 0 t.offset || ((s.src == 5) && nat_lt 0 t.imm)) ≡ false)
-    d = neither_is_true (nat_lt 0 t.src) _ b.1
+    d = or_parts (nat_lt 0 t.src) _ b.1
 
     e : (nat_lt 0 t.offset ≡ false) × (((s.src == 5) && nat_lt 0 t.imm) ≡ false)
-    e = neither_is_true (nat_lt 0 t.offset) _ d.1
+    e = or_parts (nat_lt 0 t.offset) _ d.1
 
     second : (0 ≡ t.opcode) × (0 ≡ t.dst) × (0 ≡ t.src) × (0 ≡ t.offset) × (((s.src == 5) && nat_lt 0 t.imm) ≡ false)
     second = (zero_of t.opcode a.0, zero_of t.dst b.0, zero_of t.src d.0, zero_of t.offset e.0, e.1)
@@ -145,7 +146,7 @@ reads_form form.Goto32 s next fits known opcode clean =
     reads_by form.Goto32 s next (insn.Goto32 (signed32 s.imm)) opcode clean refl (one_slot _ _ _ _ _ _ _ _ _ _ refl refl refl refl (word32_of_signed32 s.imm fits.imm))
 reads_form (form.Branch w c false) s next fits known opcode clean =
     reads_by (form.Branch w c false) s next (insn.Branch w c s.dst (Imm (signed32 s.imm)) (signed16 s.offset)) opcode clean
-    (and_true (is_register s.dst) true (one_register s.dst clean.registers) refl) (one_slot _ _ _ _ _ _ _ _ _ _ refl refl refl (word16_of_signed16 s.offset fits.offset) (word32_of_signed32 s.imm fits.imm))
+    (and_from (is_register s.dst) true (one_register s.dst clean.registers) refl) (one_slot _ _ _ _ _ _ _ _ _ _ refl refl refl (word16_of_signed16 s.offset fits.offset) (word32_of_signed32 s.imm fits.imm))
 reads_form (form.Branch w c true) s next fits known opcode clean =
     reads_by (form.Branch w c true) s next (insn.Branch w c s.dst (Reg s.src) (signed16 s.offset)) opcode clean
     (two_registers s.dst s.src clean.registers) (one_slot _ _ _ _ _ _ _ _ _ _ refl refl refl (word16_of_signed16 s.offset fits.offset) refl)

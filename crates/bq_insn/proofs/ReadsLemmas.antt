@@ -1,8 +1,9 @@
 -- What it is that slots are read as an instruction, and the steps that all forms share.
-use Rattle.std.proofs.Common.{◌≡◌, ℕ, ◌^◌, ◌<◌, Bool, true, false, sym, ap, ◌∙◌, inl, ◌⊎◌, [], ◌∷◌}
+use Rattle.std.proofs.Common.{◌≡◌, ℕ, ◌^◌, ◌<◌, true, false, sym, ap, ◌∙◌, inl, ◌⊎◌, [], ◌∷◌}
 use Rattle.std.specs.Prelude.{◌&&◌, ◌||◌, nat_lt, Option, Some, None}
 use Rattle.std.specs.Int.{w16, w32}
 use Rattle.std.proofs.lemmas.Int.{of_z-to_z}
+use Rattle.std.proofs.lemmas.Bool.{and_from, or_parts}
 use Rattle.bq_insn.specs.declared.Insn.{Insn}
 use Rattle.bq_insn.specs.declared.form.Form.{Form}
 use Rattle.bq_insn.specs.declared.slot.Slot.{Slot}
@@ -10,7 +11,7 @@ use Rattle.bq_insn.specs.Table.{opcode_of}
 use Rattle.bq_insn.specs.Uses.{uses_of}
 use Rattle.bq_insn.specs.Spelling.{slot, spelled, is_insn, is_register, word16, word32}
 use Rattle.bq_insn.specs.Reading.{signed16, signed32}
-use Rattle.bq_insn.proofs.FaultLemmas.{IsClean, kept, no_strays_is_kept, same_slot, neither_is_true, register_of}
+use Rattle.bq_insn.proofs.FaultLemmas.{IsClean, kept, no_strays_is_kept, same_slot, register_of}
 
 -- the slots at hand spell the instruction: the first, or both
 abbrev pub IsSpelledBy : Slot → Option Slot → Insn → Type 0
@@ -25,10 +26,6 @@ Reads s next i = (is_insn i ≡ true) × IsSpelledBy s next i
 by_one : (s : Slot) (next : Option Slot) (i : Insn) → spelled i ≡ s ∷ [] → IsSpelledBy s next i
 by_one s None i h = h
 by_one s (Some t) i h = inl h
-
--- two tests that are true
-pub and_true : (a b : Bool) → a ≡ true → b ≡ true → (a && b) ≡ true
-and_true a b h k = ap (λ (x : Bool). x && b) h ∙ k
 
 -- the bits of a field come back from the signed number
 pub word16_of_signed16 : (n : ℕ) → n < 2 ^ 16 → word16 (signed16 n) ≡ n
@@ -54,9 +51,9 @@ one_slot o d r f i o' d' r' f' i' a b c e g = ap (λ (x : Slot). x ∷ []) (same
 -- two fields that name registers
 pub two_registers : (d r : ℕ) → (nat_lt 10 d || nat_lt 10 r) ≡ false → (is_register d && is_register r) ≡ true
 two_registers d r h =
-    let parts = neither_is_true (nat_lt 10 d) (nat_lt 10 r) h in
-    and_true (is_register d) (is_register r) (register_of d parts.0) (register_of r parts.1)
+    let parts = or_parts (nat_lt 10 d) (nat_lt 10 r) h in
+    and_from (is_register d) (is_register r) (register_of d parts.0) (register_of r parts.1)
 
 -- one field that names a register
 pub one_register : (d : ℕ) → (nat_lt 10 d || false) ≡ false → is_register d ≡ true
-one_register d h = register_of d (neither_is_true (nat_lt 10 d) false h).0
+one_register d h = register_of d (or_parts (nat_lt 10 d) false h).0

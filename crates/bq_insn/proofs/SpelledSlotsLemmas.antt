@@ -3,6 +3,7 @@ use Rattle.std.proofs.Common.{◌≡◌, ℕ, ◌+◌, ◌*◌, ◌/◌, ◌%◌
 use Rattle.std.specs.Prelude.{Option, Some, option_map, FitsSigned}
 use Rattle.std.specs.Int.{w16, w32}
 use Rattle.std.proofs.lemmas.Int.{to_z-of_z}
+use Rattle.std.proofs.lemmas.Bool.{false≢true}
 use Rattle.bq_insn.specs.declared.Width.{Width}
 use Rattle.bq_insn.specs.declared.Width.TheVariants.{W32, W64}
 use Rattle.bq_insn.specs.declared.Operation.{Operation}
@@ -20,7 +21,7 @@ use Rattle.bq_insn.specs.Table.{opcode_of, form_of}
 use Rattle.bq_insn.specs.Spelling.{slot, spelled, is_insn, word16, word32, variant_of}
 use Rattle.bq_insn.specs.Reading.{signed16, signed32, variant, insn_of}
 use Rattle.bq_insn.specs.Laws.{Fits}
-use Rattle.bq_insn.proofs.FormLemmas.{plain, known_alu, known_branch, not_false}
+use Rattle.bq_insn.proofs.FormLemmas.{plain, known_alu, known_branch}
 
 -- the instruction that a slot and the one after it are read as
 abbrev pub read : Slot → Option Slot → Option Insn
@@ -79,12 +80,12 @@ spelled_reads_back (insn.MovSx W32 B16 d s) h fits next = refl
 spelled_reads_back (insn.MovSx W64 B8 d s) h fits next = refl
 spelled_reads_back (insn.MovSx W64 B16 d s) h fits next = refl
 spelled_reads_back (insn.MovSx W64 B32 d s) h fits next = refl
-spelled_reads_back (insn.MovSx W32 B32 d s) h fits next = not_false h
-spelled_reads_back (insn.MovSx W32 B64 d s) h fits next = not_false h
-spelled_reads_back (insn.MovSx W64 B64 d s) h fits next = not_false h
+spelled_reads_back (insn.MovSx W32 B32 d s) h fits next = absurd (false≢true h)
+spelled_reads_back (insn.MovSx W32 B64 d s) h fits next = absurd (false≢true h)
+spelled_reads_back (insn.MovSx W64 B64 d s) h fits next = absurd (false≢true h)
 spelled_reads_back (insn.Neg W32 d) h fits next = refl
 spelled_reads_back (insn.Neg W64 d) h fits next = refl
-spelled_reads_back (insn.End order B8 d) h fits next = not_false h
+spelled_reads_back (insn.End order B8 d) h fits next = absurd (false≢true h)
 spelled_reads_back (insn.End Little B16 d) h fits next = refl
 spelled_reads_back (insn.End Little B32 d) h fits next = refl
 spelled_reads_back (insn.End Little B64 d) h fits next = refl
@@ -94,7 +95,7 @@ spelled_reads_back (insn.End Big B64 d) h fits next = refl
 spelled_reads_back (insn.End Swapped B16 d) h fits next = refl
 spelled_reads_back (insn.End Swapped B32 d) h fits next = refl
 spelled_reads_back (insn.End Swapped B64 d) h fits next = refl
-spelled_reads_back (insn.Load Double true d s off) h fits next = not_false h
+spelled_reads_back (insn.Load Double true d s off) h fits next = absurd (false≢true h)
 spelled_reads_back (insn.Load Byte true d s off) h fits next = ap (λ (z : ℤ). Some (insn.Load Byte true d s z)) (same16 off fits)
 spelled_reads_back (insn.Load Half true d s off) h fits next = ap (λ (z : ℤ). Some (insn.Load Half true d s z)) (same16 off fits)
 spelled_reads_back (insn.Load Word true d s off) h fits next = ap (λ (z : ℤ). Some (insn.Load Word true d s z)) (same16 off fits)

@@ -15,7 +15,7 @@ use Rattle.bq_insn.specs.declared.Insn.TheVariants as insn
 use Rattle.bq_insn.specs.declared.slot.Slot.{Slot}
 use Rattle.bq_insn.specs.Spelling.{slot_bytes, spelled, is_insn, insn_bytes, word16, word32, variant_of, bits_number, spelling}
 use Rattle.std.proofs.lemmas.List.{drop_at}
-use Rattle.bq_insn.proofs.FormLemmas.{both_are_true}
+use Rattle.std.proofs.lemmas.Bool.{and_parts}
 use Rattle.bq_insn.specs.Laws.{Fits, OneSpelling, OneProgram}
 use Rattle.bq_insn.proofs.FaultLemmas.{same_slot}
 use Rattle.bq_insn.proofs.EncodeLemmas.{FitRegisters, registers_fit}
@@ -162,11 +162,11 @@ front_cancelled front x y e = sym (drop_at front x (length front) refl) ∙ ap (
 -- instruction by instruction
 pub one_program : OneProgram
 one_program [] [] ha hb fa fb e = refl
-one_program [] (b ∷ bs) ha hb fa fb e = absurd (some_bytes b (spelling bs) (both_are_true (is_insn b) (list_all is_insn bs) hb).0 fb.0 e)
-one_program (a ∷ more) [] ha hb fa fb e = absurd (some_bytes a (spelling more) (both_are_true (is_insn a) (list_all is_insn more) ha).0 fa.0 (sym e))
+one_program [] (b ∷ bs) ha hb fa fb e = absurd (some_bytes b (spelling bs) (and_parts (is_insn b) (list_all is_insn bs) hb).0 fb.0 e)
+one_program (a ∷ more) [] ha hb fa fb e = absurd (some_bytes a (spelling more) (and_parts (is_insn a) (list_all is_insn more) ha).0 fa.0 (sym e))
 one_program (a ∷ more) (b ∷ bs) ha hb fa fb e =
-    let pa = both_are_true (is_insn a) (list_all is_insn more) ha in
-    let pb = both_are_true (is_insn b) (list_all is_insn bs) hb in
+    let pa = and_parts (is_insn a) (list_all is_insn more) ha in
+    let pb = and_parts (is_insn b) (list_all is_insn bs) hb in
     let same = one_spelling a b (spelling more) (spelling bs) pa.0 pb.0 fa.0 fb.0 e in
     let rest = front_cancelled (insn_bytes b) (spelling more) (spelling bs) (ap (λ (i : Insn). insn_bytes i ++ spelling more) (sym same) ∙ e) in
     ap (λ (i : Insn). i ∷ more) same ∙ ap (λ (l : List Insn). b ∷ l) (one_program more bs pa.1 pb.1 fa.1 fb.1 rest)

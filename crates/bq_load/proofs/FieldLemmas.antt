@@ -3,7 +3,7 @@ use Rattle.std.proofs.Common.{◌≡◌, ◌≢◌, ℕ, zero, suc, ◌+◌, ◌
 use Rattle.std.specs.Prelude.{◌==◌, ◌&&◌, nat_le}
 use Rattle.std.specs.Str.{bytes_eq}
 use Rattle.std.specs.Int.{w16, w32, to_le_bytes, from_le_bytes}
-use Rattle.std.proofs.lemmas.Bool.{ltb-false, ltb-true, eqb-true, eqb-false, leb-true, leb-false, le-leb, eq-eqb}
+use Rattle.std.proofs.lemmas.Bool.{ltb-false, ltb-true, eqb-true, eqb-false, leb-true, leb-false, le-leb, eq-eqb, and_parts}
 use Rattle.std.proofs.Math.Facts.{Fits-lt-pow}
 use Rattle.std.proofs.lemmas.Nat.{from_le_bytes-to_le_bytes_2}
 use Rattle.std.proofs.lemmas.List.{take-append-drop, length-take}
@@ -269,18 +269,13 @@ pub shape_of-bytes : (size entries : ℕ) (h : IsShape size entries) → shape_b
 unfolding shape_of
 shape_of-bytes size entries h = refl
 
-both : (a b : Bool) → (a && b) ≡ true → (a ≡ true) × (b ≡ true)
-both true true e = (refl, refl)
-both true false e = absurd cc
-both false b e = absurd cc
-
 -- two numbers that pass the test of a shape are within its limits
 pub is_shape-limits : (size entries : ℕ) → is_shape size entries ≡ true → IsShape size entries
 is_shape-limits size entries e =
-    let a = both (nat_le 8 size && (nat_le size 256 && (size % 8 == 0))) (nat_le 1 entries && nat_le entries 256) e in
-    let b = both (nat_le 8 size) (nat_le size 256 && (size % 8 == 0)) a.0 in
-    let c = both (nat_le size 256) (size % 8 == 0) b.1 in
-    let d = both (nat_le 1 entries) (nat_le entries 256) a.1 in
+    let a = and_parts (nat_le 8 size && (nat_le size 256 && (size % 8 == 0))) (nat_le 1 entries && nat_le entries 256) e in
+    let b = and_parts (nat_le 8 size) (nat_le size 256 && (size % 8 == 0)) a.0 in
+    let c = and_parts (nat_le size 256) (size % 8 == 0) b.1 in
+    let d = and_parts (nat_le 1 entries) (nat_le entries 256) a.1 in
     record {
       least_size = leb-true _ _ b.0;
       greatest_size = leb-true _ _ c.0;

@@ -1,5 +1,5 @@
 -- What a piece brings: by the first 44 bytes the header of all the bytes is known.
-use Rattle.std.proofs.Common.{◌≡◌, ◌≢◌, ℕ, zero, suc, ◌+◌, ◌-◌, ◌*◌, ◌<◌, ◌≤◌, List, [], ◌∷◌, ◌++◌, length, take, drop, min, Result, Ok, Err, refl, sym, ap, subst, ◌∙◌, inl, inr, append_assoc, arith, length-append, length-drop}
+use Rattle.std.proofs.Common.{◌≡◌, ◌≢◌, ℕ, zero, suc, ◌+◌, ◌-◌, ◌*◌, ◌^◌, ◌<◌, ◌≤◌, List, [], ◌∷◌, ◌++◌, length, take, drop, min, Result, Ok, Err, refl, sym, ap, subst, ◌∙◌, inl, inr, append_assoc, arith, length-append, length-drop}
 use Rattle.std.specs.Prelude.{OnOk}
 use Rattle.std.specs.Int.{w32, to_le_bytes}
 use Rattle.std.proofs.lemmas.Bool.{cases_lt}
@@ -18,7 +18,7 @@ use Rattle.bq_load.proofs.FieldLemmas.{AreBytes-front}
 use Rattle.bq_load.proofs.HeaderLemmas.{length-shapes_bytes, IsRefused, header_ok, header_err, refused_is, bad_field, no_cut, no_decode}
 use Rattle.bq_load.proofs.SpelledHeaderLemmas.{spelled, header_again}
 use Rattle.bq_load.proofs.FaultLemmas.{IsFound, fault_again, frame_short}
-use Rattle.bq_load.proofs.LawLemmas.{one_fault}
+use Rattle.bq_load.proofs.LawLemmas.{one_fault, not_framed}
 use Rattle.bq_load.proofs.UniqueLemmas.{one_spelled, frame_again}
 use Rattle.bq_load.proofs.LoadLemmas.{no_refusal}
 use Rattle.bq_load.proofs.FramingLemmas.{no_memory}
@@ -279,9 +279,6 @@ final_found bytes fault.OutOfMemory final b = absurd final
 not_rest : (bytes : List ℕ) (f : LoadFault) → IsFinal f → frame_at bytes ≡ Err fault.Cut → frame_at bytes ≡ Err f → ⊥
 not_rest bytes f final e d = cut_is_not_final f (let x : fault.Cut ≡ f = cc in x) final
 
-not_framed : (bytes : List ℕ) (x : Spelled × List ℕ) (f : LoadFault) → frame_at bytes ≡ Ok x → frame_at bytes ≡ Err f → ⊥
-not_framed bytes x f e d = cc
-
 -- no fault stays where the program is not past its end
 pub within_going : (bytes : List ℕ) (h : Header) (tail : List ℕ) (f : LoadFault) → IsHeader h → bytes ≡ header_bytes h ++ tail → length tail ≤ 8 * h.slots → AreBytes bytes → HasFailed bytes f → ⊥
 within_going bytes h tail f good is within fits failed =
@@ -406,3 +403,31 @@ front_joined held piece old new none one two empty old_is new_is first second =
 -- what is known where a result is Ok, once it is
 pub on_ok : {X E P : Type 0} (r : Result X E) (v : X) → r ≡ Ok v → OnOk r P → P
 on_ok {X} {E} {P} r v e h = subst (λ (x : Result X E). OnOk x P) e h
+
+-- the header of these first bytes is the one that is read of a slice that shows them
+pub read_front : (held piece shown : List ℕ) (read : Result (Spelled × List ℕ) LoadFault) → shown ≡ take 44 (held ++ piece) → header_at shown ≡ read → header_at (take 44 (held ++ piece)) ≡ read
+read_front held piece shown read same is = ap header_at (sym same) ∙ is
+
+-- how many bytes there are, counted up to the greatest number of 64 bits
+abbrev pub count_up : ℕ → ℕ → ℕ → ℕ
+count_up held past piece = min (min (held + past) (2 ^ 64 - 1) + piece) (2 ^ 64 - 1)
+
+-- where all bytes reach no further than the end of the program, no fault stays
+pub read_going : (held piece bytes : List ℕ) (past : ℕ) (s : Spelled) (r : List ℕ) (f : LoadFault) → AreBytes (take 44 (held ++ piece)) → header_at (take 44 (held ++ piece)) ≡ Ok (s, r)
+    → count_up (length held) past (length piece) ≤ length (take 44 (held ++ piece)) - length r + 8 * s.slots → Holds held past bytes → AreBytes (bytes ++ piece) → HasFailed (bytes ++ piece) f → ⊥
+read_going held piece bytes past s r f fits read near h whole failed =
+    let front = take 44 (held ++ piece) in
+    let j = read_header_of_all held piece bytes past s r fits read h in
+    let within : length j.tail ≤ 8 * j.header.slots =
+    omega (arith, near, length-front front held piece bytes past s r j, length-tail front held piece bytes past s r j h, j.slots_are, j.good.slots) in
+    within_going (bytes ++ piece) j.header j.tail f j.good j.bytes_are within whole failed
+
+-- where they reach further, the bytes behind the program are a fault
+pub read_past : (held piece bytes : List ℕ) (past : ℕ) (s : Spelled) (r : List ℕ) → AreBytes (take 44 (held ++ piece)) → header_at (take 44 (held ++ piece)) ≡ Ok (s, r)
+    → length (take 44 (held ++ piece)) - length r + 8 * s.slots < count_up (length held) past (length piece) → Holds held past bytes → HasFailed (bytes ++ piece) fault.Rest
+read_past held piece bytes past s r fits read far h =
+    let front = take 44 (held ++ piece) in
+    let j = read_header_of_all held piece bytes past s r fits read h in
+    let more : 8 * j.header.slots < length j.tail =
+    omega (arith, far, length-front front held piece bytes past s r j, length-tail front held piece bytes past s r j h, j.slots_are) in
+    past_fails (bytes ++ piece) j.header j.tail j.good j.bytes_are more

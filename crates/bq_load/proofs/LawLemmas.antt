@@ -29,12 +29,12 @@ good_length : (n slots : ℕ) → n ≡ 8 * slots → 1 ≤ slots → slots ≤ 
 good_length n slots whole some most = grind (arith, nat_tests)
 
 -- reading gives one answer
-not_both : (bytes : List ℕ) (x : Spelled × List ℕ) (f : LoadFault) → frame_at bytes ≡ Ok x → frame_at bytes ≡ Err f → ⊥
-not_both bytes x f e g = cc
+pub not_framed : (bytes : List ℕ) (x : Spelled × List ℕ) (f : LoadFault) → frame_at bytes ≡ Ok x → frame_at bytes ≡ Err f → ⊥
+not_framed bytes x f e g = cc
 
 -- where header and program are the bytes, reading them does not fail
 pub framed_does_not_fail : (bytes : List ℕ) (h : Header) (program : List ℕ) (f : LoadFault) → IsFramed bytes h program → frame_at bytes ≡ Err f → ⊥
-framed_does_not_fail bytes h program f framed e = not_both bytes (spelled h, program) f (frame_again bytes h program framed) e
+framed_does_not_fail bytes h program f framed e = not_framed bytes (spelled h, program) f (frame_again bytes h program framed) e
 
 whole_program : (bytes : List ℕ) (h : Header) (program : List ℕ) (slot : ℕ) → IsFramed bytes h program → 1 ≤ h.slots → h.slots ≤ 4096 → HasFaultyProgram bytes slot Length → ⊥
 whole_program bytes h program slot framed some most b =

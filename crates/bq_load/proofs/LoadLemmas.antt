@@ -5,11 +5,10 @@ use Rattle.bq_insn.specs.declared.Insn.{Insn}
 use Rattle.bq_insn.specs.declared.fault.Cause.TheVariants.{Length, Opcode, Register, Field, Offset, Imm, WideCut}
 use Rattle.bq_insn.specs.declared.fault.DecodeFault.{DecodeFault}
 use Rattle.bq_insn.specs.declared.fault.DecodeFault.TheVariants as program
-use Rattle.bq_insn.specs.Spelling.{spelling, is_well_formed, slot_count, is_insn}
+use Rattle.bq_insn.specs.Spelling.{spelling, is_well_formed}
 use Rattle.bq_insn.specs.Slots.{spread}
 use Rattle.bq_insn.specs.Laws.{AllFit}
 use Rattle.bq_insn.specs.Faults.{IsFault as IsProgramFault}
-use Rattle.bq_insn.proofs.FormLemmas.{both_are_true}
 use Rattle.bq_insn.proofs.UniqueLemmas as insn
 use Rattle.bq_insn.proofs.LengthLemmas as lengths
 use Rattle.bq_bpf.specs.declared.shape.MapShape.{MapShape}
@@ -23,8 +22,7 @@ use Rattle.bq_verify.specs.Refusals.{IsRefusal}
 use Rattle.bq_verify.specs.Straight.{IsStraightProgram}
 use Rattle.bq_verify.specs.declared.refused.Refused.{Refused}
 use Rattle.bq_verify.specs.declared.refused.Refused.TheVariants as refused
-use Rattle.std.specs.Prelude.{◌&&◌, nat_le}
-use Rattle.std.specs.List.{list_all}
+use Rattle.bq_insn.proofs.LengthLemmas.{well_formed_in_range}
 use Rattle.bq_load.specs.declared.fault.LoadFault.{LoadFault}
 use Rattle.bq_load.specs.declared.fault.LoadFault.TheVariants as fault
 use Rattle.bq_load.specs.Layout.{shapes_bytes, Header, IsImage}
@@ -147,15 +145,12 @@ straight_code bytes s code (program.At slot cause) parts st b =
     let of = is_of bytes s code st parts in
     absurd (lengths.no_program_is_refused st.insns slot cause st.well_formed st.numbers (subst (λ (x : List ℕ). IsProgramFault x (program.At slot cause)) of.code_is b))
 
-all_insns : (insns : List Insn) → is_well_formed insns ≡ true → list_all is_insn insns ≡ true
-all_insns insns h = (both_are_true (list_all is_insn insns) (nat_le 1 (slot_count insns) && nat_le (slot_count insns) 4096) h).0
-
 -- instructions and shapes that were read of a straight image are a straight program for its hook and version
 pub straight_program : (bytes : List ℕ) (s : Spelled) (code : List ℕ) (insns : List Insn) (shapes : List MapShape) → HasParts bytes s code → HasStraightProgram bytes
     → code ≡ spelling insns → is_well_formed insns ≡ true → AllFit insns → s.shapes ≡ shapes_bytes shapes → IsStraightProgram (spread insns) shapes (context_length_of s.hook s.version)
 straight_program bytes s code insns shapes parts st is well_formed numbers shapes-are =
     let of = is_of bytes s code st parts in
     let same_insns : insns ≡ st.insns =
-    insn.one_program insns st.insns (all_insns insns well_formed) (all_insns st.insns st.well_formed) numbers st.numbers (sym is ∙ of.code_is) in
+    insn.one_program insns st.insns (well_formed_in_range insns well_formed) (well_formed_in_range st.insns st.well_formed) numbers st.numbers (sym is ∙ of.code_is) in
     let same_shapes : shapes ≡ st.shapes = one_shapes shapes st.shapes (sym shapes-are ∙ of.shapes) in
     rw (same_insns, same_shapes, of.hook, of.version) st.straight

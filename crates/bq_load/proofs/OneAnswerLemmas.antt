@@ -1,17 +1,15 @@
 -- Bytes with a fault of their own, of their program or of its control graph have no other answer, and at most one program is loaded.
 use Rattle.std.proofs.Common.{◌≡◌, ℕ, List, Option, Result, Ok, Err, refl, sym, ap, subst, ◌∙◌, ◌⊎◌, inl, inr, arith}
-use Rattle.std.specs.Prelude.{true, ◌&&◌, nat_le}
-use Rattle.std.specs.List.{list_all}
 use Rattle.bq_insn.specs.declared.fault.Cause.{Cause}
 use Rattle.bq_insn.specs.declared.fault.DecodeFault.TheVariants.{At}
 use Rattle.bq_insn.specs.declared.Insn.{Insn}
 use Rattle.bq_insn.specs.Faults.{IsFault as IsProgramFault}
 use Rattle.bq_insn.specs.Slots.{spread}
-use Rattle.bq_insn.specs.Spelling.{is_insn, is_well_formed, slot_count, spelling}
-use Rattle.bq_insn.proofs.FormLemmas.{both_are_true}
+use Rattle.bq_insn.specs.Spelling.{spelling}
 use Rattle.bq_insn.proofs.LengthLemmas as lengths
 use Rattle.bq_insn.proofs.OneFaultLemmas as insn
 use Rattle.bq_insn.proofs.UniqueLemmas.{one_program}
+use Rattle.bq_insn.proofs.LengthLemmas.{well_formed_in_range}
 use Rattle.bq_graph.specs.declared.cause.GraphCause.{GraphCause}
 use Rattle.bq_verify.specs.declared.cause.Cause.{Cause as Named}
 use Rattle.bq_verify.specs.declared.cause.Cause.TheVariants.{Graph, State}
@@ -71,9 +69,6 @@ one_faulty bytes s t c d a b =
 same_stop : (bytes : List ℕ) (f g : LoadFault) → frame_at bytes ≡ Err f → frame_at bytes ≡ Err g → g ≡ f
 same_stop bytes f g e d = cc
 
-registers : (insns : List Insn) → is_well_formed insns ≡ true → list_all is_insn insns ≡ true
-registers insns h = (both_are_true (list_all is_insn insns) (nat_le 1 (slot_count insns) && nat_le (slot_count insns) 4096) h).0
-
 -- the answer is that fault, or want of memory
 abbrev IsOnly : LoadFault → Result Accepted LoadFault → Type 0
 IsOnly f answer = (answer ≡ Err f) ⊎ (answer ≡ Err fault.OutOfMemory)
@@ -111,7 +106,7 @@ faulty bytes slot cause (Err fault.Rest) fits b a = absurd (framed_does_not_fail
 one_list : (bytes : List ℕ) (a b : List Insn) → HasProgram bytes a → HasProgram bytes b → a ≡ b
 one_list bytes a b p q =
     let images = one_image bytes p.version q.version p.hook q.hook p.shapes q.shapes (spelling a) (spelling b) p.image q.image in
-    one_program a b (registers a p.well_formed) (registers b q.well_formed) p.numbers q.numbers images.3
+    one_program a b (well_formed_in_range a p.well_formed) (well_formed_in_range b q.well_formed) p.numbers q.numbers images.3
 
 one_refusal : (slots : List (Option Insn)) (s t : ℕ) (c : GraphCause) (d : Named) → IsFirstFault slots c s → IsRefusal slots (refused.At t d) → fault.Refused t d ≡ fault.Refused s (Graph c)
 one_refusal slots s t c (Graph d) first other =

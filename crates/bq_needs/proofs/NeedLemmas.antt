@@ -1,8 +1,9 @@
 -- What is told of a need is lacking, and where nothing is told nothing is.
 use Rattle.std.proofs.lemmas.Bool.{cases_lt}
-use Rattle.std.proofs.Common.{◌≡◌, ◌≢◌, ◌∷◌, ℕ, pos, zero, suc, ◌+◌, ◌<◌, ◌&&◌, true, false, is_none, if◌then◌else◌, List, [], ◌++◌, length, Option, Some, None, inl, inr, slice_get, slice_index_or, sym, ◌∙◌, ap, subst, refl, arith}
+use Rattle.std.proofs.Common.{◌≡◌, ◌≢◌, ◌∷◌, ℕ, pos, zero, suc, ◌+◌, ◌<◌, ◌&&◌, true, false, is_none, if◌then◌else◌, List, [], ◌++◌, Option, Some, None, inl, inr, slice_get, slice_index_or, sym, ◌∙◌, ap, subst, refl, arith}
 use Rattle.std.specs.Prelude.{codes}
 use Rattle.std.specs.Fmt.{decimal}
+use Rattle.std.proofs.lemmas.Option.{same_Some}
 use Rattle.bq_insn.specs.declared.Insn.{Insn}
 use Rattle.bq_states.specs.Certainty.{Exact, Pointer, Stands, StandsAt}
 use Rattle.bq_states.specs.declared.abstract_state.ValueKind.TheVariants as kind
@@ -18,12 +19,6 @@ use Rattle.bq_needs.specs.declared.accesses.Lack.TheVariants as lack
 use Rattle.bq_needs.specs.declared.accesses.Lack.{Lack}
 use Rattle.bq_needs.specs.declared.operands.Access.{Access}
 
-same_number : (a b : ℕ) → Some a ≡ Some b → a ≡ b
-same_number a b e = cc
-
-same_known : (a b : AbstractValue) → Some a ≡ Some b → a ≡ b
-same_known a b e = cc
-
 -- what is lacking of an access is not shown of it
 pub lacks_not_shown : (p : PolicySource) (state : AbstractState) (a : Access) (k : AbstractValue) (why : Lack) → Lacks p state a k why → IsShown p state a k → ⊥
 lacks_not_shown p state a k lack.Number of shown = let e = rw of at shown.bound_is in cc
@@ -31,34 +26,31 @@ lacks_not_shown p state a k lack.Answer (map, of) shown = let e = rw of at shown
 lacks_not_shown p state a k lack.Reference (map, of) shown = let e = rw of at shown.bound_is in cc
 lacks_not_shown p state a k lack.WritesContext (of, writes) shown = shown.writable writes of
 lacks_not_shown p state a k lack.BeyondContext (of, read, (o, within, beyond)) shown =
-    let bound : context_of p ≡ shown.bound = same_number _ _ (rw of at shown.bound_is) in
+    let bound : context_of p ≡ shown.bound = same_Some _ _ (rw of at shown.bound_is) in
     let below = shown.stays o within in
     omega arith
 lacks_not_shown p state a k lack.BeyondStack (of, (o, within, beyond)) shown =
-    let bound : 512 ≡ shown.bound = same_number _ _ (rw of at shown.bound_is) in
+    let bound : 512 ≡ shown.bound = same_Some _ _ (rw of at shown.bound_is) in
     let below = shown.stays o within in
     omega arith
 lacks_not_shown p state a k lack.ReadsUnset (of, read, stays, (i, from, to, unset)) shown = let set = shown.set read of i from to in cc
 lacks_not_shown p state a k (lack.BeyondValue map size) (of, is, (o, within, beyond)) shown =
-    let bound : size ≡ shown.bound = same_number _ _ (sym is ∙ rw of at shown.bound_is) in
+    let bound : size ≡ shown.bound = same_Some _ _ (sym is ∙ rw of at shown.bound_is) in
     let below = shown.stays o within in
     omega arith
 lacks_not_shown p state a k lack.InNoMap (map, of, is) shown = let e = sym is ∙ rw of at shown.bound_is in cc
 
-same_access : (a b : Access) → Some a ≡ Some b → a ≡ b
-same_access a b e = cc
-
 -- an access that is shown by what is known of its register is good
 pub shown_good : (p : PolicySource) (state : AbstractState) (insn : Insn) (a : Access) (k : AbstractValue) → access_of insn ≡ Some a → known_in state a.register ≡ Some k → IsShown p state a k → IsGoodAccess p state insn
 shown_good p state insn a k is known shown b other =
-    let same : a ≡ b = same_access a b (sym is ∙ other) in
+    let same : a ≡ b = same_Some a b (sym is ∙ other) in
     subst (λ (x : Access). (k : AbstractValue) × (known_in state x.register ≡ Some k) × IsShown p state x k) same (k, known, shown)
 
 -- a register that points to bytes of which something is lacking does not point to what may be read
 pub lacking_not_pointing : (p : PolicySource) (state : AbstractState) (r bytes : ℕ) (k : AbstractValue) (why : Lack) → known_in state r ≡ Some k → Lacks p state (record { writes = false; bytes = bytes; register = r; off = pos 0 }) k why → ¬ (PointsTo p state r bytes)
 lacking_not_pointing p state r bytes k why known lacks (other, is, shown) =
     let a : Access = record { writes = false; bytes = bytes; register = r; off = pos 0 } in
-    let same : other ≡ k = same_known _ _ (sym is ∙ known) in
+    let same : other ≡ k = same_Some _ _ (sym is ∙ known) in
     lacks_not_shown p state a k why lacks (subst (λ (x : AbstractValue). IsShown p state a x) same shown)
 
 -- nothing is told of two texts together: nothing is told of either
@@ -96,11 +88,6 @@ none_below state insn zero known = refl
 none_below state insn (suc n) known =
     rw (none_below state insn n (λ r below. known r (omega arith))) (none_told state insn n (known n (omega arith)))
 
--- a list of no length is empty
-pub no_length : (l : List ℕ) → length l ≡ 0 → l ≡ []
-no_length [] none = refl
-no_length (x ∷ l) none = absurd (omega arith)
-
 -- where a register is told, not each that is read is known
 pub told_not_known : (state : AbstractState) (insn : Insn) (told : List ℕ) → told ≡ unset_below 11 state insn → told ≢ [] → ¬ (AreKnown state insn)
 told_not_known state insn told is some known = some (is ∙ none_below state insn 11 known)
@@ -137,12 +124,9 @@ pub value_given : (p : PolicySource) (state : AbstractState) (map : ℕ) (shape 
 value_given p state map shape bytes names is size points null =
     (map, (names, shape, is, subst (λ (n : ℕ). PointsTo p state 3 n) size points, null))
 
-same_shape : (a b : MapShape) → Some a ≡ Some b → a ≡ b
-same_shape a b e = cc
-
 -- register 3 points to no value
 pub value_not_given : (p : PolicySource) (state : AbstractState) (map : ℕ) (shape : MapShape) (bytes : ℕ) → NamesEntry p state map → slice_get p.shapes.items map ≡ Some shape → bytes ≡ shape.value_size → ¬ (PointsTo p state 3 bytes) → ¬ ((m : ℕ) × GivesValue p state m)
 value_not_given p state map shape bytes names is size not (m, (other, given, there, points, null)) =
     let same : m ≡ map = one_map state m map other.0 names.0 in
-    let one : given ≡ shape = same_shape given shape (sym there ∙ ap (λ (n : ℕ). slice_get p.shapes.items n) same ∙ is) in
+    let one : given ≡ shape = same_Some given shape (sym there ∙ ap (λ (n : ℕ). slice_get p.shapes.items n) same ∙ is) in
     not (subst (λ (n : ℕ). PointsTo p state 3 n) (ap (λ (s : MapShape). s.value_size) one ∙ sym size) points)

@@ -5,6 +5,7 @@ use Rattle.std.proofs.lemmas.Bool.Decides.{nat_tests}
 use Rattle.std.proofs.Math.Nat.{mod-lt, one-le-pow, pow-le-pow_right}
 use Rattle.std.proofs.Math.Pow.{mod-mod-pow}
 use Rattle.std.proofs.lemmas.Nat.{mod-pow-add, div-mul-add}
+use Rattle.std.proofs.lemmas.Bool.{and_parts}
 use Rattle.byteorder.specs.Endian.{little_number}
 use Rattle.byteorder.specs.Numbers.{little_number-reads_back}
 use Rattle.bq_hooks.specs.Contexts.{PlaceFacts, place_bytes_below, place_header}
@@ -76,16 +77,12 @@ is_permitted : (b : Bool) → cond b Permitted NotPermitted ≡ Permitted → b 
 is_permitted true h = refl
 is_permitted false h = cc
 
-left_of : (a b : Bool) → (a && b) ≡ true → a ≡ true
-left_of true b h = refl
-left_of false b h = h
-
 -- what the context permits is a processor that it shows
 pub place_permitted : (limit : ℕ) (f : PlaceFacts) (r0 : ℕ) → limit ≤ 64 → place_word (place_bytes_below limit f) r0 ≡ Permitted → may_place f.processors f.task r0 ≡ true
 place_permitted limit f r0 h e =
     let count = min f.processors limit in
     let may : (nat_lt r0 count && allows f.task.mask r0) ≡ true = sym (permits_is limit f r0 h) ∙ is_permitted (place_permits (place_bytes_below limit f) r0) e in
-    let shown : nat_lt r0 count ≡ true = left_of (nat_lt r0 count) (allows f.task.mask r0) may in
+    let shown : nat_lt r0 count ≡ true = (and_parts (nat_lt r0 count) (allows f.task.mask r0) may).0 in
     let below : r0 < limit = grind (arith, nat_tests) in
     subst (IsWordOn (may_place f.processors f.task r0)) e (place_is_rules limit f r0 h (inl below))
 

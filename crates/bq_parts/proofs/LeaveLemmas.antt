@@ -7,11 +7,12 @@ use Rattle.bq_disc.specs.Discipline.{Discipline}
 use Rattle.bq_disc.specs.OneProcessor.{Running, present_at, charge}
 use Rattle.bq_hooks.specs.OwnPlace.{HasPlace}
 use Rattle.bq_hooks.specs.Permitted.{may_place}
+use Rattle.bq_hooks.proofs.PermittedLemmas.{own_place_permitted}
 use Rattle.bq_parts.specs.declared.carried.Carried.{Carried}
 use Rattle.bq_parts.specs.Processors.{Processor, count_of, HasLobbyIds}
 use Rattle.bq_parts.specs.Choices.{Decision, SettlesPlace, policies}
 use Rattle.bq_parts.proofs.CountLemmas.{one, one_self, keeps_charge}
-use Rattle.bq_parts.proofs.PermittedLemmas.{settled_permitted, own_place_permitted, may_place_fits}
+use Rattle.bq_parts.proofs.PermittedLemmas.{settled_permitted, may_place_fits}
 
 -- the task that leaves is the one that ran, as it leaves
 pub leaving_task_ran : (f : Task → Task) (o : Option Task) (s : Task) → Some s ≡ option_map f o → (t : Task) × (Some t ≡ o) × (s ≡ f t)

@@ -1,4 +1,3 @@
-pub mod NumberTestLemmas
 pub mod TallyLemmas
 pub mod CountLemmas
 pub mod OnceLemmas

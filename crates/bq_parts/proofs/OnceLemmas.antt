@@ -1,6 +1,5 @@
 -- What an orderly world gives each processor: its tasks once, with small ids, and few of them.
 use Rattle.std.proofs.Common.{◌≡◌, ◌≢◌, ℕ, zero, suc, ◌+◌, ◌<◌, ◌≤◌, Bool, true, false, eqb, List, [], ◌∷◌, ◌++◌, length, refl, ap, ◌∙◌, arith, inl, inr, get_or, length-append, ◌||◌}
-use Rattle.std.specs.Prelude.{map}
 use Rattle.std.specs.List.{list_any, AllByRecursion, IsDistinct}
 use Rattle.std.proofs.lemmas.List.{get_or_past}
 use Rattle.std.proofs.lemmas.Map.Steps.{length-le_from_distinct_below}
@@ -8,6 +7,8 @@ use Rattle.std.proofs.lemmas.Bool.{cases_lt}
 use Rattle.std.proofs.lemmas.Bool.Decides.{nat_tests}
 use Rattle.bq_disc.specs.Tasks.{Task}
 use Rattle.bq_disc.specs.OneProcessor.{present_at}
+use Rattle.bq_disc.specs.Movable.{ids}
+use Rattle.bq_disc.proofs.QueueLemmas.{length-ids}
 use Rattle.bq_parts.specs.declared.lobby_entry.LobbyEntry.TheVariants.{Absent}
 use Rattle.bq_parts.specs.Processors.{Processor, opening, count_of, held_by, in_hand, HasEachOnce, HasLobbyIds}
 use Rattle.bq_parts.specs.World.{World, processor_at, inbox, entry}
@@ -115,9 +116,6 @@ ids_two w processor from l o = λ id h.
       count_of-append id (present_at (processor_at w processor).running) (present_at (processor_at w from).running),
     )
 
-abbrev ids : List Task → List ℕ
-ids xs = map (λ (t : Task). t.id) xs
-
 apart_step : (x : Task) (i : ℕ) (n : ℕ) → one i x + n ≡ 0 → eqb i x.id ≡ false
 apart_step x i n h = grind (arith, nat_tests)
 
@@ -138,10 +136,6 @@ all_below : (xs : List Task) (n q : ℕ) → ((id : ℕ) → n ≤ id → count_
 all_below [] n q h k = cc
 all_below (x ∷ xs) n q h k =
     below_by_test q x.id n (list_any (eqb q) (ids xs)) (eqb q x.id) refl (head_below x (count_of x.id xs) n (h x.id)) k (all_below xs n q (λ id l. omega (arith, h id l)))
-
-length-ids : (xs : List Task) → length (ids xs) ≡ length xs
-length-ids [] = refl
-length-ids (x ∷ xs) = ap suc (length-ids xs)
 
 -- tasks with ids below n, of which none stands twice, are at most n
 pub few_below : (xs : List Task) (n : ℕ) → HasEachOnce xs → ((id : ℕ) → n ≤ id → count_of id xs ≡ 0) → length xs ≤ n

@@ -1,9 +1,10 @@
 -- A settled choice is permitted: a policy's by the test that it passed, and the discipline's own by what it is.
-use Rattle.std.proofs.Common.{◌≡◌, ℕ, ◌+◌, ◌<◌, ◌≤◌, Bool, true, false, cond, List, [], ◌∷◌, filter, Option, Some, None, refl, sym, subst, ap, ◌∙◌, arith}
-use Rattle.std.specs.Prelude.{◌||◌, ◌&&◌, ◌==◌, ◌^◌, nat_lt, nat_le, is_some, unwrap_or, IfSome}
+use Rattle.std.proofs.Common.{◌≡◌, ℕ, ◌+◌, ◌<◌, ◌≤◌, Bool, true, false, cond, List, [], ◌∷◌, filter, Option, Some, None, refl, sym, subst, ap, ◌∙◌, arith, ltb-true}
+use Rattle.std.specs.Prelude.{◌||◌, ◌==◌, ◌^◌, nat_lt, nat_le, is_some, IfSome}
 use Rattle.std.proofs.lemmas.Bool.Decides.{nat_tests}
 use Rattle.bq_hooks.specs.declared.settled.By.TheVariants as who
 use Rattle.std.specs.Option.{option_map, option_map_or}
+use Rattle.std.proofs.lemmas.Bool.{and_parts, or_right}
 use Rattle.bq_disc.specs.Tasks.{Task, has_id, with_id, first_by, former, id_of}
 use Rattle.bq_disc.specs.Queues.{can_use}
 use Rattle.bq_disc.specs.Pulls.{movable, pulled_before}
@@ -13,14 +14,11 @@ use Rattle.bq_verify.specs.Accepted.{Accepted}
 use Rattle.bq_policies.specs.Attachments.{Attached}
 use Rattle.bq_hooks.specs.Contexts.{nobody, or_nobody}
 use Rattle.bq_disc.specs.Masks.{allows}
-use Rattle.bq_hooks.specs.OwnPlace.{own_place, HasPlace}
 use Rattle.bq_hooks.specs.Permitted.{may_place, may_pull, task_numbered}
 use Rattle.bq_hooks.specs.Settled.{Settled as Chosen, settled as chosen}
-use Rattle.bq_hooks.proofs.PlaceLemmas.{own_place_there}
 use Rattle.bq_parts.specs.Processors.{Processor, count_of, size_of, HasEachOnce}
 use Rattle.bq_parts.specs.Choices.{Regime, Decision, SettlesBy, Settles, SettlesPull, own_pull, unasked}
 use Rattle.bq_parts.proofs.CountLemmas.{one}
-use Rattle.bq_parts.proofs.NumberTestLemmas.{below_from_test, test_from_below}
 
 by_test : (b : Bool) (permitted : ℕ → Bool) (r0 own : ℕ) → permitted r0 ≡ b → permitted own ≡ true → permitted (cond {A = Chosen} b (record { choice = r0; by = who.Policy }) (record { choice = own; by = who.Discipline })).choice ≡ true
 by_test true permitted r0 own e o = e
@@ -40,23 +38,9 @@ pub settled_permitted : (s : Regime) (context : Version → List ℕ) (attached 
     permitted own ≡ true → Settles s context attached now processor permitted own settled → permitted settled.choice ≡ true
 settled_permitted s context attached now processor permitted own settled o h = settles_by s attached.policy context attached now processor permitted own settled o h
 
-both : (a b : Bool) → (a && b) ≡ true → (a ≡ true) × (b ≡ true)
-both true b h = (refl, h)
-both false b h = cc
-
 -- a place that is permitted is a processor of the machine that the mask allows
 pub may_place_fits : (count : ℕ) (t : Task) (p : ℕ) → may_place count t p ≡ true → (p < count) × (allows t.mask p ≡ true)
-may_place_fits count t p h = let b = both (nat_lt p count) (allows t.mask p) h in (below_from_test p count b.0, b.1)
-
--- the own place is permitted
-pub own_place_permitted : (count : ℕ) (loads : List ℕ) (t : Task) → HasPlace count t → may_place count t (unwrap_or (own_place count loads t) 0) ≡ true
-own_place_permitted count loads t h =
-    let f = own_place_there count loads t h in
-    ap (λ o. may_place count t (unwrap_or o 0)) f.1 ∙ rw (test_from_below f.0 count f.2, f.3) refl
-
-or_true : (b : Bool) → (b || true) ≡ true
-or_true true = refl
-or_true false = refl
+may_place_fits count t p h = let b = and_parts (nat_lt p count) (allows t.mask p) h in (ltb-true p count b.0, b.1)
 
 -- a task is found at the head of a list by its own id
 itself : (t : Task) (o : Option Task) → is_some (cond (has_id t.id t) (Some t) o) ≡ true
@@ -134,7 +118,7 @@ named processor id queue once h = movable_by_case processor id queue (with_id id
 own_pull_by_case : (processor : ℕ) (queue : List Task) (o : Option Task) → HasEachOnce queue → first_by pulled_before (movable processor queue) ≡ o → may_pull processor queue (or_nobody (id_of o)) ≡ true
 own_pull_by_case processor queue None once e = refl
 own_pull_by_case processor queue (Some m) once e =
-    ap (λ b. m.id == nobody || b) (named processor m.id queue once (first_there pulled_before (movable processor queue) m e)) ∙ or_true (m.id == nobody)
+    ap (λ b. m.id == nobody || b) (named processor m.id queue once (first_there pulled_before (movable processor queue) m e)) ∙ or_right (m.id == nobody) true refl
 
 own_pull_by_test : (b : Bool) (processor : ℕ) (queue : List Task) → HasEachOnce queue → may_pull processor queue (or_nobody (id_of (cond b (first_by pulled_before (movable processor queue)) None))) ≡ true
 own_pull_by_test true processor queue once = own_pull_by_case processor queue (first_by pulled_before (movable processor queue)) once refl

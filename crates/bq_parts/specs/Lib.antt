@@ -1,5 +1,6 @@
 pub mod Processors
 pub mod World
+pub mod Counts
 pub mod Refusals
 pub mod RefusalTexts
 pub mod Choices

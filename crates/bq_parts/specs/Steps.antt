@@ -1,5 +1,5 @@
 -- The step that each event makes in the world: what it is replied, and what its share leaves of the parts that it touches.
-use Rattle.std.specs.Prelude.{◌≡◌, ◌+◌, ◌-◌, ◌^◌, ◌⊎◌, true, min, List, [], ◌∷◌, ◌++◌, Some, None, is_some, Result, Ok, Err}
+use Rattle.std.specs.Prelude.{◌≡◌, ◌+◌, ◌⊎◌, true, List, [], ◌∷◌, ◌++◌, Some, None, is_some, Result, Ok, Err}
 use Rattle.bq_bpf.specs.declared.board.Call.{Call as Asked}
 use Rattle.bq_bpf.specs.Counters.{Through}
 use Rattle.bq_policies.specs.Answers.{fresh_maps}
@@ -13,6 +13,7 @@ use Rattle.bq_parts.specs.declared.refusal.Refusal.TheVariants as no
 use Rattle.bq_parts.specs.declared.wakes.Placement.{Placement}
 use Rattle.bq_parts.specs.Processors.{Processor}
 use Rattle.bq_parts.specs.World.{World, processor_at, inbox, count_in, with_processor, with_inbox, with_lobby, loads_of}
+use Rattle.bq_parts.specs.Counts.{counted}
 use Rattle.bq_parts.specs.Refusals.{refusal, argument_refusal}
 use Rattle.bq_parts.specs.Moves.{admitted}
 use Rattle.bq_parts.specs.Choices.{Regime}
@@ -26,7 +27,7 @@ Performs s w (Admit id nice mask slice) calls r w' =
 -- it leaves the lobby for good
 Performs s w (Retire id) calls r w' = (lobby : List LobbyEntry) × Retires id w.lobby (Ok r) lobby × (calls ≡ []) × (w' ≡ with_lobby w lobby)
 -- the next number is drawn, and the greatest again and again
-Performs s w Draw calls r w' = let n = min (w.drawn + 1) (2 ^ 64 - 1) in (r ≡ Drawn n) × (calls ≡ []) × (w' ≡ record w { drawn = n })
+Performs s w Draw calls r w' = let n = counted w.drawn 1 in (r ≡ Drawn n) × (calls ≡ []) × (w' ≡ record w { drawn = n })
 -- a policy or none stands at the hook, with maps of its own
 Performs s w (Install processor h g policy) calls r w' =
     (q : Processor) × Installs h w.drawn (processor_at w processor) (record { policy = policy; generation = g; maps = fresh_maps policy }) (Ok r) q

@@ -1,5 +1,5 @@
 -- Whoever enters at a processor of the world is new there, and so the laws of fairness may speak of it.
-use Rattle.std.proofs.Common.{◌≡◌, ◌≢◌, ℕ, ◌+◌, ◌≤◌, Bool, true, false, cond, List, [], ◌∷◌, ◌++◌, Option, Some, None, Result, Ok, Err, refl, ap, sym, subst, arith}
+use Rattle.std.proofs.Common.{◌≡◌, ◌≢◌, ℕ, ◌+◌, ◌≤◌, Bool, true, false, cond, List, [], ◌∷◌, ◌++◌, Option, Some, None, Result, Ok, Err, refl, ap, sym, subst, arith, eqb-true}
 use Rattle.std.specs.Prelude.{◌==◌}
 use Rattle.std.specs.Option.{option_map}
 use Rattle.bq_disc.specs.Tasks.{Task, with_id, place, present, id_of}
@@ -23,7 +23,7 @@ use Rattle.bq_parts.specs.Steps.{WorldStep}
 use Rattle.bq_parts.proofs.CountLemmas.{one, one_self, count_of-append, count_of-place, count_of-without, queue_le_present, with_id-absent, keeps_charge}
 use Rattle.bq_parts.proofs.OnceLemmas.{each_once_runnable, each_once_two}
 use Rattle.bq_passing.specs.Seen.{running_at, entry, begins, own_steps, leaving, steps_at}
-use Rattle.bq_passing.proofs.SeenLemmas.{same_number, pulls_apart}
+use Rattle.bq_passing.proofs.SeenLemmas.{pulls_apart}
 use Rattle.bq_passing.proofs.SoundLemmas.{Each, IsKept, HasWeight, IsSoundWorld, Holds, taken_weight}
 
 -- what enters is counted
@@ -92,7 +92,7 @@ if_at d p ss rs false h k = k refl
 
 -- what an event does at its own processor, seen from a processor that may be it
 own_new : (d : Discipline) (w : World) (at processor : ℕ) (ss rs : List Step) → EachEntersNew d (running_at w processor) ss → EachEntersNew d (running_at w at) rs → EachEntersNew d (running_at w at) (cond (at == processor) ss rs)
-own_new d w at processor ss rs h k = if_at d (running_at w at) ss rs (at == processor) (λ e. subst (λ n. EachEntersNew d (running_at w n) ss) (sym (same_number at processor e)) h) (λ e. k)
+own_new d w at processor ss rs h k = if_at d (running_at w at) ss rs (at == processor) (λ e. subst (λ n. EachEntersNew d (running_at w n) ss) (sym (eqb-true at processor e)) h) (λ e. k)
 
 -- whoever enters by an event is new
 pub event_new : (d : Discipline) (P : Task → Type 0) → IsKept d P → (at : ℕ) (w w' : World) (e : Event) (calls : List Asked) (a : Result Reply Refusal) → IsOrderly w → IsSoundWorld P w → WorldStep (policies d) w e calls a w' → EachEntersNew d (running_at w at) (steps_at d at w e a)

@@ -1,9 +1,8 @@
 -- Each event of the world is some steps at each processor, and so is each history.
-use Rattle.std.proofs.Common.{◌≡◌, ◌≢◌, ℕ, ◌<◌, Bool, true, false, cond, List, [], ◌∷◌, ◌++◌, Option, Some, None, Ok, Err, refl, ap, sym, subst, ◌∙◌, arith}
+use Rattle.std.proofs.Common.{◌≡◌, ◌≢◌, ℕ, ◌<◌, Bool, true, false, cond, List, [], ◌∷◌, ◌++◌, Option, Some, None, Ok, Err, refl, ap, sym, subst, ◌∙◌, arith, eqb-true, eqb-false}
 use Rattle.std.specs.Prelude.{◌==◌}
 use Rattle.std.specs.Option.{option_map_or}
 use Rattle.std.proofs.lemmas.List.{length-set, get_or-set_same, get_or-set_other}
-use Rattle.std.proofs.lemmas.Bool.Decides.{nat_tests}
 use Rattle.bq_disc.specs.Tasks.{Task, with_id}
 use Rattle.bq_disc.specs.Queues.{HasDistinctIds, can_use}
 use Rattle.bq_disc.specs.Discipline.{Discipline}
@@ -17,32 +16,23 @@ use Rattle.bq_fair.specs.Events.{entries}
 use Rattle.bq_fair.proofs.EventLemmas.{events_are_steps}
 use Rattle.bq_parts.specs.declared.event.Event.TheVariants.{Admit, Retire, Draw, Install, BeginWake, EndWake, Drain, Tick, Block, Pull}
 use Rattle.bq_parts.specs.declared.reply.Reply.{Reply}
-use Rattle.bq_parts.specs.declared.refusal.Refusal.{Refusal}
 use Rattle.bq_parts.specs.declared.refusal.Refusal.TheVariants as no
 use Rattle.bq_parts.specs.Processors.{Processor, opening}
 use Rattle.bq_parts.specs.declared.lobby_entry.LobbyEntry.{LobbyEntry}
-use Rattle.bq_parts.specs.Refusals.{either, argument_refusal, refusal}
+use Rattle.bq_parts.specs.Refusals.{refusal}
 use Rattle.bq_parts.specs.World.{World, processor_at, inbox, count_in, with_processor}
 use Rattle.bq_parts.specs.Moves.{taken_from, without_task, with_pulled, started_if_idle}
 use Rattle.bq_parts.specs.StandsOnce.{IsOrderly}
 use Rattle.bq_parts.specs.Choices.{policies, Decision, own_pull}
 use Rattle.bq_parts.specs.Shares.{Ticks, Drains, Blocks, Pulls, after_time, remarked}
 use Rattle.bq_parts.proofs.CountLemmas.{each_once_queue, HasDistinctIds-from_counts}
-use Rattle.bq_parts.proofs.NumberTestLemmas.{differ_from_test}
 use Rattle.bq_parts.proofs.OnceLemmas.{each_once_running}
 use Rattle.bq_parts.proofs.PermittedLemmas.{settled_permitted, own_pull_permitted, may_pull_names}
-use Rattle.bq_core.proofs.OrderLemmas.{step_tidy, step_keeps, first_refusal_passed, not_refused_is_there}
+use Rattle.bq_core.proofs.OrderLemmas.{step_tidy, step_keeps, first_refusal_passed, not_refused_is_there, accepted}
 use Rattle.bq_passing.specs.Seen.{running_at, entry, begins, own_steps, leaving, steps_at, DecidesAlone, EventIsSteps, HistoryIsSteps}
 use Rattle.bq_passing.proofs.PassingLemmas.{own_decision}
 
 -- What is read of a world after a processor was written
-
--- numbers that the test finds equal are equal
-pub same_number : (a b : ℕ) → (a == b) ≡ true → a ≡ b
-same_number a b e = grind (arith, nat_tests)
-
-other_number : (a b : ℕ) → (a == b) ≡ false → a ≢ b
-other_number a b e = λ h. grind (arith, nat_tests)
 
 at_itself : (w : World) (processor : ℕ) (q : Processor) → processor < count_in w → running_at (with_processor w processor q) processor ≡ q.running
 at_itself w processor q l = ap (λ (x : Processor). x.running) (get_or-set_same w.processors processor q opening l)
@@ -53,17 +43,17 @@ at_another w processor at q n = ap (λ (x : Processor). x.running) (get_or-set_o
 -- where the running part stays, nothing is seen of it anywhere
 unseen : (w : World) (processor at : ℕ) (q : Processor) (t : Bool) → (at == processor) ≡ t → at < count_in w → q.running ≡ running_at w processor → running_at (with_processor w processor q) at ≡ running_at w at
 unseen w processor at q true e l h =
-    let same = same_number at processor e in
+    let same = eqb-true at processor e in
     subst (λ n. running_at (with_processor w processor q) n ≡ running_at w n) (sym same) (at_itself w processor q (subst (λ n. n < count_in w) same l) ∙ h)
-unseen w processor at q false e l h = at_another w processor at q (other_number at processor e)
+unseen w processor at q false e l h = at_another w processor at q (eqb-false at processor e)
 
 -- what an event does at its own processor alone
 seen_there : (d : Discipline) (w : World) (processor at : ℕ) (q : Processor) (ss : List Step) (t : Bool) → (at == processor) ≡ t → at < count_in w →
     (at ≡ processor → q.running ≡ after d (running_at w processor) ss) → running_at (with_processor w processor q) at ≡ after d (running_at w at) (cond t ss [])
 seen_there d w processor at q ss true e l h =
-    let same = same_number at processor e in
+    let same = eqb-true at processor e in
     subst (λ n. running_at (with_processor w processor q) n ≡ after d (running_at w n) ss) (sym same) (at_itself w processor q (subst (λ n. n < count_in w) same l) ∙ h same)
-seen_there d w processor at q ss false e l h = at_another w processor at q (other_number at processor e)
+seen_there d w processor at q ss false e l h = at_another w processor at q (eqb-false at processor e)
 
 -- the tasks at a processor of an orderly world have distinct ids
 pub distinct_at : (w : World) (processor : ℕ) → IsOrderly w → HasDistinctIds (present_at (running_at w processor))
@@ -114,27 +104,22 @@ goes_away d processor n p (Some id) h may e =
     let found = there_is processor (with_id id p.queue) (may_pull_names processor p.queue n id may e) in
     events_are_steps.pulled_away d p id found.0 h found.1
 
--- an event that is not refused is not refused by its arguments
-pub by_arguments : (o p : Option Refusal) → either o p ≡ None → o ≡ None
-by_arguments None p h = refl
-by_arguments (Some r) p h = cc
-
 -- written at two processors, it is seen at the one, at the other, or not
 pull_cases : (d : Discipline) (w : World) (processor from at : ℕ) (q r : Processor) (ss rs : List Step) (t u : Bool) → (at == processor) ≡ t → (at == from) ≡ u → processor ≢ from → at < count_in w →
     q.running ≡ after d (running_at w processor) ss → r.running ≡ after d (running_at w from) rs →
     running_at (with_processor (with_processor w processor q) from r) at ≡ after d (running_at w at) (cond t ss (cond u rs []))
 pull_cases d w processor from at q r ss rs true u e f n l hq hr =
-    let same = same_number at processor e in
+    let same = eqb-true at processor e in
     let here = subst (λ n. n < count_in w) same l in
     subst (λ n. running_at (with_processor (with_processor w processor q) from r) n ≡ after d (running_at w n) ss) (sym same)
     (at_another (with_processor w processor q) from processor r n ∙ at_itself w processor q here ∙ hq)
 pull_cases d w processor from at q r ss rs false true e f n l hq hr =
-    let same = same_number at from f in
+    let same = eqb-true at from f in
     let here : from < count_in (with_processor w processor q) = rw length-set (subst (λ n. n < count_in w) same l) in
     subst (λ n. running_at (with_processor (with_processor w processor q) from r) n ≡ after d (running_at w n) rs) (sym same)
     (at_itself (with_processor w processor q) from r here ∙ hr)
 pull_cases d w processor from at q r ss rs false false e f n l hq hr =
-    at_another (with_processor w processor q) from at r (other_number at from f) ∙ at_another w processor at q (other_number at processor e)
+    at_another (with_processor w processor q) from at r (eqb-false at from f) ∙ at_another w processor at q (eqb-false at processor e)
 
 pull_seen : (d : Discipline) (at : ℕ) (w : World) (processor from now : ℕ) (q other : Processor) (calls : List Asked) (r : Reply) → IsOrderly w → at < count_in w → processor ≢ from →
     Pulls (policies d) processor from now (processor_at w processor) (processor_at w from) calls r q other →
@@ -156,9 +141,9 @@ pull_seen d at w processor from now q other calls r o l apart h =
 -- the two processors of a pull that is not refused differ
 pub pulls_apart : (w : World) (processor from now : ℕ) → refusal w (Pull processor from now) ≡ None → processor ≢ from
 pulls_apart w processor from now h =
-    let f = not_refused_is_there (count_in w) processor _ (by_arguments (argument_refusal (count_in w) (Pull processor from now)) _ h) in
+    let f = not_refused_is_there (count_in w) processor _ (accepted w (Pull processor from now) h).0 in
     let g = not_refused_is_there (count_in w) from _ f.1 in
-    differ_from_test processor from (first_refusal_passed (processor == from) no.SameProcessor None g.1).0
+    eqb-false processor from (first_refusal_passed (processor == from) no.SameProcessor None g.1).0
 
 -- Each event
 

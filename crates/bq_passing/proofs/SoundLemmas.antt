@@ -18,16 +18,15 @@ use Rattle.bq_parts.specs.declared.event.Event.TheVariants as event
 use Rattle.bq_parts.specs.declared.reply.Reply.{Reply}
 use Rattle.bq_parts.specs.declared.refusal.Refusal.TheVariants as no
 use Rattle.bq_parts.specs.Processors.{Processor, opening}
-use Rattle.bq_parts.specs.Refusals.{refusal, argument_refusal}
+use Rattle.bq_parts.specs.Refusals.{refusal}
 use Rattle.bq_parts.specs.World.{World, opening_world, processor_at, inbox, entry, count_in, with_processor, with_inbox, with_lobby}
 use Rattle.bq_parts.specs.Choices.{Regime, Decision}
 use Rattle.bq_parts.specs.Moves.{taken_from, without_task, with_pulled, started_if_idle, admitted}
 use Rattle.bq_parts.specs.Shares.{Decides, after_time, remarked}
 use Rattle.bq_parts.specs.Steps.{Performs}
-use Rattle.bq_core.proofs.OrderLemmas.{first_refusal_passed}
+use Rattle.bq_core.proofs.OrderLemmas.{first_refusal_passed, accepted}
 use Rattle.bq_core.proofs.EachProcessorLemmas.{at_set}
 use Rattle.bq_core.proofs.OnTheWayLemmas.{same_everywhere}
-use Rattle.bq_passing.proofs.SeenLemmas.{by_arguments}
 
 -- Lists of tasks
 
@@ -208,7 +207,7 @@ held_task x c e = let same : x ≡ c = cc in ap (λ (y : Carried). y.task) same
 -- an event that is not refused keeps a world sound
 pub performs_sound : (s : Regime) (P : Task → Type 0) → IsKept s.discipline P → (w : World) (e : Event) (calls : List Asked) (r : Reply) (w' : World) → IsSoundWorld P w → refusal w e ≡ None → Performs s w e calls r w' → IsSoundWorld P w'
 performs_sound s P k w (event.Admit id nice mask slice) calls r w' y free h =
-    let arguments = by_arguments (argument_refusal (count_in w) (event.Admit id nice mask slice)) _ free in
+    let arguments = (accepted w (event.Admit id nice mask slice) free).0 in
     let f = first_refusal_passed (not (is_nice nice)) no.Nice _ (first_refusal_passed (mask % 2 ^ count_in w == 0) no.EmptyMask _ (first_refusal_passed (nat_le 1024 id) no.NoTask _ arguments).1).1 in
     rw (h.3, h.1.2) (sound_entry P w id (Blocked (admitted (count_in w) id nice mask slice)) y (blocked_is _ (nice_weight nice f.0)))
 performs_sound s P k w (event.Retire id) calls r w' y free h = rw (h.3, h.1.2) (sound_entry P w id Absent y (λ t e. cc))

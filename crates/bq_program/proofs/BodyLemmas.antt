@@ -16,12 +16,11 @@ use Rattle.bq_asm.specs.declared.operand.Operand.{Operand}
 use Rattle.bq_asm.specs.declared.operand.Operand.TheVariants as operand
 use Rattle.bq_asm.specs.Names.{name_of}
 use Rattle.bq_asm.specs.Named.{entry_with, table}
-use Rattle.bq_asm.specs.Text.{signed_text, operand_text, mnemonic_of, operands_of, after_first, operands_text}
+use Rattle.bq_asm.specs.Text.{signed_text, operand_text, mnemonic_of, operands_of, after_first, operands_text, line_body}
 use Rattle.bq_asm.proofs.DigitLemmas.{is_digit, list_all-append, list_all-weaker, decimal_digits}
 use Rattle.bq_asm.proofs.ListedWordsLemmas.{operands_good}
 use Rattle.bq_asm.proofs.RoundTripLemmas.{named-again}
 use Rattle.bq_asm.proofs.WellFormedLemmas.{IsInRange}
-use Rattle.bq_program.specs.Listed.{line_body}
 
 -- an ASCII byte that ends no line
 abbrev pub is_clean : ℕ → Bool

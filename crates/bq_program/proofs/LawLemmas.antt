@@ -6,7 +6,8 @@ use Rattle.std.proofs.lemmas.Bool.{and_parts, leb-true}
 use Rattle.bq_insn.specs.declared.Insn.{Insn}
 use Rattle.bq_insn.specs.Laws.{AllFit}
 use Rattle.bq_insn.specs.Spelling.{is_insn, is_well_formed, slot_count}
-use Rattle.bq_program.specs.Listed.{line_body, program_text}
+use Rattle.bq_asm.specs.Text.{line_body}
+use Rattle.bq_program.specs.Listed.{program_text}
 use Rattle.bq_program.specs.ReadBack.{IsFileOf, ListingIsReadBack}
 use Rattle.bq_program.proofs.LineLemmas.{ended, ended_append}
 use Rattle.bq_program.proofs.ListedLineLemmas.{listing_ended, plain_lines}

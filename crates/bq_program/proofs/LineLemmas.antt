@@ -10,6 +10,7 @@ use Rattle.std.proofs.lemmas.Str.Ascii.{IsAscii-from_all}
 use Rattle.std.proofs.lemmas.Grind.{flat_map-append}
 use Rattle.std.proofs.lemmas.List.Elements.{All-from_recursion}
 use Rattle.std.proofs.lemmas.List.Splits.{slice_split_at, length-slice_split}
+use Rattle.bq_asm.proofs.ListingLemmas.{parts_more}
 use Rattle.bq_program.proofs.BodyLemmas.{is_clean}
 
 -- each line with its end
@@ -34,10 +35,6 @@ no_return (b ∷ bs) zero h e =
     let rest = (and_parts (nat_lt b 128) (not (b == 10) && not (b == 13)) parts.0).1 in
     eqb-false b 13 (not-true (b == 13) (and_parts (not (b == 10)) (not (b == 13)) rest).1) e
 no_return (b ∷ bs) (suc k) h e = no_return bs k (and_parts (is_clean b) (list_all is_clean bs) h).1 e
-
-parts_more : (line : List ℕ) (parts : List (List ℕ)) → 0 < length parts → lines_of_parts (line ∷ parts) ≡ strip_carriage_return line ∷ lines_of_parts parts
-parts_more line [] h = absurd (omega arith)
-parts_more line (p ∷ parts) h = refl
 
 -- a line, and the lines after it
 line_first : (line rest : List ℕ) → list_all is_clean line ≡ true → lines (line ++ 10 ∷ rest) ≡ line ∷ lines rest

@@ -8,10 +8,9 @@ use Rattle.bq_insn.specs.Laws.{AllFit}
 use Rattle.bq_insn.specs.Spelling.{is_insn}
 use Rattle.bq_asm.specs.Lines.{line_said, lines_of}
 use Rattle.bq_asm.specs.Names.{name_of}
-use Rattle.bq_asm.specs.Text.{listing_text, mnemonic_of, operands_of, operands_text}
+use Rattle.bq_asm.specs.Text.{listing_text, mnemonic_of, operands_of, operands_text, line_body}
 use Rattle.std.specs.Str.Lines.{lines}
 use Rattle.bq_program.specs.Marks.{mark_words}
-use Rattle.bq_program.specs.Listed.{line_body}
 use Rattle.bq_program.proofs.BodyLemmas.{is_clean, is_inner, body_begins, body_inner, inner_clean}
 use Rattle.bq_program.proofs.LineLemmas.{AreClean, ended, lines_ended}
 use Rattle.bq_program.proofs.MarkLemmas.{AreNoMarks}

@@ -11,11 +11,12 @@ use Rattle.std.proofs.lemmas.List.{length-append}
 use Rattle.std.proofs.lemmas.List.Elements.{All-from_recursion}
 use Rattle.bq_bpf.specs.declared.shape.MapShape.{MapShape}
 use Rattle.bq_program.specs.ShapesText.{NamesShapes}
-use Rattle.bq_bpf.specs.Hooks.{hook_of, hook_word}
+use Rattle.bq_bpf.specs.Hooks.{hook_word}
 use Rattle.bq_bpf.specs.declared.hook.Hook.{Hook}
 use Rattle.bq_bpf.specs.declared.hook.Hook.TheVariants.{Place, Preempt, Pull}
 use Rattle.bq_bpf.specs.declared.hook.Version.{Version}
 use Rattle.bq_bpf.specs.declared.hook.Version.TheVariants.{First, Second}
+use Rattle.bq_bpf.proofs.HookLemmas.{hook_of-hook_word}
 use Rattle.bq_words.specs.Words.{is_space, words}
 use Rattle.bq_words.proofs.WordLemmas.{words-blank, words-word}
 use Rattle.bq_asm.specs.Lines.{Blank, line_said}
@@ -183,17 +184,12 @@ AreFew-said shapes (first ∷ rest) h = AreFew-some shapes h
 abbrev pub said_of : PolicySource → Head
 said_of p = head_of (Some p.hook) (maps_said p.shapes p.shapes.items) (format_said p.version) (AreFew-said p.shapes p.shapes.items p.few)
 
-hook_of_word : (h : Hook) → hook_of (hook_word h) ≡ Some h
-hook_of_word Place = refl
-hook_of_word Preempt = refl
-hook_of_word Pull = refl
-
 begun : Head
 begun = head_of None None None AreFew-none
 
 says_hook : (h : Hook) (few : AreFew None) → SaysHead (hook_line h ∷ []) (head_of (Some h) None None few)
 unfolding begun
-says_hook h few = says_mark begun (head_of (Some h) None None few) key.Hook [] (hook_line h) (hook_word h) (h, refl, hook_of_word h, refl, refl, refl) (hook_says h) (says_nothing begun refl refl refl)
+says_hook h few = says_mark begun (head_of (Some h) None None few) key.Hook [] (hook_line h) (hook_word h) (h, refl, hook_of-hook_word h, refl, refl, refl) (hook_says h) (says_nothing begun refl refl refl)
 
 says_maps : (h : Hook) (shapes : Vec MapShape Global) (items : List MapShape) (few : AreFew (maps_said shapes items)) → length items ≤ 8 → shapes.items ≡ items →
     SaysHead (hook_line h ∷ maps_lines items) (head_of (Some h) (maps_said shapes items) None few)

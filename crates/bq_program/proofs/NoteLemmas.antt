@@ -10,11 +10,12 @@ use Rattle.bq_insn.specs.declared.Insn.{Insn}
 use Rattle.bq_insn.specs.Laws.{AllFit}
 use Rattle.bq_insn.specs.Slots.{slots_of}
 use Rattle.bq_insn.specs.Spelling.{insn_bytes, is_insn, slot_count}
+use Rattle.bq_insn.proofs.CountLemmas.{slot_count-cons}
 use Rattle.bq_words.proofs.WordLemmas.{words-blank}
 use Rattle.bq_asm.specs.Lines.{is_blank, is_comment, line_of, line_said, words}
-use Rattle.bq_asm.proofs.AssembledLemmas.{slot_count-cons}
+use Rattle.bq_asm.specs.Text.{line_body}
 use Rattle.bq_asm.proofs.DigitLemmas.{list_all-append}
-use Rattle.bq_program.specs.Listed.{blanks_to, line_body, noted_line, noted_text}
+use Rattle.bq_program.specs.Listed.{blanks_to, noted_line, noted_text}
 use Rattle.bq_program.proofs.BodyLemmas.{is_clean, is_inner, body_inner, decimal_inner, inner_clean}
 use Rattle.bq_program.proofs.LineLemmas.{AreClean, ended}
 use Rattle.bq_program.proofs.ListedLineLemmas.{bodies_said, body_no_mark}

@@ -1,5 +1,5 @@
 -- What is written of one instruction, and of one more.
-use Rattle.std.proofs.Common.{◌≡◌, ℕ, zero, suc, ◌+◌, ◌<◌, ◌≤◌, List, [], ◌∷◌, ◌++◌, length, take, get_or, sym, ap, ◌∙◌, arith, append_assoc, append-nil, true, add-one}
+use Rattle.std.proofs.Common.{◌≡◌, ℕ, zero, suc, ◌+◌, ◌<◌, List, [], ◌∷◌, ◌++◌, length, take, get_or, sym, ap, ◌∙◌, arith, append_assoc, append-nil, true, add-one}
 use Rattle.std.specs.Prelude.{◌&&◌, ◌==◌, not, codes}
 use Rattle.std.specs.List.{list_all}
 use Rattle.std.proofs.lemmas.Bool.{and_parts}
@@ -7,10 +7,10 @@ use Rattle.bq_insn.specs.declared.Insn.{Insn}
 use Rattle.bq_insn.specs.Slots.{slots_of}
 use Rattle.bq_insn.specs.Spelling.{is_insn, slot_count}
 use Rattle.bq_insn.specs.Laws.{AllFit, Fits}
+use Rattle.bq_insn.proofs.CountLemmas.{slot_count-cons}
 use Rattle.bq_asm.specs.Names.{name_of}
-use Rattle.bq_asm.specs.Text.{listing_text, mnemonic_of, operands_of, operands_text}
-use Rattle.bq_asm.proofs.AssembledLemmas.{slot_count-cons}
-use Rattle.bq_program.specs.Listed.{is_ascii, line_body, noted_line, noted_text}
+use Rattle.bq_asm.specs.Text.{listing_text, mnemonic_of, operands_of, operands_text, line_body}
+use Rattle.bq_program.specs.Listed.{is_ascii, noted_line, noted_text}
 use Rattle.bq_asm.proofs.DigitLemmas.{list_all-weaker}
 use Rattle.bq_program.proofs.BodyLemmas.{body_inner, is_clean, is_inner}
 
@@ -20,20 +20,6 @@ one_line i =
     let name = name_of (mnemonic_of i) in
     let operands = operands_text (operands_of i) in
     append-nil (name ++ (operands ++ codes "\n")) ∙ sym (append_assoc name operands (codes "\n"))
-
--- so many of the instructions take so many slots, and one more
-pub count_more : (insns : List Insn) (k : ℕ) (d : Insn) → k < length insns → slot_count (take (suc k) insns) ≡ slot_count (take k insns) + slots_of (get_or insns k d)
-count_more [] k d h = absurd (omega arith)
-count_more (i ∷ insns) zero d h = slot_count-cons i [] ∙ (let e : slots_of i + 0 ≡ 0 + slots_of i = omega arith in e)
-count_more (i ∷ insns) (suc k) d h =
-    let rest = count_more insns k d (omega arith) in
-    omega (arith, slot_count-cons i (take (suc k) insns), slot_count-cons i (take k insns), rest)
-
--- no more than all of them
-pub count_within : (insns : List Insn) (k : ℕ) → slot_count (take k insns) ≤ slot_count insns
-count_within insns zero = omega arith
-count_within [] (suc k) = omega arith
-count_within (i ∷ insns) (suc k) = omega (arith, slot_count-cons i (take k insns), slot_count-cons i insns, count_within insns k)
 
 -- the lines of one instruction more
 pub text_more : (slot : ℕ) (insns : List Insn) (k : ℕ) (d : Insn) → k < length insns →

@@ -1,13 +1,11 @@
 -- An input has one answer.
 use Rattle.std.proofs.Common.{◌≡◌, ℕ, true, false, List, ◌++◌, ◌⊎◌, inl, inr, refl, sym, ap, subst, ◌∙◌, arith}
-use Rattle.std.specs.Prelude.{◌&&◌, nat_le, codes}
-use Rattle.std.specs.List.{list_all}
+use Rattle.std.specs.Prelude.{codes}
 use Rattle.hex.specs.Hex.{encode_lower}
 use Rattle.bq_insn.specs.declared.Insn.{Insn}
-use Rattle.bq_insn.specs.Spelling.{spelling, slot_count, is_insn, is_well_formed}
+use Rattle.bq_insn.specs.Spelling.{spelling}
 use Rattle.bq_insn.specs.declared.fault.DecodeFault.TheVariants.{At}
 use Rattle.bq_insn.specs.Faults.{IsFault}
-use Rattle.bq_insn.proofs.FormLemmas.{both_are_true}
 use Rattle.bq_insn.proofs.UniqueLemmas as insn
 use Rattle.bq_insn.proofs.OneFaultLemmas as fault
 use Rattle.bq_insn.proofs.LengthLemmas as lengths
@@ -25,6 +23,7 @@ use Rattle.bq_words.specs.Refused.{refused_line}
 use Rattle.bq_asm.specs.declared.fault.AsmFault.TheVariants as assembly
 use Rattle.bq_asm.specs.Causes.{fault_text as asm_text}
 use Rattle.bq_insn.specs.Causes.{fault_text as dis_text}
+use Rattle.bq_insn.proofs.LengthLemmas.{well_formed_in_range}
 use Rattle.bq_program.specs.Asm.{IsAssembled, IsNoText, IsFaultyText}
 use Rattle.bq_program.specs.Dis.{IsListed, IsFaultyProgram}
 use Rattle.bq_program.specs.Laws.{OneAssembly, OneListing}
@@ -67,9 +66,6 @@ one_assembly form text true false x y p q = absurd (assembled_or_refused form te
 one_assembly form text false true x y p q = absurd (assembled_or_refused form text y x q p)
 one_assembly form text false false x y p q = (refl, one_text_refusal text x y p q)
 
-all_insns : (insns : List Insn) → is_well_formed insns ≡ true → list_all is_insn insns ≡ true
-all_insns insns h = (both_are_true (list_all is_insn insns) (nat_le 1 (slot_count insns) && nat_le (slot_count insns) 4096) h).0
-
 listed_or_refused : (text x y : List ℕ) → IsListed text x → (IsNoHex text × (y ≡ refused_line (codes "hex"))) ⊎ IsFaultyProgram text y → ⊥
 listed_or_refused text x y p (inl q) = cc (p.1, q.0.1)
 listed_or_refused text x y p (inr q) =
@@ -91,7 +87,7 @@ one_hex_refusal text x y (inr p) (inr q) =
 pub one_listing : OneListing
 one_listing text true true x y p q =
     let bytes : spelling p.0 ≡ spelling q.0 = cc (p.1, q.1) in
-    (refl, p.4 ∙ ap listing_text (insn.one_program p.0 q.0 (all_insns p.0 p.2) (all_insns q.0 q.2) p.3 q.3 bytes) ∙ sym q.4)
+    (refl, p.4 ∙ ap listing_text (insn.one_program p.0 q.0 (well_formed_in_range p.0 p.2) (well_formed_in_range q.0 q.2) p.3 q.3 bytes) ∙ sym q.4)
 one_listing text true false x y p q = absurd (listed_or_refused text x y p q)
 one_listing text false true x y p q = absurd (listed_or_refused text y x q p)
 one_listing text false false x y p q = (refl, one_hex_refusal text x y p q)

@@ -1,6 +1,7 @@
 -- The lines of a text say one head.
 use Rattle.std.proofs.Common.{◌≡◌, ℕ, List, [], ◌∷◌, map, Some, None, Option, refl, sym, ap, ◌∙◌, option_map, Global}
 use Rattle.std.specs.declared.vec.Vec.{Vec}
+use Rattle.bq_insn.proofs.OptionLemmas.{some_same}
 use Rattle.bq_bpf.specs.declared.shape.MapShape.{MapShape}
 use Rattle.bq_load.proofs.UniqueLemmas.{same_shape}
 use Rattle.bq_program.specs.ShapesText.{numbers_of}
@@ -46,18 +47,15 @@ as_is : {A : Type 0} (x : Option A) → option_map (λ (a : A). a) x ≡ x
 as_is None = refl
 as_is (Some a) = refl
 
-one_some : {A : Type 0} (a b : A) (x : Option A) → x ≡ Some a → x ≡ Some b → a ≡ b
-one_some a b x h k = cc
-
 -- two heads that the same lines say have one hook
 pub one_hook : (ls : List (List ℕ)) (a b : Head) → SaysHead ls a → SaysHead ls b → a.hook ≡ b.hook
 one_hook ls a b h k =
-    sym (as_is a.hook) ∙ one_said (λ (x : Hook). x) (λ word hook. hook_of word ≡ Some hook) (λ word x y p q. one_some x y (hook_of word) p q) (values key.Hook ls) a.hook b.hook h.hook k.hook ∙ as_is b.hook
+    sym (as_is a.hook) ∙ one_said (λ (x : Hook). x) (λ word hook. hook_of word ≡ Some hook) (λ word x y p q. some_same (hook_of word) x y p q) (values key.Hook ls) a.hook b.hook h.hook k.hook ∙ as_is b.hook
 
 -- two heads that the same lines say have one version
 pub one_format : (ls : List (List ℕ)) (a b : Head) → SaysHead ls a → SaysHead ls b → a.format ≡ b.format
 one_format ls a b h k =
-    sym (as_is a.format) ∙ one_said (λ (x : Version). x) (λ word version. version_of word ≡ Some version) (λ word x y p q. one_some x y (version_of word) p q) (values key.Format ls) a.format b.format h.format k.format ∙ as_is b.format
+    sym (as_is a.format) ∙ one_said (λ (x : Version). x) (λ word version. version_of word ≡ Some version) (λ word x y p q. some_same (version_of word) x y p q) (values key.Format ls) a.format b.format h.format k.format ∙ as_is b.format
 
 -- two heads that the same lines say have the same maps
 pub one_maps : (ls : List (List ℕ)) (a b : Head) → SaysHead ls a → SaysHead ls b → maps_in a ≡ maps_in b

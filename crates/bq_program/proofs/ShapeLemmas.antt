@@ -2,15 +2,14 @@
 use Rattle.std.proofs.Common.{◌≡◌, ℕ, ◌^◌, ◌<◌, ◌≤◌, List, [], ◌∷◌, ◌++◌, length, map, true, false, Some, None, refl, ap, ◌∙◌, arith, append-nil}
 use Rattle.std.specs.Prelude.{nat_lt, nat_le, ◌&&◌, ◌==◌, if◌then◌else◌}
 use Rattle.std.specs.List.{AllByRecursion, list_all}
-use Rattle.std.specs.Char.{digit_value}
 use Rattle.std.specs.Fmt.{decimal}
-use Rattle.std.specs.Str.Parse.{digits_value, AllDigits}
-use Rattle.std.proofs.lemmas.Bool.{and_from, and_parts, leb-true, lt-ltb, ne_eqb}
+use Rattle.std.specs.Str.Parse.{digits_value}
+use Rattle.std.proofs.lemmas.Bool.{and_parts, leb-true, lt-ltb, ne_eqb}
 use Rattle.std.proofs.lemmas.Fmt.{decimal_is_IsNumeral}
 use Rattle.std.proofs.lemmas.List.Elements.{All-from_recursion}
 use Rattle.std.proofs.lemmas.List.Splits.{slice_split_at, slice_split_none}
 use Rattle.bq_bpf.specs.declared.shape.MapShape.{MapShape}
-use Rattle.bq_asm.proofs.DigitLemmas.{is_digit, decimal_digits}
+use Rattle.bq_asm.proofs.DigitLemmas.{is_digit, decimal_digits, all_below}
 use Rattle.bq_words.specs.Words.{parts}
 use Rattle.bq_program.specs.ShapesText.{NamesShapes, number_of, numbers_in, numbers_of, both, pair_of}
 use Rattle.bq_program.specs.MarkLines.{shape_text, more_maps}
@@ -31,10 +30,6 @@ no_comma b h = let low = (digit_below b h).0 in ne_eqb b 44 (λ e. omega arith)
 
 no_colon : (b : ℕ) → is_digit b ≡ true → (b == 58) ≡ false
 no_colon b h = let high = (digit_below b h).1 in ne_eqb b 58 (λ e. omega arith)
-
-all_below : (cs : List ℕ) → AllDigits 10 cs → list_all (λ c. nat_lt (digit_value c) 10) cs ≡ true
-all_below [] h = refl
-all_below (c ∷ cs) h = and_from (nat_lt (digit_value c) 10) (list_all (λ c. nat_lt (digit_value c) 10) cs) (lt-ltb (digit_value c) 10 h.0) (all_below cs h.1)
 
 -- a number below 2 ^ 16 is read again
 number_again : (n : ℕ) → n < 2 ^ 16 → number_of (decimal n) ≡ Some n

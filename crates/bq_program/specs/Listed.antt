@@ -5,14 +5,9 @@ use Rattle.hex.specs.Hex.{encode_lower}
 use Rattle.bq_insn.specs.declared.Insn.{Insn}
 use Rattle.bq_insn.specs.Slots.{slots_of}
 use Rattle.bq_insn.specs.Spelling.{insn_bytes}
-use Rattle.bq_asm.specs.Names.{name_of}
-use Rattle.bq_asm.specs.Text.{listing_text, mnemonic_of, operands_of, operands_text}
+use Rattle.bq_asm.specs.Text.{listing_text, line_body}
 use Rattle.bq_program.specs.declared.policy_source.PolicySource.{PolicySource}
 use Rattle.bq_program.specs.MarkLines.{AreMarks}
-
--- the canonical text of an instruction, without its line's end
-abbrev pub line_body : Insn → List ℕ
-line_body insn = name_of (mnemonic_of insn) ++ operands_text (operands_of insn)
 
 -- so many blanks as the text is short of the width
 abbrev pub blanks_to : ℕ → List ℕ → List ℕ

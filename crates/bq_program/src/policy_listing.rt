@@ -4,7 +4,8 @@ ghost use Rattle.hex.specs.Hex.{encode_lower};
 ghost use Rattle.bq_insn.specs.Spelling.{insn_bytes, is_insn, is_well_formed};
 ghost use Rattle.bq_insn.specs.Laws.{AllFit, Fits};
 ghost use Rattle.bq_program.specs.ReadBack.{IsFileOf};
-ghost use Rattle.bq_program.specs.Listed.{IsListed, line_body, noted_line, noted_text, program_text};
+ghost use Rattle.bq_asm.specs.Text.{line_body};
+ghost use Rattle.bq_program.specs.Listed.{IsListed, noted_line, noted_text, program_text};
 
 use crate::PolicySource;
 use crate::policy_marks::marks;

@@ -1,5 +1,5 @@
 -- The clocks of a schedule, and who runs, are those of its history.
-use Rattle.std.proofs.Common.{◌≡◌, ◌≢◌, ℕ, ◌<◌, Bool, true, false, [], ◌∷◌, length, get_or, Option, Some, None, Result, Ok, Err, refl, sym, ap, ◌∙◌, ◌⊎◌, inl, inr, get_or-set_same, get_or-set_other, eqb, ltb, cond, arith}
+use Rattle.std.proofs.Common.{◌≡◌, ◌≢◌, ℕ, ◌<◌, Bool, true, false, [], ◌∷◌, length, get_or, Option, Some, None, Result, Ok, Err, refl, sym, ap, ◌∙◌, ◌⊎◌, inl, inr, get_or-set_same, get_or-set_other, eqb, ltb, cond, arith, ltb-true}
 use Rattle.std.specs.Prelude.{unwrap_or, slice_set}
 use Rattle.std.proofs.lemmas.Bool.Decides.{eqb_tells, nat_tests}
 use Rattle.std.proofs.lemmas.List.{get_or-replicate, length-replicate}
@@ -82,30 +82,27 @@ shows-drained processor now d run s inside =
 shows-admitted : (id : ℕ) (s : Figures) (t : Figures) → KeepsWorks (leaves id s) t → KeepsRunning (leaves id s) t → KeepsWorks s t × KeepsRunning s t
 shows-admitted id s t a b = (works-then s (leaves id s) t (works-leaves id s) a, running-then s (leaves id s) t (running-leaves id s) b)
 
--- what is below a number by the test is below it
-pub inside_of : (a b : ℕ) → ltb a b ≡ true → a < b
-inside_of a b e = grind (arith, nat_tests)
-
 -- a reply to an event whose processor is there does to the works, and to who runs, what it shows
 pub shows-performed : (s : Figures) (e : Event) (r : Reply) → is_there s e ≡ true → Shows s (performed s e r) (sight e r)
 shows-performed s (Admit id nice mask slice) Admitted there = shows-admitted id s _ (works-with_task (leaves id s) id _ refl) (running-with_task (leaves id s) id _)
 shows-performed s (EndWake processor now) (Placed task to by steps) there = shows-placed processor now (record { hook = Place; by = by; steps = steps }) task to s
-shows-performed s (Drain processor now) (Drained count run by steps) there = shows-drained processor now (record { hook = Preempt; by = by; steps = steps }) run s (inside_of processor (length s.processors) there)
-shows-performed s (Tick processor now) (Ticked run by steps) there = shows-decided processor now (record { hook = Preempt; by = by; steps = steps }) run s (inside_of processor (length s.processors) there)
-shows-performed s (Block processor now) (Went task run) there = shows-blocked processor now task run s (inside_of processor (length s.processors) there)
-shows-performed s (Pull processor from now) (Pulled task run by steps) there = shows-pulled processor now (record { hook = OnPull; by = by; steps = steps }) task run s (inside_of processor (length s.processors) there)
+shows-performed s (Drain processor now) (Drained count run by steps) there = shows-drained processor now (record { hook = Preempt; by = by; steps = steps }) run s (ltb-true processor (length s.processors) there)
+shows-performed s (Tick processor now) (Ticked run by steps) there = shows-decided processor now (record { hook = Preempt; by = by; steps = steps }) run s (ltb-true processor (length s.processors) there)
+shows-performed s (Block processor now) (Went task run) there = shows-blocked processor now task run s (ltb-true processor (length s.processors) there)
+shows-performed s (Pull processor from now) (Pulled task run by steps) there = shows-pulled processor now (record { hook = OnPull; by = by; steps = steps }) task run s (ltb-true processor (length s.processors) there)
 shows-performed s e r there = (works-id s, running-id s)
 
-outside : (a b : ℕ) → ltb a b ≡ false → a < b → ⊥
-outside a b e h = grind (arith, nat_tests)
+-- what is not below a number is not below it
+pub not_below : (a b : ℕ) → ltb a b ≡ false → a < b → ⊥
+not_below a b e h = grind (arith, nat_tests)
 
 -- where the event's processor is not there, nothing is shown of one that is
 shows-nothing : (s : Figures) (e : Event) (r : Reply) → is_there s e ≡ false → IsWithin (length s.processors) (sight e r) → Shows s s (sight e r)
-shows-nothing s (EndWake processor now) (Placed task to by steps) none h = absurd (outside processor (length s.processors) none h)
-shows-nothing s (Drain processor now) (Drained count run by steps) none h = absurd (outside processor (length s.processors) none h)
-shows-nothing s (Tick processor now) (Ticked run by steps) none h = absurd (outside processor (length s.processors) none h)
-shows-nothing s (Block processor now) (Went task run) none h = absurd (outside processor (length s.processors) none h)
-shows-nothing s (Pull processor from now) (Pulled task run by steps) none h = absurd (outside processor (length s.processors) none h)
+shows-nothing s (EndWake processor now) (Placed task to by steps) none h = absurd (not_below processor (length s.processors) none h)
+shows-nothing s (Drain processor now) (Drained count run by steps) none h = absurd (not_below processor (length s.processors) none h)
+shows-nothing s (Tick processor now) (Ticked run by steps) none h = absurd (not_below processor (length s.processors) none h)
+shows-nothing s (Block processor now) (Went task run) none h = absurd (not_below processor (length s.processors) none h)
+shows-nothing s (Pull processor from now) (Pulled task run by steps) none h = absurd (not_below processor (length s.processors) none h)
 shows-nothing s e r none h = (works-id s, running-id s)
 
 shows-if : (b : Bool) (s : Figures) (e : Event) (r : Reply) → is_there s e ≡ b → IsWithin (length s.processors) (sight e r) → Shows s (cond b (performed s e r) s) (sight e r)
@@ -126,7 +123,8 @@ count-shown s s' (Some x) h = h.0.count ∙ count-read_at x.processor x.now s
 pub count-after : (s : Figures) (e : Event) (a : Result Reply Refusal) → IsWithin (length s.processors) (sight_of e a) → length (after s e a).processors ≡ length s.processors
 count-after s e a h = count-shown s (after s e a) (sight_of e a) (shows-after s e a h)
 
-within_same : (n k : ℕ) (o : Option Sight) → n ≡ k → IsWithin k o → IsWithin n o
+-- what is shown of one of so many processors is so for the same number
+pub within_same : (n k : ℕ) (o : Option Sight) → n ≡ k → IsWithin k o → IsWithin n o
 within_same n k o e h = rw e h
 
 -- the figures of a history have as many processors as its world

@@ -1,7 +1,7 @@
 -- The weights at each processor, and what a task that leaves one keeps of its fair time.
-use Rattle.std.proofs.Common.{◌≡◌, ◌≢◌, ℕ, ◌+◌, ◌-◌, ◌*◌, ◌<◌, ◌≤◌, max, Bool, true, false, List, [], ◌∷◌, length, get_or, Option, Some, None, refl, sym, ap, ◌∙◌, ◌⊎◌, inl, inr, eqb, leb, cond, zero, suc, get_or-set_same, get_or-set_other, arith}
+use Rattle.std.proofs.Common.{◌≡◌, ◌≢◌, ℕ, ◌+◌, ◌-◌, ◌*◌, ◌<◌, ◌≤◌, max, Bool, true, false, List, [], ◌∷◌, length, get_or, Option, Some, None, refl, sym, ap, ◌∙◌, ◌⊎◌, inl, inr, eqb, leb, cond, zero, suc, get_or-set_same, get_or-set_other, arith, eq-eqb}
 use Rattle.std.specs.Prelude.{slice_set, ℤ, pos, negsuc}
-use Rattle.std.proofs.lemmas.Bool.Decides.{eqb_tells, leb_tells, nat_tests}
+use Rattle.std.proofs.lemmas.Bool.Decides.{eqb_tells, leb_tells}
 use Rattle.std.proofs.lemmas.List.{get_or_past, length-set}
 use Rattle.std.proofs.lemmas.List.Sums.{sum_by-set, sum_by-le}
 use Rattle.std.proofs.lemmas.List.Elements.{All-from_get_or}
@@ -71,12 +71,9 @@ there-le : (b : Bool) (n : ℕ) → n ≤ 88761 → cond b n 0 ≤ 88761
 there-le true n h = h
 there-le false n h = omega arith
 
-eqb_refl : (a : ℕ) → eqb a a ≡ true
-eqb_refl a = grind (arith, nat_tests)
-
 -- a task has its weight where it is
 pub weight-here : (processor : ℕ) (t : TaskFigures) → t.place ≡ Some processor → weight_there processor t ≡ t.weight
-weight-here processor t e = ap (λ o. cond (is_this processor o) t.weight 0) e ∙ ap (λ b. cond b t.weight 0) (eqb_refl processor)
+weight-here processor t e = ap (λ o. cond (is_this processor o) t.weight 0) e ∙ ap (λ b. cond b t.weight 0) (eq-eqb processor processor refl)
 
 -- a task has no weight at a processor where it is not
 pub weight-elsewhere : (processor k : ℕ) (t : TaskFigures) (b : Bool) → t.place ≡ Some k → eqb k processor ≡ false → weight_there processor t ≡ 0

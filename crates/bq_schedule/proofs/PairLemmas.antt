@@ -1,7 +1,7 @@
 -- Each start that is told ends with one stop, but for that of the task which runs.
-use Rattle.std.proofs.Common.{◌≡◌, ◌≢◌, ℕ, ◌<◌, Bool, true, false, List, [], ◌∷◌, ◌++◌, Option, Some, None, refl, sym, ap, ◌∙◌, ◌⊎◌, inl, inr, eqb, cond, subst, append-nil, append_assoc, arith}
+use Rattle.std.proofs.Common.{◌≡◌, ◌≢◌, ℕ, ◌<◌, Bool, true, false, List, [], ◌∷◌, ◌++◌, Option, Some, None, refl, sym, ap, ◌∙◌, ◌⊎◌, inl, inr, eqb, cond, subst, append-nil, append_assoc, arith, ne_eqb, eq-eqb}
 use Rattle.std.specs.Prelude.{option_to_list, filter, map}
-use Rattle.std.proofs.lemmas.Bool.Decides.{eqb_tells, nat_tests}
+use Rattle.std.proofs.lemmas.Bool.Decides.{eqb_tells}
 use Rattle.std.proofs.lemmas.List.{get_or-replicate, map-append}
 use Rattle.std.proofs.lemmas.List.Elements.{filter-append}
 use Rattle.bq_parts.specs.declared.event.Event.{Event}
@@ -16,23 +16,20 @@ use Rattle.bq_schedule.specs.Slices.{Sight, sight_of}
 use Rattle.bq_schedule.specs.Steps.{time_at, change, figures}
 use Rattle.bq_schedule.specs.Switches.{why_left, is_start_at, is_stop_at, told_starts, told_stops, starts_told_at, stops_told_at}
 use Rattle.bq_schedule.specs.Laws.{IsWithin, IsOf, EndsStarts}
-use Rattle.bq_schedule.proofs.SwitchLemmas.{Switches, TellsRun, TellsSwitch, start_if, stop_if, eqb-refl, begun-here, moment_tells, runs_here}
+use Rattle.bq_schedule.proofs.SwitchLemmas.{Switches, TellsRun, TellsSwitch, start_if, stop_if, begun-here, moment_tells, runs_here}
 
 -- starts and stops of one processor, of at most one
 filter-starts : (j : ℕ) (o : Option Start) → ((st : Start) → o ≡ Some st → st.processor ≡ j) → filter (is_start_at j) (option_to_list o) ≡ option_to_list o
 filter-starts j None h = refl
-filter-starts j (Some st) h = rw (h st refl) (rw (eqb-refl j) refl)
-
-differs : (a b : ℕ) → a ≢ b → eqb a b ≡ false
-differs a b ne = grind (arith, nat_tests)
+filter-starts j (Some st) h = rw (h st refl) (rw (eq-eqb j j refl) refl)
 
 filter-no_starts : (j : ℕ) (o : Option Start) → ((st : Start) → o ≡ Some st → st.processor ≢ j) → filter (is_start_at j) (option_to_list o) ≡ []
 filter-no_starts j None h = refl
-filter-no_starts j (Some st) h = rw (differs st.processor j (h st refl)) refl
+filter-no_starts j (Some st) h = rw (ne_eqb st.processor j (h st refl)) refl
 
 filter-no_stops : (j : ℕ) (o : Option Stop) → ((sp : Stop) → o ≡ Some sp → sp.start.processor ≢ j) → filter (is_stop_at j) (option_to_list o) ≡ []
 filter-no_stops j None h = refl
-filter-no_stops j (Some sp) h = rw (differs sp.start.processor j (h sp refl)) refl
+filter-no_stops j (Some sp) h = rw (ne_eqb sp.start.processor j (h sp refl)) refl
 
 -- what ran before and what begins is what ceases and what runs afterwards
 abbrev pub Pairs : ℕ → Option Start → Option Start → Option Stop → Option Start → Type 0
@@ -50,7 +47,7 @@ pairs-new : (j at : ℕ) (left : Left) (running start : Option Start) → ((st :
 pairs-new j at left None start ran begun = filter-starts j start begun
 pairs-new j at left (Some old) start ran begun =
     let stops : filter (is_stop_at j) (option_to_list (stop_of left at (Some old))) ≡ option_to_list (stop_of left at (Some old)) =
-    rw (ran old refl) (rw (eqb-refl j) refl) in
+    rw (ran old refl) (rw (eq-eqb j j refl) refl) in
     ap (λ l. old ∷ l) (filter-starts j start begun) ∙ ap (λ l. map (λ (sp : Stop). sp.start) l ++ option_to_list start) (sym stops)
 
 pairs-if : (b : Bool) (j processor at : ℕ) (left : Left) (run : Option ℕ) (u : Figures) (running running' : Option Start) (stop : Option Stop) (start : Option Start) → processor ≡ j →

@@ -1,6 +1,7 @@
 -- What stands at the place of a percentile.
 use Rattle.std.proofs.Common.{◌≡◌, ℕ, zero, suc, ◌<◌, true, List, [], ◌∷◌, length, slice_get, slice_index, is_some, IfSome, IsNone, IsPermutation, ◌↔◌, refl, sym, ap, ◌∙◌, arith, true≢false}
 use Rattle.std.proofs.lemmas.List.Sorted.{length_permutation}
+use Rattle.std.proofs.lemmas.List.{nil_from_length}
 use Rattle.bq_schedule.specs.Percentiles.{rank}
 
 -- what stands at a place is the number of that place
@@ -15,16 +16,12 @@ stands [] k h = absurd (omega arith)
 stands (x ∷ numbers) zero h = refl
 stands (x ∷ numbers) (suc k) h = stands numbers k (omega arith)
 
-no_numbers : (numbers : List ℕ) → length numbers ≡ 0 → numbers ≡ []
-no_numbers [] e = refl
-no_numbers (x ∷ numbers) e = absurd (omega arith)
-
 -- none stands at the place of a percentile just where there is no number, and so no number of which these are an order
 pub none_at_rank : (percent : ℕ) (old new : List ℕ) → IsPermutation old new → IsNone (slice_get new (rank percent (length new))) ↔ (old ≡ [])
 none_at_rank percent old new kept = (there new (length_permutation old new kept), back new (length_permutation old new kept))
   where
     there : (new : List ℕ) → length new ≡ length old → IsNone (slice_get new (rank percent (length new))) → old ≡ []
-    there [] same none = no_numbers old (omega arith)
+    there [] same none = nil_from_length old (omega arith)
     there (x ∷ new) same none = absurd (true≢false (sym (stands (x ∷ new) (rank percent (length (x ∷ new))) (omega arith)) ∙ none))
 
     back : (new : List ℕ) → length new ≡ length old → old ≡ [] → IsNone (slice_get new (rank percent (length new)))

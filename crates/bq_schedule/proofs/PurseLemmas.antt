@@ -16,7 +16,7 @@ use Rattle.bq_schedule.specs.Running.{stopped, started, begun_if, starts_as, pro
 use Rattle.bq_schedule.specs.Steps.{processor_asked, asked}
 use Rattle.bq_schedule.specs.Slices.{is_this}
 use Rattle.bq_schedule.specs.FairTimes.{weight_there, weights_at}
-use Rattle.bq_schedule.proofs.FrameLemmas.{processor_kept, task_kept}
+use Rattle.bq_schedule.proofs.FrameLemmas.{processor_kept, task_kept, processors-begun_if}
 
 -- lists alike under f and g have the same sum
 pub sums_like : {X : Type 0} (f g : X → ℕ) (d : X) (xs ys : List X) → length xs ≡ length ys → ((j : ℕ) → f (get_or xs j d) ≡ g (get_or ys j d)) → sum_by f xs ≡ sum_by g ys
@@ -91,10 +91,6 @@ kept-stopped Preempted now (Some old) s = kept-with_task s old.task _ refl
 kept-begun_if : (processor now : ℕ) (run : Option ℕ) (s : Figures) → KeepsPurses s (begun_if processor now run s)
 kept-begun_if processor now None s = kept-id s
 kept-begun_if processor now (Some id) s = kept-with_task s id _ (purse-with_latency (task_of s id) _)
-
-processors-begun_if : (processor now : ℕ) (run : Option ℕ) (s : Figures) → (begun_if processor now run s).processors ≡ s.processors
-processors-begun_if processor now None s = refl
-processors-begun_if processor now (Some id) s = refl
 
 pot-processor_runs : (p : ProcessorFigures) (o : Option Start) → pot (processor_runs p o) ≡ pot p
 pot-processor_runs p None = refl

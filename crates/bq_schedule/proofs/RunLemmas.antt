@@ -1,9 +1,10 @@
 -- The runs that are told are those that the slices make.
-use Rattle.std.proofs.Common.{◌≡◌, ◌≢◌, ℕ, ◌<◌, Bool, true, false, List, [], ◌∷◌, ◌++◌, length, Option, Some, None, Result, Ok, Err, refl, sym, ap, ◌∙◌, ◌⊎◌, inl, inr, eqb, ltb, cond, append-nil, append_assoc, arith}
+use Rattle.std.proofs.Common.{◌≡◌, ◌≢◌, ℕ, ◌<◌, Bool, true, false, List, [], ◌∷◌, ◌++◌, length, Option, Some, None, Result, Ok, Err, refl, sym, ap, ◌∙◌, ◌⊎◌, inl, inr, eqb, ltb, cond, append-nil, append_assoc, arith, eqb-true}
 use Rattle.std.specs.Prelude.{option_to_list, ◌&&◌}
-use Rattle.std.proofs.lemmas.Bool.Decides.{eqb_tells, nat_tests}
+use Rattle.std.proofs.lemmas.Bool.Decides.{eqb_tells}
 use Rattle.std.proofs.lemmas.List.{get_or-replicate}
 use Rattle.std.proofs.lemmas.List.Elements.{filter-append}
+use Rattle.std.proofs.lemmas.Bool.{and_parts}
 use Rattle.bq_parts.specs.declared.event.Event.{Event}
 use Rattle.bq_parts.specs.declared.event.Event.TheVariants.{EndWake, Drain, Tick, Block, Pull}
 use Rattle.bq_parts.specs.declared.reply.Reply.{Reply}
@@ -18,8 +19,8 @@ use Rattle.bq_schedule.specs.Slices.{Sight, sight, sight_of, runner, stretch, sl
 use Rattle.bq_schedule.specs.Steps.{performed_told, change, nothing, is_there, after, figures}
 use Rattle.bq_schedule.specs.Laws.{IsWithin, IsOf, told_if, told_runs, TellsRuns}
 use Rattle.bq_schedule.proofs.FrameLemmas.{Works}
-use Rattle.bq_schedule.proofs.ClockLemmas.{Shows, shows-after, count-figures, within-figures, processor-read_at}
-use Rattle.bq_schedule.proofs.SliceTimeLemmas.{not_below, slice_seen, shown-seen}
+use Rattle.bq_schedule.proofs.ClockLemmas.{Shows, shows-after, count-figures, within-figures, processor-read_at, not_below}
+use Rattle.bq_schedule.proofs.SliceTimeLemmas.{slice_seen, shown-seen}
 use Rattle.bq_schedule.proofs.ApartLemmas.{at_only, filter-one}
 
 -- the last of some runs is joined to another slice
@@ -27,13 +28,6 @@ abbrev pub last_joined : List Slice → Slice → List Slice
 last_joined [] y = y ∷ []
 last_joined (r ∷ []) y = cond (goes_on r y) (record r { to = y.to } ∷ []) (r ∷ y ∷ [])
 last_joined (r ∷ (q ∷ rs)) y = r ∷ last_joined (q ∷ rs) y
-
-equals : (a b : ℕ) → eqb a b ≡ true → a ≡ b
-equals a b e = grind (arith, nat_tests)
-
-left_true : (b c : Bool) → (b && c) ≡ true → b ≡ true
-left_true true c e = refl
-left_true false c e = cc
 
 -- it makes no odds at which end slices are joined first
 joined-one : (x r y : Slice) (b c d : Bool) → goes_on r y ≡ b → goes_on x r ≡ c → goes_on (record x { to = r.to }) y ≡ d → (c ≡ true → d ≡ b) →
@@ -44,7 +38,7 @@ joined-one x r y false true d is on next same = rw (on, next, same refl) refl
 joined-one x r y false false d is on next same = rw (on, is) refl
 
 same_task : (x r y : Slice) → goes_on x r ≡ true → goes_on (record x { to = r.to }) y ≡ goes_on r y
-same_task x r y e = ap (λ k. eqb k y.task && eqb r.to y.from) (equals x.task r.task (left_true (eqb x.task r.task) (eqb x.to r.from) e))
+same_task x r y e = ap (λ k. eqb k y.task && eqb r.to y.from) (eqb-true x.task r.task (and_parts (eqb x.task r.task) (eqb x.to r.from) e).0)
 
 joined-many : (x r q y : Slice) (rs : List Slice) (c : Bool) → goes_on x r ≡ c →
     cond c (record x { to = r.to } ∷ last_joined (q ∷ rs) y) (x ∷ r ∷ last_joined (q ∷ rs) y) ≡ last_joined (cond c (record x { to = r.to } ∷ q ∷ rs) (x ∷ r ∷ q ∷ rs)) y

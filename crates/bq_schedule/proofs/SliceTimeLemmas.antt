@@ -1,8 +1,7 @@
 -- What is told of each moment is its slice, and the times add up.
-use Rattle.std.proofs.Common.{◌≡◌, ℕ, ◌<◌, Bool, true, false, ◌∷◌, ◌++◌, length, Option, Some, None, Result, Ok, Err, refl, sym, ap, ◌∙◌, ltb, cond, arith}
+use Rattle.std.proofs.Common.{◌≡◌, ℕ, Bool, true, false, ◌∷◌, ◌++◌, length, Option, Some, None, Result, Ok, Err, refl, sym, ap, ◌∙◌, cond}
 use Rattle.std.specs.Prelude.{option_to_list}
 use Rattle.std.specs.Option.{option_map}
-use Rattle.std.proofs.lemmas.Bool.Decides.{nat_tests}
 use Rattle.bq_disc.specs.OneProcessor.{reading}
 use Rattle.bq_parts.specs.declared.event.Event.{Event}
 use Rattle.bq_parts.specs.declared.event.Event.TheVariants.{EndWake, Drain, Tick, Block, Pull}
@@ -18,7 +17,7 @@ use Rattle.bq_schedule.specs.Running.{running_task}
 use Rattle.bq_schedule.specs.Slices.{Sight, sight, sight_of, clock, stretch, slice_shown, slices}
 use Rattle.bq_schedule.specs.Steps.{performed_told, change, nothing, is_there, figures}
 use Rattle.bq_schedule.specs.Laws.{IsWithin, IsOf}
-use Rattle.bq_schedule.proofs.ClockLemmas.{figures-clocks, within-figures}
+use Rattle.bq_schedule.proofs.ClockLemmas.{figures-clocks, within-figures, not_below}
 
 -- the slice that figures show
 abbrev pub slice_seen : Figures → Option Sight → Option Slice
@@ -32,10 +31,6 @@ seen-performed s (Tick processor now) (Ticked run by steps) = refl
 seen-performed s (Block processor now) (Went task run) = refl
 seen-performed s (Pull processor from now) (Pulled task run by steps) = refl
 seen-performed s e r = refl
-
--- what is not below a number is not below it
-pub not_below : (a b : ℕ) → ltb a b ≡ false → a < b → ⊥
-not_below a b e h = grind (arith, nat_tests)
 
 seen-nothing : (s : Figures) (e : Event) (r : Reply) → is_there s e ≡ false → IsWithin (length s.processors) (sight e r) → None ≡ slice_seen s (sight e r)
 seen-nothing s (EndWake processor now) (Placed task to by steps) none h = absurd (not_below processor (length s.processors) none h)

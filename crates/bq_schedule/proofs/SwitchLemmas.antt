@@ -1,5 +1,5 @@
 -- The starts and stops that are told are those of the tasks that begin to run, and cease.
-use Rattle.std.proofs.Common.{◌≡◌, ◌≢◌, ℕ, ◌<◌, Bool, true, false, [], ◌∷◌, length, get_or, Option, Some, None, Result, Ok, Err, refl, sym, ap, ◌∙◌, ◌⊎◌, inl, inr, eqb, cond, subst, get_or-set_same, arith}
+use Rattle.std.proofs.Common.{◌≡◌, ◌≢◌, ℕ, ◌<◌, Bool, true, false, [], ◌∷◌, length, get_or, Option, Some, None, Result, Ok, Err, refl, sym, ap, ◌∙◌, ◌⊎◌, inl, inr, eqb, cond, subst, get_or-set_same, arith, ltb-true, eq-eqb}
 use Rattle.std.specs.Prelude.{IfSome, IsSomeAnd, unwrap_or, slice_set}
 use Rattle.std.specs.Option.{option_map}
 use Rattle.std.proofs.lemmas.Bool.Decides.{eqb_tells, nat_tests}
@@ -27,8 +27,7 @@ use Rattle.bq_schedule.specs.Steps.{nothing, asked, taken, emptied, decided, blo
 use Rattle.bq_schedule.specs.Switches.{why_left}
 use Rattle.bq_schedule.specs.Laws.{IsWithin, IsOf, TellsStarts, TellsStops}
 use Rattle.bq_schedule.proofs.FrameLemmas.{KeepsRunning, works-asked, works-leaves, works-taken, works-stopped, processors-begun_if, running-then, running-id, running-with_processor, running-asked, running-leaves, running-taken, running-read_at, runs-switched, who_is, count-read_at}
-use Rattle.bq_schedule.proofs.SliceTimeLemmas.{not_below}
-use Rattle.bq_schedule.proofs.ClockLemmas.{inside_of, figures-clocks, shows-performed, within-figures}
+use Rattle.bq_schedule.proofs.ClockLemmas.{figures-clocks, shows-performed, within-figures, not_below}
 
 -- a switch at a processor: what is told of it, and what runs afterwards
 pub record Switches (s s' : Figures) (left : Left) (processor at : ℕ) (run : Option ℕ) (stop : Option Stop) (start : Option Start) : Type 0 where
@@ -115,12 +114,12 @@ performed-tells s (EndWake processor now) (Placed task to by steps) there = (ref
 performed-tells s (Drain processor now) (Drained count run by steps) there =
     let d : Decision = record { hook = Preempt; by = by; steps = steps } in
     let q = decided processor now d run s in
-    decided-tells processor now d run s (emptied processor q) (inside_of processor (length s.processors) there) (running-with_processor q processor _ refl)
+    decided-tells processor now d run s (emptied processor q) (ltb-true processor (length s.processors) there) (running-with_processor q processor _ refl)
 performed-tells s (Tick processor now) (Ticked run by steps) there =
     let d : Decision = record { hook = Preempt; by = by; steps = steps } in
-    decided-tells processor now d run s (decided processor now d run s) (inside_of processor (length s.processors) there) (running-id (decided processor now d run s))
-performed-tells s (Block processor now) (Went task run) there = blocked-tells processor now task run s (inside_of processor (length s.processors) there)
-performed-tells s (Pull processor from now) (Pulled task run by steps) there = pulled-tells processor now (record { hook = OnPull; by = by; steps = steps }) task run s (inside_of processor (length s.processors) there)
+    decided-tells processor now d run s (decided processor now d run s) (ltb-true processor (length s.processors) there) (running-id (decided processor now d run s))
+performed-tells s (Block processor now) (Went task run) there = blocked-tells processor now task run s (ltb-true processor (length s.processors) there)
+performed-tells s (Pull processor from now) (Pulled task run by steps) there = pulled-tells processor now (record { hook = OnPull; by = by; steps = steps }) task run s (ltb-true processor (length s.processors) there)
 performed-tells s e r there = (refl, refl, running-id s)
 
 nothing-tells : (s : Figures) (e : Event) (r : Reply) → is_there s e ≡ false → IsWithin (length s.processors) (sight e r) → TellsSwitch s s e (sight e r) None None
@@ -198,16 +197,12 @@ and_some (Some b) P a e p =
     let same : a ≡ b = cc in
     subst P same p
 
--- a number is itself
-pub eqb-refl : (a : ℕ) → eqb a a ≡ true
-eqb-refl a = grind (arith, nat_tests)
-
 -- what a sight of a processor makes of the clock, and of who runs there
 clock-there : (j last : ℕ) (x : Sight) → j ≡ x.processor → clock_after j last (Some x) ≡ reading last x.now
-clock-there j last x e = rw e (rw (eqb-refl x.processor) refl)
+clock-there j last x e = rw e (rw (eq-eqb x.processor x.processor refl) refl)
 
 runner-there : (j : ℕ) (w : Option ℕ) (x : Sight) → j ≡ x.processor → runner_after j w (Some x) ≡ unwrap_or x.run w
-runner-there j w x e = rw e (rw (eqb-refl x.processor) refl)
+runner-there j w x e = rw e (rw (eq-eqb x.processor x.processor refl) refl)
 
 same-cond : (b : Bool) (w : Option ℕ) → cond b w w ≡ w
 same-cond true w = refl

@@ -1,9 +1,9 @@
 -- Fair times rise by what readings give, and with what is left over they add up to the time in which tasks ran.
-use Rattle.std.proofs.Common.{◌≡◌, ◌≢◌, ℕ, ◌+◌, ◌-◌, ◌*◌, ◌<◌, ◌≤◌, Bool, true, false, List, [], ◌∷◌, length, get_or, Option, Some, None, Result, Ok, Err, refl, sym, ap, ◌∙◌, ◌⊎◌, inl, inr, eqb, leb, ltb, cond, zero, suc, replicate, get_or-set_same, get_or-set_other, arith}
+use Rattle.std.proofs.Common.{◌≡◌, ◌≢◌, ℕ, ◌+◌, ◌-◌, ◌*◌, ◌<◌, ◌≤◌, Bool, true, false, List, [], ◌∷◌, length, get_or, Option, Some, None, Result, Ok, Err, refl, sym, ap, ◌∙◌, ◌⊎◌, inl, inr, eqb, leb, cond, zero, suc, replicate, get_or-set_same, get_or-set_other, arith}
 use Rattle.std.specs.Prelude.{slice_set, ℤ}
 use Rattle.std.specs.List.{sum_by}
 use Rattle.std.proofs.Math.Nat.{div-le_self, mul-div-le}
-use Rattle.std.proofs.lemmas.Bool.Decides.{eqb_tells, leb_tells, nat_tests}
+use Rattle.std.proofs.lemmas.Bool.Decides.{eqb_tells, leb_tells}
 use Rattle.std.proofs.lemmas.List.{get_or-replicate, get_or_past, length-replicate}
 use Rattle.std.proofs.lemmas.List.Sums.{sum_by-cons, sum_by-set, get_or-le-sum_by}
 use Rattle.bq_parts.specs.declared.event.Event.{Event}
@@ -29,7 +29,7 @@ use Rattle.bq_schedule.specs.Steps.{asked, admitted, waited_there, emptied, take
 use Rattle.bq_schedule.specs.FairTimes.{weight_there, weights_at, share, all_fair, all_unshared, all_busy}
 use Rattle.bq_schedule.specs.Laws.{IsWithin, IsOf, SharesOut, AddsUpFairTimes}
 use Rattle.bq_schedule.proofs.FrameLemmas.{Works, KeepsWorks, works-id, works-then, processor_kept, task_kept, works-with_processor, works-with_task, works-asked, works-leaves, works-comes, works-switched, processors-read_at, count-read_at, tasks-read_at}
-use Rattle.bq_schedule.proofs.ClockLemmas.{count-figures, within-figures}
+use Rattle.bq_schedule.proofs.ClockLemmas.{count-figures, within-figures, not_below}
 use Rattle.bq_schedule.proofs.SumLemmas.{clocks-are-short}
 use Rattle.bq_schedule.proofs.WindowLemmas.{figures_are_filled, IsFilled}
 use Rattle.bq_schedule.proofs.PurseLemmas
@@ -188,15 +188,12 @@ goes-performed s (Block processor now) (Went task run) = goes-blocked processor 
 goes-performed s (Pull processor from now) (Pulled task run by steps) = goes-pulled processor now (record { hook = OnPull; by = by; steps = steps }) task run s
 goes-performed s e r = goes-id s
 
-outside : (a b : ℕ) → ltb a b ≡ false → a < b → ⊥
-outside a b e h = grind (arith, nat_tests)
-
 goes-nothing : (s : Figures) (e : Event) (r : Reply) → is_there s e ≡ false → IsWithin (length s.processors) (sight e r) → GoesFrom s (sight e r) s
-goes-nothing s (EndWake processor now) (Placed task to by steps) none h = absurd (outside processor (length s.processors) none h)
-goes-nothing s (Drain processor now) (Drained count run by steps) none h = absurd (outside processor (length s.processors) none h)
-goes-nothing s (Tick processor now) (Ticked run by steps) none h = absurd (outside processor (length s.processors) none h)
-goes-nothing s (Block processor now) (Went task run) none h = absurd (outside processor (length s.processors) none h)
-goes-nothing s (Pull processor from now) (Pulled task run by steps) none h = absurd (outside processor (length s.processors) none h)
+goes-nothing s (EndWake processor now) (Placed task to by steps) none h = absurd (not_below processor (length s.processors) none h)
+goes-nothing s (Drain processor now) (Drained count run by steps) none h = absurd (not_below processor (length s.processors) none h)
+goes-nothing s (Tick processor now) (Ticked run by steps) none h = absurd (not_below processor (length s.processors) none h)
+goes-nothing s (Block processor now) (Went task run) none h = absurd (not_below processor (length s.processors) none h)
+goes-nothing s (Pull processor from now) (Pulled task run by steps) none h = absurd (not_below processor (length s.processors) none h)
 goes-nothing s e r none h = goes-id s
 
 goes-if : (b : Bool) (s : Figures) (e : Event) (r : Reply) → is_there s e ≡ b → IsWithin (length s.processors) (sight e r) → GoesFrom s (sight e r) (cond b (performed s e r) s)

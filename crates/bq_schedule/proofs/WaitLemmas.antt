@@ -20,7 +20,7 @@ use Rattle.bq_schedule.specs.declared.change.Left.{Left}
 use Rattle.bq_schedule.specs.declared.change.Left.TheVariants.{Preempted, Blocked}
 use Rattle.bq_schedule.specs.declared.figures.ProcessorFigures.{ProcessorFigures}
 use Rattle.bq_schedule.specs.declared.figures.TaskFigures.{TaskFigures}
-use Rattle.bq_schedule.specs.Counts.{counted}
+use Rattle.bq_parts.specs.Counts.{counted}
 use Rattle.bq_schedule.specs.Moments.{Moment, History}
 use Rattle.bq_schedule.specs.Figures.{Figures, unknown, processor_of, task_of, with_processor, with_task}
 use Rattle.bq_schedule.specs.Passing.{read_at, with_charged, processor_read, slice_at}
@@ -31,8 +31,7 @@ use Rattle.bq_schedule.specs.Steps.{nothing, asked, waited_there, taken, move_of
 use Rattle.bq_schedule.specs.Waits.{gives_way, then_if, wait_begins, waits_since, wait_of_pull, wait_of_start, wait_told}
 use Rattle.bq_schedule.specs.Laws.{IsWithin, IsOf, TellsWaits, AddsUpWaits}
 use Rattle.bq_schedule.proofs.FrameLemmas.{task_kept, who_is}
-use Rattle.bq_schedule.proofs.SliceTimeLemmas.{not_below}
-use Rattle.bq_schedule.proofs.ClockLemmas.{figures-clocks, within-figures}
+use Rattle.bq_schedule.proofs.ClockLemmas.{figures-clocks, within-figures, not_below}
 use Rattle.bq_schedule.proofs.SumLemmas.{tasks-figures}
 use Rattle.bq_schedule.proofs.WakeLemmas.{runs-ask, runs-block, runs-pull}
 use Rattle.bq_schedule.proofs.SwitchLemmas.{not_who, of_some}

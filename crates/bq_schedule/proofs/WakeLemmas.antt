@@ -1,5 +1,5 @@
 -- The wakes that figures show are those of the history.
-use Rattle.std.proofs.Common.{◌≡◌, ◌≢◌, ℕ, ◌-◌, ◌<◌, Bool, true, false, not, [], ◌∷◌, length, get_or, Option, Some, None, Result, Ok, Err, refl, sym, ap, ◌∙◌, ◌⊎◌, inl, inr, eqb, ltb, cond, get_or-set_same, get_or-set_other, subst, arith}
+use Rattle.std.proofs.Common.{◌≡◌, ◌≢◌, ℕ, ◌-◌, ◌<◌, Bool, true, false, not, [], ◌∷◌, length, get_or, Option, Some, None, Result, Ok, Err, refl, sym, ap, ◌∙◌, ◌⊎◌, inl, inr, eqb, cond, get_or-set_same, get_or-set_other, subst, arith, eqb-true, eq-eqb}
 use Rattle.std.specs.Prelude.{slice_set, ◌&&◌}
 use Rattle.std.specs.Option.{option_map}
 use Rattle.std.proofs.lemmas.Bool.Decides.{eqb_tells, nat_tests}
@@ -28,7 +28,7 @@ use Rattle.bq_schedule.specs.Wakes.{begins_as, begins, wake_end, awaited_after, 
 use Rattle.bq_schedule.specs.Steps.{nothing, asked, waited_there, taken, placed, decided, blocked, pulled, performed, performed_told, time_at, is_there, after, change, figures}
 use Rattle.bq_schedule.specs.Laws.{IsWithin, IsOf, TellsLatencies}
 use Rattle.bq_schedule.proofs.FrameLemmas.{task_kept, running-asked, running-leaves, running-taken, running-read_at}
-use Rattle.bq_schedule.proofs.ClockLemmas.{figures-clocks, within-figures}
+use Rattle.bq_schedule.proofs.ClockLemmas.{figures-clocks, within-figures, not_below}
 use Rattle.bq_schedule.proofs.SumLemmas.{tasks-figures}
 
 -- what keeps which wakes are awaited
@@ -93,9 +93,6 @@ begins_alone false = refl
 differs : (a b : ℕ) → eqb a b ≡ false → a ≢ b
 differs a b e h = grind (arith, nat_tests)
 
-equals : (a b : ℕ) → eqb a b ≡ true → a ≡ b
-equals a b e = grind (arith, nat_tests)
-
 new_at : (j old id : ℕ) (b c : Bool) → ((b ≡ true) × (id ≡ j)) ⊎ ((b ≡ false) × (id ≢ j)) → ((c ≡ true) × (old ≡ j)) ⊎ ((c ≡ false) × (old ≢ j)) → old ≢ id → (b && not c) ≡ b
 new_at j old id true true (inl e) (inl f) ne = absurd (ne (f.1 ∙ sym e.1))
 new_at j old id true true (inl e) (inr f) ne = absurd (cc)
@@ -122,7 +119,7 @@ begins-old : (j : ℕ) (running : Option Start) (run : Option ℕ) → is_run_by
 begins-old j None None e = refl
 begins-old j None (Some id) e = cc
 begins-old j (Some start) None e = cc
-begins-old j (Some start) (Some id) e = old_at j start.task id (eqb id j) (eqb start.task j) (eqb_tells id j) (eqb_tells start.task j) (equals start.task id e)
+begins-old j (Some start) (Some id) e = old_at j start.task id (eqb id j) (eqb start.task j) (eqb_tells id j) (eqb_tells start.task j) (eqb-true start.task id e)
 
 woken-switched_if : (b : Bool) (left : Left) (processor now : ℕ) (run : Option ℕ) (s : Figures) (j : ℕ) → is_run_by (processor_of s processor).running run ≡ b → j < length s.tasks →
     (task_of (cond b s (started processor now run (stopped left now (processor_of s processor).running s))) j).woken ≡ cond (begins_as j (running_task (processor_of s processor)) (Some run)) None (task_of s j).woken
@@ -218,15 +215,12 @@ performed-awaits s (Block processor now) (Went task run) j inside = blocked-awai
 performed-awaits s (Pull processor from now) (Pulled task run by steps) j inside = pulled-awaits processor now (record { hook = OnPull; by = by; steps = steps }) task run s j inside
 performed-awaits s e r j inside = refl
 
-outside : (a b : ℕ) → ltb a b ≡ false → a < b → ⊥
-outside a b e h = grind (arith, nat_tests)
-
 nothing-awaits : (s : Figures) (e : Event) (r : Reply) (j : ℕ) → is_there s e ≡ false → IsWithin (length s.processors) (sight e r) → AwaitsAfter j s s e (Ok r)
-nothing-awaits s (EndWake processor now) (Placed task to by steps) j none h = absurd (outside processor (length s.processors) none h)
-nothing-awaits s (Drain processor now) (Drained count run by steps) j none h = absurd (outside processor (length s.processors) none h)
-nothing-awaits s (Tick processor now) (Ticked run by steps) j none h = absurd (outside processor (length s.processors) none h)
-nothing-awaits s (Block processor now) (Went task run) j none h = absurd (outside processor (length s.processors) none h)
-nothing-awaits s (Pull processor from now) (Pulled task run by steps) j none h = absurd (outside processor (length s.processors) none h)
+nothing-awaits s (EndWake processor now) (Placed task to by steps) j none h = absurd (not_below processor (length s.processors) none h)
+nothing-awaits s (Drain processor now) (Drained count run by steps) j none h = absurd (not_below processor (length s.processors) none h)
+nothing-awaits s (Tick processor now) (Ticked run by steps) j none h = absurd (not_below processor (length s.processors) none h)
+nothing-awaits s (Block processor now) (Went task run) j none h = absurd (not_below processor (length s.processors) none h)
+nothing-awaits s (Pull processor from now) (Pulled task run by steps) j none h = absurd (not_below processor (length s.processors) none h)
 nothing-awaits s e r j none h = refl
 
 awaits-if : (b : Bool) (s : Figures) (e : Event) (r : Reply) (j : ℕ) → is_there s e ≡ b → j < length s.tasks → IsWithin (length s.processors) (sight e r) → AwaitsAfter j s (cond b (performed s e r) s) e (Ok r)
@@ -265,9 +259,6 @@ pub record Starts (s : Figures) (processor now : ℕ) (run : Option ℕ) (start 
   pub reading : start.at ≡ time_at processor now s
   pub late : start.latency ≡ option_map (λ (woken : ℕ). start.at - woken) (task_of s start.task).woken
 
-eqb-refl : (a : ℕ) → eqb a a ≡ true
-eqb-refl a = grind (arith, nat_tests)
-
 starts_by : (s u : Figures) (processor now : ℕ) (run : Option ℕ) (start : Start) → KeepsWakes s u → is_run_by (processor_of s processor).running run ≡ false → starts_as processor (time_at processor now s) run u ≡ Some start → Starts s processor now run start
 starts_by s u processor now None start k new e = cc
 starts_by s u processor now (Some id) start k new e =
@@ -276,7 +267,7 @@ starts_by s u processor now (Some id) start k new e =
     let P : Start → Type 0 = λ st. Starts s processor now (Some id) st in
     subst P is (record {
       here = refl;
-      new = begins-new id (processor_of s processor).running (Some id) new ∙ eqb-refl id;
+      new = begins-new id (processor_of s processor).running (Some id) new ∙ eq-eqb id id refl;
       reading = refl;
       late = ap (option_map (λ (woken : ℕ). time_at processor now s - woken)) (k.at id);
     })
@@ -323,7 +314,7 @@ starts-told s e (Err r) start h = cc
 
 -- the clock that a sight reads
 clock-there : (processor : ℕ) (past : History) (x : Sight) → x.processor ≡ processor → clock_after processor (clock processor past) (Some x) ≡ reading (clock processor past) x.now
-clock-there processor past x e = rw e (rw (eqb-refl processor) refl)
+clock-there processor past x e = rw e (rw (eq-eqb processor processor refl) refl)
 
 latency-shown : (count : ℕ) (past : History) (o : Option Sight) (start : Start) → IsOf count past → IsWithin count o → start.task < 1024 → StartsAs (figures count past) o start →
     (begins start.task past o ≡ true) × (start.at ≡ clock_after start.processor (clock start.processor past) o) × (start.latency ≡ option_map (λ (woken : ℕ). start.at - woken) (awaited start.task past))

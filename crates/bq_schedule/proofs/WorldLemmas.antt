@@ -1,8 +1,8 @@
 -- Each step of a world does to its clocks, and to who runs, what its answer shows.
-use Rattle.std.proofs.Common.{◌≡◌, ◌≢◌, ℕ, ◌<◌, Bool, true, false, List, [], ◌∷◌, length, get_or, Option, Some, None, Result, Ok, Err, refl, sym, ap, ◌∙◌, ◌⊎◌, inl, inr, get_or-set_same, get_or-set_other, eqb, cond, arith}
+use Rattle.std.proofs.Common.{◌≡◌, ◌≢◌, ℕ, ◌<◌, Bool, true, false, List, [], ◌∷◌, length, get_or, Option, Some, None, Result, Ok, Err, refl, sym, ap, ◌∙◌, ◌⊎◌, inl, inr, get_or-set_same, get_or-set_other, eqb, cond, arith, eqb-false}
 use Rattle.std.specs.Prelude.{slice_set, unwrap_or, ◌==◌}
 use Rattle.std.specs.Option.{option_map}
-use Rattle.std.proofs.lemmas.Bool.Decides.{eqb_tells, nat_tests}
+use Rattle.std.proofs.lemmas.Bool.Decides.{eqb_tells}
 use Rattle.std.proofs.lemmas.List.{get_or-replicate, length-set, length-replicate}
 use Rattle.bq_disc.specs.Tasks.{Task, id_of, with_id}
 use Rattle.bq_disc.specs.Discipline.{Discipline, charged, next_of}
@@ -16,18 +16,19 @@ use Rattle.bq_parts.specs.declared.refusal.Refusal.{Refusal}
 use Rattle.bq_parts.specs.declared.refusal.Refusal.TheVariants as no
 use Rattle.bq_parts.specs.Processors.{Processor, opening}
 use Rattle.bq_parts.specs.World.{World, opening_world, processor_at, count_in, with_processor}
-use Rattle.bq_parts.specs.Refusals.{refusal, argument_refusal, state_refusal, either}
+use Rattle.bq_parts.specs.Refusals.{refusal}
 use Rattle.bq_parts.specs.Moves.{with_pulled, started_if_idle, without_task, taken_from}
 use Rattle.bq_parts.specs.Choices.{Regime}
 use Rattle.bq_hooks.specs.Permitted.{task_numbered}
 use Rattle.bq_parts.specs.Shares.{after_time, remarked}
 use Rattle.bq_parts.specs.Steps.{Performs, WorldStep, WorldRun}
 use Rattle.bq_core.specs.Laws.{under_any_answers}
-use Rattle.bq_core.proofs.OrderLemmas.{not_refused_is_there, first_refusal_passed}
+use Rattle.bq_core.proofs.OrderLemmas.{not_refused_is_there, first_refusal_passed, accepted}
 use Rattle.bq_schedule.specs.Moments.{History}
 use Rattle.bq_schedule.specs.Slices.{Sight, sight, sight_of, clock_after, clock, runner_after, runner}
 use Rattle.bq_schedule.specs.Laws.{IsWithin, IsOf, grown, IsCharged}
 use Rattle.bq_schedule.proofs.FrameLemmas.{get_or-set_like}
+use Rattle.bq_schedule.proofs.ClockLemmas.{within_same}
 
 -- the last reading of a processor's clock
 abbrev pub last_at : World → ℕ → ℕ
@@ -132,17 +133,6 @@ id-charged : (d : Discipline) (o : Option Task) (time : ℕ) → id_of (option_m
 id-charged d None time = refl
 id-charged d (Some t) time = refl
 
-differs : (a b : ℕ) → (a == b) ≡ false → a ≢ b
-differs a b e h = grind (arith, nat_tests)
-
-neither : (o p : Option Refusal) → either o p ≡ None → o ≡ None
-neither None p h = refl
-neither (Some r) p h = cc
-
--- none of its arguments is refused
-accepted : (w : World) (e : Event) → refusal w e ≡ None → argument_refusal (count_in w) e ≡ None
-accepted w e h = neither (argument_refusal (count_in w) e) (state_refusal w e) h
-
 -- of an answer that is another
 shown_as : (w w' : World) (e : Event) (r x : Reply) → r ≡ x → Shown w w' (sight e x) → Shown w w' (sight e r)
 shown_as w w' e r x h k = rw h k
@@ -191,9 +181,9 @@ shown-performs s w (Block processor now) calls r w' h k =
     (ap (λ (q : Processor). q.running.last) x.1.1 ∙ last-run_id rest (id_of (s.discipline.choice rest.queue))) refl))
 shown-performs s w (Pull processor from now) calls r w' h k =
     let d = s.discipline in
-    let f = not_refused_is_there (count_in w) processor _ (accepted w (Pull processor from now) h) in
+    let f = not_refused_is_there (count_in w) processor _ (accepted w (Pull processor from now) h).0 in
     let g = not_refused_is_there (count_in w) from _ f.1 in
-    let apart : processor ≢ from = differs processor from (first_refusal_passed (processor == from) no.SameProcessor None g.1).0 in
+    let apart : processor ≢ from = eqb-false processor from (first_refusal_passed (processor == from) no.SameProcessor None g.1).0 in
     let x = k.2 in
     let task = task_numbered x.0.choice in
     let c : Processor = after_time d now (processor_at w processor) in
@@ -216,15 +206,15 @@ within_as n e r x h k = rw h k
 -- an event that is not refused names a processor that is there
 within-performs : (s : Regime) (w : World) (e : Event) (calls : List Asked) (r : Reply) (w' : World) → refusal w e ≡ None → Performs s w e calls r w' → IsWithin (count_in w) (sight e r)
 within-performs s w (EndWake processor now) calls r w' h k =
-    within_as (count_in w) (EndWake processor now) r (Placed k.0.task.id k.0.to k.0.by k.0.steps) k.3 (not_refused_is_there (count_in w) processor None (accepted w (EndWake processor now) h)).0
+    within_as (count_in w) (EndWake processor now) r (Placed k.0.task.id k.0.to k.0.by k.0.steps) k.3 (not_refused_is_there (count_in w) processor None (accepted w (EndWake processor now) h).0).0
 within-performs s w (Drain processor now) calls r w' h k =
-    within_as (count_in w) (Drain processor now) r (Drained _ _ k.1.0.by k.1.0.steps) k.1.3 (not_refused_is_there (count_in w) processor None (accepted w (Drain processor now) h)).0
+    within_as (count_in w) (Drain processor now) r (Drained _ _ k.1.0.by k.1.0.steps) k.1.3 (not_refused_is_there (count_in w) processor None (accepted w (Drain processor now) h).0).0
 within-performs s w (Tick processor now) calls r w' h k =
-    within_as (count_in w) (Tick processor now) r (Ticked _ k.1.0.by k.1.0.steps) k.1.3 (not_refused_is_there (count_in w) processor None (accepted w (Tick processor now) h)).0
+    within_as (count_in w) (Tick processor now) r (Ticked _ k.1.0.by k.1.0.steps) k.1.3 (not_refused_is_there (count_in w) processor None (accepted w (Tick processor now) h).0).0
 within-performs s w (Block processor now) calls r w' h k =
-    within_as (count_in w) (Block processor now) r (Went k.2.0.id _) k.2.1.2 (not_refused_is_there (count_in w) processor None (accepted w (Block processor now) h)).0
+    within_as (count_in w) (Block processor now) r (Went k.2.0.id _) k.2.1.2 (not_refused_is_there (count_in w) processor None (accepted w (Block processor now) h).0).0
 within-performs s w (Pull processor from now) calls r w' h k =
-    within_as (count_in w) (Pull processor from now) r (Moved (task_numbered k.2.0.choice) _ k.2.0.by k.2.0.steps) k.2.1.2 (not_refused_is_there (count_in w) processor _ (accepted w (Pull processor from now) h)).0
+    within_as (count_in w) (Pull processor from now) r (Moved (task_numbered k.2.0.choice) _ k.2.0.by k.2.0.steps) k.2.1.2 (not_refused_is_there (count_in w) processor _ (accepted w (Pull processor from now) h).0).0
 within-performs s w (Admit id nice mask slice) calls r w' h k = within_as (count_in w) (Admit id nice mask slice) r Admitted k.1.1 tt
 within-performs s w (Retire id) calls r w' h k = within_as (count_in w) (Retire id) r Retired k.1.1 tt
 within-performs s w Draw calls r w' h k = within_as (count_in w) Draw r (Drawn _) k.0 tt
@@ -242,9 +232,6 @@ pub record IsTold (count : ℕ) (w : World) (past : History) : Type 0 where
   pub within : IsOf count past
   pub last : (j : ℕ) → j < count → last_at w j ≡ clock j past
   pub who : (j : ℕ) → j < count → who_at w j ≡ runner j past
-
-within_same : (n k : ℕ) (o : Option Sight) → n ≡ k → IsWithin k o → IsWithin n o
-within_same n k o e h = rw e h
 
 told-step : (count : ℕ) (s : Regime) (w : World) (past : History) (e : Event) (calls : List Asked) (a : Result Reply Refusal) (w' : World) → IsTold count w past → WorldStep s w e calls a w' →
     IsTold count w' (record { event = e; answer = a } ∷ past)

@@ -6,7 +6,8 @@ use Rattle.bq_schedule.specs.declared.change.Start.{Start}
 use Rattle.bq_schedule.specs.declared.change.ClockReading.{ClockReading}
 use Rattle.bq_schedule.specs.declared.figures.TaskFigures.{TaskFigures}
 use Rattle.bq_schedule.specs.declared.figures.ProcessorFigures.{ProcessorFigures}
-use Rattle.bq_schedule.specs.Counts.{counted, counted_wide, parts}
+use Rattle.bq_parts.specs.Counts.{counted}
+use Rattle.bq_schedule.specs.Counts.{counted_wide, parts}
 use Rattle.bq_schedule.specs.Figures.{Figures, processor_of, task_of, with_processor, with_task}
 
 -- the reading itself. It goes back where it is below the last

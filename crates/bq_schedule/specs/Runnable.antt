@@ -2,7 +2,8 @@
 use Rattle.std.specs.Prelude.{ℕ, ◌-◌, ◌*◌, ◌^◌, min, ◌==◌, Option, Some, None, if◌then◌else◌}
 use Rattle.bq_schedule.specs.declared.figures.TaskFigures.{TaskFigures}
 use Rattle.bq_schedule.specs.declared.figures.ProcessorFigures.{ProcessorFigures}
-use Rattle.bq_schedule.specs.Counts.{counted, counted_wide}
+use Rattle.bq_parts.specs.Counts.{counted}
+use Rattle.bq_schedule.specs.Counts.{counted_wide}
 use Rattle.bq_schedule.specs.Figures.{Figures, processor_of, task_of, with_processor, with_task}
 
 -- the share that a task has had at its processor since it came

@@ -1,6 +1,6 @@
 //! What came of each hook.
 ghost use Rattle.std.specs.Prelude.{◌≡◌, if◌then◌else◌};
-ghost use Rattle.bq_schedule.specs.Counts.{counted};
+ghost use Rattle.bq_parts.specs.Counts.{counted};
 ghost use Rattle.bq_schedule.specs.Steps.{hook_asked, processor_asked, asked};
 
 use crate::change::Decision;

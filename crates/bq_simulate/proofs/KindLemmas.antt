@@ -1,9 +1,9 @@
 -- Which tasks are of which kind.
-use Rattle.std.proofs.Common.{◌≡◌, ℕ, zero, suc, ◌+◌, ◌<◌, ◌⊎◌, inl, inr, List, [], ◌∷◌, ◌++◌, None, Some, ap, sym, refl, ◌∙◌, arith, get_or, length, take}
+use Rattle.std.proofs.Common.{◌≡◌, ℕ, zero, suc, ◌+◌, ◌<◌, ◌⊎◌, inl, inr, List, [], ◌∷◌, ◌++◌, Some, ap, sym, refl, ◌∙◌, arith, get_or, length, take}
 use Rattle.std.specs.Prelude.{slice_get, sum_by}
 use Rattle.std.proofs.lemmas.List.{take_more}
 use Rattle.std.proofs.lemmas.List.Sums.{sum_by-append}
-use Rattle.std.proofs.lemmas.Option.{get_or_from_slice_get, slice_get_within}
+use Rattle.std.proofs.lemmas.Option.{get_or_from_slice_get, slice_get_within, none-some, same_Some}
 use Rattle.bq_actions.specs.declared.workload.TaskKind.{TaskKind}
 use Rattle.bq_simulate.specs.Actions.{IsOfKind, first_of}
 
@@ -22,16 +22,10 @@ first-more kinds number kind there =
 pub nth-of-kind : (kinds : List TaskKind) (kind : TaskKind) (task number before : ℕ) → slice_get kinds number ≡ Some kind → task ≡ first_of kinds number + before → before < kind.count → IsOfKind kinds task number
 nth-of-kind kinds kind task number before there at low = record { kind = kind; there = there; from = omega (arith, at); below = omega (arith, at, low) }
 
-no_first : (n : ℕ) → None ≡ Some n → ⊥
-no_first n e = cc
-
-same_first : (m n : ℕ) → Some m ≡ Some n → m ≡ n
-same_first m n e = cc
-
 -- what stands in a longer list stands in the shorter one, or is the last
 in_longer : (ns : List ℕ) (last n place : ℕ) → slice_get (ns ++ last ∷ []) place ≡ Some n → (slice_get ns place ≡ Some n) ⊎ ((place ≡ length ns) × (last ≡ n))
-in_longer [] last n zero e = inr (refl, same_first last n e)
-in_longer [] last n (suc place) e = absurd (no_first n e)
+in_longer [] last n zero e = inr (refl, same_Some last n e)
+in_longer [] last n (suc place) e = absurd (none-some n e)
 in_longer (m ∷ ns) last n zero e = inl e
 in_longer (m ∷ ns) last n (suc place) e = one (in_longer ns last n place e)
   where

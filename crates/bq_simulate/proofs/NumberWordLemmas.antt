@@ -1,5 +1,5 @@
 -- Numbers as words: each is read back.
-use Rattle.std.proofs.Common.{◌≡◌, ℕ, ◌^◌, ◌<◌, ◌≤◌, suc, List, [], ◌∷◌, length, refl, ap, ◌∙◌, Bool, true, false, cond, ltb, eqb, arith, Option, Some, None, ℤ, pos, negsuc, neg_ℤ, lit<, nat_eq, codes, decimal, FitsSigned}
+use Rattle.std.proofs.Common.{◌≡◌, ℕ, ◌^◌, ◌<◌, ◌≤◌, suc, List, [], ◌∷◌, length, refl, ap, Bool, true, false, ltb, eqb, arith, Some, ℤ, pos, negsuc, neg_ℤ, lit<, nat_eq, codes, decimal, FitsSigned}
 use Rattle.std.specs.Prelude.{◌&&◌, option_map}
 use Rattle.std.specs.Int.{w8}
 use Rattle.std.specs.List.{list_all, starts_with}
@@ -8,7 +8,8 @@ use Rattle.std.specs.Fmt.{signed_decimal}
 use Rattle.std.specs.Str.Parse.{digits_value, AllDigits}
 use Rattle.std.proofs.lemmas.Bool.Decides.{nat_tests}
 use Rattle.std.proofs.lemmas.Fmt.{decimal_is_IsNumeral, length-decimal-le}
-use Rattle.bq_words.specs.Numbers.{number_of, below}
+use Rattle.bq_words.specs.Numbers.{number_of}
+use Rattle.bq_words.proofs.NumberLemmas.{below-Some}
 use Rattle.bq_lines.specs.Numbers.{decimal_of, processor_of, task_of, mask_of, nice_of}
 use Rattle.bq_simulate.proofs.PlainWordLemmas.{is_plain, IsPlain}
 
@@ -43,12 +44,6 @@ pub decimal_of-decimal : (n : ℕ) → n < 2 ^ 64 → decimal_of (decimal n) ≡
 decimal_of-decimal n h =
     let numeral = decimal_is_IsNumeral n h in
     if_all (decimal n) n numeral.0.0 (digits_pass (decimal n) numeral.0.1) numeral.1 h
-
-below-Some : (limit n : ℕ) (o : Option ℕ) → o ≡ Some n → n < limit → below limit o ≡ Some n
-below-Some limit n o is h = ap (below limit) is ∙ within (ltb n limit) (grind (arith, nat_tests))
-  where
-    within : (b : Bool) → b ≡ true → cond b (Some n) None ≡ Some n
-    within b e = rw e refl
 
 -- the number of a processor is read back from its digits
 pub processor_of-decimal : (n : ℕ) → n < 2 ^ 8 → processor_of (decimal n) ≡ Some n

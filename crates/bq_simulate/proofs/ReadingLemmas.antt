@@ -6,9 +6,10 @@ use Rattle.std.proofs.lemmas.Bool.{and_parts}
 use Rattle.std.proofs.lemmas.Bool.Decides.{nat_tests}
 use Rattle.hex.specs.Hex.{lower_digits}
 use Rattle.hex.proofs.HexLemmas.{length-encode_with}
-use Rattle.bq_bpf.specs.Hooks.{hook_of, hook_word}
+use Rattle.bq_bpf.specs.Hooks.{hook_word}
 use Rattle.bq_bpf.specs.declared.hook.Hook.{Hook}
 use Rattle.bq_bpf.specs.declared.hook.Hook.TheVariants as hooks
+use Rattle.bq_bpf.proofs.HookLemmas.{hook_of-hook_word}
 use Rattle.bq_parts.specs.declared.event.Event.{Event}
 use Rattle.bq_parts.specs.declared.event.Event.TheVariants.{Admit, Retire, Draw, Install, BeginWake, EndWake, Drain, Tick, Block, Pull}
 use Rattle.bq_words.specs.Sizes.{processors_in, rule_of, rule_word, size_numbered}
@@ -16,6 +17,7 @@ use Rattle.bq_words.specs.declared.rule.Rule.{Rule}
 use Rattle.bq_words.specs.declared.rule.Rule.TheVariants.{Cfs, Eevdf}
 use Rattle.bq_words.specs.declared.processor_count.ProcessorCount.{ProcessorCount}
 use Rattle.bq_words.specs.declared.processor_count.ProcessorCount.TheVariants.{One, Two, Four, Eight, Sixteen, ThirtyTwo, SixtyFour}
+use Rattle.bq_words.proofs.SizeLemmas.{processors_in-few}
 use Rattle.bq_lines.specs.Keywords.{keyword_word}
 use Rattle.bq_lines.specs.declared.keyword.Keyword.{Keyword}
 use Rattle.bq_lines.specs.declared.keyword.Keyword.TheVariants as keywords
@@ -66,11 +68,6 @@ short_hook : (hook : Hook) → length (hook_word hook) ≤ 7
 short_hook hooks.Place = lit≤ tt
 short_hook hooks.Preempt = lit≤ tt
 short_hook hooks.Pull = lit≤ tt
-
-hook_of-word : (hook : Hook) → hook_of (hook_word hook) ≡ Some hook
-hook_of-word hooks.Place = refl
-hook_of-word hooks.Preempt = refl
-hook_of-word hooks.Pull = refl
 
 plain_image : (image : Option (List ℕ)) → CanStandInLine image → IsPlain (image_word image)
 plain_image None h = known (codes "none") refl
@@ -149,7 +146,7 @@ words_say image (Admit task nice mask slice) can h =
 words_say image (Retire task) can h = of_one (λ t. Does (Retire t)) _ task (task_of-decimal task h)
 words_say image Draw can h = refl
 words_say image (Install c hook generation policy) can h =
-    of_install _ _ _ (image_word image) c generation hook _ (processor_of-decimal c h.0) (decimal_of-decimal generation h.1) (hook_of-word hook) (reads_image image c generation hook can)
+    of_install _ _ _ (image_word image) c generation hook _ (processor_of-decimal c h.0) (decimal_of-decimal generation h.1) (hook_of-hook_word hook) (reads_image image c generation hook can)
 words_say image (BeginWake c task) can h = of_two (λ c t. Does (BeginWake c t)) _ _ c task (processor_of-decimal c h.0) (task_of-decimal task h.1)
 words_say image (EndWake c now) can h = of_two (λ c t. Does (EndWake c t)) _ _ c now (processor_of-decimal c h.0) (decimal_of-decimal now h.1)
 words_say image (Drain c now) can h = of_two (λ c t. Does (Drain c t)) _ _ c now (processor_of-decimal c h.0) (decimal_of-decimal now h.1)
@@ -162,15 +159,6 @@ words_say image (Pull c from now) can h =
 abbrev pub machine_words : Rule → ProcessorCount → List (List ℕ)
 machine_words rule size = keyword_word keywords.Machine ∷ rule_word rule ∷ decimal (processors_in size) ∷ []
 
-small_size : (size : ProcessorCount) → processors_in size ≤ 64
-small_size One = lit≤ tt
-small_size Two = lit≤ tt
-small_size Four = lit≤ tt
-small_size Eight = lit≤ tt
-small_size Sixteen = lit≤ tt
-small_size ThirtyTwo = lit≤ tt
-small_size SixtyFour = lit≤ tt
-
 plain_rule : (rule : Rule) → IsPlain (rule_word rule)
 plain_rule Cfs = known (codes "cfs") refl
 plain_rule Eevdf = known (codes "eevdf") refl
@@ -181,12 +169,12 @@ short_rule Eevdf = lit≤ tt
 
 -- the words of a machine are plain
 pub plain_machine : (rule : Rule) (size : ProcessorCount) → AllByRecursion IsPlain (machine_words rule size)
-plain_machine rule size = let small = small_size size in (plain_keyword keywords.Machine, (plain_rule rule, (plain_decimal (processors_in size) (omega arith), tt)))
+plain_machine rule size = let small = processors_in-few size in (plain_keyword keywords.Machine, (plain_rule rule, (plain_decimal (processors_in size) (omega arith), tt)))
 
 -- a line has room for the words of a machine
 pub room_machine : (rule : Rule) (size : ProcessorCount) → room (machine_words rule size) ≤ 131072
 room_machine rule size =
-    let small = small_size size in
+    let small = processors_in-few size in
     let number = short_decimal (processors_in size) (omega arith) in
     let word = short_rule rule in
     omega arith
@@ -205,7 +193,7 @@ size_of-number ThirtyTwo = refl
 size_of-number SixtyFour = refl
 
 size_of-decimal : (size : ProcessorCount) → size_of (decimal (processors_in size)) ≡ Some size
-size_of-decimal size = let small = small_size size in ap (option_and_then size_numbered) (processor_of-decimal (processors_in size) (omega arith)) ∙ size_of-number size
+size_of-decimal size = let small = processors_in-few size in ap (option_and_then size_numbered) (processor_of-decimal (processors_in size) (omega arith)) ∙ size_of-number size
 
 -- the words of a machine ask for it
 pub machine_says : (rule : Rule) (size : ProcessorCount) → reading_of_words (machine_words rule size) ≡ Says (Machine rule size)

@@ -3,7 +3,6 @@ use Rattle.std.proofs.Common.{◌≡◌, ℕ, zero, suc, ◌+◌, ◌*◌, ◌%�
 use Rattle.std.specs.Prelude.{slice_get, slice_index, slice_index_or}
 use Rattle.std.proofs.lemmas.Option.{slice_get-get_or}
 use Rattle.std.proofs.Math.Nat.{mul-le-mul_left, mul-le-mul, pow-suc}
-use Rattle.std.specs.Int.{bytes_low_first}
 use Rattle.bq_bpf.specs.Meaning.{word_of}
 use Rattle.bq_bpf.specs.declared.shape.MapShape.{MapShape}
 use Rattle.bq_bpf.specs.Memory.{Setting, State, Region, InContext, InEntry, Spans, IsEntry, IsGood, Reads, byte_at, number_of, HaveShapes}
@@ -113,10 +112,6 @@ reads_gives shapes context_length state count src off base bound at known bounds
       omega (arith, d.word_is),
       bytes.4,
     )
-
--- the number of its own eight bytes
-pub number_of_word : (n : ℕ) → n < 2 ^ 64 → number_of (bytes_low_first 0 8 n) ≡ n
-number_of_word n small = omega arith
 
 word_at : (f : Setting) (s : State) (word : ℕ) (bytes : List ℕ) → word < 2 ^ 64 → Reads f s (address_of word (pos 0)) bytes → Reads f s word bytes
 word_at f s word bytes small reads = let same : (word + word_of (pos 0)) % 2 ^ 64 ≡ word = omega arith in subst (λ (a : ℕ). Reads f s a bytes) same reads

@@ -1,10 +1,11 @@
 -- Places that hold one word stay so until they are written.
-use Rattle.std.proofs.Common.{ap, ◌≡◌, ◌≢◌, ℕ, suc, ◌+◌, ◌*◌, ◌^◌, ◌<◌, ◌≤◌, Bool, true, false, List, Option, Some, None, length, get_or, set, refl, sym, subst, arith, ◌∙◌, get_or-set_same, get_or-set_other, length-set, eqb, ◌⊎◌, inl, inr, cond}
+use Rattle.std.proofs.Common.{ap, ◌≡◌, ◌≢◌, ℕ, suc, ◌+◌, ◌*◌, ◌<◌, ◌≤◌, Bool, true, false, List, Option, Some, None, length, get_or, set, refl, sym, subst, arith, ◌∙◌, get_or-set_same, get_or-set_other, length-set, eqb, ◌⊎◌, inl, inr, cond, ◌^◌}
 use Rattle.std.specs.Prelude.{slice_index, slice_set}
 use Rattle.std.specs.Int.{byte_at as byte_of, bytes_low_first}
 use Rattle.std.proofs.lemmas.Bool.{cases_lt}
 use Rattle.std.proofs.lemmas.Bool.Decides.{eqb_tells, leb_tells}
 use Rattle.std.proofs.lemmas.List.{get_or_past}
+use Rattle.std.proofs.lemmas.Option.{same_Some}
 use Rattle.bq_bpf.specs.Memory.{State, InStack, number_of, written}
 use Rattle.bq_bpf.specs.Steps.{called, next, put}
 use Rattle.bq_states.specs.Copies.{AreCopies, HasWord, KeepsClasses, PartsFirst, PartsSlots}
@@ -153,9 +154,6 @@ put_same s slots d n is p = same_by s.register p d n _ (eqb_tells p d) is
 pub copies_same : (classes : List ℕ) (s : State) (slots d n : ℕ) → s.register d ≡ Some n → AreCopies classes s → AreCopies classes (put s slots d n)
 copies_same classes s slots d n is copies = copies_moved classes classes s (put s slots d n) (λ p some. (refl, λ m h. (λ lt. put_same s slots d n is p ∙ h.0 lt, h.1))) copies
 
-some_is : (a b : ℕ) → Some a ≡ Some b → a ≡ b
-some_is a b e = cc
-
 -- registers with one word
 pub register_word : (s : State) (r n : ℕ) → r < 11 → s.register r ≡ Some n → HasWord s r n
 register_word s r n low is = (λ lt. is, λ j e. absurd (let no : ⊥ = omega (arith, e, low) in no))
@@ -163,27 +161,28 @@ register_word s r n low is = (λ lt. is, λ j e. absurd (let no : ⊥ = omega (a
 -- a register that has the word of another one has each word that the other one is known to have
 pub register_copy : (s : State) (to from n m : ℕ) → to < 11 → from < 11 → s.register from ≡ Some n → s.register to ≡ Some n → HasWord s from m → HasWord s to m
 register_copy s to from n m low low' is to_is has =
-    let same : n ≡ m = some_is n m (sym is ∙ has.0 low') in
+    let same : n ≡ m = same_Some n m (sym is ∙ has.0 low') in
     register_word s to m low (to_is ∙ ap (λ (k : ℕ). Some k) same)
 
 same_bytes : (n m : ℕ) → ((i : ℕ) → i < 8 → byte_of i n ≡ byte_of i m) → bytes_low_first 0 8 n ≡ bytes_low_first 0 8 m
 same_bytes n m each = rw (each 0 (omega arith), each 1 (omega arith), each 2 (omega arith), each 3 (omega arith), each 4 (omega arith), each 5 (omega arith), each 6 (omega arith), each 7 (omega arith)) refl
 
-number_of_bytes : (n : ℕ) → n < 2 ^ 64 → number_of (bytes_low_first 0 8 n) ≡ n
-number_of_bytes n small = omega arith
+-- the number of its own eight bytes
+pub number_of_word : (n : ℕ) → n < 2 ^ 64 → number_of (bytes_low_first 0 8 n) ≡ n
+number_of_word n small = omega arith
 
 -- a slot of the stack holds one word
 pub one_word : (s : State) (slot n m : ℕ) → HasWord s (11 + slot) n → HasWord s (11 + slot) m → n ≡ m
 one_word s slot n m first second =
     let a = first.1 slot refl in
     let b = second.1 slot refl in
-    let same : bytes_low_first 0 8 n ≡ bytes_low_first 0 8 m = same_bytes n m (λ i lt. some_is (byte_of i n) (byte_of i m) (sym (a.1 i lt) ∙ b.1 i lt)) in
-    sym (number_of_bytes n a.0) ∙ ap number_of same ∙ number_of_bytes m b.0
+    let same : bytes_low_first 0 8 n ≡ bytes_low_first 0 8 m = same_bytes n m (λ i lt. same_Some (byte_of i n) (byte_of i m) (sym (a.1 i lt) ∙ b.1 i lt)) in
+    sym (number_of_word n a.0) ∙ ap number_of same ∙ number_of_word m b.0
 
 -- a slot that holds the word of a register
 pub slot_copy : (s : State) (slot from n m : ℕ) → from < 11 → s.register from ≡ Some n → HasWord s (11 + slot) n → HasWord s from m → HasWord s (11 + slot) m
 slot_copy s slot from n m low is there has =
-    let same : n ≡ m = some_is n m (sym is ∙ has.0 low) in
+    let same : n ≡ m = same_Some n m (sym is ∙ has.0 low) in
     subst (λ (k : ℕ). HasWord s (11 + slot) k) same there
 
 -- a register that holds the word of a slot

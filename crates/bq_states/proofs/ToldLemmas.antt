@@ -5,6 +5,7 @@ use Rattle.std.specs.Int.{byte_at as byte_of}
 use Rattle.std.proofs.lemmas.Bool.{cases_lt}
 use Rattle.std.proofs.lemmas.Bool.Decides.{eqb_tells}
 use Rattle.std.proofs.lemmas.List.{get_or_past, get_or_read}
+use Rattle.std.proofs.lemmas.Option.{same_Some}
 use Rattle.bq_bpf.specs.declared.shape.MapShape.{MapShape}
 use Rattle.bq_bpf.specs.Memory.{Setting, State, number_of}
 use Rattle.bq_states.specs.declared.abstract_state.AbstractValue.{AbstractValue}
@@ -13,9 +14,9 @@ use Rattle.bq_states.specs.Copies.{HasWord}
 use Rattle.bq_states.specs.Certainty.{Certainty, Stands, NoPointer, Fact, Never, AtRegister, IsSetAt, IsPlainAt, Has}
 use Rattle.bq_states.specs.Told.{HasLearnt, IsLasting, IsLastingWord, IsSharper}
 use Rattle.bq_states.specs.AbstractStates.{Contains, Describes, Holds, Keeps}
-use Rattle.bq_states.proofs.AccessLemmas.{number_of_word}
 use Rattle.bq_states.proofs.LearnLemmas.{learn_at}
 use Rattle.bq_states.proofs.WordLemmas.{word_fits}
+use Rattle.bq_states.proofs.CopyLemmas.{number_of_word}
 
 -- what is so of each word is so after one is written
 pub set_each : (R : ℕ → Option AbstractValue → Option AbstractValue → Type 0) (old now : List (Option AbstractValue)) (i : ℕ) (x a : Option AbstractValue) → i < length now → a ≡ get_or now i a → get_or now i None ≡ get_or old i None → R i a x → ((k : ℕ) → R k (get_or old k None) (get_or now k None)) → (k : ℕ) → R k (get_or old k None) (get_or (set now i x) k None)
@@ -36,14 +37,11 @@ eight f g h = rw (h 0 (omega arith), h 1 (omega arith), h 2 (omega arith), h 3 (
 pub same_bytes : (m n : ℕ) → m < 2 ^ 64 → n < 2 ^ 64 → ((i : ℕ) → i < 8 → byte_of i m ≡ byte_of i n) → m ≡ n
 same_bytes m n p q h = sym (number_of_word m p) ∙ ap number_of (eight (λ i. byte_of i m) (λ i. byte_of i n) h) ∙ number_of_word n q
 
-some_is : (a b : ℕ) → Some a ≡ Some b → a ≡ b
-some_is a b e = cc
-
 Holds-sharper : (shapes : List MapShape) (told : AbstractValue) (n : ℕ) (old new : Option AbstractValue) (v : Option ℕ) → IsSharper told old new → v ≡ Some n → Describes shapes told n → Holds shapes old v → Holds shapes new v
 Holds-sharper shapes told n old None v sharper is d h = tt
 Holds-sharper shapes told n None (Some b) v sharper is d h = absurd sharper
 Holds-sharper shapes told n (Some a) (Some b) v sharper is d h =
-    let same : n ≡ h.0 = some_is n h.0 (sym is ∙ h.1) in
+    let same : n ≡ h.0 = same_Some n h.0 (sym is ∙ h.1) in
     (h.0, h.1, sharper shapes h.0 (subst (λ (k : ℕ). Describes shapes told k) same d) h.2)
 
 Holds-none : (shapes : List MapShape) (told : AbstractValue) (old new : Option AbstractValue) (v : Option ℕ) → old ≡ None → IsSharper told old new → Holds shapes new v
@@ -54,7 +52,7 @@ Keeps-sharper : (shapes : List MapShape) (told : AbstractValue) (n : ℕ) (old n
 Keeps-sharper shapes told n old None stack j sharper small bytes d h = tt
 Keeps-sharper shapes told n None (Some b) stack j sharper small bytes d h = absurd sharper
 Keeps-sharper shapes told n (Some a) (Some b) stack j sharper small bytes d h =
-    let same : h.0 ≡ n = same_bytes h.0 n (word_fits shapes a h.0 h.1) small (λ i lt. some_is _ _ (sym (h.2 i lt) ∙ bytes i lt)) in
+    let same : h.0 ≡ n = same_bytes h.0 n (word_fits shapes a h.0 h.1) small (λ i lt. same_Some _ _ (sym (h.2 i lt) ∙ bytes i lt)) in
     (n, sharper shapes n d (subst (λ (k : ℕ). Describes shapes a k) same h.1), bytes)
 
 module _ (f : Setting) (v : AbstractState) (s : State) (told : AbstractValue) (register n : ℕ) (contains : Contains f v s) (is : s.register register ≡ Some n) (d : Describes f.shapes told n) where
@@ -93,7 +91,7 @@ module _ (f : Setting) (v : AbstractState) (s : State) (told : AbstractValue) (r
       has p e = subst (λ (k : ℕ). HasWord s p (contains.copies.0 k)) e (contains.copies.1 p (λ none. some (sym e ∙ none)))
 
       told_word : Describes f.shapes told word
-      told_word = subst (λ (k : ℕ). Describes f.shapes told k) (some_is n word (sym is ∙ (has register (sym class_is)).0 low)) d
+      told_word = subst (λ (k : ℕ). Describes f.shapes told k) (same_Some n word (sym is ∙ (has register (sym class_is)).0 low)) d
 
       register_at : (r : ℕ) (b : Bool) → ((b ≡ true) × (slice_index v.classes (0 + r) ≡ class)) ⊎ ((b ≡ false) × (slice_index v.classes (0 + r) ≢ class)) → (r < 11) ⊎ (11 ≤ r) → Holds f.shapes (slice_index_or registers r None) (s.register r)
       register_at r b either (inr past) = Holds-none f.shapes told (slice_index_or v.registers r None) (slice_index_or registers r None) (s.register r) (get_or_past v.registers r None (omega arith)) (sharper r)

@@ -2,6 +2,7 @@
 use Rattle.std.proofs.Common.{◌≡◌, ℕ, zero, suc, ◌<◌, Bool, true, false, cond, eqb, List, [], ◌∷◌, length, map, refl, sym, ap, ◌∙◌, ◌⊎◌, inl, inr, arith}
 use Rattle.std.specs.Prelude.{slice_index_or}
 use Rattle.std.proofs.lemmas.Bool.Decides.{eqb_tells}
+use Rattle.std.proofs.lemmas.List.{get_or_default}
 use Rattle.bq_tie.specs.Whole.{count, Each}
 use Rattle.bq_tie.specs.Places.{times, ArePlaced, AreFrom}
 use Rattle.bq_tie.proofs.PlacingLemmas.{item_at}
@@ -42,11 +43,6 @@ module _ {A B : Type 0} (place : A → ℕ) (content : A → B) (d : B) (list : 
   map_length [] = refl
   map_length (y ∷ ys) = let h = map_length ys in omega (arith, h)
 
-  any_end : (xs : List B) (k : ℕ) (e f : B) → k < length xs → slice_index_or xs k e ≡ slice_index_or xs k f
-  any_end [] k e f lt = absurd (omega arith)
-  any_end (x ∷ xs) zero e f lt = refl
-  any_end (x ∷ xs) (suc k) e f lt = any_end xs k e f (omega arith)
-
   -- brought to their places, the items' contents are the list
   pub is_list : (xs ys : List A) → Each IsThere xs → length ys ≡ length list → ArePlaced place (length ys) ys → AreFrom xs ys → map content ys ≡ list
   is_list xs ys each long placed from = same_list (map content ys) list (map_length ys ∙ long)
@@ -57,7 +53,7 @@ module _ {A B : Type 0} (place : A → ℕ) (content : A → B) (d : B) (list : 
       let there = each_at IsThere xs w.0 y each w.1 in
       let same : slice_index_or ys k y ≡ slice_index_or xs w.0 y = w.2 y in
       let at : place (slice_index_or xs w.0 y) ≡ k = ap place (sym same) ∙ placed k here y in
-      map_at ys k y e here ∙ (ap content same ∙ (sym there.1 ∙ (ap (λ (i : ℕ). slice_index_or list i d) at ∙ any_end list k d e (omega (arith, here, long))))))
+      map_at ys k y e here ∙ (ap content same ∙ (sym there.1 ∙ (ap (λ (i : ℕ). slice_index_or list i d) at ∙ get_or_default list k d e (omega (arith, here, long))))))
 
 -- a place that is counted at most once by its own name is that of one item at most
 turned : (a b : ℕ) (x y : Bool) → ((x ≡ true) × (a ≡ b)) ⊎ ((x ≡ false) × ¬ (a ≡ b)) → ((y ≡ true) × (b ≡ a)) ⊎ ((y ≡ false) × ¬ (b ≡ a)) → cond {A = ℕ} x 1 0 ≡ cond {A = ℕ} y 1 0

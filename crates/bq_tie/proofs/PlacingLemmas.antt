@@ -1,7 +1,8 @@
 -- One more item comes to its place.
-use Rattle.std.proofs.Common.{◌≡◌, ◌≢◌, ℕ, zero, suc, ◌+◌, ◌<◌, ◌≤◌, List, [], ◌∷◌, length, refl, sym, ap, ◌∙◌, ◌⊎◌, inl, inr, ⊎_elim, arith}
+use Rattle.std.proofs.Common.{◌≡◌, ◌≢◌, ℕ, ◌+◌, ◌<◌, ◌≤◌, List, [], ◌∷◌, length, refl, sym, ap, ◌∙◌, ◌⊎◌, ⊎_elim, arith}
 use Rattle.std.specs.Prelude.{slice_index_or}
 use Rattle.std.specs.List.{SwappedAt}
+use Rattle.std.proofs.lemmas.Bool.{cases_lt}
 use mathlib.Core.Logic.{dite}
 use native.Mathlib.Decide.{ℕ_discrete}
 use Rattle.bq_tie.specs.Places.{IsAt, AreAll, ArePlaced, AreFrom}
@@ -11,12 +12,6 @@ module _ {A : Type 0} where
   pub item_at : (xs : List A) (j : ℕ) → j < length xs → A
   item_at [] j lt = absurd (omega arith)
   item_at (x ∷ xs) j lt = x
-
-  -- within the list the default is not read
-  pub any_default : (xs : List A) (j : ℕ) (d e : A) → j < length xs → slice_index_or xs j d ≡ slice_index_or xs j e
-  any_default [] j d e lt = absurd (omega arith)
-  any_default (x ∷ xs) zero d e lt = refl
-  any_default (x ∷ xs) (suc j) d e lt = any_default xs j d e (omega arith)
 
   -- each item of a list is one of that list
   pub all_from : (xs : List A) → AreFrom xs xs
@@ -50,11 +45,6 @@ module _ {A : Type 0} (place : A → ℕ) (xs ys : List A) (k at : ℕ) (low : k
       (λ (e : m ≡ at). let w = from k low in (w.0, w.1, λ d. ap (λ (i : ℕ). slice_index_or ys i d) e ∙ (swapped.1 d ∙ w.2 d)))
       (λ (o : m ≢ at). let w = from m (omega (arith, long)) in (w.0, w.1, λ d. swapped.2 m d n o ∙ w.2 d)))
 
-lt_or_le : (a b : ℕ) → (a < b) ⊎ (b ≤ a)
-lt_or_le a zero = inr (omega arith)
-lt_or_le zero (suc b) = inl (omega arith)
-lt_or_le (suc a) (suc b) = ⊎_elim (λ (l : a < b). inl (omega arith)) (λ (r : b ≤ a). inr (omega arith)) (lt_or_le a b)
-
 -- the item of place k is not among those before it, which stand at their own
 pub not_before : {A : Type 0} (place : A → ℕ) (xs : List A) (k : ℕ) → ArePlaced place k xs → (w : (j : ℕ) × IsAt place xs k j) → (j : ℕ) × (k ≤ j) × IsAt place xs k j
 not_before place xs k placed w = ⊎_elim
@@ -64,4 +54,4 @@ not_before place xs k placed w = ⊎_elim
     let b = w.1.1 d in
     absurd (omega (arith, a, b, lt)))
     (λ (le : k ≤ w.0). (w.0, le, w.1))
-    (lt_or_le w.0 k)
+    (cases_lt w.0 k)

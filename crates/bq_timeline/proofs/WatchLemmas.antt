@@ -12,7 +12,7 @@ use Rattle.bq_trace.specs.News.{News, Told, Gets, TakesAll}
 use Rattle.bq_trace.specs.Telling.{GoesOn, Story}
 use Rattle.bq_trace.specs.Trace.{start}
 use Rattle.bq_trace.proofs.LineLemmas.{lines-with_feeds}
-use Rattle.bq_trace.proofs.ReplayLemmas.{with_feeds-join}
+use Rattle.bq_trace.proofs.ReplayLemmas.{with_feeds-join, AllByRecursion-append}
 use Rattle.bq_trace.proofs.StandingLemmas.{Story-append, stands_for_nothing}
 use Rattle.bq_timeline.specs.Notes.{last_notes}
 use Rattle.bq_timeline.specs.Timelines.{Closes, IsTimeline, Keeps, Watches}
@@ -78,10 +78,6 @@ Underway-none from showing first empty schedule troubles = record {
   schedule = schedule;
   troubles = troubles;
 }
-
-AllByRecursion-append : (xs ys : List (List ℕ)) → AllByRecursion IsOneLine xs → AllByRecursion IsOneLine ys → AllByRecursion IsOneLine (xs ++ ys)
-AllByRecursion-append [] ys h k = k
-AllByRecursion-append (x ∷ xs) ys h k = (h.0, AllByRecursion-append xs ys h.1 k)
 
 -- a piece that is read and told leaves the timeline underway
 pub Underway-more : (from mid to : Option (List ℕ)) (s t : Showing) (piece : List ℕ) → (h : Underway from mid s) → Consumes mid to piece

@@ -6,6 +6,7 @@ use Rattle.std.proofs.lemmas.Bool.Decides.{nat_tests}
 use Rattle.bq_disc.specs.Tasks.{Task, runs_before, with_id}
 use Rattle.bq_disc.specs.Queues.{follows, comes_after, HasDistinctIds}
 use Rattle.bq_disc.specs.Rising.{IsRising, NoneRunsBefore}
+use Rattle.bq_disc.proofs.QueueLemmas.{cond_none, with_id-none}
 
 -- the tasks that are still to come
 abbrev pub rest_after : Option (ℕ × ℕ) → List Task → List Task
@@ -29,14 +30,10 @@ follows_along : (last : Option (ℕ × ℕ)) (x y : Task) → follows last x ≡
 follows_along None x y p q = refl
 follows_along (Some (v, id)) x y p q = after_along v id x y p q
 
-cond_none : (b : Bool) (x : Task) (o : Option Task) → cond b (Some x) o ≡ None → (b ≡ false) × (o ≡ None)
-cond_none true x o h = cc
-cond_none false x o h = (refl, h)
-
 -- the rest of a rising queue comes after its first
 rest_later : (x : Task) (xs : List Task) → NoneRunsBefore x xs → with_id x.id xs ≡ None → AllByRecursion (λ y. comes_after x.v x.id y ≡ true) xs
 rest_later x [] r d = tt
-rest_later x (y ∷ xs) r d = let s = cond_none (eqb y.id x.id) y (with_id x.id xs) d in (comes_later x y r.0 s.0, rest_later x xs r.1 s.1)
+rest_later x (y ∷ xs) r d = let s = with_id-none x.id y xs d in (comes_later x y r.0 s.0, rest_later x xs r.1 s.1)
 
 all_follow : (last : Option (ℕ × ℕ)) (x : Task) (xs : List Task) → follows last x ≡ true → AllByRecursion (λ y. comes_after x.v x.id y ≡ true) xs → rest_after last xs ≡ xs
 all_follow last x [] h a = refl

@@ -42,7 +42,8 @@ Underway-none from old s first empty = record {
   added = Appends-nil old;
 }
 
-AllByRecursion-append : (xs ys : List (List ℕ)) → AllByRecursion IsOneLine xs → AllByRecursion IsOneLine ys → AllByRecursion IsOneLine (xs ++ ys)
+-- each of two lists of lines together is one line
+pub AllByRecursion-append : (xs ys : List (List ℕ)) → AllByRecursion IsOneLine xs → AllByRecursion IsOneLine ys → AllByRecursion IsOneLine (xs ++ ys)
 AllByRecursion-append [] ys h k = k
 AllByRecursion-append (x ∷ xs) ys h k = (h.0, AllByRecursion-append xs ys h.1 k)
 

@@ -1,6 +1,5 @@
 -- News that something takes one after another.
-use Rattle.std.proofs.Common.{◌≡◌, ℕ, List, [], ◌∷◌, ◌++◌, refl, sym, ap, ◌∙◌, append_assoc, append-nil, subst, Result, Ok, Err}
-use Rattle.std.specs.Prelude.{OnOk}
+use Rattle.std.proofs.Common.{◌≡◌, ℕ, List, [], ◌∷◌, ◌++◌, refl, sym, ap, ◌∙◌, append_assoc, append-nil, subst}
 use Rattle.bq_trace.specs.News.{News, Told, TakesAll, Gets, text_of, texts}
 
 -- what takes some news and then others takes them all
@@ -23,11 +22,6 @@ pub added_by : {S : Type 0} (bytes : S → List ℕ) (old new : S) (told : Told)
     → bytes new ≡ bytes old ++ texts told
 added_by bytes old new [] h = ap bytes h ∙ sym (append-nil (bytes old))
 added_by bytes old new ((n, x) ∷ more) h = added_by bytes h.0 new more h.2 ∙ ap (λ l. l ++ texts more) h.1 ∙ append_assoc (bytes old) (text_of n x) (texts more)
-
--- what follows from a fact of a successful result holds of it too
-pub OnOk-weaker : {T E P Q : Type 0} (r : Result T E) → (P → Q) → OnOk r P → OnOk r Q
-OnOk-weaker (Ok x) along p = along p
-OnOk-weaker (Err e) along p = tt
 
 -- news of which more is known
 pub gets_along : {S : Type 0} (takes : S → ℕ → News → S → Type 0) (old new : S) (Less More : Told → Type 0) → ((told : Told) → Less told → More told) → Gets takes old new Less → Gets takes old new More

@@ -21,8 +21,9 @@ use Rattle.bq_states.specs.declared.abstract_state.ValueKind.TheVariants.{Number
 use Rattle.bq_states.specs.AbstractStates.{Describes, Contains, Keeps, Suits, IsOfKind, Bounds}
 use Rattle.bq_transfer.specs.Transfers.{FindsPlace}
 use Rattle.bq_states.proofs.WordLemmas.{describes_number}
-use Rattle.bq_states.proofs.AccessLemmas.{good_at, number_of_word, read_bytes, region_byte}
+use Rattle.bq_states.proofs.AccessLemmas.{good_at, read_bytes, region_byte}
 use Rattle.bq_states.proofs.LearnLemmas.{found_at}
+use Rattle.bq_states.proofs.CopyLemmas.{number_of_word}
 
 -- where an access by a pointer that stays inside its region goes
 pub place_gives : (shapes : List MapShape) (context_length : ℕ) (state : AbstractState) (size : Size) (src : ℕ) (off : ℤ) (base : AbstractValue) (bound : ℕ) (at : Range) → Some base ≡ slice_index_or state.registers src None → Bounds shapes context_length base.kind bound → bound ≤ 65536 → ((u : ℕ) → Within base.offset u → Within at ((u + word_of off) % 2 ^ 64)) → at.hi + byte_count size ≤ bound → FindsPlace shapes context_length state src off size base.kind at

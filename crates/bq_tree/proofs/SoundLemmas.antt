@@ -3,7 +3,7 @@ use Rattle.std.proofs.Common.{◌≡◌, ℕ, ◌<◌, Bool, true, false, cond, 
 use Rattle.std.proofs.lemmas.Bool.Decides.{nat_tests}
 use Rattle.bq_disc.specs.Tasks.{Task, has_id, with_id, without, place, runs_before}
 use Rattle.bq_disc.specs.Queues.{HasDistinctIds}
-use Rattle.bq_disc.proofs.QueueLemmas.{without-absent}
+use Rattle.bq_disc.proofs.QueueLemmas.{without-absent, with_id-none}
 use Rattle.bq_tree.specs.Taking.{is_at, IsAbsent, Takes, Finds}
 use Rattle.bq_tree.specs.Sound.{Knows}
 
@@ -21,15 +21,11 @@ pub Knows-drop : (times : List ℕ) (xs : List Task) (t : Task) (ys : List Task)
 Knows-drop times [] t ys k = k.1
 Knows-drop times (x ∷ xs) t ys k = (k.0, Knows-drop times xs t ys k.1)
 
-none_by_test : (b : Bool) (x : Task) (o : Option Task) → cond b (Some x) o ≡ None → (b ≡ false) × (o ≡ None)
-none_by_test true x o h = cc
-none_by_test false x o h = (refl, h)
-
 -- where the table changes at an id that no task has, it still has the others
 pub Knows-other : (old new : List ℕ) (id : ℕ) (xs : List Task) → ((k : ℕ) → eqb k id ≡ false → slice_index new k ≡ slice_index old k) → with_id id xs ≡ None → Knows old xs → Knows new xs
 Knows-other old new id [] same n k = tt
 Knows-other old new id (x ∷ xs) same n k =
-    let s = none_by_test (has_id id x) x (with_id id xs) n in
+    let s = with_id-none id x xs n in
     ((λ l. same x.id s.0 ∙ k.0 l), Knows-other old new id xs same s.1 k.1)
 
 time_by_test : (b : Bool) (times : List ℕ) (id : ℕ) (x : Task) (o : Option Task) → has_id id x ≡ b → id < 1024 → (x.id < 1024 → slice_index times x.id ≡ x.v) → IfSome o (λ t. t.v ≡ slice_index times id) → IfSome (cond b (Some x) o) (λ t. t.v ≡ slice_index times id)

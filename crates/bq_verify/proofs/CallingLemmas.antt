@@ -1,7 +1,9 @@
 -- The worked program with calls of helpers 2, 100 and 101 is straight.
-use Rattle.std.proofs.Common.{◌≡◌, ℕ, ◌+◌, ◌<◌, ◌≤◌, Bool, true, false, List, [], ◌∷◌, ◌++◌, Option, Some, None, refl, sym, subst, ◌∙◌, inl, inr, ℤ, pos, arith}
-use Rattle.std.specs.Prelude.{if◌then◌else◌, neg_ℤ, slice_index}
+use Rattle.std.proofs.Common.{◌≡◌, ℕ, ◌+◌, ◌<◌, ◌≤◌, Bool, true, false, List, [], ◌∷◌, Option, Some, None, refl, sym, subst, ◌∙◌, inl, inr, ℤ, pos, arith}
+use Rattle.std.specs.Prelude.{neg_ℤ, slice_index}
 use Rattle.std.proofs.lemmas.Int.{ints}
+use Rattle.std.proofs.lemmas.Option.{none-some}
+use Rattle.std.proofs.lemmas.Bool.{false≢true, or_right}
 use Rattle.bq_insn.specs.declared.Insn.{Insn}
 use Rattle.bq_insn.specs.declared.Insn.TheVariants.{Call, Exit}
 use Rattle.bq_insn.specs.declared.Operation.TheVariants.{Add}
@@ -12,99 +14,77 @@ use Rattle.bq_insn.specs.Slots.{slots_of, spread}
 use Rattle.bq_bpf.specs.Steps.{LeadsTo, instruction_at}
 use Rattle.bq_bpf.specs.declared.shape.MapShape.{MapShape}
 use Rattle.bq_graph.specs.Edges.{IsEdge, IsStart, Leaves, distance_of, goes_on}
-use Rattle.bq_graph.specs.Paths.{CallsOnWay, IsPath, Path, calls_before_end, calls_of, end_of, asks_counter}
+use Rattle.bq_graph.specs.Paths.{CallsOnWay, IsPath, Path, calls_before_end, end_of}
 use Rattle.bq_graph.specs.Faults.{IsFaultless, destination_of, is_helper}
 use Rattle.bq_graph.specs.declared.cause.GraphCause.TheVariants.{Jump, NoExit, Unreached, Frame, Helper, Counters}
-use Rattle.bq_graph.proofs.EdgeLemmas.{end_of-push, IsPath-push, exit_is_last}
+use Rattle.bq_graph.proofs.EdgeLemmas.{exit_is_last}
+use Rattle.bq_graph.proofs.CountLemmas.{one_call}
 use Rattle.bq_states.specs.declared.abstract_state.ValueKind.TheVariants.{Map, Stack}
 use Rattle.bq_verify.specs.Straight.{leaves, loads, stores, untouched, writes, HasOneWay, IsByteStored, IsCounting, IsGiving, IsLoaded, IsMoveOnStack, IsNaming, IsPointerFrom, IsWritten, Needs, OnEachPath}
 use Rattle.bq_verify.specs.Worked.{calling, CallingIsStraight}
-use Rattle.bq_verify.proofs.WorkedLemmas.{AllAt, holds_along_path, at_slot, made_before, made_first, no_distance, no_register, not_false, not_frame, or_true}
+use Rattle.bq_verify.proofs.EachSlotLemmas.{each_slot, holds_along_path, made_before, made_first, goes_next, goes_nowhere, edge_on, path_on, no_jump, not_frame}
 
 abbrev program : List (Option Insn)
 program = spread calling
-
-each_slot : (P : ℕ → Insn → Type 0) → AllAt P 0 program → (k : ℕ) (insn : Insn) → instruction_at program k ≡ Some insn → P k insn
-each_slot P all k insn here = let e : 0 + k ≡ k = omega arith in subst (λ (m : ℕ). P m insn) e (at_slot P 0 program all k insn here)
 
 -- the slot before each slot: control goes on from each to the next
 abbrev before : ℕ → ℕ
 before k = slice_index (0 ∷ 0 ∷ 0 ∷ 1 ∷ 3 ∷ 4 ∷ 5 ∷ 6 ∷ 7 ∷ 8 ∷ 9 ∷ 10 ∷ 11 ∷ 12 ∷ 13 ∷ []) k
 
-goes_next : (n : ℕ) (insn : Insn) → instruction_at program n ≡ Some insn → distance_of insn ≡ None → n ≡ before (n + slots_of insn) → (to : ℕ) → Leaves insn n to → n ≡ before to
-goes_next n insn here none is to (inl on) = subst (λ (k : ℕ). n ≡ before k) (sym on.1) is
-goes_next n insn here none is to (inr jump) = absurd (no_distance jump.0 (sym none ∙ jump.1))
-
-goes_nowhere : (n : ℕ) → instruction_at program n ≡ Some Exit → (to : ℕ) → Leaves Exit n to → n ≡ before to
-goes_nowhere n here to leaves = absurd (exit_is_last program n to here (record { insn = Exit; here = here; leaves = leaves }))
-
 only_before : (from to : ℕ) → IsEdge program from to → from ≡ before to
 only_before from to edge =
-    each_slot (λ from insn. (to : ℕ) → Leaves insn from to → from ≡ before to)
-    (goes_next 0 _ refl refl refl, (goes_next 1 _ refl refl refl, (goes_next 3 _ refl refl refl, (goes_next 4 _ refl refl refl, (goes_next 5 _ refl refl refl, (goes_next 6 _ refl refl refl, (goes_next 7 _ refl refl refl, (goes_next 8 _ refl refl refl, (goes_next 9 _ refl refl refl, (goes_next 10 _ refl refl refl, (goes_next 11 _ refl refl refl, (goes_next 12 _ refl refl refl, (goes_next 13 _ refl refl refl, (goes_nowhere 14 refl, tt))))))))))))))
+    each_slot program (λ from insn. (to : ℕ) → Leaves insn from to → from ≡ before to)
+    (goes_next program before 0 _ refl refl refl, (goes_next program before 1 _ refl refl refl, (goes_next program before 3 _ refl refl refl, (goes_next program before 4 _ refl refl refl, (goes_next program before 5 _ refl refl refl, (goes_next program before 6 _ refl refl refl, (goes_next program before 7 _ refl refl refl, (goes_next program before 8 _ refl refl refl, (goes_next program before 9 _ refl refl refl, (goes_next program before 10 _ refl refl refl, (goes_next program before 11 _ refl refl refl, (goes_next program before 12 _ refl refl refl, (goes_next program before 13 _ refl refl refl, (goes_nowhere program before 14 refl, tt))))))))))))))
     from edge.insn edge.here to edge.leaves
 
 one_way : (slot : ℕ) → HasOneWay program slot
 one_way slot a b p q = only_before a slot p ∙ sym (only_before b slot q)
 
-edge_on : (n : ℕ) (insn : Insn) → instruction_at program n ≡ Some insn → goes_on insn ≡ true → IsEdge program n (n + slots_of insn)
-edge_on n insn here goes = record { insn = insn; here = here; leaves = inl (goes, refl) }
-
 -- a path to each slot
-on : (n : ℕ) (insn : Insn) → instruction_at program n ≡ Some insn → goes_on insn ≡ true → Path program 0 n → Path program 0 (n + slots_of insn)
-on n insn here goes p = record {
-  rest = p.rest ++ (n + slots_of insn) ∷ [];
-  is_path = IsPath-push program 0 p.rest (n + slots_of insn) p.is_path (subst (λ (k : ℕ). IsEdge program k (n + slots_of insn)) (sym p.ends) (edge_on n insn here goes));
-  ends = end_of-push 0 p.rest (n + slots_of insn);
-}
-
 to_0 : Path program 0 0
 to_0 = record { rest = []; is_path = tt; ends = refl }
 
 to_1 : Path program 0 1
-to_1 = on 0 _ refl refl to_0
+to_1 = path_on program 0 _ refl refl to_0
 
 to_3 : Path program 0 3
-to_3 = on 1 _ refl refl to_1
+to_3 = path_on program 1 _ refl refl to_1
 
 to_4 : Path program 0 4
-to_4 = on 3 _ refl refl to_3
+to_4 = path_on program 3 _ refl refl to_3
 
 to_5 : Path program 0 5
-to_5 = on 4 _ refl refl to_4
+to_5 = path_on program 4 _ refl refl to_4
 
 to_6 : Path program 0 6
-to_6 = on 5 _ refl refl to_5
+to_6 = path_on program 5 _ refl refl to_5
 
 to_7 : Path program 0 7
-to_7 = on 6 _ refl refl to_6
+to_7 = path_on program 6 _ refl refl to_6
 
 to_8 : Path program 0 8
-to_8 = on 7 _ refl refl to_7
+to_8 = path_on program 7 _ refl refl to_7
 
 to_9 : Path program 0 9
-to_9 = on 8 _ refl refl to_8
+to_9 = path_on program 8 _ refl refl to_8
 
 to_10 : Path program 0 10
-to_10 = on 9 _ refl refl to_9
+to_10 = path_on program 9 _ refl refl to_9
 
 to_11 : Path program 0 11
-to_11 = on 10 _ refl refl to_10
+to_11 = path_on program 10 _ refl refl to_10
 
 to_12 : Path program 0 12
-to_12 = on 11 _ refl refl to_11
+to_12 = path_on program 11 _ refl refl to_11
 
 to_13 : Path program 0 13
-to_13 = on 12 _ refl refl to_12
+to_13 = path_on program 12 _ refl refl to_12
 
 to_14 : Path program 0 14
-to_14 = on 13 _ refl refl to_13
+to_14 = path_on program 13 _ refl refl to_13
 
 a_helper : (a h : ℤ) → is_helper a ≡ true → Call a ≡ Call h → is_helper h ≡ false → ⊥
 a_helper a h known is unknown = let same : a ≡ h = cc in let there : is_helper a ≡ false = subst (λ (n : ℤ). is_helper n ≡ false) (sym same) unknown in cc
-
-no_jump : (slot : ℕ) (d : ℤ) → None ≡ Some d → ((to : ℕ) → LeadsTo slot d to → slot < to → IsStart program to → ⊥) → ⊥
-no_jump slot d jumps nowhere = no_distance d jumps
 
 inside : (n : ℕ) → n < 15 → 15 ≤ n → ⊥
 inside n lt le = omega arith
@@ -112,14 +92,14 @@ inside n lt le = omega arith
 -- control goes forward over each edge
 goes_forward : (n : ℕ) (insn : Insn) → instruction_at program n ≡ Some insn → distance_of insn ≡ None → 1 ≤ slots_of insn → (to : ℕ) → Leaves insn n to → n < to
 goes_forward n insn here none some to (inl on) = let is = on.1 in omega (arith, is, some)
-goes_forward n insn here none some to (inr jump) = absurd (no_distance jump.0 (sym none ∙ jump.1))
+goes_forward n insn here none some to (inr jump) = absurd (none-some jump.0 (sym none ∙ jump.1))
 
 exits : (to : ℕ) → Leaves Exit 14 to → 14 < to
 exits to leaves = absurd (exit_is_last program 14 to refl (record { insn = Exit; here = refl; leaves = leaves }))
 
 forward : (from to : ℕ) → IsEdge program from to → from < to
 forward from to edge =
-    each_slot (λ from insn. (to : ℕ) → Leaves insn from to → from < to)
+    each_slot program (λ from insn. (to : ℕ) → Leaves insn from to → from < to)
     (goes_forward 0 _ refl refl some, (goes_forward 1 _ refl refl two, (goes_forward 3 _ refl refl some, (goes_forward 4 _ refl refl some, (goes_forward 5 _ refl refl some, (goes_forward 6 _ refl refl some, (goes_forward 7 _ refl refl some, (goes_forward 8 _ refl refl some, (goes_forward 9 _ refl refl some, (goes_forward 10 _ refl refl some, (goes_forward 11 _ refl refl some, (goes_forward 12 _ refl refl some, (goes_forward 13 _ refl refl some, (exits, tt))))))))))))))
     from edge.insn edge.here to edge.leaves
   where
@@ -128,14 +108,6 @@ forward from to edge =
 
     two : 1 ≤ 2
     two = omega arith
-
-at_most_one : (b : Bool) → (if b then 1 else 0) ≤ 1
-at_most_one true = omega arith
-at_most_one false = omega arith
-
-one_call : (v : Option Insn) → calls_of v ≤ 1
-one_call None = omega arith
-one_call (Some insn) = at_most_one (asks_counter insn)
 
 -- a path has no more calls of counters than slots that it passes
 few_calls : (rest : List ℕ) (from : ℕ) → IsPath program from rest → calls_before_end program from rest + from ≤ end_of from rest
@@ -147,7 +119,7 @@ few_calls (next ∷ rest) from path =
     omega (arith, step, more, one)
 
 low : (k : ℕ) (insn : Insn) → instruction_at program k ≡ Some insn → k < 15
-low = each_slot (λ k insn. k < 15) (omega arith, (omega arith, (omega arith, (omega arith, (omega arith, (omega arith, (omega arith, (omega arith, (omega arith, (omega arith, (omega arith, (omega arith, (omega arith, (omega arith, tt))))))))))))))
+low = each_slot program (λ k insn. k < 15) (omega arith, (omega arith, (omega arith, (omega arith, (omega arith, (omega arith, (omega arith, (omega arith, (omega arith, (omega arith, (omega arith, (omega arith, (omega arith, (omega arith, tt))))))))))))))
 
 never_late : (slot count : ℕ) (insn : Insn) → instruction_at program slot ≡ Some insn → CallsOnWay program slot count → 16 ≤ count → ⊥
 never_late slot count insn here way many =
@@ -159,67 +131,67 @@ never_late slot count insn here way many =
 
 faultless : IsFaultless program
 faultless Jump slot fault =
-    each_slot (λ slot insn. (d : ℤ) → distance_of insn ≡ Some d → ((to : ℕ) → LeadsTo slot d to → slot < to → IsStart program to → ⊥) → ⊥)
-    (no_jump 0, (no_jump 1, (no_jump 3, (no_jump 4, (no_jump 5, (no_jump 6, (no_jump 7, (no_jump 8, (no_jump 9, (no_jump 10, (no_jump 11, (no_jump 12, (no_jump 13, (no_jump 14, tt))))))))))))))
+    each_slot program (λ slot insn. (d : ℤ) → distance_of insn ≡ Some d → ((to : ℕ) → LeadsTo slot d to → slot < to → IsStart program to → ⊥) → ⊥)
+    (no_jump program 0, (no_jump program 1, (no_jump program 3, (no_jump program 4, (no_jump program 5, (no_jump program 6, (no_jump program 7, (no_jump program 8, (no_jump program 9, (no_jump program 10, (no_jump program 11, (no_jump program 12, (no_jump program 13, (no_jump program 14, tt))))))))))))))
     slot fault.insn fault.here fault.distance fault.jumps fault.nowhere
 faultless NoExit slot fault =
-    each_slot (λ slot insn. goes_on insn ≡ true → 15 ≤ slot + slots_of insn → ⊥)
-    (λ on. inside 1 (omega arith), (λ on. inside 3 (omega arith), (λ on. inside 4 (omega arith), (λ on. inside 5 (omega arith), (λ on. inside 6 (omega arith), (λ on. inside 7 (omega arith), (λ on. inside 8 (omega arith), (λ on. inside 9 (omega arith), (λ on. inside 10 (omega arith), (λ on. inside 11 (omega arith), (λ on. inside 12 (omega arith), (λ on. inside 13 (omega arith), (λ on. inside 14 (omega arith), (λ on past. not_false on, tt))))))))))))))
+    each_slot program (λ slot insn. goes_on insn ≡ true → 15 ≤ slot + slots_of insn → ⊥)
+    (λ on. inside 1 (omega arith), (λ on. inside 3 (omega arith), (λ on. inside 4 (omega arith), (λ on. inside 5 (omega arith), (λ on. inside 6 (omega arith), (λ on. inside 7 (omega arith), (λ on. inside 8 (omega arith), (λ on. inside 9 (omega arith), (λ on. inside 10 (omega arith), (λ on. inside 11 (omega arith), (λ on. inside 12 (omega arith), (λ on. inside 13 (omega arith), (λ on. inside 14 (omega arith), (λ on past. false≢true on, tt))))))))))))))
     slot fault.insn fault.here fault.on fault.past
-faultless Unreached slot fault = fault.none (each_slot (λ slot insn. Path program 0 slot) (to_0, (to_1, (to_3, (to_4, (to_5, (to_6, (to_7, (to_8, (to_9, (to_10, (to_11, (to_12, (to_13, (to_14, tt)))))))))))))) slot fault.start.insn fault.start.here)
+faultless Unreached slot fault = fault.none (each_slot program (λ slot insn. Path program 0 slot) (to_0, (to_1, (to_3, (to_4, (to_5, (to_6, (to_7, (to_8, (to_9, (to_10, (to_11, (to_12, (to_13, (to_14, tt)))))))))))))) slot fault.start.insn fault.start.here)
 faultless Frame slot fault =
-    each_slot (λ slot insn. destination_of insn ≡ Some 10 → ⊥)
-    (no_register 10, (not_frame 1 (omega arith), (not_frame 2 (omega arith), (not_frame 2 (omega arith), (not_frame 3 (omega arith), (not_frame 3 (omega arith), (not_frame 4 (omega arith), (no_register 10, (not_frame 2 (omega arith), (not_frame 1 (omega arith), (no_register 10, (not_frame 1 (omega arith), (no_register 10, (no_register 10, tt))))))))))))))
+    each_slot program (λ slot insn. destination_of insn ≡ Some 10 → ⊥)
+    (none-some 10, (not_frame 1 (omega arith), (not_frame 2 (omega arith), (not_frame 2 (omega arith), (not_frame 3 (omega arith), (not_frame 3 (omega arith), (not_frame 4 (omega arith), (none-some 10, (not_frame 2 (omega arith), (not_frame 1 (omega arith), (none-some 10, (not_frame 1 (omega arith), (none-some 10, (none-some 10, tt))))))))))))))
     slot fault.insn fault.here fault.writes
 faultless Helper slot fault =
-    each_slot (λ slot insn. (h : ℤ) → insn ≡ Call h → is_helper h ≡ false → ⊥)
+    each_slot program (λ slot insn. (h : ℤ) → insn ≡ Call h → is_helper h ≡ false → ⊥)
     (λ h is unknown. cc, (λ h is unknown. cc, (λ h is unknown. cc, (λ h is unknown. cc, (λ h is unknown. cc, (λ h is unknown. cc, (λ h is unknown. cc, (λ h. a_helper (pos 2) h refl, (λ h is unknown. cc, (λ h is unknown. cc, (λ h. a_helper (pos 100) h refl, (λ h is unknown. cc, (λ h. a_helper (pos 101) h refl, (λ h is unknown. cc, tt))))))))))))))
     slot (Call fault.helper) fault.here fault.helper refl fault.unknown
 faultless Counters slot fault = never_late slot fault.count fault.insn fault.here fault.way fault.many
 
 -- register 1 names the map up to the first call
 names_3 : IsPointerFrom program (Map 0) 0 1 3 (1 ∷ [])
-names_3 = (one_way 3, edge_on 1 _ refl refl, inl (refl, 0, refl, refl, refl))
+names_3 = (one_way 3, edge_on program 1 _ refl refl, inl (refl, 0, refl, refl, refl))
 
 names_4 : IsPointerFrom program (Map 0) 0 1 4 (3 ∷ 1 ∷ [])
-names_4 = (one_way 4, edge_on 3 _ refl refl, inr ((refl, tt), names_3))
+names_4 = (one_way 4, edge_on program 3 _ refl refl, inr ((refl, tt), names_3))
 
 names_5 : IsPointerFrom program (Map 0) 0 1 5 (4 ∷ 3 ∷ 1 ∷ [])
-names_5 = (one_way 5, edge_on 4 _ refl refl, inr ((refl, tt), names_4))
+names_5 = (one_way 5, edge_on program 4 _ refl refl, inr ((refl, tt), names_4))
 
 names_6 : IsPointerFrom program (Map 0) 0 1 6 (5 ∷ 4 ∷ 3 ∷ 1 ∷ [])
-names_6 = (one_way 6, edge_on 5 _ refl refl, inr ((refl, tt), names_5))
+names_6 = (one_way 6, edge_on program 5 _ refl refl, inr ((refl, tt), names_5))
 
 names_7 : IsPointerFrom program (Map 0) 0 1 7 (6 ∷ 5 ∷ 4 ∷ 3 ∷ 1 ∷ [])
-names_7 = (one_way 7, edge_on 6 _ refl refl, inr ((refl, tt), names_6))
+names_7 = (one_way 7, edge_on program 6 _ refl refl, inr ((refl, tt), names_6))
 
 names_8 : IsPointerFrom program (Map 0) 0 1 8 (7 ∷ 6 ∷ 5 ∷ 4 ∷ 3 ∷ 1 ∷ [])
-names_8 = (one_way 8, edge_on 7 _ refl refl, inr ((refl, tt), names_7))
+names_8 = (one_way 8, edge_on program 7 _ refl refl, inr ((refl, tt), names_7))
 
 -- registers 2 and 3 point to the stack's end, and then eight bytes below
 entry_4 : IsPointerFrom program Stack 512 2 4 (3 ∷ [])
-entry_4 = (one_way 4, edge_on 3 _ refl refl, inl (refl, refl, refl, refl))
+entry_4 = (one_way 4, edge_on program 3 _ refl refl, inl (refl, refl, refl, refl))
 
 entry_5 : IsPointerFrom program Stack 504 2 5 (4 ∷ 3 ∷ [])
-entry_5 = (one_way 5, edge_on 4 _ refl refl, inl (refl, 512, entry_4, refl))
+entry_5 = (one_way 5, edge_on program 4 _ refl refl, inl (refl, 512, entry_4, refl))
 
 entry_6 : IsPointerFrom program Stack 504 2 6 (5 ∷ 4 ∷ 3 ∷ [])
-entry_6 = (one_way 6, edge_on 5 _ refl refl, inr ((refl, tt), entry_5))
+entry_6 = (one_way 6, edge_on program 5 _ refl refl, inr ((refl, tt), entry_5))
 
 entry_7 : IsPointerFrom program Stack 504 2 7 (6 ∷ 5 ∷ 4 ∷ 3 ∷ [])
-entry_7 = (one_way 7, edge_on 6 _ refl refl, inr ((refl, tt), entry_6))
+entry_7 = (one_way 7, edge_on program 6 _ refl refl, inr ((refl, tt), entry_6))
 
 entry_8 : IsPointerFrom program Stack 504 2 8 (7 ∷ 6 ∷ 5 ∷ 4 ∷ 3 ∷ [])
-entry_8 = (one_way 8, edge_on 7 _ refl refl, inr ((refl, tt), entry_7))
+entry_8 = (one_way 8, edge_on program 7 _ refl refl, inr ((refl, tt), entry_7))
 
 value_6 : IsPointerFrom program Stack 512 3 6 (5 ∷ [])
-value_6 = (one_way 6, edge_on 5 _ refl refl, inl (refl, refl, refl, refl))
+value_6 = (one_way 6, edge_on program 5 _ refl refl, inl (refl, refl, refl, refl))
 
 value_7 : IsPointerFrom program Stack 504 3 7 (6 ∷ 5 ∷ [])
-value_7 = (one_way 7, edge_on 6 _ refl refl, inl (refl, 512, value_6, refl))
+value_7 = (one_way 7, edge_on program 6 _ refl refl, inl (refl, 512, value_6, refl))
 
 value_8 : IsPointerFrom program Stack 504 3 8 (7 ∷ 6 ∷ 5 ∷ [])
-value_8 = (one_way 8, edge_on 7 _ refl refl, inr ((refl, tt), value_7))
+value_8 = (one_way 8, edge_on program 7 _ refl refl, inr ((refl, tt), value_7))
 
 stored_8 : (i : ℕ) → 504 ≤ i → i < 512 → IsByteStored program 8 i
 stored_8 i le lt = (Double, neg_ℤ (pos 8), made_first program (stores Double (neg_ℤ (pos 8))) refl 8 (omega arith), (504, refl, le, lt))
@@ -258,7 +230,7 @@ made_then_left slots makes leaves first j k later past made only left rest path 
           let at = only from (subst (λ (n : ℕ). IsEdge slots from n) same edge) in
           let h : held ≡ true = p.0 at in
           let l : leaves (instruction_at slots from) ≡ true = subst (λ (n : ℕ). leaves (instruction_at slots n) ≡ true) (sym at) left in
-          rw (h, l) (or_true _),
+          rw (h, l) (or_right _ true refl),
     ))
     rest 0 first path (λ same. absurd (omega (arith, same, later)), λ same. absurd (omega (arith, same, past)))).1
     ends
@@ -295,7 +267,7 @@ calling_is_straight = (
   refl,
   λ shape context small. record {
     faultless = faultless;
-    each = each_slot (λ slot insn. Needs program (shape ∷ []) context slot insn)
+    each = each_slot program (λ slot insn. Needs program (shape ∷ []) context slot insn)
         (inl (refl, (504, refl, omega arith)), ((below_10 1 (omega arith), 0, refl, first_below), ((below_10 2 (omega arith), inr (inl (refl, refl, refl))), ((below_10 2 (omega arith), inr (inr (sum_of 2 4 (3 ∷ []) entry_4))), ((below_10 3 (omega arith), inr (inl (refl, refl, refl))), ((below_10 3 (omega arith), inr (inr (sum_of 3 6 (5 ∷ []) value_6))), ((below_10 4 (omega arith), inl (tt, tt)), (inr (inr (inl (refl, 0, giving shape small))), ((below_10 2 (omega arith), inl (tt, tt)), ((below_10 1 (omega arith), inl (tt, tt)), (inr (inr (inr (inl refl, counting_11))), ((below_10 1 (omega arith), inl (tt, tt)), (inr (inr (inr (inr refl, counting_13))), (written_14, tt))))))))))))));
   },
 )

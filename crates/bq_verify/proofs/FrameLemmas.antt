@@ -1,8 +1,8 @@
 -- A well-formed program without faults writes no register from 10 on.
-use Rattle.std.proofs.Common.{◌≡◌, ℕ, suc, zero, ◌-◌, ◌<◌, ◌≤◌, true, false, ◌&&◌, List, [], ◌∷◌, ◌++◌, Option, Some, None, refl, sym, subst, arith, ◌⊎◌, inl, inr, replicate}
+use Rattle.std.proofs.Common.{◌≡◌, ℕ, suc, zero, ◌-◌, ◌<◌, ◌≤◌, true, false, List, [], ◌∷◌, ◌++◌, Option, Some, None, refl, sym, subst, arith, ◌⊎◌, inl, inr, replicate}
 use Rattle.std.specs.Prelude.{nat_le}
 use Rattle.std.specs.List.{list_all}
-use Rattle.std.proofs.lemmas.Bool.{cases_lt}
+use Rattle.std.proofs.lemmas.Bool.{cases_lt, and_parts}
 use Rattle.std.proofs.lemmas.Bool.Decides.{nat_tests}
 use Rattle.bq_insn.specs.declared.Insn.{Insn}
 use Rattle.bq_insn.specs.declared.Insn.TheVariants.{Alu, MovSx, Neg, End, Load, Imm64, MapRef}
@@ -10,18 +10,13 @@ use Rattle.bq_insn.specs.declared.Bits.TheVariants.{B8, B16, B32, B64}
 use Rattle.bq_insn.specs.declared.Size.TheVariants.{Byte, Half, Word, Double}
 use Rattle.bq_insn.specs.declared.Width.TheVariants.{W32, W64}
 use Rattle.bq_insn.specs.Slots.{slots_of, spread}
-use Rattle.bq_insn.specs.Spelling.{is_insn, is_well_formed, slot_count}
-use Rattle.bq_insn.proofs.FormLemmas.{both_are_true}
+use Rattle.bq_insn.specs.Spelling.{is_insn}
 use Rattle.bq_bpf.specs.Steps.{instruction_at}
 use Rattle.bq_graph.specs.declared.cause.GraphCause.TheVariants.{Frame}
 use Rattle.bq_graph.specs.Faults.{IsFaultless, destination_of}
 use Rattle.bq_insn.proofs.OptionLemmas.{some_same, some_none}
 use Rattle.bq_graph.proofs.SpreadLemmas.{one_or_two}
 use Rattle.bq_verify.specs.Control.{SparesFrame}
-
--- each instruction of a well-formed program is in range
-pub well_formed_in_range : (insns : List Insn) → is_well_formed insns ≡ true → list_all is_insn insns ≡ true
-well_formed_in_range insns h = (both_are_true (list_all is_insn insns) (nat_le 1 (slot_count insns) && nat_le (slot_count insns) 4096) h).0
 
 -- each instruction of the slots is in range
 abbrev AreInsns : List (Option Insn) → Type 0
@@ -46,7 +41,7 @@ behind first slots good rest (inr two) =
 spread_insns : (insns : List Insn) → list_all is_insn insns ≡ true → AreInsns (spread insns)
 spread_insns [] all = λ k insn here. absurd (some_none _ _ here refl)
 spread_insns (first ∷ rest) all =
-    let parts = both_are_true (is_insn first) (list_all is_insn rest) all in
+    let parts = and_parts (is_insn first) (list_all is_insn rest) all in
     behind first (spread rest) parts.0 (spread_insns rest parts.1) (one_or_two first)
 
 small : (d r : ℕ) → nat_le d 10 ≡ true → Some d ≡ Some r → r ≤ 10
@@ -56,10 +51,10 @@ small d r le same =
 
 -- a register that an instruction in range writes is one of the eleven
 destination_small : (insn : Insn) (r : ℕ) → is_insn insn ≡ true → destination_of insn ≡ Some r → r ≤ 10
-destination_small (Alu w o d src) r good same = small d r (both_are_true _ _ good).0 same
-destination_small (MovSx w B8 d s) r good same = small d r (both_are_true _ _ good).0 same
-destination_small (MovSx w B16 d s) r good same = small d r (both_are_true _ _ good).0 same
-destination_small (MovSx W64 B32 d s) r good same = small d r (both_are_true _ _ good).0 same
+destination_small (Alu w o d src) r good same = small d r (and_parts _ _ good).0 same
+destination_small (MovSx w B8 d s) r good same = small d r (and_parts _ _ good).0 same
+destination_small (MovSx w B16 d s) r good same = small d r (and_parts _ _ good).0 same
+destination_small (MovSx W64 B32 d s) r good same = small d r (and_parts _ _ good).0 same
 destination_small (MovSx W32 B32 d s) r good same = absurd (let no : ⊥ = cc in no)
 destination_small (MovSx w B64 d s) r good same = absurd (let no : ⊥ = cc in no)
 destination_small (Neg w d) r good same = small d r good same
@@ -67,11 +62,11 @@ destination_small (End order B8 d) r good same = absurd (let no : ⊥ = cc in no
 destination_small (End order B16 d) r good same = small d r good same
 destination_small (End order B32 d) r good same = small d r good same
 destination_small (End order B64 d) r good same = small d r good same
-destination_small (Load Byte g d s off) r good same = small d r (both_are_true _ _ good).0 same
-destination_small (Load Half g d s off) r good same = small d r (both_are_true _ _ good).0 same
-destination_small (Load Word g d s off) r good same = small d r (both_are_true _ _ good).0 same
+destination_small (Load Byte g d s off) r good same = small d r (and_parts _ _ good).0 same
+destination_small (Load Half g d s off) r good same = small d r (and_parts _ _ good).0 same
+destination_small (Load Word g d s off) r good same = small d r (and_parts _ _ good).0 same
 destination_small (Load Double true d s off) r good same = absurd (let no : ⊥ = cc in no)
-destination_small (Load Double false d s off) r good same = small d r (both_are_true _ _ good).0 same
+destination_small (Load Double false d s off) r good same = small d r (and_parts _ _ good).0 same
 destination_small (Imm64 d v) r good same = small d r good same
 destination_small (MapRef d i) r good same = small d r good same
 destination_small _ r good same = absurd (some_none _ _ same refl)

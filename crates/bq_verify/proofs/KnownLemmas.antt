@@ -2,7 +2,8 @@
 use Rattle.std.proofs.Common.{◌≡◌, ◌≢◌, ℕ, zero, suc, ◌+◌, ◌^◌, ◌<◌, ◌≤◌, Bool, true, false, List, [], ◌∷◌, ◌++◌, Option, Some, None, Box, Global, length, refl, arith, sym, ap, ◌∙◌, subst, zero-le, ◌⊎◌, inl, inr, ℤ}
 use Rattle.std.specs.Prelude.{slice_index_or}
 use Rattle.std.proofs.lemmas.Bool.Decides.{eqb_tells}
-use Rattle.std.proofs.lemmas.Option.{same_Some}
+use Rattle.std.proofs.lemmas.Option.{same_Some, none-some}
+use Rattle.std.proofs.lemmas.Bool.{both_ways}
 use Rattle.bq_insn.specs.declared.Insn.{Insn}
 use Rattle.bq_insn.specs.declared.Insn.TheVariants.{Alu, MovSx, Neg, End, Load, StoreImm, StoreReg, Imm64, MapRef, Goto, Goto32, Branch, Call, Exit}
 use Rattle.bq_bpf.specs.declared.shape.MapShape.{MapShape}
@@ -75,26 +76,19 @@ first_step f s (suc n) calls t (before, c, u, chain, step, e) =
     let h = first_step f s n before u chain in
     (h.0, h.1, h.2 ++ listed c, h.3, (h.2, c, u, h.4, step, refl))
 
-no_call : (c : Asked) → None ≡ Some c → ⊥
-no_call c e = cc
-
--- a test does not come out both ways
-no_both : (b : Bool) → b ≡ false → b ≡ true → ⊥
-no_both b p q = cc
-
 -- the state after a step from where a slot leads on
 after_one : (f : Setting) (L : Setting → State → Type 0) → length f.context < 2 ^ 16 → (s u : State) (c : Option Asked) → LeadsOn L f s → Step f s c u → IsEdge f.slots s.slot u.slot × L f u
 after_one f L small s u c (inl (answer, ends)) step = absurd (no_step f small s answer c u ends step)
 after_one f L small s u None (inr (inl (t, step', edge, known))) step =
-    let same = one_step f small s None None t u step' step (λ x y p q. absurd (no_call x p)) in
+    let same = one_step f small s None None t u step' step (λ x y p q. absurd (none-some x p)) in
     subst (λ (x : State). IsEdge f.slots s.slot x.slot × L f x) same.1 (edge, known)
 after_one f L small s u (Some c) (inr (inl (t, step', edge, known))) step =
-    let same = one_step f small s (Some c) None u t step step' (λ x y p q. absurd (no_call y q)) in
-    absurd (no_call c (sym same.0))
+    let same = one_step f small s (Some c) None u t step step' (λ x y p q. absurd (none-some y q)) in
+    absurd (none-some c (sym same.0))
 after_one f L small s u None (inr (inr each)) step =
     let e = each 0 (omega arith) in
-    let same = one_step f small s None (Some e.0) u e.1 step e.3 (λ x y p q. absurd (no_call x p)) in
-    absurd (no_call e.0 same.0)
+    let same = one_step f small s None (Some e.0) u e.1 step e.3 (λ x y p q. absurd (none-some x p)) in
+    absurd (none-some e.0 same.0)
 after_one f L small s u (Some c) (inr (inr each)) step =
     let e = each (answer_of c) step.takes.1 in
     let same = one_step f small s (Some e.0) (Some c) e.1 u e.3 step
@@ -161,7 +155,7 @@ module _ (slots : List (Option Insn)) (shapes : List MapShape) (context_length :
     where
       is_none : IsKnown after seen arrived target f s → s.slot ≡ target → ⊥
       is_none (inl waits) there = none_waits f s (slice_index_or after target None) empty (waits_at_slot f s after target there waits)
-      is_none (inr (e, same, contains)) there = no_both arrived not e
+      is_none (inr (e, same, contains)) there = both_ways arrived not e
 
 -- an abstract state of no state: its first register names a map that there is not
 pub nowhere : List MapShape → AbstractState

@@ -4,6 +4,7 @@ pub mod OneStepLemmas
 pub mod GraphLemmas
 pub mod PassLemmas
 pub mod LongerLemmas
+pub mod EachSlotLemmas
 pub mod WorkedLemmas
 pub mod FirstLemmas
 pub mod FrameLemmas

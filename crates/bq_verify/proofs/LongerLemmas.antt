@@ -1,6 +1,6 @@
 -- A step on the first bytes of a context is a step on the whole context, and in a safe program each step is one.
 use Rattle.std.proofs.Common.{◌≡◌, ℕ, zero, suc, ◌+◌, ◌^◌, ◌<◌, ◌≤◌, List, [], ◌∷◌, Option, Some, None, length, take, refl, arith, sym, ap, ◌∙◌, subst, ◌⊎◌, inl, inr, ℤ, length-take}
-use Rattle.std.proofs.lemmas.Option.{same_Some}
+use Rattle.std.proofs.lemmas.Option.{same_Some, none-some}
 use Rattle.std.specs.Prelude.{slice_get}
 use Rattle.bq_insn.specs.declared.Insn.{Insn}
 use Rattle.bq_insn.specs.declared.Insn.TheVariants.{Alu, MovSx, Neg, End, Load, StoreImm, StoreReg, Imm64, MapRef, Goto, Goto32, Branch, Call, Exit}
@@ -104,23 +104,20 @@ module _ (f : Setting) (n : ℕ) where
   goes_on_longer s (inl (t, step)) = inl (t, step_longer s None t step)
   goes_on_longer s (inr each) = inr (λ x lt. let e = each x lt in (e.0, e.1, e.2, step_longer s (Some e.0) e.1 e.3))
 
-  none_some : (c : Asked) → None ≡ Some c → ⊥
-  none_some c e = cc
-
   module _ (small : length f.context < 2 ^ 16) where
     -- where the program goes on with the shorter context, each step is one with it
     step_shorter : (s t : State) (c : Option Asked) → ((answer : ℕ) × Ends (shortened f n) s answer s.maps) ⊎ GoesOn (shortened f n) s → Step f s c t → Step (shortened f n) s c t
     step_shorter s t c (inl (answer, ends)) step = absurd (no_step f small s answer c t (ends_longer s answer s.maps ends) step)
     step_shorter s t None (inr (inl (t', step'))) step =
-        let same = one_step f small s None None t t' step (step_longer s None t' step') (λ x y p q. absurd (none_some x p)) in
+        let same = one_step f small s None None t t' step (step_longer s None t' step') (λ x y p q. absurd (none-some x p)) in
         subst (λ (v : State). Step (shortened f n) s None v) (sym same.1) step'
     step_shorter s t (Some c) (inr (inl (t', step'))) step =
-        let same = one_step f small s (Some c) None t t' step (step_longer s None t' step') (λ x y p q. absurd (none_some y q)) in
-        absurd (none_some c (sym same.0))
+        let same = one_step f small s (Some c) None t t' step (step_longer s None t' step') (λ x y p q. absurd (none-some y q)) in
+        absurd (none-some c (sym same.0))
     step_shorter s t None (inr (inr each)) step =
         let e = each 0 (omega arith) in
-        let same = one_step f small s None (Some e.0) t e.1 step (step_longer s (Some e.0) e.1 e.3) (λ x y p q. absurd (none_some x p)) in
-        absurd (none_some e.0 same.0)
+        let same = one_step f small s None (Some e.0) t e.1 step (step_longer s (Some e.0) e.1 e.3) (λ x y p q. absurd (none-some x p)) in
+        absurd (none-some e.0 same.0)
     step_shorter s t (Some c) (inr (inr each)) step =
         let e = each (answer_of c) step.takes.1 in
         let same = one_step f small s (Some c) (Some e.0) t e.1 step (step_longer s (Some e.0) e.1 e.3)

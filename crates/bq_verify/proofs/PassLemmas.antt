@@ -3,6 +3,7 @@ use Rattle.std.proofs.Common.{◌≡◌, ◌≢◌, ℕ, zero, suc, ◌+◌, ◌
 use Rattle.std.specs.Prelude.{slice_index, slice_index_or}
 use Rattle.std.proofs.lemmas.Bool.Decides.{eqb_tells}
 use Rattle.std.proofs.lemmas.List.{get_or_past}
+use Rattle.std.proofs.lemmas.Bool.{both_ways}
 use Rattle.bq_insn.specs.declared.Insn.{Insn}
 use Rattle.bq_insn.specs.declared.Insn.TheVariants.{Goto, Goto32, Branch, Call}
 use Rattle.bq_insn.specs.declared.Width.{Width}
@@ -209,9 +210,6 @@ module _ (slots : List (Option Insn)) (shapes : List MapShape) (context_length :
 pub none_waits : (f : Setting) (s : State) (waiting : Option (Box AbstractState Global)) → waiting ≡ None → IsIn f waiting s → ⊥
 none_waits f s waiting none here = rw none at here
 
-not_true : (live : Bool) → live ≡ false → live ≡ true → ⊥
-not_true live a b = cc
-
 -- an abstract state that waits at the slot of a state waits at each slot equal to it
 pub waits_at_slot : (f : Setting) (s : State) (pending : List (Option (Box AbstractState Global))) (slot : ℕ) → s.slot ≡ slot → WaitsBoxed f pending s → IsIn f (slice_index_or pending slot None) s
 waits_at_slot f s pending slot same waits = subst (λ (n : ℕ). IsIn f (slice_index_or pending n None) s) same waits
@@ -227,7 +225,7 @@ module _ (slots : List (Option Insn)) (shapes : List MapShape) (context_length s
 
       here : IsKnown pending state live slot f s → s.slot ≡ slot → ⊥
       here (inl waits) same = none_waits f s (slice_index_or pending slot None) empty (waits_at_slot f s pending slot same waits)
-      here (inr (e, same', contains)) same = not_true live dead e
+      here (inr (e, same', contains)) same = both_ways live dead e
 
   pub passes_by : (new : List (Option (Box AbstractState Global))) (after : AbstractState) (on : Bool) → ((f : Setting) (s : State) → WaitsBoxed f pending s → WaitsBoxed f new s) → Goes slots shapes context_length slot state (IsKnown new after on (slot + 1)) → PassesOn slots shapes context_length slot K (IsKnown new after on (slot + 1))
   passes_by new after on kept goes f s setting begins known = (λ other. side (arrives f s known) other, λ same. here (arrives f s known) same)

@@ -2,7 +2,7 @@
 use Rattle.std.proofs.Common.{◌≡◌, ◌≢◌, ℕ, ◌+◌, ◌<◌, ◌≤◌, Bool, true, false, List, [], ◌∷◌, ◌++◌, Option, Some, None, Box, Global, refl, sym, subst, ap, ◌⊎◌, inl, inr, ◌∙◌, ℤ, pos, arith}
 use Rattle.std.specs.Prelude.{slice_index_or, not, ◌==◌, ◌&&◌, ◌||◌, ◌+ℤ◌}
 use Rattle.std.specs.Ordering.{int_eq}
-use Rattle.std.proofs.lemmas.Bool.{eqb-true, ltb-true, not-true}
+use Rattle.std.proofs.lemmas.Bool.{eqb-true, ltb-true, not-true, and_parts}
 use Rattle.std.proofs.lemmas.Bool.Decides.{eqb_tells, Decides-int_eq}
 use Rattle.std.proofs.lemmas.Int.{ints}
 use Rattle.bq_insn.specs.declared.Insn.{Insn}
@@ -37,14 +37,9 @@ use Rattle.bq_transfer.proofs.CertaintyLemmas.{exact_at_most}
 use Rattle.bq_verify.specs.Straight.{held_along, OnEachPath, is_register, writes, leaves, spares, loads, untouched, stores, always, never, IsWritten, IsStored, IsLoaded, IsContextLeft, IsWrittenOperand, IsWrittenLeft, IsOnStack, MakesPointer, LeavesPointerIn, IsPointerFrom, IsPointerAt, IsInEntry, IsGoodLoad, IsGoodStore, IsCopyOfEnd, IsMoveOnStack, IsNaming, IsGiving, IsCounting, Needs, IsStraightBefore, IsStraightProgram}
 use Rattle.bq_verify.specs.Sure.{IsDue, IsSure}
 
--- of tests joined
-both_true : (a b : Bool) → (a && b) ≡ true → (a ≡ true) × (b ≡ true)
-both_true true b h = (refl, h)
-both_true false b h = absurd (let no : ⊥ = cc in no)
-
 left_on : (a b x : Bool) → a ≡ false → (a || (b && x)) ≡ true → (b ≡ true) × (x ≡ true)
 left_on true b x e h = absurd (let no : ⊥ = cc in no)
-left_on false b x e h = both_true b x h
+left_on false b x e h = and_parts b x h
 
 int_is : (a b : ℤ) → int_eq a b ≡ true → a ≡ b
 int_is a b h = (Decides-int_eq a b).0 h
@@ -69,10 +64,10 @@ not_int a b h e = let yes' : int_eq a b ≡ true = (Decides-int_eq a b).1 e in l
 
 writes_gives : (insn : Insn) (r : ℕ) → writes r (Some insn) ≡ true → GivesNumber insn r
 writes_gives (Alu w Mov dst (Imm i)) r h = eqb-true dst r h
-writes_gives (Alu w Mov dst (Reg src)) r h = let b = both_true _ _ h in (eqb-true dst r b.0, not_equal src 10 b.1)
+writes_gives (Alu w Mov dst (Reg src)) r h = let b = and_parts _ _ h in (eqb-true dst r b.0, not_equal src 10 b.1)
 writes_gives (Alu w op dst src) r h = absurd (let no : ⊥ = cc in no)
 writes_gives (MapRef dst index) r h = absurd (let no : ⊥ = cc in no)
-writes_gives (Call helper) r h = let b = both_true _ _ h in (eqb-true r 0 b.0, not_int helper (pos 1) b.1)
+writes_gives (Call helper) r h = let b = and_parts _ _ h in (eqb-true r 0 b.0, not_int helper (pos 1) b.1)
 writes_gives insn r h = register_is (destination_of insn) r h
 
 leaves_is : (insn : Insn) (r : ℕ) → leaves r (Some insn) ≡ true → LeavesNumber insn r
@@ -90,7 +85,7 @@ leaves_pointer kind (Branch w c dst src off) certain = certain
 leaves_pointer kind _ certain = tt
 
 loads_gives : (insn : Insn) (r n : ℕ) → loads r n (Some insn) ≡ true → GivesExact n insn r
-loads_gives (Alu W64 Mov dst (Imm i)) r n h = let b = both_true _ _ h in (refl, eqb-true dst r b.0, sym (eqb-true (word_of i) n b.1))
+loads_gives (Alu W64 Mov dst (Imm i)) r n h = let b = and_parts _ _ h in (refl, eqb-true dst r b.0, sym (eqb-true (word_of i) n b.1))
 loads_gives _ r n h = absurd (let no : ⊥ = cc in no)
 
 untouched_spares : (insn : Insn) (r : ℕ) → untouched r (Some insn) ≡ true → Spares insn r
@@ -103,14 +98,14 @@ untouched_tests _ r h = tt
 
 stores_byte : (insn : Insn) (size : Size) (off : ℤ) (i : ℕ) → stores size off (Some insn) ≡ true → IsStackByte size off i → StoresByte insn i
 stores_byte (StoreImm s dst o imm) size off i h byte =
-    let a = both_true _ _ h in
-    let b = both_true _ _ a.1 in
+    let a = and_parts _ _ h in
+    let b = and_parts _ _ a.1 in
     let count : byte_count s ≡ byte_count size = eqb-true (byte_count s) (byte_count size) a.0 in
     let same : o ≡ off = int_is o off b.1 in
     (eqb-true dst 10 b.0, (byte.0, rw same byte.1, byte.2, rw count byte.3))
 stores_byte (StoreReg s dst o src) size off i h byte =
-    let a = both_true _ _ h in
-    let b = both_true _ _ a.1 in
+    let a = and_parts _ _ h in
+    let b = and_parts _ _ a.1 in
     let count : byte_count s ≡ byte_count size = eqb-true (byte_count s) (byte_count size) a.0 in
     let same : o ≡ off = int_is o off b.1 in
     (eqb-true dst 10 b.0, (byte.0, rw same byte.1, byte.2, rw count byte.3))

@@ -1,2 +1,1 @@
-pub mod FromTheBackLemmas
 pub mod AnsweredLemmas

@@ -1,6 +1,7 @@
 //! Whom a rule chooses of some tasks.
 ghost use Rattle.std.specs.Prelude.{◌≡◌, ◌≤◌, length, filter};
-ghost use Rattle.bq_disc.specs.Tasks.{first_by, former, runs_before, due_before};
+ghost use Rattle.bq_disc.specs.Tasks.{first_by, former, runs_before};
+ghost use Rattle.bq_disc.specs.Dues.{due_before};
 ghost use Rattle.bq_disc.specs.Totals.{is_at_most_mean};
 ghost use Rattle.bq_trace.specs.Machines.{discipline_of};
 
@@ -65,15 +66,7 @@ fn due_first(task: &Entity, other: Option<Entity>) -> Entity
     ensures { result ≡ former due_before task.now other }
 {
     match other {
-        Some(other) if is_due_before(&other, task) => other,
+        Some(other) if other.due().is_before(&task.due()) => other,
         _ => *task,
     }
-}
-
-/// Whether a task is due before another: of equal deadlines that of the lesser id comes first.
-fn is_due_before(task: &Entity, other: &Entity) -> bool
-    ensures { result ≡ due_before task.now other.now }
-{
-    task.deadline() < other.deadline()
-        || (task.deadline() == other.deadline() && task.id() < other.id())
 }

@@ -1,13 +1,13 @@
 -- The number that digits write, one digit after another.
-use Rattle.std.proofs.Common.{◌≡◌, ℕ, ◌+◌, ◌*◌, ◌^◌, ◌<◌, ◌≤◌, List, [], ◌∷◌, length, drop, get_or, drop-cons, add-one, refl, sym, ap, ◌∙◌, Bool, true, false, cond, ltb, Some, None, Option, arith}
+use Rattle.std.proofs.Common.{◌≡◌, ℕ, ◌+◌, ◌*◌, ◌^◌, ◌<◌, ◌≤◌, List, [], ◌∷◌, length, drop, get_or, refl, ap, ◌∙◌, Bool, true, false, cond, ltb, Some, None, Option, arith, lt-ltb}
 use Rattle.std.specs.Prelude.{◌&&◌}
 use Rattle.std.specs.List.{list_all}
 use Rattle.std.specs.Char.{digit_value}
 use Rattle.std.specs.Str.Parse.{digits_value_after}
 use Rattle.std.proofs.lemmas.Bool.Decides.{nat_tests}
 use Rattle.std.proofs.Math.Nat.{mul-le-mul_left}
-use Rattle.std.proofs.lemmas.List.{drop_all}
-use Rattle.bq_words.specs.Numbers.{number_of}
+use Rattle.std.proofs.lemmas.List.{drop_all, drop_more}
+use Rattle.bq_words.specs.Numbers.{below, number_of}
 
 -- the number of these digits after those of n
 abbrev pub number_from : ℕ → ℕ → List ℕ → Option ℕ
@@ -41,14 +41,11 @@ number_from-large base n word h large =
 pub number_from-all : (base : ℕ) (word : List ℕ) → 0 < length word → number_of base word ≡ number_from base 0 word
 number_from-all base word h = let e : ltb 0 (length word) ≡ true = grind (arith, nat_tests) in rw e refl
 
-at_drop : (i : ℕ) (word : List ℕ) → i < length word → drop i word ≡ get_or word i 0 ∷ drop (i + 1) word
-at_drop i word h = drop-cons word i 0 h ∙ ap (λ k. get_or word i 0 ∷ drop k word) (sym (add-one i))
-
 -- a digit at a place of the word is taken in, and the bytes behind it are left
 pub number_step : (base value i : ℕ) (word : List ℕ) → i < length word → digit_value (get_or word i 0) < base
     → number_from base value (drop i word) ≡ number_from base (value * base + digit_value (get_or word i 0)) (drop (i + 1) word)
 number_step base value i word h digit =
-    ap (number_from base value) (at_drop i word h) ∙ number_from-digit base value (get_or word i 0) (drop (i + 1) word) digit
+    ap (number_from base value) (drop_more word i 0 h) ∙ number_from-digit base value (get_or word i 0) (drop (i + 1) word) digit
 
 -- a word of which the first digits are too large for 64 bits is no number
 pub number_too_large : (base value i : ℕ) (word : List ℕ) → number_from base 0 word ≡ number_from base value (drop i word) → i < length word → digit_value (get_or word i 0) < base
@@ -64,3 +61,7 @@ number_whole base value i word so_far some end fits =
   where
     whole : number_from base value [] ≡ Some value
     whole = let e : ltb value (2 ^ 64) ≡ true = grind (arith, nat_tests) in rw e refl
+
+-- a number below the limit stays
+pub below-Some : (limit n : ℕ) (o : Option ℕ) → o ≡ Some n → n < limit → below limit o ≡ Some n
+below-Some limit n o is lt = ap (below limit) is ∙ ap (λ b. cond b (Some n) None) (lt-ltb n limit lt)

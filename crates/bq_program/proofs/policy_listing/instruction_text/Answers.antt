@@ -4,7 +4,7 @@ use Rattle.std.proofs.lemmas.List.{append_cancel_right}
 use Rattle.std.proofs.lemmas.Str.Pattern.{strip_suffix_char}
 use Rattle.std.proofs.lemmas.Result.{IfOk-weaker}
 use lib.Utf8.{encode}
-use Rattle.bq_program.specs.Listed.{line_body}
+use Rattle.bq_asm.specs.Text.{line_body}
 use Rattle.bq_program.proofs.NotedLemmas.{one_line}
 use Rattle.bq_program.proofs.policy_listing.instruction_text.Goals as goal
 

@@ -3,7 +3,8 @@ use Rattle.std.specs.Prelude.{◌&&◌, nat_le, string_bytes}
 use Rattle.std.specs.List.{list_all}
 use Rattle.std.proofs.lemmas.Bool.{and_parts, leb-true}
 use Rattle.bq_insn.specs.Spelling.{is_insn, slot_count}
-use Rattle.bq_program.proofs.NotedLemmas.{count_more, count_within, fine_at, told_more}
+use Rattle.bq_insn.proofs.CountLemmas.{count_more, count_within}
+use Rattle.bq_program.proofs.NotedLemmas.{fine_at, told_more}
 use Rattle.bq_program.proofs.policy_listing.with_slots.Goals as goal
 
 pub noted_line-requires : goal.noted_line-requires

@@ -1,4 +1,5 @@
 use Rattle.std.proofs.Common.{rules, ◌≡◌, ℕ, Some, refl, sym, subst, arith, length, ◌<◌}
+use Rattle.std.proofs.lemmas.Option.{same_Some}
 use Rattle.bq_insn.specs.declared.Operation.TheVariants.{Mov}
 use Rattle.bq_bpf.specs.Meaning.{alu_result, word_of}
 use Rattle.bq_states.specs.declared.abstract_state.AbstractValue.{AbstractValue}
@@ -35,14 +36,11 @@ returns-clause-transfers c = λ shapes context_length f s suits contains.
       refl,
     )
 
-some_known : (a b : AbstractValue) → Some a ≡ Some b → a ≡ b
-some_known a b e = cc
-
 pub returns-clause-exact : goal.returns-clause-exact
 returns-clause-exact c = λ i is whole.
     let there : c.args.dst < length c.args.state.now.registers = omega (arith, c.requires) in
     let word = c.in-Some.ensures.immediate i is in
-    let same : c.in-Some-copied.word ≡ c.in-Some.right = some_known c.in-Some-copied.word c.in-Some.right (c.in-Some-copied.ensures.same whole) in
+    let same : c.in-Some-copied.word ≡ c.in-Some.right = same_Some c.in-Some-copied.word c.in-Some.right (c.in-Some-copied.ensures.same whole) in
     let stands : Stands (Exact (word_of i)) (Some c.in-Some-copied.word) = subst (λ (k : AbstractValue). Stands (Exact (word_of i)) (Some k)) (sym same) word in
     made_classes (Exact (word_of i)) c.args.state.now c.learn.new.state c.args.dst c.link_copy.new.classes
     (subst (λ (v : AbstractState). IsMade (Exact (word_of i)) c.args.state.now v c.args.dst) (sym c.learn.ensures.is) (knowing_made (Exact (word_of i)) c.args.state.now c.args.dst c.in-Some-copied.word there stands))

@@ -1,6 +1,7 @@
 use Rattle.std.proofs.Common.{◌≡◌, ◌≤◌, drop, length}
 use Rattle.std.specs.Prelude.{filter}
-use Rattle.bq_disc.specs.Tasks.{first_by, due_before}
+use Rattle.bq_disc.specs.Tasks.{first_by}
+use Rattle.bq_disc.specs.Dues.{due_before}
 use Rattle.bq_disc.specs.Totals.{is_at_most_mean}
 use Rattle.bq_why.proofs.choices.earliest.Given as goal
 

@@ -1,4 +1,4 @@
-use Rattle.std.proofs.Common.{rules, FitsSigned, w8, ◌≡◌, ◌≢◌, ℕ, ◌<◌, List, [], Option, Some, None, refl, sym, ap, subst, ◌∙◌, inl}
+use Rattle.std.proofs.Common.{rules, FitsSigned, w8, ◌≡◌, ◌≢◌, ℕ, ◌<◌, List, [], Option, Some, None, refl, sym, ap, subst, ◌∙◌, inl, eqb-false, leb-false}
 use Rattle.std.specs.Prelude.{ℤ, Result, ◌==◌, nat_le}
 use Rattle.std.proofs.lemmas.Int.{to_z-of_z}
 use Rattle.bq_bpf.specs.Counters.{Through}
@@ -12,7 +12,6 @@ use Rattle.bq_parts.specs.World.{World, count_in}
 use Rattle.bq_parts.specs.Refusals.{refusal, argument_refusal, state_refusal, either}
 use Rattle.bq_parts.specs.Choices.{Regime, policies}
 use Rattle.bq_parts.specs.Steps.{WorldStep}
-use Rattle.bq_parts.proofs.NumberTestLemmas.{below_from_not_at_most, differ_from_test}
 use Rattle.bq_core.proofs.OrderLemmas.{not_refused_is_there, first_refusal_passed}
 use Rattle.bq_core.proofs.parts.Parts.step.Goals as goal
 
@@ -26,20 +25,20 @@ one_refused w e n o r f g h = ap (λ (x : Option Refusal). either x (state_refus
 
 -- the task that retires has an entry
 retires_entry : (count id : ℕ) → argument_refusal count (Retire id) ≡ None → id < 1024
-retires_entry count id h = below_from_not_at_most id 1024 (first_refusal_passed (nat_le 1024 id) no.NoTask None h).0
+retires_entry count id h = leb-false 1024 id (first_refusal_passed (nat_le 1024 id) no.NoTask None h).0
 
 -- the processor where a wake begins is there, and the task has an entry
 begins_inside : (count processor id : ℕ) → argument_refusal count (BeginWake processor id) ≡ None → (processor < count) × (id < 1024)
 begins_inside count processor id h =
     let f = not_refused_is_there count processor _ h in
-    (f.0, below_from_not_at_most id 1024 (first_refusal_passed (nat_le 1024 id) no.NoTask None f.1).0)
+    (f.0, leb-false 1024 id (first_refusal_passed (nat_le 1024 id) no.NoTask None f.1).0)
 
 -- the two processors of a pull are there, and differ
 pulls_inside : (count processor from now : ℕ) → argument_refusal count (Pull processor from now) ≡ None → (processor < count) × (from < count) × (processor ≢ from)
 pulls_inside count processor from now h =
     let f = not_refused_is_there count processor _ h in
     let k = not_refused_is_there count from _ f.1 in
-    (f.0, k.0, differ_from_test processor from (first_refusal_passed (processor == from) no.SameProcessor None k.1).0)
+    (f.0, k.0, eqb-false processor from (first_refusal_passed (processor == from) no.SameProcessor None k.1).0)
 
 -- a step by what the event is, is one by the event
 step_at : (s : Regime) (w w' : World) (e e' : Event) (calls : List Asked) (r : Result Reply Refusal) → e ≡ e' → WorldStep s w e' calls r w' → WorldStep s w e calls r w'

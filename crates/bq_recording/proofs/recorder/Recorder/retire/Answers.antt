@@ -1,7 +1,6 @@
-use Rattle.std.proofs.Common.{◌<◌, None}
+use Rattle.std.proofs.Common.{◌<◌, None, leb-false}
 use Rattle.bq_parts.specs.declared.refusal.Refusal.TheVariants as no
 use Rattle.bq_core.proofs.OrderLemmas.{first_refusal_passed}
-use Rattle.bq_parts.proofs.NumberTestLemmas.{below_from_not_at_most}
 use Rattle.bq_cells.specs.Parts.{lobby_part}
 use Rattle.bq_cells.proofs.CallStepLemmas.{retire_moves}
 use Rattle.bq_recording.proofs.BriefLemmas.{retires_brief}
@@ -15,7 +14,7 @@ commit_one-requires-clause-moves g c =
     let own = c.lobby.inside.cell.content.state in
     let k = c.deref_mut-journal.result.now.1 in
     let a = c.args in
-    let bound : a.task < 1024 = below_from_not_at_most a.task 1024 (first_refusal_passed _ no.NoTask None c.requires.fits).0 in (
+    let bound : a.task < 1024 = leb-false 1024 a.task (first_refusal_passed _ no.NoTask None c.requires.fits).0 in (
       lobby_part own,
       c.lobby.invariant.0,
       rw c.quiet_twice-logged.ensures.entry

@@ -1,8 +1,9 @@
 use Rattle.std.proofs.Common.{◌≡◌, ◌≢◌, rules, sym, subst, ap, ◌∙◌, Ok, Err, refl, inl, inr}
+use Rattle.std.proofs.lemmas.Result.{on_ok_weaker}
 use Rattle.hex.specs.Hex.{decode_of}
 use Rattle.bq_load.specs.Answers.{IsUnloaded}
 use Rattle.bq_load.specs.declared.fault.LoadFault.TheVariants as fault
-use Rattle.bq_trace.proofs.TakingLemmas.{OnOk-weaker, gets_along}
+use Rattle.bq_trace.proofs.TakingLemmas.{gets_along}
 use Rattle.bq_trace.proofs.any_core.AnyCore.install_image.Goals as goal
 
 pub returns-in-Err : goal.returns-in-Err
@@ -10,7 +11,7 @@ returns-in-Err g c =
     let error = c.in-Err.field-0 in
     let refused : decode_of c.as_bytes.result.now ≡ Err error = search rules in
     let spelled : decode_of c.args.installation.image ≡ Err error = ap decode_of (sym c.as_bytes.ensures) ∙ refused in
-    OnOk-weaker c.refuse_word.result (gets_along g.S.Sink.takes _ _ _ _ (λ told h. inl (error, spelled, h, refl))) c.refuse_word.ensures
+    on_ok_weaker c.refuse_word.result (gets_along g.S.Sink.takes _ _ _ _ (λ told h. inl (error, spelled, h, refl))) c.refuse_word.ensures
 
 pub returns : goal.returns
 returns g c =
@@ -19,4 +20,4 @@ returns g c =
     let apart : why ≢ fault.OutOfMemory = search rules in
     let spelled : decode_of c.args.installation.image ≡ Ok bytes = ap decode_of (sym c.as_bytes.ensures) ∙ c.in-Ok.ensures.ok in
     let unloaded = subst (λ xs. IsUnloaded xs why) c.as_slice.ensures.value c.in-Err-load.ensures.unloaded in
-    OnOk-weaker c.refuse_image.result (gets_along g.S.Sink.takes _ _ _ _ (λ told h. inr (inl (bytes, why, spelled, unloaded, apart, h, refl)))) c.refuse_image.ensures
+    on_ok_weaker c.refuse_image.result (gets_along g.S.Sink.takes _ _ _ _ (λ told h. inr (inl (bytes, why, spelled, unloaded, apart, h, refl)))) c.refuse_image.ensures

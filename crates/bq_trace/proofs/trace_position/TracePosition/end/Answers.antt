@@ -1,8 +1,8 @@
 use Rattle.std.proofs.Common.{◌∙◌, sym, subst}
+use Rattle.std.proofs.lemmas.Result.{on_ok_weaker}
 use Rattle.bq_trace.specs.News.{Gets}
 use Rattle.bq_trace.specs.Telling.{TellsHeard}
 use Rattle.bq_trace.proofs.StandingLemmas.{ends_with}
-use Rattle.bq_trace.proofs.TakingLemmas.{OnOk-weaker}
 use Rattle.bq_trace.proofs.trace_position.TracePosition.end.Goals as goal
 
 pub returns : goal.returns
@@ -12,5 +12,5 @@ returns g c =
     let q = c.answer.new.self in
     let old = c.args.sink.now in
     let new = c.answer.new.sink in
-    OnOk-weaker c.answer.result (λ told begun h. ends_with takes p q begun old new h.one_line (sym (c.is_empty.ensures.line begun h) ∙ c.if-is_empty.false)
+    on_ok_weaker c.answer.result (λ told begun h. ends_with takes p q begun old new h.one_line (sym (c.is_empty.ensures.line begun h) ∙ c.if-is_empty.false)
     (subst (λ l. Gets takes old new (λ news. TellsHeard p l news q)) (c.last.ensures begun h) told)) c.answer.ensures
