@@ -1,8 +1,9 @@
 -- The laws of order: each event keeps it, by what its refusals leave and what it does; and so does each run.
-use Rattle.std.proofs.Common.{◌≡◌, ℕ, zero, suc, ◌<◌, ◌%◌, ◌^◌, Bool, true, false, cond, List, [], ◌∷◌, Option, Some, None, refl, subst, sym, eqb-false, leb-false}
+use Rattle.std.proofs.Common.{◌≡◌, ℕ, zero, suc, ◌<◌, ◌%◌, ◌^◌, Bool, true, false, cond, List, [], ◌∷◌, Option, Some, None, refl, subst, sym, leb-false}
 use Rattle.std.specs.Prelude.{ℤ, Result, Ok, Err, ◌==◌, nat_le, is_some, unwrap_or}
 use Rattle.std.proofs.lemmas.List.{length-replicate}
 use Rattle.std.proofs.lemmas.Nat.{pow_pos, mod_below}
+use Rattle.std.proofs.lemmas.Bool.{eqb-false}
 use Rattle.bq_parts.specs.declared.carried.Carried.{Carried}
 use Rattle.bq_bpf.specs.declared.board.Call.{Call as Asked}
 use Rattle.bq_bpf.specs.declared.hook.Hook.{Hook}

@@ -1,8 +1,9 @@
 -- Tasks that suit a processor: their masks allow it, and have processors of the machine alone.
-use Rattle.std.proofs.Common.{◌≡◌, ℕ, ◌^◌, Bool, true, false, cond, List, [], ◌∷◌, refl, arith, ltb-true, lt-ltb, eqb-false, ne_eqb}
+use Rattle.std.proofs.Common.{◌≡◌, ℕ, ◌^◌, Bool, true, false, cond, List, [], ◌∷◌, refl, arith, ltb-true, lt-ltb, ne_eqb}
 use Rattle.std.specs.Prelude.{◌&&◌, ◌==◌, not, nat_lt, All}
 use Rattle.std.specs.List.{AllByRecursion}
 use Rattle.std.proofs.lemmas.List.Elements.{All-from_recursion, recursion_from_All}
+use Rattle.std.proofs.lemmas.Bool.{eqb-false}
 use Rattle.bq_disc.specs.Tasks.{Task}
 use Rattle.bq_disc.specs.Queues.{can_use}
 use Rattle.bq_disc.specs.Masks.{allows}

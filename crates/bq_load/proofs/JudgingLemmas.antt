@@ -419,7 +419,7 @@ read_going held piece bytes past s r f fits read near h whole failed =
     let front = take 44 (held ++ piece) in
     let j = read_header_of_all held piece bytes past s r fits read h in
     let within : length j.tail ≤ 8 * j.header.slots =
-    omega (arith, near, length-front front held piece bytes past s r j, length-tail front held piece bytes past s r j h, j.slots_are, j.good.slots) in
+    omega (arith, near, length-take 44 (held ++ piece), length-front front held piece bytes past s r j, length-tail front held piece bytes past s r j h, j.slots_are, j.good.slots) in
     within_going (bytes ++ piece) j.header j.tail f j.good j.bytes_are within whole failed
 
 -- where they reach further, the bytes behind the program are a fault
@@ -429,5 +429,5 @@ read_past held piece bytes past s r fits read far h =
     let front = take 44 (held ++ piece) in
     let j = read_header_of_all held piece bytes past s r fits read h in
     let more : 8 * j.header.slots < length j.tail =
-    omega (arith, far, length-front front held piece bytes past s r j, length-tail front held piece bytes past s r j h, j.slots_are) in
+    omega (arith, far, length-take 44 (held ++ piece), length-front front held piece bytes past s r j, length-tail front held piece bytes past s r j h, j.slots_are) in
     past_fails (bytes ++ piece) j.header j.tail j.good j.bytes_are more

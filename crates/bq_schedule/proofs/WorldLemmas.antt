@@ -1,9 +1,10 @@
 -- Each step of a world does to its clocks, and to who runs, what its answer shows.
-use Rattle.std.proofs.Common.{◌≡◌, ◌≢◌, ℕ, ◌<◌, Bool, true, false, List, [], ◌∷◌, length, get_or, Option, Some, None, Result, Ok, Err, refl, sym, ap, ◌∙◌, ◌⊎◌, inl, inr, get_or-set_same, get_or-set_other, eqb, cond, arith, eqb-false}
+use Rattle.std.proofs.Common.{◌≡◌, ◌≢◌, ℕ, ◌<◌, Bool, true, false, List, [], ◌∷◌, length, get_or, Option, Some, None, Result, Ok, Err, refl, sym, ap, ◌∙◌, ◌⊎◌, inl, inr, get_or-set_same, get_or-set_other, eqb, cond, arith}
 use Rattle.std.specs.Prelude.{slice_set, unwrap_or, ◌==◌}
 use Rattle.std.specs.Option.{option_map}
 use Rattle.std.proofs.lemmas.Bool.Decides.{eqb_tells}
 use Rattle.std.proofs.lemmas.List.{get_or-replicate, length-set, length-replicate}
+use Rattle.std.proofs.lemmas.Bool.{eqb-false}
 use Rattle.bq_disc.specs.Tasks.{Task, id_of, with_id}
 use Rattle.bq_disc.specs.Discipline.{Discipline, charged, next_of}
 use Rattle.bq_disc.specs.OneProcessor.{Running, reading, charge, run_id, exchanged, decided, enter_all}

@@ -1,6 +1,7 @@
-use Rattle.std.proofs.Common.{rules, FitsSigned, w8, ◌≡◌, ◌≢◌, ℕ, ◌<◌, List, [], Option, Some, None, refl, sym, ap, subst, ◌∙◌, inl, eqb-false, leb-false}
+use Rattle.std.proofs.Common.{rules, FitsSigned, w8, ◌≡◌, ◌≢◌, ℕ, ◌<◌, List, [], Option, Some, None, refl, sym, ap, subst, ◌∙◌, inl, leb-false}
 use Rattle.std.specs.Prelude.{ℤ, Result, ◌==◌, nat_le}
 use Rattle.std.proofs.lemmas.Int.{to_z-of_z}
+use Rattle.std.proofs.lemmas.Bool.{eqb-false}
 use Rattle.bq_bpf.specs.Counters.{Through}
 use Rattle.bq_bpf.specs.declared.board.Call.{Call as Asked}
 use Rattle.bq_parts.specs.declared.event.Event.{Event}
