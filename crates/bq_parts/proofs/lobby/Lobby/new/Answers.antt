@@ -1,6 +1,11 @@
-use Rattle.std.proofs.Common.{◌≡◌, ap, ◌∙◌, replicate, arith}
+use Rattle.std.proofs.Common.{◌≡◌, List, [], ◌∷◌, ◌++◌, ap, ◌∙◌, replicate, arith}
+use Rattle.std.proofs.lemmas.List.{replicate_more}
+use Rattle.bq_parts.specs.declared.lobby_entry.LobbyEntry.{LobbyEntry}
 use Rattle.bq_parts.specs.declared.lobby_entry.LobbyEntry.TheVariants.{Absent}
 use Rattle.bq_parts.proofs.lobby.Lobby.new.Goals as goal
+
+pub entries-preserved : goal.entries-preserved
+entries-preserved c = c.in_ok-push.ensures.items ∙ ap (λ (xs : List LobbyEntry). xs ++ Absent ∷ []) c.entries.invariant ∙ replicate_more c.entries.counter Absent
 
 pub returns : goal.returns
 returns c =
