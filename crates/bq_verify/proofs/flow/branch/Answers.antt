@@ -76,3 +76,22 @@ pub returns-in_err-no-clause-accepts : goal.returns-in_err-no-clause-accepts
 returns-in_err-no-clause-accepts c = λ below scalar operand.
     let left : c.in-Some-known.left.kind ≡ Number = subst (λ (v : Option AbstractValue). Stands Scalar v) (sym c.in-Some-known.ensures) scalar in
     absurd (false≢true (c.in_err-no.ensures.accepts left (c.in-Some.ensures.scalar operand)))
+
+pub returns-in_err-no-clause-checks : goal.returns-in_err-no-clause-checks
+returns-in_err-no-clause-checks c = λ map below check answer.
+    let left : Stands (Pointer (EntryOrNull map) 0) (Some c.in-Some-known.left) = subst (λ (v : Option AbstractValue). Stands (Pointer (EntryOrNull map) 0) v) (sym c.in-Some-known.ensures) answer in
+    absurd (false≢true (c.in_err-no.ensures.checks map check left))
+
+pub returns-in_err-no-clause-doubts : goal.returns-in_err-no-clause-doubts
+returns-in_err-no-clause-doubts c =
+    let error = err_from_is_err_and c.from_residual-in_err-no.result c.from_residual-in_err-no.ensures.1 in
+    rw (error.1, error.2) (λ insn reads uses. c.in_err-no.ensures.doubts insn uses)
+
+pub returns-in_err-wait_on_side-clause-doubts : goal.returns-in_err-wait_on_side-clause-doubts
+returns-in_err-wait_on_side-clause-doubts c =
+    let error = err_from_is_err_and c.from_residual-in_err-wait_on_side.result c.from_residual-in_err-wait_on_side.ensures.1 in
+    rw (error.1, error.2) (λ insn reads uses. tt)
+
+pub returns-in_default-known-clause-checks : goal.returns-in_default-known-clause-checks
+returns-in_default-known-clause-checks c = λ map below check answer.
+    absurd (subst (λ (v : Option AbstractValue). Stands (Pointer (EntryOrNull map) 0) v) (sym c.in_default-known.ensures) answer)

@@ -13,7 +13,7 @@ use mir.Syntax.{w16, w32}
 use mir.Val.{SFits}
 use Rattle.std.proofs.lemmas.Int.{ints}
 use Rattle.std.proofs.lemmas.Bool.{false≢true}
-use Rattle.std.proofs.lemmas.Result.{IfOk-weaker, err_from_is_err_and}
+use Rattle.std.proofs.lemmas.Result.{IfOk-weaker, IfErr-weaker, err_from_is_err_and}
 use Rattle.bq_insn.specs.Slots.{slots_of}
 use Rattle.bq_insn.specs.declared.Insn.TheVariants.{Branch, Goto, Goto32}
 use Rattle.bq_bpf.specs.Steps.{LeadsTo, instruction_at}
@@ -231,3 +231,15 @@ pub returns-in_err-wait-in-Goto32-clause-accepts : goal.returns-in_err-wait-in-G
 returns-in_err-wait-in-Goto32-clause-accepts c = λ ready.
     let error = err_from_is_err_and c.from_residual-in_err-wait-in-Goto32.result c.from_residual-in_err-wait-in-Goto32.ensures.1 in
     rw (error.1, error.2) refl
+
+pub returns-in-Branch-clause-doubts : goal.returns-in-Branch-clause-doubts
+returns-in-Branch-clause-doubts c =
+    rw c.in-Branch.is (IfErr-weaker c.branch-alloc.result _ _ (λ stop doubts. doubts (Branch c.in-Branch.width c.in-Branch.cond c.in-Branch.dst c.in-Branch.src c.in-Branch.off) tt tt) c.branch-alloc.ensures.doubts)
+
+pub returns-in_ok-leave-in-Exit-clause-goes : goal.returns-in_ok-leave-in-Exit-clause-goes
+returns-in_ok-leave-in-Exit-clause-goes c = (
+  λ f s waits. waits,
+  λ f s setting same contains.
+      let got = c.in_ok-leave-in-Exit.ensures.answers f s contains in
+      inl (got.0, record { here = rw (setting.slots_are, same) (rw c.in-Exit.is at c.requires.here); answer_is = got.1; maps_are = refl }),
+)

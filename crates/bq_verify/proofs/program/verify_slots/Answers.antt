@@ -71,3 +71,27 @@ returns-in-Ok-clause-faultless c = rw c.in-Ok.ensures.slots (rw c.as_slice-2.ens
 
 pub returns-in-Ok-clause-safe : goal.returns-in-Ok-clause-safe
 returns-in-Ok-clause-safe c = c.in-Ok.ensures.safe
+
+pub check_graph-requires-clause-some : goal.check_graph-requires-clause-some
+check_graph-requires-clause-some c = rw (c.as_slice-2.ensures.value, c.in_ok-slots.ensures, c.as_slice.ensures.value) c.requires.some
+
+pub check_graph-requires-clause-short : goal.check_graph-requires-clause-short
+check_graph-requires-clause-short c = rw (c.as_slice-2.ensures.value, c.in_ok-slots.ensures, c.as_slice.ensures.value) c.requires.short
+
+pub heights_of-requires-clause-short : goal.heights_of-requires-clause-short
+heights_of-requires-clause-short c = rw (c.as_slice-3.ensures.value, c.in_ok-slots.ensures, c.as_slice.ensures.value) c.requires.short
+
+pub new-requires-clause-short : goal.new-requires-clause-short
+new-requires-clause-short c = rw (c.in_ok-slots.ensures, c.as_slice.ensures.value) c.requires.short
+
+pub new-requires-clause-some : goal.new-requires-clause-some
+new-requires-clause-some c = rw (c.in_ok-slots.ensures, c.as_slice.ensures.value) c.requires.some
+
+pub new-requires-clause-as_many : goal.new-requires-clause-as_many
+new-requires-clause-as_many c = rw c.as_slice-4.ensures.value (c.in_ok-heights.ensures.room ∙ ap length c.as_slice-3.ensures.value)
+
+pub returns-in_err-heights-clause-refused : goal.returns-in_err-heights-clause-refused
+returns-in_err-heights-clause-refused c = let error = err_from_is_err_and c.from_residual-in_err-heights.result c.from_residual-in_err-heights.ensures.1 in rw (error.1, error.2) tt
+
+pub returns-in_err-heights-clause-accepts : goal.returns-in_err-heights-clause-accepts
+returns-in_err-heights-clause-accepts c = λ straight. let error = err_from_is_err_and c.from_residual-in_err-heights.result c.from_residual-in_err-heights.ensures.1 in rw (error.1, error.2) refl

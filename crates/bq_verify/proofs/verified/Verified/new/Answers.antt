@@ -27,3 +27,24 @@ returns-clause-safe c = rw (c.as_slice.ensures.value, c.as_slice-2.ensures.value
 
 pub returns-clause-accepts : goal.returns-clause-accepts
 returns-clause-accepts c = λ straight. tt
+
+pub judge-requires-clause-sound : goal.judge-requires-clause-sound
+judge-requires-clause-sound c = rw c.as_slice.ensures.value c.requires.sound
+
+pub judge-requires-clause-heights : goal.judge-requires-clause-heights
+judge-requires-clause-heights c = rw c.as_slice.ensures.value c.requires.heights
+
+pub judge-requires-clause-made : goal.judge-requires-clause-made
+judge-requires-clause-made c = rw c.as_slice.ensures.value c.requires.made
+
+pub judge-requires-clause-first : goal.judge-requires-clause-first
+judge-requires-clause-first c = rw c.as_slice.ensures.value c.requires.first
+
+pub judge-requires-clause-short : goal.judge-requires-clause-short
+judge-requires-clause-short c = rw c.as_slice.ensures.value c.requires.short
+
+pub judge-requires-clause-frame : goal.judge-requires-clause-frame
+judge-requires-clause-frame c = rw c.as_slice.ensures.value c.requires.frame
+
+pub judge-requires-clause-few : goal.judge-requires-clause-few
+judge-requires-clause-few c = rw c.as_slice-2.ensures.value c.requires.few
