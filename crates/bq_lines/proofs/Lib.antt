@@ -1,3 +1,4 @@
 pub mod AllowedLemmas
 pub mod KeptLemmas
 pub mod SplittingLemmas
+pub mod WordCountLemmas

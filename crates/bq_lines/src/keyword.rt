@@ -1,5 +1,6 @@
 //! The words that lines begin with.
 ghost use Rattle.std.specs.Prelude.{◌≡◌};
+ghost use Rattle.std.specs.Str.{bytes_eq};
 ghost use Rattle.bq_lines.specs.Keywords.{keyword_of, setting_keyword_of, keyword_of_event, keyword_word};
 
 use bq_core::Event;
@@ -49,6 +50,14 @@ macro_rules! with_first_line {
     };
 }
 
+/// Whether a word is spelled so.
+#[inline(always)]
+fn is_spelled(word: &[u8], name: &str) -> bool
+    ensures { result ≡ bytes_eq word.now name.now }
+{
+    word == name.as_bytes()
+}
+
 impl Keyword {
     /// The word itself, as `tick`.
     pub fn word(self) -> &'static str
@@ -77,19 +86,19 @@ impl Keyword {
     pub fn of_word(word: &[u8]) -> Option<Keyword>
         ensures { result ≡ keyword_of word.now }
     {
-        if word == b"begin".as_slice() {
+        if is_spelled(word, "begin") {
             Some(Keyword::Begin)
-        } else if word == b"end".as_slice() {
+        } else if is_spelled(word, "end") {
             Some(Keyword::End)
-        } else if word == b"wake".as_slice() {
+        } else if is_spelled(word, "wake") {
             Some(Keyword::Wake)
-        } else if word == b"drain".as_slice() {
+        } else if is_spelled(word, "drain") {
             Some(Keyword::Drain)
-        } else if word == b"tick".as_slice() {
+        } else if is_spelled(word, "tick") {
             Some(Keyword::Tick)
-        } else if word == b"block".as_slice() {
+        } else if is_spelled(word, "block") {
             Some(Keyword::Block)
-        } else if word == b"pull".as_slice() {
+        } else if is_spelled(word, "pull") {
             Some(Keyword::Pull)
         } else {
             Keyword::of_setting_word(word)
@@ -101,19 +110,19 @@ impl Keyword {
     fn of_setting_word(word: &[u8]) -> Option<Keyword>
         ensures { result ≡ setting_keyword_of word.now }
     {
-        if word == b"install".as_slice() {
+        if is_spelled(word, "install") {
             Some(Keyword::Install)
-        } else if word == b"machine".as_slice() {
+        } else if is_spelled(word, "machine") {
             Some(Keyword::Machine)
-        } else if word == b"admit".as_slice() {
+        } else if is_spelled(word, "admit") {
             Some(Keyword::Admit)
-        } else if word == b"retire".as_slice() {
+        } else if is_spelled(word, "retire") {
             Some(Keyword::Retire)
-        } else if word == b"draw".as_slice() {
+        } else if is_spelled(word, "draw") {
             Some(Keyword::Draw)
-        } else if word == b"show".as_slice() {
+        } else if is_spelled(word, "show") {
             Some(Keyword::Show)
-        } else if word == b"counter".as_slice() {
+        } else if is_spelled(word, "counter") {
             Some(Keyword::Counter)
         } else {
             None

@@ -46,24 +46,21 @@ pub fn two_words(text: &[u8]) -> Option<(&[u8], &[u8])>
 }
 
 /// The three words of a text that has three.
+#[tactic(auto, using(crate::proofs::WordCountLemmas::three_by_two))]
 pub fn three_words(text: &[u8]) -> Option<(&[u8], &[u8], &[u8])>
     ensures { option_map (λ w. (w.0.now, w.1.now, w.2.now)) result ≡ three_of (words text.now) }
 {
     let (first, rest) = next_word(text)?;
-    let (second, rest) = next_word(rest)?;
-    let (third, rest) = next_word(rest)?;
-    end_of_words(rest)?;
+    let (second, third) = two_words(rest)?;
     Some((first, second, third))
 }
 
 /// The four words of a text that has four.
+#[tactic(auto, using(crate::proofs::WordCountLemmas::four_by_three))]
 pub fn four_words(text: &[u8]) -> Option<(&[u8], &[u8], &[u8], &[u8])>
     ensures { option_map (λ w. (w.0.now, w.1.now, w.2.now, w.3.now)) result ≡ four_of (words text.now) }
 {
     let (first, rest) = next_word(text)?;
-    let (second, rest) = next_word(rest)?;
-    let (third, rest) = next_word(rest)?;
-    let (fourth, rest) = next_word(rest)?;
-    end_of_words(rest)?;
+    let (second, third, fourth) = three_words(rest)?;
     Some((first, second, third, fourth))
 }
