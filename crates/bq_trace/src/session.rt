@@ -24,12 +24,21 @@ use std::marker::Model;
 /// assert_eq!(rt; answers.as_slice(), b"admit ok\n".as_slice());
 /// assert_eq!(rt; is_clean, true);
 /// ```
-#[derive(Drop)]
 pub struct Session {
     alloc: Global,
     position: TracePosition,
     /// The answers to one piece, kept for its memory alone.
     answers: String,
+}
+
+impl Drop for Session {
+    fn drop(self) {
+        let Session {
+            alloc: _alloc,
+            position: _position,
+            answers: _answers,
+        } = self;
+    }
 }
 
 impl Model for Session {

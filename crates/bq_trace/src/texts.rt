@@ -2,7 +2,7 @@
 ghost use Rattle.std.specs.Prelude.{◌≡◌, ◌<◌, ◌+◌, ◌++◌, ◌∷◌, [], OnOk, Ok, Err, codes, string_bytes};
 ghost use Rattle.std.specs.Fmt.{decimal};
 ghost use Rattle.bq_parts.specs.declared.reply.Reply.TheVariants.{Begun, Placed, Blocked};
-ghost use Rattle.bq_trace.specs.Texts.{task_text, who_text, spaced, reply_text, event_line, bad_line, counter_line};
+ghost use Rattle.bq_trace.specs.Texts.{task_text, who_text, run_text, spaced, reply_text, event_line, bad_line, counter_line};
 
 use bq_core::{By, Refusal, Reply};
 use std::alloc::AllocError;
@@ -82,10 +82,11 @@ fn write_choice(text: &mut String, by: By, steps: u32) -> Result<(), AllocError>
     text.push_str("\n")
 }
 
-/// Adds who runs, by whose choice, and after how many steps of a policy, and ends the line.
+/// Adds ` run `, who runs, by whose choice, and after how many steps of a policy, and ends the line.
 fn write_runner(text: &mut String, run: Option<u16>, by: By, steps: u32) -> Result<(), AllocError>
-    ensures { OnOk result (string_bytes text.new ≡ string_bytes text.old ++ (task_text run ++ (codes " by " ++ (who_text by ++ (codes " steps " ++ (decimal steps ++ codes "\n")))))) }
+    ensures { OnOk result (string_bytes text.new ≡ string_bytes text.old ++ (run_text run by steps ++ codes "\n")) }
 {
+    text.push_str(" run ")?;
     write_task(text, run)?;
     write_choice(text, by, steps)
 }
@@ -156,11 +157,10 @@ fn write_reply(text: &mut String, reply: &Reply) -> Result<(), AllocError>
         } => {
             text.push_str("drain ")?;
             write_number(text, *count)?;
-            text.push_str(" run ")?;
             write_runner(text, *run, *by, *steps)
         }
         Reply::Ticked { run, by, steps } => {
-            text.push_str("tick run ")?;
+            text.push_str("tick")?;
             write_runner(text, *run, *by, *steps)
         }
         Reply::Blocked { task, run } => write_blocked(text, *task, *run),
@@ -172,7 +172,6 @@ fn write_reply(text: &mut String, reply: &Reply) -> Result<(), AllocError>
         } => {
             text.push_str("pull ")?;
             write_task(text, *task)?;
-            text.push_str(" run ")?;
             write_runner(text, *run, *by, *steps)
         }
     }
