@@ -10,7 +10,7 @@ pub commit_two-requires-clause-moves : goal.commit_two-requires-clause-moves
 commit_two-requires-clause-moves g c =
     let d = g.Q.R.Discipline.discipline in
     let n = c.args.self.now.history.about in
-    let own = c.args.cell.now.content in
+    let own = c.args.cpu.now.content in
     let hall = c.lobby.inside.cell.content.state in
     let b = c.begin_wake-reply in
     let k = c.deref_mut-journal.result.now.1 in
@@ -30,7 +30,7 @@ pub returns-clause-hand : goal.returns-clause-hand
 returns-clause-hand g c =
     let d = g.Q.R.Discipline.discipline in
     let n = c.args.self.now.history.about in
-    let own = c.args.cell.now.content in
+    let own = c.args.cpu.now.content in
     let hall = c.lobby.inside.cell.content.state in
     let b = c.begin_wake-reply in
     let k = c.deref_mut-journal.result.now.1 in

@@ -14,7 +14,7 @@ place_task-woken-requires-clause-usable g c =
     let d = g.Q.R.Discipline.discipline in
     let n = c.args.self.now.history.about in
     let own = c.look.new.self.content in
-    let was = c.args.cell.now.content in
+    let was = c.args.cpu.now.content in
     let seen : Seen d n own.number own.state = rw c.look.ensures.same (c.look.ensures.world (cpu_part was.number was.state) c.requires.says) in
     let count : length c.args.inboxes.now ≡ n = c.requires.inboxes in
     rw count (seen_usable d n own.number own.state seen)
