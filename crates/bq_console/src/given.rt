@@ -10,9 +10,9 @@ use std::io::ErrorKind;
 /// The words after the program's name, in order. One that is no UTF-8 text is refused.
 pub fn given_words(rt: &HostRuntime) -> Result<Vec<String>, WordsFault> {
     let alloc = rt.alloc();
-    let mut given = Vec::new(alloc);
     match env::args(rt) {
         Ok(args) => {
+            let mut given = Vec::new(alloc);
             for arg in args.skip(1) {
                 given.push(arg)?;
             }

@@ -24,11 +24,12 @@ fn without_number(said: &str) -> &str {
 fn small(alloc: Global, words: &str) -> Result<String, AllocError> {
     let mut text = String::new(alloc);
     for (at, letter) in words.char_indices() {
-        if at == 0 {
-            text.push(letter.to_ascii_lowercase())?;
+        let letter = if at == 0 {
+            letter.to_ascii_lowercase()
         } else {
-            text.push(letter)?;
-        }
+            letter
+        };
+        text.push(letter)?;
     }
     Ok(text)
 }

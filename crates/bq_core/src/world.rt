@@ -141,9 +141,7 @@ impl<Q: RunQueue> DynamicCore<Q> {
         let _ = &self.parts;
         for event in events {
             let answer = self.step(alloc, event, board);
-            if answers.push(answer).is_err() {
-                unreachable!();
-            }
+            answers.push_reserved(answer);
         }
     }
 

@@ -3,6 +3,7 @@ use Rattle.std.proofs.Common.{◌≡◌, ℕ, zero, suc, ◌+◌, ◌*◌, ◌�
 use Rattle.std.proofs.lemmas.List.{length-take-le, take_all, append-nil}
 use Rattle.std.proofs.Math.Nat.{mul-add}
 use Rattle.std.specs.List.{flat_map, range_with_len}
+use Rattle.bq_hooks.specs.Contexts.{four_bytes}
 use Rattle.std.proofs.Math.Seq.{take-append_seam}
 use borrow.Rule.Slice.PartMut.{put_mid}
 
@@ -16,13 +17,29 @@ filled_behind at n k xs ys bytes rest e l h =
     let long : length whole ≡ at + n = omega (arith, length-append (take at xs) bytes, length-take-le at xs h, l) in
     ap (take (at + n)) same ∙ ap (λ m. take m (whole ++ (rest ++ after))) (sym long) ∙ take-append_seam whole (rest ++ after)
 
+-- one number more behind some that stand at a place
+next_filled : (at here there : ℕ) (c0 c1 c2 done z : List ℕ) → take here c1 ≡ take at c0 ++ done → take there c2 ≡ take here c1 ++ z → take there c2 ≡ take at c0 ++ (done ++ z)
+next_filled at here there c0 c1 c2 done z h1 h2 = h2 ∙ ap (λ l. l ++ z) h1 ∙ append_assoc (take at c0) done z
+
 -- three numbers behind one another
 pub three_filled : (at : ℕ) (c0 c1 c2 c3 x y z : List ℕ) → take (at + 4) c1 ≡ take at c0 ++ x → take (at + 4 + 4) c2 ≡ take (at + 4) c1 ++ y → take (at + 8 + 8) c3 ≡ take (at + 8) c2 ++ z →
     take (at + 16) c3 ≡ take at c0 ++ (x ++ y ++ z)
 three_filled at c0 c1 c2 c3 x y z h1 h2 h3 =
-    let begun : List ℕ = take at c0 in
-    let second : take (at + 8) c2 ≡ begun ++ x ++ y = ap (λ n. take n c2) (omega arith) ∙ h2 ∙ ap (λ l. l ++ y) h1 in
-    ap (λ n. take n c3) (omega arith) ∙ h3 ∙ ap (λ l. l ++ z) (second ∙ append_assoc begun x y) ∙ append_assoc begun (x ++ y) z
+    let second : take (at + 8) c2 ≡ take at c0 ++ (x ++ y) = ap (λ n. take n c2) (omega arith) ∙ next_filled at (at + 4) (at + 4 + 4) c0 c1 c2 x y h1 h2 in
+    ap (λ n. take n c3) (omega arith) ∙ next_filled at (at + 8) (at + 8 + 8) c0 c2 c3 (x ++ y) z second h3
+
+-- four numbers behind one another
+pub four_filled : (at : ℕ) (c0 c1 c2 c3 c4 x y z w : List ℕ) → take (at + 4) c1 ≡ take at c0 ++ x → take (at + 4 + 4) c2 ≡ take (at + 4) c1 ++ y → take (at + 8 + 4) c3 ≡ take (at + 8) c2 ++ z →
+    take (at + 12 + 4) c4 ≡ take (at + 12) c3 ++ w → take (at + 16) c4 ≡ take at c0 ++ (x ++ y ++ z ++ w)
+four_filled at c0 c1 c2 c3 c4 x y z w h1 h2 h3 h4 =
+    let second : take (at + 8) c2 ≡ take at c0 ++ (x ++ y) = ap (λ n. take n c2) (omega arith) ∙ next_filled at (at + 4) (at + 4 + 4) c0 c1 c2 x y h1 h2 in
+    let third : take (at + 12) c3 ≡ take at c0 ++ (x ++ y ++ z) = ap (λ n. take n c3) (omega arith) ∙ next_filled at (at + 8) (at + 8 + 4) c0 c2 c3 (x ++ y) z second h3 in
+    ap (λ n. take n c4) (omega arith) ∙ next_filled at (at + 12) (at + 12 + 4) c0 c3 c4 (x ++ y ++ z) w third h4
+
+-- equal numbers have equal bytes
+pub four_same : {a b c d a' b' c' d' : ℕ} → a ≡ a' → b ≡ b' → c ≡ c' → d ≡ d' → four_bytes a b c d ≡ four_bytes a' b' c' d'
+four_same {a} {b} {c} {d} {a'} {b'} {c'} {d'} e f g h =
+    ap (λ n. four_bytes n b c d) e ∙ ap (λ n. four_bytes a' n c d) f ∙ ap (λ n. four_bytes a' b' n d) g ∙ ap (λ n. four_bytes a' b' c' n) h
 
 -- what was filled to its end is what stands there
 pub filled_whole : (n : ℕ) (c bytes : List ℕ) → take n c ≡ bytes → length c ≡ n → c ≡ bytes

@@ -2,30 +2,25 @@
 use Rattle.std.proofs.Common.{◌≡◌, ℕ, ◌+◌, ◌*◌, ◌^◌, List, [], ◌++◌, length, take, refl, ap, ◌∙◌}
 use Rattle.std.specs.Prelude.{◌%◌, min, slice_index}
 use Rattle.std.specs.List.{flat_map, range_with_len}
-use Rattle.bq_hooks.specs.Contexts.{PlaceFacts, place_header, place_bytes_below, if_shown, if_any_shown, u32_bytes, u64_bytes}
-use Rattle.bq_hooks.proofs.FillingLemmas.{more_filled, piece_filled, pieces_filled}
+use Rattle.bq_hooks.specs.Contexts.{PlaceFacts, place_header, place_bytes_below, if_shown, if_any_shown, u32_bytes, u64_bytes, four_bytes}
+use Rattle.bq_hooks.proofs.FillingLemmas.{more_filled, four_same, piece_filled, pieces_filled}
 
 -- once the eight fields are written one behind another, the first 40 bytes are the header of a place context
-pub place_header_filled : (limit : ℕ) (f : PlaceFacts) (c0 c1 c2 c3 c4 c5 c6 c7 c8 : List ℕ) (id weight mask slice waking prev shown own : ℕ) →
+pub place_header_filled : (limit : ℕ) (f : PlaceFacts) (c0 c1 c2 c3 c4 c5 : List ℕ) (id weight mask slice waking prev shown own : ℕ) →
     id ≡ f.task.id → take 4 c1 ≡ take 0 c0 ++ u32_bytes id →
     weight ≡ f.task.weight → take 8 c2 ≡ take 4 c1 ++ u32_bytes weight →
     mask ≡ f.task.mask % 2 ^ min f.processors limit → take 16 c3 ≡ take 8 c2 ++ u64_bytes mask →
     slice ≡ f.task.slice → take 24 c4 ≡ take 16 c3 ++ u64_bytes slice →
-    waking ≡ if_shown limit f.waking → take 28 c5 ≡ take 24 c4 ++ u32_bytes waking →
-    prev ≡ if_any_shown limit f.task.prev → take 32 c6 ≡ take 28 c5 ++ u32_bytes prev →
-    shown ≡ min f.processors limit → take 36 c7 ≡ take 32 c6 ++ u32_bytes shown →
-    own ≡ if_shown limit f.own → take 40 c8 ≡ take 36 c7 ++ u32_bytes own →
-    take 40 c8 ≡ place_header limit f
+    waking ≡ if_shown limit f.waking → prev ≡ if_any_shown limit f.task.prev → shown ≡ min f.processors limit → own ≡ if_shown limit f.own →
+    take 40 c5 ≡ take 24 c4 ++ four_bytes waking prev shown own →
+    take 40 c5 ≡ place_header limit f
 unfolding place_header
-place_header_filled limit f c0 c1 c2 c3 c4 c5 c6 c7 c8 id weight mask slice waking prev shown own e1 h1 e2 h2 e3 h3 e4 h4 e5 h5 e6 h6 e7 h7 e8 h8 =
+place_header_filled limit f c0 c1 c2 c3 c4 c5 id weight mask slice waking prev shown own e1 h1 e2 h2 e3 h3 e4 h4 e5 e6 e7 e8 h5 =
     let s1 = more_filled 0 4 c0 c1 [] _ _ h1 (ap u32_bytes e1) refl in
     let s2 = more_filled 4 8 c1 c2 _ _ _ h2 (ap u32_bytes e2) s1 in
     let s3 = more_filled 8 16 c2 c3 _ _ _ h3 (ap u64_bytes e3) s2 in
     let s4 = more_filled 16 24 c3 c4 _ _ _ h4 (ap u64_bytes e4) s3 in
-    let s5 = more_filled 24 28 c4 c5 _ _ _ h5 (ap u32_bytes e5) s4 in
-    let s6 = more_filled 28 32 c5 c6 _ _ _ h6 (ap u32_bytes e6) s5 in
-    let s7 = more_filled 32 36 c6 c7 _ _ _ h7 (ap u32_bytes e7) s6 in
-    more_filled 36 40 c7 c8 _ _ _ h8 (ap u32_bytes e8) s7
+    more_filled 24 40 c4 c5 _ _ _ h5 (four_same e5 e6 e7 e8) s4
 
 -- one more load
 pub load_filled : (limit : ℕ) (f : PlaceFacts) (p load : ℕ) (c c' : List ℕ) →

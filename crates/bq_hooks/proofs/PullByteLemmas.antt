@@ -3,29 +3,18 @@ use Rattle.std.proofs.Common.{◌≡◌, ℕ, ◌+◌, ◌*◌, List, [], ◌++�
 use Rattle.std.specs.Prelude.{slice_get}
 use Rattle.std.specs.List.{flat_map, range_with_len}
 use Rattle.bq_disc.specs.Tasks.{Task}
-use Rattle.bq_hooks.specs.Contexts.{PullFacts, pull_header, pull_bytes, task_bytes, u32_bytes, or_nobody}
-use Rattle.bq_hooks.proofs.FillingLemmas.{more_filled, piece_filled, pieces_filled}
+use Rattle.bq_hooks.specs.Contexts.{PullFacts, pull_header, pull_bytes, task_bytes, four_bytes, or_nobody}
+use Rattle.bq_hooks.proofs.FillingLemmas.{more_filled, four_same, piece_filled, pieces_filled}
 
 -- once seven fields and a zero are written one behind another, the first 32 bytes are the header of a pull context
-pub pull_header_filled : (f : PullFacts) (c0 c1 c2 c3 c4 c5 c6 c7 c8 : List ℕ) (puller source puller_size source_size count shown own : ℕ) →
-    puller ≡ f.puller → take 4 c1 ≡ take 0 c0 ++ u32_bytes puller →
-    source ≡ f.source → take 8 c2 ≡ take 4 c1 ++ u32_bytes source →
-    puller_size ≡ f.puller_size → take 12 c3 ≡ take 8 c2 ++ u32_bytes puller_size →
-    source_size ≡ f.source_size → take 16 c4 ≡ take 12 c3 ++ u32_bytes source_size →
-    count ≡ length f.movable → take 20 c5 ≡ take 16 c4 ++ u32_bytes count →
-    shown ≡ min (length f.movable) 8 → take 24 c6 ≡ take 20 c5 ++ u32_bytes shown →
-    own ≡ or_nobody f.own → take 28 c7 ≡ take 24 c6 ++ u32_bytes own →
-    take 32 c8 ≡ take 28 c7 ++ u32_bytes 0 → take 32 c8 ≡ pull_header f
+pub pull_header_filled : (f : PullFacts) (c0 c1 c2 : List ℕ) (puller source puller_size source_size count shown own : ℕ) →
+    puller ≡ f.puller → source ≡ f.source → puller_size ≡ f.puller_size → source_size ≡ f.source_size →
+    take 16 c1 ≡ take 0 c0 ++ four_bytes puller source puller_size source_size →
+    count ≡ length f.movable → shown ≡ min (length f.movable) 8 → own ≡ or_nobody f.own →
+    take 32 c2 ≡ take 16 c1 ++ four_bytes count shown own 0 → take 32 c2 ≡ pull_header f
 unfolding pull_header
-pull_header_filled f c0 c1 c2 c3 c4 c5 c6 c7 c8 puller source puller_size source_size count shown own e1 h1 e2 h2 e3 h3 e4 h4 e5 h5 e6 h6 e7 h7 h8 =
-    let s1 = more_filled 0 4 c0 c1 [] _ _ h1 (ap u32_bytes e1) refl in
-    let s2 = more_filled 4 8 c1 c2 _ _ _ h2 (ap u32_bytes e2) s1 in
-    let s3 = more_filled 8 12 c2 c3 _ _ _ h3 (ap u32_bytes e3) s2 in
-    let s4 = more_filled 12 16 c3 c4 _ _ _ h4 (ap u32_bytes e4) s3 in
-    let s5 = more_filled 16 20 c4 c5 _ _ _ h5 (ap u32_bytes e5) s4 in
-    let s6 = more_filled 20 24 c5 c6 _ _ _ h6 (ap u32_bytes e6) s5 in
-    let s7 = more_filled 24 28 c6 c7 _ _ _ h7 (ap u32_bytes e7) s6 in
-    more_filled 28 32 c7 c8 _ _ _ h8 refl s7
+pull_header_filled f c0 c1 c2 puller source puller_size source_size count shown own e1 e2 e3 e4 h1 e5 e6 e7 h2 =
+    more_filled 16 32 c1 c2 _ _ _ h2 (four_same {d = 0} e5 e6 e7 refl) (more_filled 0 16 c0 c1 [] _ _ h1 (four_same e1 e2 e3 e4) refl)
 
 -- one more task
 pub task_filled : (f : PullFacts) (k : ℕ) (o : Option Task) (c c' : List ℕ) →

@@ -11,6 +11,10 @@ u32_bytes n = bytes_low_first 0 4 n
 abbrev pub u64_bytes : ℕ → List ℕ
 u64_bytes n = bytes_low_first 0 8 n
 
+-- four numbers of 32 bits behind one another
+abbrev pub four_bytes : ℕ → ℕ → ℕ → ℕ → List ℕ
+four_bytes a b c d = u32_bytes a ++ u32_bytes b ++ u32_bytes c ++ u32_bytes d
+
 -- the number that stands for no task and for no processor: all 32 bits
 abbrev pub nobody : ℕ
 nobody = 4294967295

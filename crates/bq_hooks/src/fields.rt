@@ -2,7 +2,7 @@
 ghost use Rattle.std.specs.Prelude.{◌≡◌, ◌≤◌, ◌+◌, ◌++◌, length, take};
 ghost use Rattle.std.specs.Option.{option_map};
 ghost use Rattle.bq_disc.specs.Chains.{task_of};
-ghost use Rattle.bq_hooks.specs.Contexts.{u32_bytes, u64_bytes, task_bytes};
+ghost use Rattle.bq_hooks.specs.Contexts.{u32_bytes, u64_bytes, four_bytes, task_bytes};
 
 use bq_disc::Node;
 use byteorder::{ByteOrder, LittleEndian};
@@ -26,6 +26,18 @@ pub fn put_u64(context: &mut [u8], at: usize, number: u64)
     ensures filled { take (at + 8) context.new ≡ take at context.old ++ u64_bytes number }
 {
     LittleEndian::write_u64(&mut context[at..], number);
+}
+
+/// Writes four numbers of 32 bits behind one another.
+#[inline(always)]
+pub fn put_four(context: &mut [u8], at: usize, first: u32, second: u32, third: u32, fourth: u32)
+    requires room { at + 16 ≤ length context.old }
+    ensures filled { take (at + 16) context.new ≡ take at context.old ++ four_bytes first second third fourth }
+{
+    put_u32(context, at, first);
+    put_u32(context, at + 4, second);
+    put_u32(context, at + 8, third);
+    put_u32(context, at + 12, fourth);
 }
 
 /// Writes a task's id, weight and v; where there is none, the number given and zeros.

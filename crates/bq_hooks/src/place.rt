@@ -3,7 +3,7 @@ ghost use Rattle.std.specs.Prelude.{◌≡◌, ◌≤◌, ◌<◌, ◌^◌, ◌%
 ghost use Rattle.bq_hooks.specs.Contexts.{place_header, place_bytes_below, place_bytes_first, place_bytes_second, if_shown, if_any_shown};
 
 use crate::Loads;
-use crate::fields::{NOBODY, put_u32, put_u64};
+use crate::fields::{NOBODY, put_four, put_u32, put_u64};
 use bq_disc::Entity;
 use std::marker::Model;
 
@@ -16,8 +16,11 @@ pub const WIDE_PLACE_LENGTH: usize = 296;
 /// Where a place context has the task's mask.
 pub const MASK_AT: usize = 8;
 
+/// Where it has the waking processor, the first of four numbers.
+const WAKING_AT: usize = 24;
+
 /// Where it has how many processors it shows.
-pub const PROCESSORS_AT: usize = 32;
+pub const PROCESSORS_AT: usize = WAKING_AT + 8;
 
 /// A woken task, the processor that wakes it, how many processors there are, the discipline's own choice, and their loads.
 #[derive(Drop)]
@@ -79,10 +82,14 @@ fn put_header(facts: &Place, limit: usize, context: &mut [u8])
     put_u32(context, 4, task.weight());
     put_u64(context, MASK_AT, low_bits(task.mask(), shown));
     put_u64(context, 16, task.slice());
-    put_u32(context, 24, if_shown(limit, facts.waking));
-    put_u32(context, 28, if_any_shown(limit, task.prev()));
-    put_u32(context, PROCESSORS_AT, shown as u32);
-    put_u32(context, 36, if_shown(limit, facts.own));
+    put_four(
+        context,
+        WAKING_AT,
+        if_shown(limit, facts.waking),
+        if_any_shown(limit, task.prev()),
+        shown as u32,
+        if_shown(limit, facts.own),
+    );
 }
 
 /// The bits of a mask below a number of them: those that name one of so many processors.

@@ -5,7 +5,7 @@ ghost use Rattle.bq_disc.specs.Chains.{task_of};
 ghost use Rattle.bq_disc.specs.Queues.{HasDistinctIds};
 ghost use Rattle.bq_hooks.specs.Contexts.{as_number, preempt_bytes};
 
-use crate::fields::{NOBODY, put_task, put_u32, put_u64};
+use crate::fields::{NOBODY, put_four, put_task, put_u32, put_u64};
 use bq_disc::{Entity, Node, RunQueue};
 use std::marker::Model;
 
@@ -36,10 +36,14 @@ pub fn preempt_ctx<Q: RunQueue>(facts: &Preempt<Q>, context: &mut [u8; PREEMPT_L
     ensures bytes { context.new ≡ preempt_bytes facts.now }
 {
     let current = facts.current;
-    put_u32(context, 0, u32::from(facts.processor));
-    put_u32(context, 4, facts.queue.len() as u32);
-    put_u32(context, 8, u32::from(current.id()));
-    put_u32(context, 12, current.weight());
+    put_four(
+        context,
+        0,
+        u32::from(facts.processor),
+        facts.queue.len() as u32,
+        u32::from(current.id()),
+        current.weight(),
+    );
     put_u64(context, 16, current.v());
     put_u64(context, 24, current.deadline());
     put_task(context, 32, NOBODY, choice(facts.queue));

@@ -7,7 +7,7 @@ ghost use Rattle.bq_disc.specs.Queues.{HasDistinctIds};
 ghost use Rattle.bq_disc.specs.Movable.{movable_to};
 ghost use Rattle.bq_hooks.specs.Contexts.{pull_bytes, or_nobody};
 
-use crate::fields::{NOBODY, put_task, put_u32};
+use crate::fields::{NOBODY, put_four, put_task};
 use bq_disc::{Node, RunQueue};
 
 /// How many bytes a pull context has.
@@ -20,7 +20,7 @@ pub const SHOWN: usize = 8;
 pub const MOVABLE_AT: usize = 16;
 
 /// Where it has how many of them it shows.
-pub const SHOWN_AT: usize = 20;
+pub const SHOWN_AT: usize = MOVABLE_AT + 4;
 
 /// Where the first of those begins.
 pub const TASKS_AT: usize = 32;
@@ -54,14 +54,22 @@ pub fn pull_ctx<Q: RunQueue>(facts: &Pull<Q>, context: &mut [u8; PULL_LENGTH])
     }) }
 {
     let movable = facts.queue.movable(facts.puller);
-    put_u32(context, 0, u32::from(facts.puller));
-    put_u32(context, 4, u32::from(facts.source));
-    put_u32(context, 8, facts.puller_size);
-    put_u32(context, 12, facts.source_size);
-    put_u32(context, MOVABLE_AT, movable.count);
-    put_u32(context, SHOWN_AT, movable.first.len() as u32);
-    put_u32(context, 24, or_nobody(facts.own));
-    put_u32(context, 28, 0);
+    put_four(
+        context,
+        0,
+        u32::from(facts.puller),
+        u32::from(facts.source),
+        facts.puller_size,
+        facts.source_size,
+    );
+    put_four(
+        context,
+        MOVABLE_AT,
+        movable.count,
+        movable.first.len() as u32,
+        or_nobody(facts.own),
+        0,
+    );
     for at in 0..SHOWN {
         let task = shown(facts.queue, movable.first.as_slice(), at);
         put_task(context, TASKS_AT + TASK_LENGTH * at, 0, task);

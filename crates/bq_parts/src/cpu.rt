@@ -152,7 +152,7 @@ impl<Q: RunQueue> Cpu<Q> {
             self.current = Some(Unlinked::new(node));
         }
         self.last = at;
-        self.queue.mark(node_of(&self.current));
+        self.remark();
     }
 
     /// The mark is computed anew.
@@ -216,7 +216,10 @@ impl<Q: RunQueue> Cpu<Q> {
         ensures task { result ≡ option_map (λ t. record (left_at self.old.running.kept t) { prev = Some processor }) self.old.running.current }
         ensures left { self.new ≡ record self.old { running = record self.old.running { current = None } } }
     {
-        let mut node = self.current.take()?.into_node();
+        let Some(task) = self.current.take() else {
+            return None;
+        };
+        let mut node = task.into_node();
         self.queue.leave(&mut node);
         node.entity.set_prev(processor);
         Some(Unlinked::new(node))
@@ -236,7 +239,12 @@ impl<Q: RunQueue> Cpu<Q> {
         ensures task { result ≡ taken_from self.old.running task }
         ensures rest { self.new ≡ record self.old { running = without_task self.old.running task } }
     {
-        let mut node = self.queue.take(task?)?;
+        let Some(id) = task else {
+            return None;
+        };
+        let Some(mut node) = self.queue.take(id) else {
+            return None;
+        };
         self.queue.leave(&mut node);
         Some(Unlinked::new(node))
     }

@@ -1,5 +1,5 @@
 //! What may happen in the world.
-ghost use Rattle.std.specs.Prelude.{◌≡◌};
+ghost use Rattle.std.specs.Prelude.{◌≡◌, None};
 ghost use Rattle.bq_parts.specs.Events.{with_policy};
 
 use crate::{Hook, Policy};
@@ -69,6 +69,27 @@ impl Event {
         ensures { result ≡ with_policy self.now policy }
     {
         match *self {
+            Event::Install {
+                processor,
+                hook,
+                generation,
+                policy: _,
+            } => Event::Install {
+                processor,
+                hook,
+                generation,
+                policy,
+            },
+            _ => self.with_none(),
+        }
+    }
+
+    /// The event once more, with no policy.
+    #[inline(always)]
+    fn with_none(&self) -> Event
+        ensures { result ≡ with_policy self.now None }
+    {
+        match *self {
             Event::Admit {
                 task,
                 nice,
@@ -91,7 +112,7 @@ impl Event {
                 processor,
                 hook,
                 generation,
-                policy,
+                policy: None,
             },
             Event::BeginWake { processor, task } => Event::BeginWake { processor, task },
             Event::EndWake { processor, now } => Event::EndWake { processor, now },

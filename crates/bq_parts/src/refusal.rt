@@ -72,10 +72,10 @@ impl fmt::Display for Refusal {
     ghost output = { λ r. Some (refusal_text r) };
 
     fn fmt<W: fmt::Write>(&self, f: &mut fmt::Formatter<W>) -> fmt::Result {
-        f.write_str(self.name())?;
+        let named = f.write_str(self.name());
         match *self {
-            Refusal::Older(newest) => write!(f, "{newest}"),
-            _ => Ok(()),
+            Refusal::Older(newest) if named.is_ok() => write!(f, "{newest}"),
+            _ => named,
         }
     }
 }

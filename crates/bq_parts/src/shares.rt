@@ -29,8 +29,10 @@ pub fn new_task(
 {
     let mask = low_bits(mask, count);
     let node = Node::new(task, bq_weights::weight(nice), mask, slice);
-    let node = Box::new(alloc, node)?;
-    Ok(Unlinked::new(node))
+    match Box::new(alloc, node) {
+        Ok(node) => Ok(Unlinked::new(node)),
+        Err(error) => Err(error.into()),
+    }
 }
 
 impl Lobby {

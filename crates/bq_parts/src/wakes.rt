@@ -3,6 +3,7 @@ ghost use Rattle.std.specs.Prelude.{◌≡◌, ◌≤◌, ◌<◌, [], IfSome};
 ghost use Rattle.bq_bpf.specs.Counters.{Through};
 ghost use Rattle.bq_hooks.specs.OwnPlace.{HasPlace};
 ghost use Rattle.bq_policies.specs.Attachments.{IsFor};
+ghost use Rattle.bq_parts.specs.Refusals.{install_refusal};
 ghost use Rattle.bq_parts.specs.Choices.{policies};
 ghost use Rattle.bq_parts.specs.Shares.{Begins, Installs, Places};
 
@@ -102,14 +103,23 @@ impl<Q: RunQueue> Cpu<Q> {
         ensures share { Installs hook drawn self.old installed result self.new }
     {
         let newest = self.generation(hook);
-        let generation = installed.generation();
-        if newest > 0 && generation <= newest {
-            return Err(Refusal::Older(newest));
-        }
-        if generation == 0 || generation > drawn {
-            return Err(Refusal::NotDrawn);
+        if let Some(refusal) = generation_refusal(newest, drawn, installed.generation()) {
+            return Err(refusal);
         }
         self.install(hook, installed);
         Ok(Reply::Installed)
+    }
+}
+
+/// Why a generation may not stand where `newest` stands and so many numbers were drawn, if it may not.
+fn generation_refusal(newest: u64, drawn: u64, generation: u64) -> Option<Refusal>
+    ensures { result ≡ install_refusal newest drawn generation }
+{
+    if newest > 0 && generation <= newest {
+        Some(Refusal::Older(newest))
+    } else if generation == 0 || generation > drawn {
+        Some(Refusal::NotDrawn)
+    } else {
+        None
     }
 }

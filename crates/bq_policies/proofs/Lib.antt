@@ -1,4 +1,5 @@
 pub mod ZeroLemmas
 pub mod AnswerLemmas
+pub mod AskLemmas
 pub mod DecidingLemmas
 pub mod SameInsnLemmas

@@ -61,9 +61,9 @@ impl Hooks {
         ensures { self.new ≡ with_attached hook self.old installed }
     {
         match hook {
-            Hook::Place => self.place = installed,
-            Hook::Preempt => self.preempt = installed,
-            Hook::Pull => self.pull = installed,
+            Hook::Place => self.place.give_way_to(installed),
+            Hook::Preempt => self.preempt.give_way_to(installed),
+            Hook::Pull => self.pull.give_way_to(installed),
         }
     }
 

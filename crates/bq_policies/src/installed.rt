@@ -83,6 +83,13 @@ impl Installed {
         self.generation = generation;
     }
 
+    /// What stands here is gone, and this stands here instead.
+    pub(crate) fn give_way_to(&mut self, installed: Installed)
+        ensures { self.new ≡ installed }
+    {
+        *self = installed;
+    }
+
     /// The policy, if one stands here.
     pub fn policy(&self) -> Option<&Policy>
         ensures { option_map (λ p. p.now) result ≡ self.now.policy }

@@ -66,8 +66,14 @@ impl AnyCore {
     {
         let count = usize::from(size.processors());
         let core = match rule {
-            Rule::Cfs => RuleCore::Cfs(DynamicCore::new(alloc, count)?),
-            Rule::Eevdf => RuleCore::Eevdf(DynamicCore::new(alloc, count)?),
+            Rule::Cfs => match DynamicCore::new(alloc, count) {
+                Ok(core) => RuleCore::Cfs(core),
+                Err(AllocError) => return Err(AllocError),
+            },
+            Rule::Eevdf => match DynamicCore::new(alloc, count) {
+                Ok(core) => RuleCore::Eevdf(core),
+                Err(AllocError) => return Err(AllocError),
+            },
         };
         Ok(AnyCore {
             core,

@@ -1,10 +1,11 @@
 //! What each line of a trace does, and what comes of it.
-ghost use Rattle.std.specs.Prelude.{◌≡◌, ◌↔◌, IsTrue, ℕ, List, Result, Err, is_ok, IfOk, OnOk};
+ghost use Rattle.std.specs.Prelude.{◌≡◌, ◌↔◌, IsTrue, ℕ, List, Result, Err, is_ok, false, IfOk, OnOk};
 ghost use Rattle.std.specs.Borrow.{Bor};
 ghost use Rattle.std.specs.Option.{option_map};
 ghost use Rattle.bq_parts.specs.declared.reply.Reply.{Reply};
 ghost use Rattle.bq_parts.specs.declared.refusal.Refusal.{Refusal};
 ghost use Rattle.bq_parts.specs.declared.refusal.Refusal.TheVariants as no;
+ghost use Rattle.bq_lines.specs.Lines.{reading_heard};
 ghost use Rattle.bq_trace.specs.News.{Gets};
 ghost use Rattle.bq_trace.specs.Telling.{Happens, WakeHappens, Tells};
 
@@ -50,7 +51,7 @@ impl AnyCore {
         Ok(answer.is_ok())
     }
 
-    /// Begins a wake, and ends it unless that was refused.
+    /// Begins a wake, and ends it unless that was refused. No such line is bad.
     fn wake<S: Sink>(
         &mut self,
         alloc: Global,
@@ -59,14 +60,14 @@ impl AnyCore {
         task: u16,
         now: u64,
         sink: &mut S,
-    ) -> Result<(), AllocError>
-        ensures { OnOk result (Gets S.takes sink.old sink.new (λ told. WakeHappens self.old number processor task now told self.new)) }
+    ) -> Result<bool, AllocError>
+        ensures { IfOk result (λ bad. (bad ≡ false) × Gets S.takes sink.old sink.new (λ told. WakeHappens self.old number processor task now told self.new)) }
     {
         let begun = self.happen(alloc, number, Event::BeginWake { processor, task }, sink)?;
         if begun {
             self.happen(alloc, number, Event::EndWake { processor, now }, sink)?;
         }
-        Ok(())
+        Ok(false)
     }
 
     /// Does what the line of this number says and tells what comes of it. True where the line is bad.
@@ -82,10 +83,7 @@ impl AnyCore {
             (λ told. Tells (Phase.Running self.old) number (option_map (λ (l : Bor (List ℕ)). l.now) line.entry) reading.entry told (Phase.Running self.new) bad)) }
     {
         match reading {
-            LineReading::Skipped => {
-                telling::skip(number, line, sink)?;
-                Ok(false)
-            }
+            LineReading::Skipped => telling::skip(number, line, sink),
             LineReading::Says(Command::Does(event)) => {
                 self.happen(alloc, number, event, sink)?;
                 Ok(false)
@@ -96,10 +94,7 @@ impl AnyCore {
                     task,
                     now,
                 },
-            ) => {
-                self.wake(alloc, number, processor, task, now, sink)?;
-                Ok(false)
-            }
+            ) => { self.wake(alloc, number, processor, task, now, sink) }
             LineReading::Says(
                 Command::Load {
                     processor,
@@ -119,8 +114,7 @@ impl AnyCore {
             }
             LineReading::Says(Command::Counter { counter }) => {
                 if usize::from(counter) >= COUNTERS {
-                    telling::call_bad(number, line, sink)?;
-                    return Ok(true);
+                    return telling::call_bad(number, line, sink);
                 }
                 telling::count(number, counter, self.counter(counter), sink)?;
                 Ok(false)
@@ -130,8 +124,7 @@ impl AnyCore {
                 Ok(false)
             }
             LineReading::Bad | LineReading::Says(Command::Machine { .. }) => {
-                telling::call_bad(number, line, sink)?;
-                Ok(true)
+                telling::call_bad(number, line, sink)
             }
         }
     }
@@ -148,37 +141,9 @@ pub enum Phase {
     Running(AnyCore),
 }
 
-/// Where a trace stands after the line of this number, which may be its machine line; tells what comes of it. True where
-/// the line is bad.
-fn first_phase<S: Sink>(
-    alloc: Global,
-    number: u64,
-    line: Option<&[u8]>,
-    reading: &LineReading<'_>,
-    sink: &mut S,
-) -> Result<(Phase, bool), AllocError>
-    ensures { IfOk result (λ first. Gets S.takes sink.old sink.new
-        (λ told. Tells Phase.Waiting number (option_map (λ (l : Bor (List ℕ)). l.now) line.entry) reading.now told first.0 first.1)) }
-{
-    match reading {
-        LineReading::Skipped => {
-            telling::skip(number, line, sink)?;
-            Ok((Phase::Waiting, false))
-        }
-        LineReading::Says(Command::Machine { rule, size }) => {
-            let machine = AnyCore::new(alloc, *rule, *size)?;
-            telling::open(number, *rule, *size, sink)?;
-            Ok((Phase::Running(machine), false))
-        }
-        _ => {
-            telling::call_bad(number, line, sink)?;
-            Ok((Phase::Over, true))
-        }
-    }
-}
-
 impl Phase {
-    /// Does what the line of this number says, before any machine line. True where the line is bad.
+    /// Does what the line of this number says, where no machine line has come yet, and tells what comes of it. True where
+    /// the line is bad.
     ///
     /// A machine is large, and room for it is made here: so this stands apart from what each line goes through.
     #[inline(never)]
@@ -190,12 +155,22 @@ impl Phase {
         reading: &LineReading<'_>,
         sink: &mut S,
     ) -> Result<bool, AllocError>
+        requires { self.now ≡ Phase.Waiting }
         ensures { IfOk result (λ bad. Gets S.takes sink.old sink.new
             (λ told. Tells Phase.Waiting number (option_map (λ (l : Bor (List ℕ)). l.now) line.entry) reading.now told self.new bad)) }
     {
-        let (phase, bad) = first_phase(alloc, number, line, reading, sink)?;
-        *self = phase;
-        Ok(bad)
+        match reading {
+            LineReading::Skipped => telling::skip(number, line, sink),
+            LineReading::Says(Command::Machine { rule, size }) => {
+                *self = Phase::Running(AnyCore::new(alloc, *rule, *size)?);
+                telling::open(number, *rule, *size, sink)?;
+                Ok(false)
+            }
+            _ => {
+                *self = Phase::Over;
+                telling::call_bad(number, line, sink)
+            }
+        }
     }
 
     /// Does what the line of this number says and tells what comes of it. True where the line is bad.
@@ -204,16 +179,15 @@ impl Phase {
         alloc: Global,
         number: u64,
         line: Option<&[u8]>,
-        reading: LineReading<'_>,
         sink: &mut S,
     ) -> Result<bool, AllocError>
         ensures { IfOk result (λ bad. Gets S.takes sink.old sink.new
-            (λ told. Tells self.old number (option_map (λ (l : Bor (List ℕ)). l.now) line.entry) reading.entry told self.new bad)) }
+            (λ told. Tells self.old number (option_map (λ (l : Bor (List ℕ)). l.now) line.entry) (reading_heard (option_map (λ (l : Bor (List ℕ)). l.now) line.entry)) told self.new bad)) }
     {
         match self {
             Phase::Over => Ok(false),
-            Phase::Waiting => self.begin(alloc, number, line, &reading, sink),
-            Phase::Running(machine) => machine.obey(alloc, number, line, reading, sink),
+            Phase::Waiting => self.begin(alloc, number, line, &read_heard(line), sink),
+            Phase::Running(machine) => machine.obey(alloc, number, line, read_heard(line), sink),
         }
     }
 }
@@ -256,9 +230,7 @@ impl Progress {
             (λ told. TellsHeard self.old (option_map (λ (l : Bor (List ℕ)). l.now) line.entry) told self.new)) }
     {
         self.line = self.line.saturating_add(1);
-        let bad = self
-            .phase
-            .answer(alloc, self.line, line, read_heard(line), sink)?;
+        let bad = self.phase.answer(alloc, self.line, line, sink)?;
         self.clean = self.clean && !bad;
         Ok(())
     }

@@ -1,5 +1,5 @@
-//! One piece of news of a line, told to a sink.
-ghost use Rattle.std.specs.Prelude.{◌≡◌, ◌≢◌, ◌∷◌, [], ℕ, List, OnOk};
+//! One piece of news of a line, told to a sink. What makes a line bad or leaves it aside says so.
+ghost use Rattle.std.specs.Prelude.{◌≡◌, ◌≢◌, ◌∷◌, [], ℕ, List, true, false, OnOk, IfOk};
 ghost use Rattle.std.specs.Borrow.{Bor};
 ghost use Rattle.std.specs.Option.{option_map};
 ghost use Rattle.bq_load.specs.declared.fault.LoadFault.TheVariants as why;
@@ -25,13 +25,13 @@ pub fn open<S: Sink>(
 }
 
 /// The line says nothing.
-pub fn skip<S: Sink>(number: u64, line: Option<&[u8]>, sink: &mut S) -> Result<(), AllocError>
-    ensures { OnOk result (Gets S.takes sink.old sink.new (λ told. told ≡ skips number (option_map (λ (l : Bor (List ℕ)). l.now) line.entry))) }
+pub fn skip<S: Sink>(number: u64, line: Option<&[u8]>, sink: &mut S) -> Result<bool, AllocError>
+    ensures { IfOk result (λ bad. (bad ≡ false) × Gets S.takes sink.old sink.new (λ told. told ≡ skips number (option_map (λ (l : Bor (List ℕ)). l.now) line.entry))) }
 {
-    match line {
-        None => Ok(()),
-        Some(line) => sink.skipped(number, line),
+    if let Some(line) = line {
+        sink.skipped(number, line)?;
     }
+    Ok(false)
 }
 
 /// The word of an image is no hex.
@@ -69,8 +69,9 @@ pub fn count<S: Sink>(number: u64, counter: u8, value: u64, sink: &mut S) -> Res
 }
 
 /// The line is bad.
-pub fn call_bad<S: Sink>(number: u64, line: Option<&[u8]>, sink: &mut S) -> Result<(), AllocError>
-    ensures { OnOk result (Gets S.takes sink.old sink.new (λ told. told ≡ (number, Bad (option_map (λ (l : Bor (List ℕ)). l.now) line.entry)) ∷ [])) }
+pub fn call_bad<S: Sink>(number: u64, line: Option<&[u8]>, sink: &mut S) -> Result<bool, AllocError>
+    ensures { IfOk result (λ bad. (bad ≡ true) × Gets S.takes sink.old sink.new (λ told. told ≡ (number, Bad (option_map (λ (l : Bor (List ℕ)). l.now) line.entry)) ∷ [])) }
 {
-    sink.bad(number, line)
+    sink.bad(number, line)?;
+    Ok(true)
 }

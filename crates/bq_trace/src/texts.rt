@@ -47,13 +47,20 @@ fn write_task(text: &mut String, task: Option<u16>) -> Result<(), AllocError>
     }
 }
 
+/// Adds what stands before a number, and the number.
+fn write_numbered(text: &mut String, before: &str, number: u32) -> Result<(), AllocError>
+    ensures { OnOk result (string_bytes text.new ≡ string_bytes text.old ++ (before.now ++ decimal number)) }
+{
+    text.push_str(before)?;
+    write_number(text, number)
+}
+
 /// Adds numbers, a space before each.
 fn write_spaced(text: &mut String, numbers: &[u16]) -> Result<(), AllocError>
     ensures { OnOk result (string_bytes text.new ≡ string_bytes text.old ++ spaced numbers.now) }
 {
     for number in numbers {
-        text.push_str(" ")?;
-        write_number(text, u32::from(*number))?;
+        write_numbered(text, " ", u32::from(*number))?;
     }
     Ok(())
 }
@@ -74,11 +81,10 @@ fn write_choice(text: &mut String, by: By, steps: u32) -> Result<(), AllocError>
             if steps == 0 {
                 return write_unasked(text);
             }
-            text.push_str(" by rule steps ")?
+            write_numbered(text, " by rule steps ", steps)?
         }
-        By::Policy => text.push_str(" by policy steps ")?,
+        By::Policy => write_numbered(text, " by policy steps ", steps)?,
     }
-    write_number(text, steps)?;
     text.push_str("\n")
 }
 
@@ -95,8 +101,7 @@ fn write_runner(text: &mut String, run: Option<u16>, by: By, steps: u32) -> Resu
 fn write_begun(text: &mut String, task: u16, loads: &[u16]) -> Result<(), AllocError>
     ensures { OnOk result (string_bytes text.new ≡ string_bytes text.old ++ (reply_text (Begun task loads.now) ++ codes "\n")) }
 {
-    text.push_str("begin ")?;
-    write_number(text, u32::from(task))?;
+    write_numbered(text, "begin ", u32::from(task))?;
     text.push_str(" loads")?;
     write_spaced(text, loads)?;
     text.push_str("\n")
@@ -106,10 +111,8 @@ fn write_begun(text: &mut String, task: u16, loads: &[u16]) -> Result<(), AllocE
 fn write_placed(text: &mut String, task: u16, to: u8, by: By, steps: u32) -> Result<(), AllocError>
     ensures { OnOk result (string_bytes text.new ≡ string_bytes text.old ++ (reply_text (Placed task to by steps) ++ codes "\n")) }
 {
-    text.push_str("end ")?;
-    write_number(text, u32::from(task))?;
-    text.push_str(" to ")?;
-    write_number(text, u32::from(to))?;
+    write_numbered(text, "end ", u32::from(task))?;
+    write_numbered(text, " to ", u32::from(to))?;
     write_choice(text, by, steps)
 }
 
@@ -117,8 +120,7 @@ fn write_placed(text: &mut String, task: u16, to: u8, by: By, steps: u32) -> Res
 fn write_blocked(text: &mut String, task: u16, run: Option<u16>) -> Result<(), AllocError>
     ensures { OnOk result (string_bytes text.new ≡ string_bytes text.old ++ (reply_text (Blocked task run) ++ codes "\n")) }
 {
-    text.push_str("block ")?;
-    write_number(text, u32::from(task))?;
+    write_numbered(text, "block ", u32::from(task))?;
     text.push_str(" run ")?;
     write_task(text, run)?;
     text.push_str("\n")
@@ -155,8 +157,7 @@ fn write_reply(text: &mut String, reply: &Reply) -> Result<(), AllocError>
             by,
             steps,
         } => {
-            text.push_str("drain ")?;
-            write_number(text, *count)?;
+            write_numbered(text, "drain ", *count)?;
             write_runner(text, *run, *by, *steps)
         }
         Reply::Ticked { run, by, steps } => {

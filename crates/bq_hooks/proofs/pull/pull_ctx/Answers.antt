@@ -21,31 +21,13 @@ loop-at-init g c =
       own = c.args.facts.now.own;
     } in
     let shown = c.len.ensures.value ∙ ap length c.movable-movable.ensures.first ∙ length-shown movable in
-    let filled = pull_header_filled f c.args.context.now c.put_u32.new.context c.put_u32-2.new.context c.put_u32-3.new.context c.put_u32-4.new.context c.put_u32-5.new.context
-    c.put_u32-6.new.context c.put_u32-7.new.context c.put_u32-8.new.context
+    let filled = pull_header_filled f c.args.context.now c.put_four.new.context c.put_four-2.new.context
     c.from.result c.from-2.result c.args.facts.now.puller_size c.args.facts.now.source_size c.movable-movable.result.count c.len.result c.or_nobody.result
-    c.from.ensures c.put_u32.ensures.filled
-    c.from-2.ensures c.put_u32-2.ensures.filled
-    refl c.put_u32-3.ensures.filled
-    refl c.put_u32-4.ensures.filled
-    c.movable-movable.ensures.count c.put_u32-5.ensures.filled
-    shown c.put_u32-6.ensures.filled
-    c.or_nobody.ensures c.put_u32-7.ensures.filled
-    c.put_u32-8.ensures.filled in
+    c.from.ensures c.from-2.ensures refl refl c.put_four.ensures.filled
+    c.movable-movable.ensures.count shown c.or_nobody.ensures c.put_four-2.ensures.filled in
     record {
       filled = filled ∙ sym (append-nil (pull_header f));
-      long = omega (
-        arith,
-        c.put_u32.auto.context,
-        c.put_u32-2.auto.context,
-        c.put_u32-3.auto.context,
-        c.put_u32-4.auto.context,
-        c.put_u32-5.auto.context,
-        c.put_u32-6.auto.context,
-        c.put_u32-7.auto.context,
-        c.put_u32-8.auto.context,
-        c.fits-context,
-      );
+      long = omega (arith, c.put_four.auto.context, c.put_four-2.auto.context, c.fits-context);
     }
 
 pub loop-at-preserved : goal.loop-at-preserved
@@ -71,5 +53,13 @@ loop-at-preserved g c =
 
 pub returns : goal.returns
 returns g c =
+    let f : PullFacts = record {
+      puller = c.args.facts.now.puller;
+      source = c.args.facts.now.source;
+      puller_size = c.args.facts.now.puller_size;
+      source_size = c.args.facts.now.source_size;
+      movable = movable_to c.args.facts.now.puller (g.Q.RunQueue.members c.args.facts.now.queue.now);
+      own = c.args.facts.now.own;
+    } in
     let end : c.loop-at.at ≡ 8 = omega (arith, c.loop-at-test.false, c.loop-at.auto.at-end) in
-    record { bytes = pull_filled c.loop-at.at _ c.loop-at.context end c.loop-at.invariant.filled c.loop-at.invariant.long }
+    record { bytes = pull_filled c.loop-at.at f c.loop-at.context end c.loop-at.invariant.filled c.loop-at.invariant.long }

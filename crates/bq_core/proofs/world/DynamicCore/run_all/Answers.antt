@@ -1,5 +1,4 @@
-use Rattle.std.proofs.Common.{◌≡◌, ◌++◌, ◌∷◌, [], true, length, ap, ◌∙◌, append_assoc, arith}
-use Rattle.std.specs.Prelude.{is_ok, not}
+use Rattle.std.proofs.Common.{◌≡◌, ◌++◌, ◌∷◌, [], length, ap, ◌∙◌, append_assoc, arith}
 use Rattle.std.specs.Vec.Iter.{into_iter_items}
 use Rattle.bq_parts.specs.Choices.{policies}
 use Rattle.bq_core.proofs.RunLemmas.{run_more, through_more}
@@ -10,9 +9,6 @@ loop-event-preserved g c =
     let s = policies g.Q.R.Discipline.discipline in
     let at = c.loop-event in
     let e = c.in-Some.event in
-    let ok : is_ok c.push.result ≡ true = c.is_err.ensures.negation ∙ ap not c.if-is_err.false in
-    let items : c.push.new.self.items ≡ at.answers.items ++ c.step-answer.result ∷ [] = rw ok at c.push.ensures.items in
-    let len = rw ok at c.push.ensures.len in
     let steps : into_iter_items at.event-iterator ≡ e ∷ into_iter_items c.next.new.self = c.in-Some.ensures.steps.0 in
     let gone = c.in-Some.ensures.steps.1 in
     let shorter = ap length steps in
@@ -22,10 +18,10 @@ loop-event-preserved g c =
     record {
       whole = append_assoc at.yielded (e ∷ []) _ ∙ rw (← steps) at.invariant.whole;
       left = omega arith;
-      room = omega (arith, len, at.invariant.room, c.push.ensures.capacity);
+      room = omega (arith, c.push_reserved.ensures.len, at.invariant.room, c.push_reserved.ensures.capacity);
       ran = (
         ran.0 ++ step.0 ∷ [],
-        rw items (run_more s c.args.self.now at.self c.step-answer.new.self at.yielded e ran.0 step.0 at.answers.items c.step-answer.result ran.1 step.1),
+        rw c.push_reserved.ensures.items (run_more s c.args.self.now at.self c.step-answer.new.self at.yielded e ran.0 step.0 at.answers.items c.step-answer.result ran.1 step.1),
         through_more g.B.Board.leads c.args.board.now at.board c.step-answer.new.board ran.0 step.0 ran.2 step.2,
       );
       orderly = c.step-answer.ensures.orderly;

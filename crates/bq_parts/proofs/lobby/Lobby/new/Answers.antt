@@ -1,5 +1,5 @@
-use Rattle.std.proofs.Common.{◌≡◌, List, [], ◌∷◌, ◌++◌, ap, ◌∙◌, replicate, arith}
-use Rattle.std.proofs.lemmas.List.{replicate_more}
+use Rattle.std.proofs.Common.{◌≡◌, List, [], ◌∷◌, ◌++◌, ap, ◌∙◌, length, replicate, arith}
+use Rattle.std.proofs.lemmas.List.{replicate_more, length-replicate}
 use Rattle.bq_parts.specs.declared.lobby_entry.LobbyEntry.{LobbyEntry}
 use Rattle.bq_parts.specs.declared.lobby_entry.LobbyEntry.TheVariants.{Absent}
 use Rattle.bq_parts.proofs.lobby.Lobby.new.Goals as goal
@@ -11,3 +11,8 @@ pub returns : goal.returns
 returns c =
     let all : c.entries.counter ≡ 1024 = omega arith in
     c.entries.invariant ∙ ap (λ n. replicate n Absent) all
+
+pub invariant_of-result : goal.invariant_of-result
+invariant_of-result c =
+    let all : c.entries.counter ≡ 1024 = omega arith in
+    ap (λ (xs : List LobbyEntry). length xs) c.entries.invariant ∙ length-replicate c.entries.counter Absent ∙ all
