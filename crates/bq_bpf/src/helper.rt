@@ -13,6 +13,20 @@ pub const ADD_COUNTER: i32 = 100;
 /// The number of `Helper::ReadCounter`.
 pub const READ_COUNTER: i32 = 101;
 
+/// A text with the number of a helper in it, which is named as its constant.
+#[macro_export]
+macro_rules! with_helper {
+    (LOOKUP, $before:literal, $behind:literal) => {
+        concat!($before, "1", $behind)
+    };
+    (NOW, $before:literal, $behind:literal) => {
+        concat!($before, "5", $behind)
+    };
+    (PROCESSOR, $before:literal, $behind:literal) => {
+        concat!($before, "8", $behind)
+    };
+}
+
 /// A text that ends with the numbers of the helpers.
 #[macro_export]
 macro_rules! with_helper_numbers {

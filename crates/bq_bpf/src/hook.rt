@@ -118,6 +118,14 @@ impl Version {
     }
 }
 
+/// A text with the length of the longer context of a placement in it, in bytes.
+#[macro_export]
+macro_rules! with_longer_context {
+    ($before:literal, $behind:literal) => {
+        concat!($before, "296", $behind)
+    };
+}
+
 /// How many bytes the context of a hook has.
 pub fn context_length(hook: Hook, version: Version) -> usize
     ensures { result ≡ context_length_of hook version }

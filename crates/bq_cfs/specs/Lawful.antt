@@ -6,6 +6,7 @@ use Rattle.bq_disc.specs.Orders.{first_by-member, first_by-exists}
 use Rattle.bq_disc.proofs.SetLemmas.{first_by-same, runs_before-IsOrder}
 use Rattle.bq_cfs.specs.Cfs.{cfs}
 
+-- CFS obeys the laws of a discipline
 pub cfs_lawful : IsLawful cfs
 cfs_lawful = record {
   exists = first_by-exists runs_before;

@@ -3,9 +3,11 @@ use Rattle.std.specs.Prelude.{◌≢◌, Bool, true, false, cond, List, [], ◌�
 use Rattle.std.proofs.Common.{arith, suc}
 use Rattle.bq_disc.specs.Tasks.{Task, first_by, former}
 
+-- a list contains its first task
 pub Contains-first : (x : Task) (xs : List Task) → Contains (x ∷ xs) x
 Contains-first x xs = (0, omega arith, refl)
 
+-- and what the rest contains
 pub Contains-later : (x y : Task) (xs : List Task) → Contains xs y → Contains (x ∷ xs) y
 Contains-later x y xs h = (suc h.0, omega (arith, h.1), h.2)
 

@@ -22,6 +22,7 @@ same_earliest xs ys dx dy s =
     ap (λ l. first_by due_before l) (same_eligible xs ys dx dy s)
     ∙ first_by-same due_before due_before-IsOrder (filter (is_eligible ys) xs) (eligible ys) (HasDistinctIds-filter (is_eligible ys) xs dx) (HasDistinctIds-filter (is_eligible ys) ys dy) (SameSet-filter (is_eligible ys) xs ys s)
 
+-- EEVDF obeys the laws of a discipline
 pub eevdf_lawful : IsLawful eevdf
 eevdf_lawful = record {
   exists = λ xs h. first_by-exists due_before (eligible xs) (someone_at_most_mean xs h);

@@ -1,5 +1,7 @@
 //! What helps against each cause, in one sentence.
-use bq_bpf::{Hook, Version, context_length, with_helpers, with_stack_size};
+use bq_bpf::{
+    Hook, Version, context_length, with_helper, with_helpers, with_longer_context, with_stack_size,
+};
 use bq_insn::{Insn, Size};
 use bq_needs::reads;
 use bq_program::PolicySource;
@@ -90,7 +92,7 @@ fn access_advice(policy: &PolicySource, state: &AbstractState, insn: Insn) -> &'
             "test it first: jeq64 r0, 0, label, and use it on the other side"
         }
         ValueKind::Number => "use a pointer: r1 at the begin is the context, r10 the stack's end",
-        ValueKind::Map(_) => "look an entry up first, by helper 1",
+        ValueKind::Map(_) => { with_helper!(LOOKUP, "look an entry up first, by helper ", "") }
     }
 }
 
@@ -105,7 +107,10 @@ fn context_advice(policy: &PolicySource, pointer: AbstractValue, insn: Insn) -> 
         is_in_second(pointer, size, off),
     ) {
         (Hook::Place, Version::First, true) => {
-            "a smaller mask or a test (jgt64) before the address is made, or format 2, whose context has 296 bytes; docs/CONTEXTS.md has the fields"
+            with_longer_context!(
+                "a smaller mask or a test (jgt64) before the address is made, or format 2, whose context has ",
+                " bytes; docs/CONTEXTS.md has the fields"
+            )
         }
         _ => {
             "a smaller mask or a test (jgt64) before the address is made; docs/CONTEXTS.md has the fields of each hook"

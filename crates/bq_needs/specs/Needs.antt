@@ -129,12 +129,12 @@ abbrev pub TellsPointer : AbstractState → Insn → List ℕ → Type 0
 TellsPointer state insn text =
     (r : ℕ) × (k : AbstractValue) × IsFirstPointer state insn r k × (text ≡ codes "works on r" ++ (decimal r ++ (codes ", which is " ++ (known_text k ++ (codes "; " ++ pointer_rule insn)))))
 
--- what a helper wants of its arguments
+-- what a helper does, and wants of its arguments
 abbrev pub wanted_text : Wanted → List ℕ
-wanted_text wanted.LookUp = codes "helper 1 looks an entry up: r1 is a map by ldmap, r2 points to 4 written bytes with the entry's number"
-wanted_text wanted.Update = codes "helper 2 writes an entry: r1 is a map by ldmap, r2 points to 4 written bytes with the entry's number, r3 to as many written bytes as a value has, r4 is 0"
-wanted_text wanted.Add = codes "helper 100 adds to a counter: r1 is its number, 0 to 63, and r2 the amount"
-wanted_text wanted.Read = codes "helper 101 reads a counter: r1 is its number, 0 to 63"
+wanted_text wanted.LookUp = codes "looks an entry up: r1 is a map by ldmap, r2 points to 4 written bytes with the entry's number"
+wanted_text wanted.Update = codes "writes an entry: r1 is a map by ldmap, r2 points to 4 written bytes with the entry's number, r3 to as many written bytes as a value has, r4 is 0"
+wanted_text wanted.Add = codes "adds to a counter: r1 is its number, 0 to 63, and r2 the amount"
+wanted_text wanted.Read = codes "reads a counter: r1 is its number, 0 to 63"
 
 -- what is known of an argument
 abbrev pub argument_text : ℕ → Option AbstractValue → List ℕ
@@ -149,12 +149,12 @@ arguments_below (suc n) state = arguments_below n state ++ argument_text (n + 1)
 abbrev pub map_text : ℤ → ℕ → List ℕ
 map_text index count = codes "names map " ++ (signed_decimal index ++ (codes "; the program has " ++ (decimal count ++ codes " maps, numbered from 0")))
 
--- what the helper wants, and what is known of its arguments
-abbrev pub call_text : AbstractState → Wanted → List ℕ
-call_text state w = wanted_text w ++ (codes "; here" ++ (arguments_below 4 state ++ codes " and of the stack what stands below"))
+-- the helper, what it wants, and what is known of its arguments
+abbrev pub call_text : AbstractState → ℤ → Wanted → List ℕ
+call_text state helper w = codes "helper " ++ (signed_decimal helper ++ (codes " " ++ (wanted_text w ++ (codes "; here" ++ (arguments_below 4 state ++ codes " and of the stack what stands below")))))
 
 abbrev pub TellsCall : AbstractState → ℤ → List ℕ → Type 0
-TellsCall state helper text = (w : Wanted) × (helper ≡ helper_of w) × (text ≡ call_text state w)
+TellsCall state helper text = (w : Wanted) × (helper ≡ helper_of w) × (text ≡ call_text state helper w)
 
 -- the number that is no map's, or the call
 abbrev pub TellsArgument : PolicySource → AbstractState → Insn → List ℕ → Type 0

@@ -87,17 +87,22 @@ fn call_need(
     if are_given(policy, state, wanted) {
         return Ok(None);
     }
-    let text = call_text(alloc, state, wanted)?;
+    let text = call_text(alloc, state, helper, wanted)?;
     Ok(Some(text))
 }
 
 /// The words for it.
-fn call_text(alloc: Global, state: &AbstractState, wanted: Wanted) -> Result<String, AllocError>
-    ensures { IfOk result (λ text. string_bytes text ≡ call_text state.now wanted) }
+fn call_text(
+    alloc: Global,
+    state: &AbstractState,
+    helper: i32,
+    wanted: Wanted,
+) -> Result<String, AllocError>
+    ensures { IfOk result (λ text. string_bytes text ≡ call_text state.now helper wanted) }
 {
     let words = wanted_text(wanted);
     let here = arguments_text(alloc, state)?;
-    format!(in alloc; "{words}; here{here} and of the stack what stands below")
+    format!(in alloc; "helper {helper} {words}; here{here} and of the stack what stands below")
 }
 
 /// What the helper of that number wants.
@@ -131,22 +136,22 @@ fn are_given(policy: &PolicySource, state: &AbstractState, wanted: Wanted) -> bo
     }
 }
 
-/// What a helper wants, in words.
+/// What a helper does and wants, in words.
 fn wanted_text(wanted: Wanted) -> &'static str
     ensures { result.now ≡ wanted_text wanted }
 {
     match wanted {
         Wanted::LookUp => {
-            "helper 1 looks an entry up: r1 is a map by ldmap, r2 points to 4 written bytes with the entry's number"
+            "looks an entry up: r1 is a map by ldmap, r2 points to 4 written bytes with the entry's number"
         }
         Wanted::Update => {
-            "helper 2 writes an entry: r1 is a map by ldmap, r2 points to 4 written bytes with the entry's number, r3 to as many written bytes as a value has, r4 is 0"
+            "writes an entry: r1 is a map by ldmap, r2 points to 4 written bytes with the entry's number, r3 to as many written bytes as a value has, r4 is 0"
         }
         Wanted::Add => with_counters!(
-            "helper 100 adds to a counter: r1 is its number, ",
+            "adds to a counter: r1 is its number, ",
             ", and r2 the amount"
         ),
-        Wanted::Read => with_counters!("helper 101 reads a counter: r1 is its number, ", ""),
+        Wanted::Read => with_counters!("reads a counter: r1 is its number, ", ""),
     }
 }
 

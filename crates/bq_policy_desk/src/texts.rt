@@ -1,6 +1,6 @@
 //! What help pages tell of the commands on policies.
 
-use bq_bpf::{with_hooks, with_versions};
+use bq_bpf::{with_helper, with_hooks, with_versions};
 use bq_options::{CommandText, Given, OptionText, texts};
 
 /// The options that name a policy and say what its file does not. Each command has them first.
@@ -87,12 +87,16 @@ pub(crate) static COMMANDS: [CommandText<'static>; 3] = [
                 OptionText {
                     name: "time",
                     given: Given::Once("T"),
-                    help: "The time, which helper 5 answers: in nanoseconds, or with a unit, as in 5ms",
+                    help: with_helper!(
+                        NOW,
+                        "The time, which helper ",
+                        " answers: in nanoseconds, or with a unit, as in 5ms"
+                    ),
                 },
                 OptionText {
                     name: "processor",
                     given: Given::Once("P"),
-                    help: "The processor, which helper 8 answers",
+                    help: with_helper!(PROCESSOR, "The processor, which helper ", " answers"),
                 },
                 OptionText {
                     name: "counter",
