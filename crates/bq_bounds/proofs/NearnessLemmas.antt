@@ -10,9 +10,9 @@ use Rattle.bq_disc.specs.Discipline.{charged}
 use Rattle.bq_disc.specs.OneProcessor.{Running, present_at, reading}
 use Rattle.bq_cfs.specs.Cfs.{cfs}
 use Rattle.bq_cfs.proofs.MoveLemmas.{each-with_id}
+use Rattle.bq_cfs.proofs.SpreadStayLemmas.{busy_processor}
 use Rattle.bq_eevdf.specs.Eevdf.{eevdf, is_eligible}
 use Rattle.bq_fair.specs.Steps.{Decide, Pass, stepped, after}
-use Rattle.bq_fair.proofs.PlaceLemmas.{busy}
 use Rattle.bq_fair.proofs.ListLemmas.{of_some}
 use Rattle.bq_fair.proofs.CfsFairLemmas.{IsNearEach, runs_near_each}
 use Rattle.bq_fair.proofs.EligibleLemmas.{IsEarliestOf, runs_earliest, earliest_is_eligible}
@@ -36,7 +36,7 @@ cfs_stays_near p nows j a b u distinct weight decides there runs =
 more : (w x y s W v M : ℕ) → W ≡ w + s → W * v ≤ w * x + M → x ≤ y → W * v ≤ w * y + M
 more w x y s W v M e h le = omega (arith, mul-le-mul_left w le)
 
-mean : (q : List Task) (kept : ℕ) (a : Task) (last v now : ℕ) (nows : List ℕ) → 15 ≤ a.weight → a.v ≤ 2 ^ 62 → total_weight (a ∷ q) * v ≤ weighted_sum (a ∷ q) → v ≤ (after eevdf (busy q kept a last) (map Pass (now ∷ nows))).kept
+mean : (q : List Task) (kept : ℕ) (a : Task) (last v now : ℕ) (nows : List ℕ) → 15 ≤ a.weight → a.v ≤ 2 ^ 62 → total_weight (a ∷ q) * v ≤ weighted_sum (a ∷ q) → v ≤ (after eevdf (busy_processor q kept a last) (map Pass (now ∷ nows))).kept
 mean q kept a last v now [] low ends h =
     let b = charged eevdf a (reading last now - last) in
     let up : a.v ≤ b.v = omega arith in

@@ -4,8 +4,8 @@ use Rattle.bq_weights.specs.VirtualTime.{vdelta_of}
 use Rattle.bq_disc.specs.Tasks.{Task}
 use Rattle.bq_disc.specs.Discipline.{Discipline, charged}
 use Rattle.bq_disc.specs.OneProcessor.{Running, reading}
+use Rattle.bq_cfs.proofs.SpreadStayLemmas.{busy_processor}
 use Rattle.bq_fair.specs.Steps.{Pass, after}
-use Rattle.bq_fair.proofs.PlaceLemmas.{busy}
 use Rattle.bq_fair.proofs.SoundLemmas.{vdelta_of-le, vdelta_of-add}
 
 -- a task that ran before the readings runs after them, by no more than the rise takes at its weight
@@ -22,13 +22,13 @@ split last at end w v x u low le le' h k =
     let whole = vdelta_of-le ((at - last) + (end - at)) (end - last) w low (omega arith) in
     omega arith
 
-ran : (d : Discipline) (q : List Task) (kept : ℕ) (a : Task) (last : ℕ) (nows : List ℕ) → 15 ≤ a.weight → Ran d (busy q kept a last) a nows
+ran : (d : Discipline) (q : List Task) (kept : ℕ) (a : Task) (last : ℕ) (nows : List ℕ) → 15 ≤ a.weight → Ran d (busy_processor q kept a last) a nows
 ran d q kept a last [] low = record { task = a; runs = refl; weight = refl; v = omega arith; later = omega arith }
 ran d q kept a last (now ∷ nows) low =
     let at = reading last now in
     let b = charged d a (at - last) in
     let rest = ran d q (d.mark kept (b ∷ q)) b at nows low in
-    let end = (after d (busy q (d.mark kept (b ∷ q)) b at) (map Pass nows)).last in
+    let end = (after d (busy_processor q (d.mark kept (b ∷ q)) b at) (map Pass nows)).last in
     let first : b.v ≤ a.v + vdelta_of (at - last) a.weight = omega arith in
     let up : last ≤ at = omega arith in
     record {

@@ -65,26 +65,26 @@ least_is_found x xs d =
     let c = first_by-member runs_before (x ∷ xs) in
     with_id-Contains (x ∷ xs) m c.0 d c.1 c.2
 
--- a processor where nothing runs
-abbrev idle : List Task → ℕ → ℕ → Running
-idle q kept last = record { queue = q; kept = kept; current = None; last = last }
+-- a processor with this queue where nothing runs
+abbrev pub idle_processor : List Task → ℕ → ℕ → Running
+idle_processor q kept last = record { queue = q; kept = kept; current = None; last = last }
 
-started_stays : (V d n kept last : ℕ) (q : List Task) (m : Task) → with_id m.id q ≡ Some m → HasDistinctIds q → AllByRecursion (IsLevel V d n) q → NoneBelow m.v q → Stays V d (run_id (idle q kept last) (Some m.id))
+started_stays : (V d n kept last : ℕ) (q : List Task) (m : Task) → with_id m.id q ≡ Some m → HasDistinctIds q → AllByRecursion (IsLevel V d n) q → NoneBelow m.v q → Stays V d (run_id (idle_processor q kept last) (Some m.id))
 started_stays V d n kept last q m found distinct h none =
     rw found (stays V d n (record { queue = without m.id q; kept = kept; current = Some m; last = last }) (distinct-started m q distinct)
     (rw found at (each-with_id (IsLevel V d n) m.id q h), each-without (IsLevel V d n) m.id q h)
     (omega arith, each-without (λ (t : Task). m.v ≤ t.v + 1000000) m.id q (weaker_of_each (λ (t : Task). m.v ≤ t.v) (λ (t : Task). m.v ≤ t.v + 1000000) (λ t k. omega arith) q none)))
 
-start_stays : (V d n kept last : ℕ) (q : List Task) → HasDistinctIds q → AllByRecursion (IsLevel V d n) q → Stays V d (start cfs (idle q kept last))
-start_stays V d n kept last [] distinct h = stays V d n (idle [] kept last) tt tt tt
+start_stays : (V d n kept last : ℕ) (q : List Task) → HasDistinctIds q → AllByRecursion (IsLevel V d n) q → Stays V d (start cfs (idle_processor q kept last))
+start_stays V d n kept last [] distinct h = stays V d n (idle_processor [] kept last) tt tt tt
 start_stays V d n kept last (x ∷ xs) distinct h =
     started_stays V d n kept last (x ∷ xs) (former runs_before x (least xs)) (least_is_found x xs distinct) distinct h (none_below_least x xs)
 
 -- The current task keeps running, or gives way
 
--- a processor where u runs
-abbrev busy : List Task → ℕ → Task → ℕ → Running
-busy q kept u last = record { queue = q; kept = kept; current = Some u; last = last }
+-- a processor with this queue where this task runs
+abbrev pub busy_processor : List Task → ℕ → Task → ℕ → Running
+busy_processor q kept u last = record { queue = q; kept = kept; current = Some u; last = last }
 
 -- a task that is at most 1,000,000 beyond the least is so beyond each
 pub near_each : (n : ℕ) (q : List Task) → option_map_or (λ (t : Task). nat_lt (t.v + 1000000) n) (least q) false ≡ false → AllByRecursion (λ t. n ≤ t.v + 1000000) q
@@ -94,8 +94,8 @@ near_each n (x ∷ xs) e =
     let le : n ≤ m.v + 1000000 = grind (arith, nat_tests) in
     weaker_of_each (λ (t : Task). m.v ≤ t.v) (λ (t : Task). n ≤ t.v + 1000000) (λ t k. omega arith) (x ∷ xs) (none_below_least x xs)
 
-kept_stays : (V d n kept last : ℕ) (q : List Task) (u : Task) → HasDistinctIds (u ∷ q) → AllByRecursion (IsLevel V d n) (u ∷ q) → own_preempt cfs q (Some u) ≡ false → Stays V d (busy q kept u last)
-kept_stays V d n kept last q u distinct h e = stays V d n (busy q kept u last) distinct h (omega arith, near_each u.v q e)
+kept_stays : (V d n kept last : ℕ) (q : List Task) (u : Task) → HasDistinctIds (u ∷ q) → AllByRecursion (IsLevel V d n) (u ∷ q) → own_preempt cfs q (Some u) ≡ false → Stays V d (busy_processor q kept u last)
+kept_stays V d n kept last q u distinct h e = stays V d n (busy_processor q kept u last) distinct h (omega arith, near_each u.v q e)
 
 next_by_test : (a u : Task) (b c : Bool) → b ≡ true → cond c a.id (cond b a u).id ≡ a.id
 next_by_test a u true true e = refl
@@ -109,14 +109,14 @@ next_is_least u x xs lt =
     let before : runs_before m u ≡ true = grind (arith, nat_tests) in
     next_by_test m u (runs_before m u) (eqb (cond (runs_before m u) m u).id u.id) before
 
-exchanged_stays : (V d n kept last next : ℕ) (q : List Task) (u m : Task) → next ≡ m.id → with_id m.id q ≡ Some m → HasDistinctIds (u ∷ q) → AllByRecursion (IsLevel V d n) (u ∷ q) → NoneBelow m.v q → m.v ≤ u.v → Stays V d (exchanged (busy q kept u last) u (with_id next q))
+exchanged_stays : (V d n kept last next : ℕ) (q : List Task) (u m : Task) → next ≡ m.id → with_id m.id q ≡ Some m → HasDistinctIds (u ∷ q) → AllByRecursion (IsLevel V d n) (u ∷ q) → NoneBelow m.v q → m.v ≤ u.v → Stays V d (exchanged (busy_processor q kept u last) u (with_id next q))
 exchanged_stays V d n kept last next q u m chosen found distinct h none le =
     let near : Task → Type 0 = λ t. m.v ≤ t.v + 1000000 in
-    rw (chosen, found) (stays V d n (exchanged (busy q kept u last) u (Some m)) (distinct-exchanged u m q found distinct)
+    rw (chosen, found) (stays V d n (exchanged (busy_processor q kept u last) u (Some m)) (distinct-exchanged u m q found distinct)
     (rw found at (each-with_id (IsLevel V d n) m.id q h.1), each-place (IsLevel V d n) u (without m.id q) h.0 (each-without (IsLevel V d n) m.id q h.1))
     (omega arith, each-place near u (without m.id q) (omega arith) (each-without near m.id q (weaker_of_each (λ (t : Task). m.v ≤ t.v) near (λ t k. omega arith) q none))))
 
-switched_stays : (V d n kept last : ℕ) (q : List Task) (u : Task) → HasDistinctIds (u ∷ q) → AllByRecursion (IsLevel V d n) (u ∷ q) → own_preempt cfs q (Some u) ≡ true → Stays V d (switched cfs (busy q kept u last) (Some u))
+switched_stays : (V d n kept last : ℕ) (q : List Task) (u : Task) → HasDistinctIds (u ∷ q) → AllByRecursion (IsLevel V d n) (u ∷ q) → own_preempt cfs q (Some u) ≡ true → Stays V d (switched cfs (busy_processor q kept u last) (Some u))
 switched_stays V d n kept last [] u distinct h e = cc
 switched_stays V d n kept last (x ∷ xs) u distinct h e =
     let m = former runs_before x (least xs) in
@@ -124,7 +124,7 @@ switched_stays V d n kept last (x ∷ xs) u distinct h e =
     let found = least_is_found x xs distinct.1 in
     exchanged_stays V d n kept last (next_of cfs u (x ∷ xs)) (x ∷ xs) u m (next_is_least u x xs (omega arith)) found distinct h (none_below_least x xs) (omega arith)
 
-decided_stays : (V d n kept last : ℕ) (q : List Task) (u : Task) (b : Bool) → own_preempt cfs q (Some u) ≡ b → HasDistinctIds (u ∷ q) → AllByRecursion (IsLevel V d n) (u ∷ q) → Stays V d (decided cfs (busy q kept u last) (Some u) b)
+decided_stays : (V d n kept last : ℕ) (q : List Task) (u : Task) (b : Bool) → own_preempt cfs q (Some u) ≡ b → HasDistinctIds (u ∷ q) → AllByRecursion (IsLevel V d n) (u ∷ q) → Stays V d (decided cfs (busy_processor q kept u last) (Some u) b)
 decided_stays V d n kept last q u true e distinct h = switched_stays V d n kept last q u distinct h e
 decided_stays V d n kept last q u false e distinct h = kept_stays V d n kept last q u distinct h e
 
@@ -133,12 +133,12 @@ decided_stays V d n kept last q u false e distinct h = kept_stays V d n kept las
 -- the same of a processor by its parts
 event_stays : (V d : ℕ) (q : List Task) (kept : ℕ) (o : Option Task) (last : ℕ) (e : Event) → (let p : Running = record { queue = q; kept = kept; current = o; last = last } in IsSound p → IsWithin V d p → rise p (read_at e) ≤ d → Stays V d (passed p e))
 event_stays V d q kept None last (Tick now) s w le =
-    let p = idle q kept last in
+    let p = idle_processor q kept last in
     let c = charge cfs p now in
     start_stays V d (bound V q) c.kept c.last q s.distinct (within_bound_is_level V d p s w)
 event_stays V d q kept None last (Block now) s w le = (s, w)
 event_stays V d q kept (Some t) last (Tick now) s w le =
-    let p = busy q kept t last in
+    let p = busy_processor q kept t last in
     let c = charge cfs p now in
     let n = bound V (t ∷ q) in
     let h = within_bound_is_level V d p s w in
@@ -146,7 +146,7 @@ event_stays V d q kept (Some t) last (Tick now) s w le =
     let charged_level = IsLevel-charged V d n (c.last - last) t h.0 w.current le in
     decided_stays V d n c.kept c.last q u (own_preempt cfs q (Some u)) refl s.distinct (charged_level, h.1)
 event_stays V d q kept (Some t) last (Block now) s w le =
-    let p = busy q kept t last in
+    let p = busy_processor q kept t last in
     let c = charge cfs p now in
     start_stays V d (bound V (t ∷ q)) c.kept c.last q s.distinct.1 (within_bound_is_level V d p s w).1
 

@@ -11,9 +11,9 @@ use Rattle.bq_disc.specs.OneProcessor.{Running, present_at, charge, decided, own
 use Rattle.bq_cfs.specs.Cfs.{cfs, least}
 use Rattle.bq_cfs.proofs.BoundLemmas.{weaker_of_each, none_below_least}
 use Rattle.bq_cfs.proofs.MoveLemmas.{each-with_id}
-use Rattle.bq_cfs.proofs.SpreadStayLemmas.{least_is_found, near_each, next_is_least}
+use Rattle.bq_cfs.proofs.SpreadStayLemmas.{least_is_found, idle_processor, busy_processor, near_each, next_is_least}
 use Rattle.bq_fair.specs.Histories.{history, RisesByAtMost, task_at}
-use Rattle.bq_fair.proofs.PlaceLemmas.{idle, busy, current_present}
+use Rattle.bq_fair.proofs.PlaceLemmas.{current_present}
 use Rattle.bq_fair.proofs.TickLemmas.{Change, Stays, Runs, tick_came, tick_keeps, charged_distinct}
 use Rattle.bq_fair.proofs.SoundLemmas.{of_each, vdelta_of-le, IsWellFormed, change_rises, well_formed_ticked}
 
@@ -23,16 +23,16 @@ use Rattle.bq_fair.proofs.SoundLemmas.{of_each, vdelta_of-le, IsWellFormed, chan
 abbrev pub IsNearEach : List Task → Task → Type 0
 IsNearEach xs m = AllByRecursion (λ t. m.v ≤ t.v + 1000000) xs
 
-started_near : (q : List Task) (kept last : ℕ) → HasDistinctIds q → IfSome (decided cfs (idle q kept last) None false).current (IsNearEach q)
+started_near : (q : List Task) (kept last : ℕ) → HasDistinctIds q → IfSome (decided cfs (idle_processor q kept last) None false).current (IsNearEach q)
 started_near [] kept last d = tt
 started_near (x ∷ xs) kept last d =
     let m = former runs_before x (least xs) in
     rw (least_is_found x xs d) (weaker_of_each (λ (t : Task). m.v ≤ t.v) (λ (t : Task). m.v ≤ t.v + 1000000) (λ t k. omega arith) (x ∷ xs) (none_below_least x xs))
 
-exchanged_near : (q : List Task) (kept last next : ℕ) (u m : Task) → next ≡ m.id → with_id m.id q ≡ Some m → IsNearEach (u ∷ q) m → IfSome (exchanged (busy q kept u last) u (with_id next q)).current (IsNearEach (u ∷ q))
+exchanged_near : (q : List Task) (kept last next : ℕ) (u m : Task) → next ≡ m.id → with_id m.id q ≡ Some m → IsNearEach (u ∷ q) m → IfSome (exchanged (busy_processor q kept u last) u (with_id next q)).current (IsNearEach (u ∷ q))
 exchanged_near q kept last next u m e f h = rw (e, f) h
 
-switched_near : (q : List Task) (kept last : ℕ) (u : Task) → HasDistinctIds (u ∷ q) → own_preempt cfs q (Some u) ≡ true → IfSome (decided cfs (busy q kept u last) (Some u) true).current (IsNearEach (u ∷ q))
+switched_near : (q : List Task) (kept last : ℕ) (u : Task) → HasDistinctIds (u ∷ q) → own_preempt cfs q (Some u) ≡ true → IfSome (decided cfs (busy_processor q kept u last) (Some u) true).current (IsNearEach (u ∷ q))
 switched_near [] kept last u d e = cc
 switched_near (x ∷ xs) kept last u d e =
     let m = former runs_before x (least xs) in
@@ -40,7 +40,7 @@ switched_near (x ∷ xs) kept last u d e =
     let near = weaker_of_each (λ (t : Task). m.v ≤ t.v) (λ (t : Task). m.v ≤ t.v + 1000000) (λ t k. omega arith) (x ∷ xs) (none_below_least x xs) in
     exchanged_near (x ∷ xs) kept last (next_of cfs u (x ∷ xs)) u m (next_is_least u x xs (omega arith)) (least_is_found x xs d.1) (omega arith, near)
 
-decided_near : (q : List Task) (kept last : ℕ) (u : Task) (b : Bool) → HasDistinctIds (u ∷ q) → own_preempt cfs q (Some u) ≡ b → IfSome (decided cfs (busy q kept u last) (Some u) b).current (IsNearEach (u ∷ q))
+decided_near : (q : List Task) (kept last : ℕ) (u : Task) (b : Bool) → HasDistinctIds (u ∷ q) → own_preempt cfs q (Some u) ≡ b → IfSome (decided cfs (busy_processor q kept u last) (Some u) b).current (IsNearEach (u ∷ q))
 decided_near q kept last u true d e = switched_near q kept last u d e
 decided_near q kept last u false d e = (omega arith, near_each u.v q e)
 

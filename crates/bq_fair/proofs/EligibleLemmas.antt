@@ -9,9 +9,10 @@ use Rattle.bq_disc.specs.Orders.{first_by-member}
 use Rattle.bq_disc.specs.OneProcessor.{Running, present_at, decided, own_preempt, exchanged, run_id}
 use Rattle.bq_disc.proofs.SetLemmas.{with_id-Contains, first_by-least, due_before-IsOrder}
 use Rattle.bq_disc.proofs.SameSumLemmas.{Contains-filter}
+use Rattle.bq_cfs.proofs.SpreadStayLemmas.{idle_processor, busy_processor}
 use Rattle.bq_eevdf.specs.Eevdf.{eevdf, earliest, eligible, is_eligible, is_other}
 use Rattle.bq_eevdf.specs.Lawful.{eevdf_lawful}
-use Rattle.bq_fair.proofs.PlaceLemmas.{idle, busy, with_id-own}
+use Rattle.bq_fair.proofs.PlaceLemmas.{with_id-own}
 use Rattle.bq_fair.proofs.ListLemmas.{of_some}
 
 -- a task is one of some, by its id, and eligible among them
@@ -34,7 +35,7 @@ IsEarliestOf xs t = earliest xs ≡ Some t
 
 -- Nothing runs, and the choice starts
 
-started_by : (q : List Task) (kept last : ℕ) (o : Option Task) → earliest q ≡ o → IfSome o (IsChosen q) → IfSome (run_id (idle q kept last) (id_of o)).current (IsEarliestOf q)
+started_by : (q : List Task) (kept last : ℕ) (o : Option Task) → earliest q ≡ o → IfSome o (IsChosen q) → IfSome (run_id (idle_processor q kept last) (id_of o)).current (IsEarliestOf q)
 started_by q kept last None f h = tt
 started_by q kept last (Some m) f h = rw h.0 f
 
@@ -59,11 +60,11 @@ later_by_test q u m false g e h = h
 abbrev RunsEarliestOf : List Task → Running → Type 0
 RunsEarliestOf xs p = IfSome p.current (IsEarliestOf xs)
 
-exchanged_earliest : (q : List Task) (kept last next : ℕ) (u m : Task) → next ≡ m.id → with_id m.id q ≡ Some m → IsEarliestOf (u ∷ q) m → RunsEarliestOf (u ∷ q) (exchanged (busy q kept u last) u (with_id next q))
+exchanged_earliest : (q : List Task) (kept last next : ℕ) (u m : Task) → next ≡ m.id → with_id m.id q ≡ Some m → IsEarliestOf (u ∷ q) m → RunsEarliestOf (u ∷ q) (exchanged (busy_processor q kept u last) u (with_id next q))
 exchanged_earliest q kept last next u m e f h = rw (e, f) h
 
 -- of the earliest, by whether it is the current task
-decided_by_test : (q : List Task) (kept last : ℕ) (u m : Task) (b : Bool) → eqb m.id u.id ≡ b → earliest (u ∷ q) ≡ Some m → IsChosen (u ∷ q) m → RunsEarliestOf (u ∷ q) (decided eevdf (busy q kept u last) (Some u) (not b))
+decided_by_test : (q : List Task) (kept last : ℕ) (u m : Task) (b : Bool) → eqb m.id u.id ≡ b → earliest (u ∷ q) ≡ Some m → IsChosen (u ∷ q) m → RunsEarliestOf (u ∷ q) (decided eevdf (busy_processor q kept u last) (Some u) (not b))
 decided_by_test q kept last u m true e f h =
     let same = eqb-true m.id u.id e in
     let here : u ≡ m = let one = with_id-own u q in let two = ap (λ k. with_id k (u ∷ q)) same in let three = h.0 in cc in
@@ -71,7 +72,7 @@ decided_by_test q kept last u m true e f h =
 decided_by_test q kept last u m false e f h =
     exchanged_earliest q kept last (next_of eevdf u q) u m (next_is_chosen q u m f e) (later_by_test q u m (eqb u.id m.id) refl e h.0) f
 
-decided_by : (q : List Task) (kept last : ℕ) (u : Task) (o : Option Task) → earliest (u ∷ q) ≡ o → IfSome o (IsChosen (u ∷ q)) → IsSome o → RunsEarliestOf (u ∷ q) (decided eevdf (busy q kept u last) (Some u) (is_other o u))
+decided_by : (q : List Task) (kept last : ℕ) (u : Task) (o : Option Task) → earliest (u ∷ q) ≡ o → IfSome o (IsChosen (u ∷ q)) → IsSome o → RunsEarliestOf (u ∷ q) (decided eevdf (busy_processor q kept u last) (Some u) (is_other o u))
 decided_by q kept last u None f h s = cc
 decided_by q kept last u (Some m) f h s = decided_by_test q kept last u m (eqb m.id u.id) refl f h
 

@@ -6,6 +6,7 @@ use Rattle.bq_disc.specs.OneProcessor.{Running, present_at, run_id, exchanged}
 use Rattle.bq_disc.proofs.QueueLemmas.{with_id-none, with_id-place_other, with_id-without, without-absent, with_id-without_same, HasDistinctIds-without}
 use Rattle.bq_disc.proofs.SetLemmas.{with_id-id}
 use Rattle.bq_cfs.proofs.MoveLemmas.{distinct-exchanged}
+use Rattle.bq_cfs.proofs.SpreadStayLemmas.{idle_processor, busy_processor}
 
 -- the first task is the one of its id
 pub with_id-own : (t : Task) (xs : List Task) → with_id t.id (t ∷ xs) ≡ Some t
@@ -57,30 +58,22 @@ distinct_by i q None e d = HasDistinctIds-without i q d
 distinct_by i q (Some m) e d =
     (ap (λ k. with_id k (without i q)) (with_id-id i q m e) ∙ with_id-without_same i q d, HasDistinctIds-without i q d)
 
--- a processor with this queue where nothing runs
-abbrev pub idle : List Task → ℕ → ℕ → Running
-idle q kept last = record { queue = q; kept = kept; current = None; last = last }
-
 -- each id stands for the same task once a task of the queue has started
-pub same_started : (q : List Task) (kept last : ℕ) (i : Option ℕ) (j : ℕ) → with_id j (present_at (run_id (idle q kept last) i)) ≡ with_id j q
+pub same_started : (q : List Task) (kept last : ℕ) (i : Option ℕ) (j : ℕ) → with_id j (present_at (run_id (idle_processor q kept last) i)) ≡ with_id j q
 same_started q kept last None j = refl
 same_started q kept last (Some i) j = started_by i j q (with_id i q) refl
 
 -- ids stay distinct when a task of the queue starts
-pub distinct_started : (q : List Task) (kept last : ℕ) (i : Option ℕ) → HasDistinctIds q → HasDistinctIds (present_at (run_id (idle q kept last) i))
+pub distinct_started : (q : List Task) (kept last : ℕ) (i : Option ℕ) → HasDistinctIds q → HasDistinctIds (present_at (run_id (idle_processor q kept last) i))
 distinct_started q kept last None d = d
 distinct_started q kept last (Some i) d = distinct_by i q (with_id i q) refl d
 
 -- when a task of the queue starts, the clock stands as it did
-pub last_started : (q : List Task) (kept last : ℕ) (i : Option ℕ) → (run_id (idle q kept last) i).last ≡ last
+pub last_started : (q : List Task) (kept last : ℕ) (i : Option ℕ) → (run_id (idle_processor q kept last) i).last ≡ last
 last_started q kept last None = refl
 last_started q kept last (Some i) = refl
 
 -- The current task and one of the queue change places
-
--- a processor with this queue where this task runs
-abbrev pub busy : List Task → ℕ → Task → ℕ → Running
-busy q kept u last = record { queue = q; kept = kept; current = Some u; last = last }
 
 -- of two that are sought first, where not both are the one that is sought, either may stand first
 pub either_order : (b c : Bool) (m u : Task) (o : Option Task) → (b ≡ true → c ≡ true → ⊥) → cond b (Some m) (cond c (Some u) o) ≡ cond c (Some u) (cond b (Some m) o)
@@ -102,17 +95,17 @@ own_id : (i : ℕ) (q : List Task) (m : Task) → with_id i q ≡ Some m → wit
 own_id i q m e = ap (λ k. with_id k q) (with_id-id i q m e) ∙ e
 
 -- each id stands for the same task once the current one and one of the queue have changed places
-pub same_exchanged : (q : List Task) (kept last i j : ℕ) (u : Task) (o : Option Task) → with_id i q ≡ o → with_id u.id q ≡ None → with_id j (present_at (exchanged (busy q kept u last) u o)) ≡ with_id j (u ∷ q)
+pub same_exchanged : (q : List Task) (kept last i j : ℕ) (u : Task) (o : Option Task) → with_id i q ≡ o → with_id u.id q ≡ None → with_id j (present_at (exchanged (busy_processor q kept u last) u o)) ≡ with_id j (u ∷ q)
 same_exchanged q kept last i j u None e n = refl
 same_exchanged q kept last i j u (Some m) e n = changed_places j u m q (own_id i q m e) n
 
 -- ids stay distinct when the current task and one of the queue change places
-pub distinct_exchanged : (q : List Task) (kept last i : ℕ) (u : Task) (o : Option Task) → with_id i q ≡ o → HasDistinctIds (u ∷ q) → HasDistinctIds (present_at (exchanged (busy q kept u last) u o))
+pub distinct_exchanged : (q : List Task) (kept last i : ℕ) (u : Task) (o : Option Task) → with_id i q ≡ o → HasDistinctIds (u ∷ q) → HasDistinctIds (present_at (exchanged (busy_processor q kept u last) u o))
 distinct_exchanged q kept last i u None e d = d
 distinct_exchanged q kept last i u (Some m) e d = distinct-exchanged u m q (own_id i q m e) d
 
 -- when the current task and one of the queue change places, the clock stands as it did
-pub last_exchanged : (q : List Task) (kept last : ℕ) (u : Task) (o : Option Task) → (exchanged (busy q kept u last) u o).last ≡ last
+pub last_exchanged : (q : List Task) (kept last : ℕ) (u : Task) (o : Option Task) → (exchanged (busy_processor q kept u last) u o).last ≡ last
 last_exchanged q kept last u None = refl
 last_exchanged q kept last u (Some m) = refl
 

@@ -7,9 +7,9 @@ use Rattle.bq_disc.specs.OneProcessor.{Running, present_at, charge, run_id, exch
 use Rattle.bq_disc.proofs.QueueLemmas.{without-absent}
 use Rattle.bq_disc.proofs.SetLemmas.{with_id-id}
 use Rattle.bq_disc.proofs.SameSumLemmas.{sum_of, sum_of-without}
+use Rattle.bq_cfs.proofs.SpreadStayLemmas.{idle_processor, busy_processor}
 use Rattle.bq_fair.specs.Histories.{history}
 use Rattle.bq_fair.specs.Steps.{Decide, stepped}
-use Rattle.bq_fair.proofs.PlaceLemmas.{idle, busy}
 
 sum_of-place : (f : Task → ℕ) (t : Task) (xs : List Task) → sum_of f (place t xs) ≡ f t + sum_of f xs
 sum_of-place f t [] = refl
@@ -25,13 +25,13 @@ sum_started : (f : Task → ℕ) (i : ℕ) (q : List Task) (o : Option Task) →
 sum_started f i q None e = ap (sum_of f) (without-absent i q e)
 sum_started f i q (Some m) e = sym (sum_of-without f i q m e)
 
-sum_exchanged : (f : Task → ℕ) (q : List Task) (kept last i : ℕ) (u : Task) (o : Option Task) → with_id i q ≡ o → sum_of f (present_at (exchanged (busy q kept u last) u o)) ≡ sum_of f (u ∷ q)
+sum_exchanged : (f : Task → ℕ) (q : List Task) (kept last i : ℕ) (u : Task) (o : Option Task) → with_id i q ≡ o → sum_of f (present_at (exchanged (busy_processor q kept u last) u o)) ≡ sum_of f (u ∷ q)
 sum_exchanged f q kept last i u None e = refl
 sum_exchanged f q kept last i u (Some m) e =
     let own : with_id m.id q ≡ Some m = ap (λ k. with_id k q) (with_id-id i q m e) ∙ e in
     omega (arith, sum_of-place f u (without m.id q), sum_of-without f m.id q m own)
 
-sum_run : (f : Task → ℕ) (q : List Task) (kept last : ℕ) (i : Option ℕ) → sum_of f (present_at (run_id (idle q kept last) i)) ≡ sum_of f q
+sum_run : (f : Task → ℕ) (q : List Task) (kept last : ℕ) (i : Option ℕ) → sum_of f (present_at (run_id (idle_processor q kept last) i)) ≡ sum_of f q
 sum_run f q kept last None = refl
 sum_run f q kept last (Some i) = sum_started f i q (with_id i q) refl
 

@@ -6,20 +6,21 @@ use Rattle.bq_weights.specs.VirtualTime.{vdelta_of}
 use Rattle.bq_disc.specs.Tasks.{Task, with_id}
 use Rattle.bq_disc.specs.Discipline.{Discipline, next_of}
 use Rattle.bq_disc.specs.OneProcessor.{Running, reading, charge, decided, exchanged, own_preempt, ticked, rise}
+use Rattle.bq_cfs.proofs.SpreadStayLemmas.{busy_processor}
 use Rattle.bq_fair.specs.Histories.{history}
 use Rattle.bq_fair.specs.Work.{weight_at, moment_at, booked_at, booked, elapsed, BooksTheTime, MovesTheSum}
-use Rattle.bq_fair.proofs.PlaceLemmas.{busy, current_present}
+use Rattle.bq_fair.proofs.PlaceLemmas.{current_present}
 use Rattle.bq_fair.proofs.TickLemmas.{tick_keeps}
 use Rattle.bq_fair.proofs.SoundLemmas.{IsWellFormed, well_formed, well_formed_ticked, EachHasRoom, each_has_room, room_ticked, tick_leaves_room, vdelta_of-weighted}
 use Rattle.bq_fair.proofs.SumLemmas.{total_weight-ticked, weighted_sum-busy, weighted_sum-idle}
 
 -- Where a task runs, one does after each Tick
 
-busy_exchanged : (q : List Task) (kept last : ℕ) (u : Task) (o : Option Task) → IsSome (exchanged (busy q kept u last) u o).current
+busy_exchanged : (q : List Task) (kept last : ℕ) (u : Task) (o : Option Task) → IsSome (exchanged (busy_processor q kept u last) u o).current
 busy_exchanged q kept last u None = refl
 busy_exchanged q kept last u (Some m) = refl
 
-busy_decided : (d : Discipline) (q : List Task) (kept last : ℕ) (u : Task) (b : Bool) → IsSome (decided d (busy q kept u last) (Some u) b).current
+busy_decided : (d : Discipline) (q : List Task) (kept last : ℕ) (u : Task) (b : Bool) → IsSome (decided d (busy_processor q kept u last) (Some u) b).current
 busy_decided d q kept last u false = refl
 busy_decided d q kept last u true = busy_exchanged q kept last u (with_id (next_of d u q) q)
 
