@@ -1,8 +1,9 @@
 -- EEVDF: the most that a task is owed in a stretch does not pass its bound.
-use Rattle.std.proofs.Common.{◌≡◌, ℕ, ◌+◌, ◌-◌, ◌^◌, ◌≤◌, min, List, [], ◌∷◌, ◌++◌, length, suc, Option, Some, None, refl, ap, sym, ◌∙◌, subst, arith}
+use Rattle.std.proofs.Common.{◌≡◌, ℕ, ◌+◌, ◌-◌, ◌^◌, ◌≤◌, min, List, [], ◌∷◌, ◌++◌, length, Option, Some, None, refl, ap, sym, ◌∙◌, subst, arith}
 use Rattle.std.specs.Prelude.{Contains, IfSome}
 use Rattle.std.specs.Option.{option_map_or}
 use Rattle.bq_disc.specs.Tasks.{Task}
+use Rattle.bq_disc.specs.Orders.{Contains-later}
 use Rattle.bq_disc.specs.Totals.{total_weight}
 use Rattle.bq_disc.specs.OneProcessor.{Running, present_at, reading, charge, rise}
 use Rattle.bq_disc.proofs.SetLemmas.{with_id-Contains}
@@ -88,12 +89,9 @@ joined : (c : Charge) (o : Option Charge) → KeepsItsBound c → IfSome o Keeps
 joined c None h k = h
 joined c (Some d) h k = greater_within (Some c) d h k
 
-later : (t u : Task) (xs : List Task) → Contains xs u → Contains (t ∷ xs) u
-later t u xs c = (suc c.0, let k = c.1 in omega arith, c.2)
-
 most_within : (f : Task → Charge) (xs : List Task) → ((t : Task) → Contains xs t → KeepsItsBound (f t)) → IfSome (most_owed_by f xs) KeepsItsBound
 most_within f [] h = tt
-most_within f (t ∷ xs) h = joined (f t) (most_owed_by f xs) (h t (0, omega arith, refl)) (most_within f xs (λ u c. h u (later t u xs c)))
+most_within f (t ∷ xs) h = joined (f t) (most_owed_by f xs) (h t (0, omega arith, refl)) (most_within f xs (λ u c. h u (Contains-later t u xs c)))
 
 held : (x y z : ℕ) → x ≤ y → z ≡ y → min x (2 ^ 64 - 1) ≤ min z (2 ^ 64 - 1)
 held x y z h e = omega arith
