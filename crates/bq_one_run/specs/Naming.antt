@@ -98,6 +98,6 @@ pub record IsClean (shapes : List MapShape) (maps : Arrays) : Type 0 where
   pub zero : (m i : ℕ) → slice_index (bytes_of maps m) i ≡ 0
 
 -- the bytes that a hex text names, of just that length; all 0 without a text
-abbrev pub BeginsWith : Option (List ℕ) → ℕ → List ℕ → Type 0
-BeginsWith None len context = context ≡ replicate len 0
-BeginsWith (Some text) len context = (decode_of text ≡ Ok context) × (length context ≡ len)
+abbrev pub IsContextNamed : Option (List ℕ) → ℕ → List ℕ → Type 0
+IsContextNamed None len context = context ≡ replicate len 0
+IsContextNamed (Some text) len context = (decode_of text ≡ Ok context) × (length context ≡ len)

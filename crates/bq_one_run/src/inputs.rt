@@ -5,7 +5,7 @@ ghost use Rattle.hex.specs.Hex.{decode_of};
 ghost use Rattle.bq_bpf.specs.Hooks.{context_length_of};
 ghost use Rattle.bq_bpf.specs.declared.board.TheConstants.{COUNTERS};
 ghost use Rattle.bq_console.specs.Words.{SaysNone};
-ghost use Rattle.bq_one_run.specs.Naming.{BeginsWith, IsClean};
+ghost use Rattle.bq_one_run.specs.Naming.{IsClean, IsContextNamed};
 
 use bq_bpf::{Plain, context_length};
 use bq_console::{WordsFault, words_fault};
@@ -49,8 +49,8 @@ pub fn inputs_of(alloc: Global, verified: &Verified, env: Env) -> Result<Inputs,
 impl Inputs {
     /// Puts the bytes of a hex text in place of the context, which has as many. A text is refused only where it writes no such bytes.
     pub fn set_context(&mut self, alloc: Global, text: &str) -> Result<(), WordsFault>
-        ensures context { OnOk result (BeginsWith (Some text.now) (length self.old.context.items) self.new.context.items) }
-        ensures refused { IfErr result (SaysNone (BeginsWith (Some text.now) (length self.old.context.items))) }
+        ensures context { OnOk result (IsContextNamed (Some text.now) (length self.old.context.items) self.new.context.items) }
+        ensures refused { IfErr result (SaysNone (IsContextNamed (Some text.now) (length self.old.context.items))) }
         ensures left { OnErr result (self.new ≡ self.old) }
         ensures maps { self.new.maps ≡ self.old.maps }
         ensures env { self.new.env ≡ self.old.env }

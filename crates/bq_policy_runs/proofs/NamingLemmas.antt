@@ -6,7 +6,7 @@ use Rattle.bq_bpf.specs.Hooks.{context_length_of}
 use Rattle.bq_maps.specs.Arrays.{Arrays}
 use Rattle.bq_verify.specs.Accepted.{Accepted}
 use Rattle.bq_one_run.specs.declared.inputs.Inputs.{Inputs}
-use Rattle.bq_one_run.specs.Naming.{BeginsWith, SetsEntry, SetsFields, TextsInTurn}
+use Rattle.bq_one_run.specs.Naming.{IsContextNamed, SetsEntry, SetsFields, TextsInTurn}
 use Rattle.bq_one_run.specs.Runs.{Fits}
 use Rattle.bq_one_run.proofs.InTurnLemmas.{IsSeen, turns_seen}
 use Rattle.bq_one_run.proofs.RefusalLemmas.{entry_seen, fields_seen, texts_seen}
@@ -36,17 +36,17 @@ no_time word none other time (inl is) = let both : None ≡ Some time = sym othe
 no_time word none other time (inr is) = let both : None ≡ Some time = sym none ∙ is in absurd (cc)
 
 -- the context that words begin with is one
-begin_once : (word : Option (List ℕ)) (len : ℕ) (a b : List ℕ) → BeginsWith word len a → BeginsWith word len b → a ≡ b
+begin_once : (word : Option (List ℕ)) (len : ℕ) (a b : List ℕ) → IsContextNamed word len a → IsContextNamed word len b → a ≡ b
 begin_once None len a b one two = one ∙ sym two
 begin_once (Some text) len a b one two = cc (one.0, two.0)
 
 -- and it has the length that is wanted
-begin_long : (word : Option (List ℕ)) (len : ℕ) (a : List ℕ) → BeginsWith word len a → length a ≡ len
+begin_long : (word : Option (List ℕ)) (len : ℕ) (a : List ℕ) → IsContextNamed word len a → length a ≡ len
 begin_long None len a is = ap (λ (bs : List ℕ). length bs) is ∙ length-replicate len 0
 begin_long (Some text) len a is = is.1
 
 -- words that name inputs lead there from where they begin
-pub parts_set : (w : RunWords) (program : Accepted) (before inputs : Inputs) → BeginsWith (option_bytes w.context) (context_length_of program.hook program.version) before.context.items → before.maps.shapes ≡ program.shapes → before.board ≡ replicate 64 0 → HasInputs w program inputs → (after : Inputs) × SetsParts w program before after
+pub parts_set : (w : RunWords) (program : Accepted) (before inputs : Inputs) → IsContextNamed (option_bytes w.context) (context_length_of program.hook program.version) before.context.items → before.maps.shapes ≡ program.shapes → before.board ≡ replicate 64 0 → HasInputs w program inputs → (after : Inputs) × SetsParts w program before after
 parts_set w program before inputs begins shapes board has =
     let first : has.context.first ≡ before.context.items = begin_once (option_bytes w.context) (context_length_of program.hook program.version) has.context.first before.context.items has.context.begins begins in
     let seen : IsSeen (λ (words : List (String Global)). TextsInTurn SetsEntry words) (λ (maps : Arrays). maps.shapes) = turns_seen (λ (t : String Global). SetsEntry (string_bytes t)) (λ (maps : Arrays). maps.shapes) (texts_seen SetsEntry (λ (maps : Arrays). maps.shapes) entry_seen) in

@@ -16,7 +16,7 @@ use Rattle.bq_interp.specs.declared.traced.Snapshot.{Snapshot}
 use Rattle.bq_interp.specs.Progress.{setting_of}
 use Rattle.bq_interp.specs.Snapshots.{AreSnapshots}
 use Rattle.bq_one_run.specs.Changes.{calls_text, changes_text, with_all}
-use Rattle.bq_one_run.specs.Naming.{BeginsWith, IsClean, SetsCounter, SetsEntry, SetsFields, TextsInTurn}
+use Rattle.bq_one_run.specs.Naming.{IsClean, IsContextNamed, SetsCounter, SetsEntry, SetsFields, TextsInTurn}
 use Rattle.bq_one_run.specs.Permitting.{word_of}
 use Rattle.bq_one_run.specs.Runs.{AreRuns, IsRun, PersistentState, kept_in}
 use Rattle.bq_verify.specs.declared.cause.Cause.{Cause}
@@ -57,7 +57,7 @@ pub record HasClock (w : RunWords) (env : Env) : Type 0 where
 -- the context is all 0, or the bytes that a word names, with each field that words name in its turn
 pub record HasContext (w : RunWords) (program : Accepted) (context : List ℕ) : Type 0 where
   pub first : List ℕ
-  pub begins : BeginsWith (option_bytes w.context) (context_length_of program.hook program.version) first
+  pub begins : IsContextNamed (option_bytes w.context) (context_length_of program.hook program.version) first
   pub fields : TextsInTurn (SetsFields program.hook program.version) w.fields.items first context
 
 -- the maps are all 0, with each entry that words name in its turn

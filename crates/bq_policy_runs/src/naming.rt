@@ -2,7 +2,7 @@
 ghost use Rattle.std.specs.Prelude.{◌≡◌, ◌^◌, ℕ, IfErr, IfNone, IfOk, IfSome, OnOk, replicate};
 ghost use Rattle.bq_bpf.specs.Hooks.{context_length_of};
 ghost use Rattle.bq_bpf.specs.declared.board.TheConstants.{COUNTERS};
-ghost use Rattle.bq_one_run.specs.Naming.{BeginsWith, IsClean, SetsCounter, SetsEntry, SetsFields, TextsInTurn};
+ghost use Rattle.bq_one_run.specs.Naming.{IsClean, IsContextNamed, SetsCounter, SetsEntry, SetsFields, TextsInTurn};
 ghost use Rattle.bq_policy_runs.specs.Running.{HasClock, HasInputs, IsNumberOrZero, IsTime, SetsParts, WritesTime};
 ghost use Rattle.bq_console.specs.Words.{SaysNone};
 ghost use Rattle.bq_policy_commands.specs.Saying.{option_bytes};
@@ -68,11 +68,11 @@ fn first_inputs(
     verified: &Verified,
     env: Env,
 ) -> Result<Inputs, WordsFault>
-    ensures context { IfOk result (λ i. BeginsWith (option_bytes words.now.context) (context_length_of verified.now.hook verified.now.version) i.context.items) }
+    ensures context { IfOk result (λ i. IsContextNamed (option_bytes words.now.context) (context_length_of verified.now.hook verified.now.version) i.context.items) }
     ensures maps { IfOk result (λ i. IsClean verified.now.shapes i.maps) }
     ensures env { IfOk result (λ i. i.env ≡ env) }
     ensures board { IfOk result (λ i. i.board ≡ replicate COUNTERS 0) }
-    ensures refused { IfErr result (SaysNone (BeginsWith (option_bytes words.now.context) (context_length_of verified.now.hook verified.now.version))) }
+    ensures refused { IfErr result (SaysNone (IsContextNamed (option_bytes words.now.context) (context_length_of verified.now.hook verified.now.version))) }
 {
     let mut inputs = inputs_of(alloc, verified, env)?;
     if let Some(text) = &words.context {

@@ -1,7 +1,7 @@
 use Rattle.std.proofs.lemmas.Result.{err_from_is_err_and}
 use Rattle.bq_bpf.specs.Hooks.{context_length_of}
 use Rattle.bq_one_run.specs.declared.inputs.Inputs.{Inputs}
-use Rattle.bq_one_run.specs.Naming.{BeginsWith}
+use Rattle.bq_one_run.specs.Naming.{IsContextNamed}
 use Rattle.bq_policy_runs.specs.Running.{HasClock, HasInputs, SetsParts}
 use Rattle.bq_policy_commands.specs.Saying.{option_bytes}
 use Rattle.bq_policy_runs.proofs.NamingLemmas.{parts_set}
@@ -16,7 +16,7 @@ returns-in_err-env-clause-none c =
 pub returns-in_err-inputs-clause-none : goal.returns-in_err-inputs-clause-none
 returns-in_err-inputs-clause-none c =
     let error = err_from_is_err_and c.from_residual-in_err-inputs.result c.from_residual-in_err-inputs.ensures.1 in
-    rw (error.1, error.2) (none_of_part (BeginsWith (option_bytes c.args.words.now.context) (context_length_of c.args.verified.now.hook c.args.verified.now.version)) (HasInputs c.args.words.now c.args.verified.now) c.in_err-inputs.field-0.0 (λ i has. (has.context.first, has.context.begins)) c.in_err-inputs.ensures.refused)
+    rw (error.1, error.2) (none_of_part (IsContextNamed (option_bytes c.args.words.now.context) (context_length_of c.args.verified.now.hook c.args.verified.now.version)) (HasInputs c.args.words.now c.args.verified.now) c.in_err-inputs.field-0.0 (λ i has. (has.context.first, has.context.begins)) c.in_err-inputs.ensures.refused)
 
 pub returns-in_err-set_parts-clause-none : goal.returns-in_err-set_parts-clause-none
 returns-in_err-set_parts-clause-none c =
