@@ -1,5 +1,5 @@
 -- How what is said of a policy begins.
-use Rattle.std.specs.Prelude.{◌≡◌, ℕ, List, [], ◌∷◌, ◌++◌, codes}
+use Rattle.std.specs.Prelude.{ℕ, List, [], ◌∷◌, ◌++◌, codes}
 use Rattle.std.specs.Fmt.{decimal}
 use Rattle.bq_insn.specs.declared.TheConstants.{SLOTS}
 use Rattle.bq_bpf.specs.declared.shape.MapShape.{MapShape}
@@ -9,10 +9,6 @@ use Rattle.bq_program.specs.MarkLines.{more_maps}
 use Rattle.bq_explain.specs.declared.verdict.Verdict.{Verdict}
 use Rattle.bq_explain.specs.declared.verdict.Verdict.TheVariants.{Accepted}
 use Rattle.bq_explain.specs.Verdicts.{verdict_line}
-
--- the text goes on from these words
-abbrev pub BeginsWith : List ℕ → List ℕ → Type 0
-BeginsWith text words = (more : List ℕ) × (text ≡ words ++ more)
 
 -- the maps by their shapes, as `--maps` takes them
 abbrev pub maps_text : List MapShape → List ℕ

@@ -2,12 +2,12 @@
 use Rattle.std.specs.Prelude.{◌==◌, ℕ, List, ◌++◌, Option, Some, None, codes, if◌then◌else◌}
 use Rattle.std.specs.Fmt.{decimal}
 use Rattle.std.specs.Str.{IsUtf8}
+use Rattle.bq_insn.specs.Appending.{StartsWith}
 use Rattle.bq_insn.specs.declared.Insn.{Insn}
 use Rattle.bq_asm.specs.declared.fault.Cause.{Cause}
 use Rattle.bq_asm.specs.Lines.{lines_of}
 use Rattle.bq_asm.specs.Assembly.{Assembles}
 use Rattle.bq_asm.specs.Faults.{Faulty}
-use Rattle.bq_explain.specs.Beginnings.{BeginsWith}
 
 -- the text is UTF-8, and it stands for instructions
 abbrev pub IsAssembly : List ℕ → Type 0
@@ -27,4 +27,4 @@ pub record NamesLine (text told : List ℕ) : Type 0 where
   pub line : ℕ
   pub cause : Cause
   pub fault : Faulty (lines_of text) line cause
-  pub begins : BeginsWith told (line_words line)
+  pub begins : StartsWith (line_words line) told

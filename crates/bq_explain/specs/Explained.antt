@@ -1,5 +1,6 @@
 -- What an explanation says of a policy.
 use Rattle.std.specs.Prelude.{◌≡◌, ℕ, List, ◌++◌, Some, IfSome, codes, string_bytes}
+use Rattle.bq_insn.specs.Appending.{StartsWith}
 use Rattle.bq_insn.specs.declared.Insn.{Insn}
 use Rattle.bq_insn.specs.Slots.{spread}
 use Rattle.bq_verify.specs.declared.cause.Cause.{Cause}
@@ -18,7 +19,7 @@ use Rattle.bq_explain.specs.declared.verdict.Verdict.{Verdict}
 use Rattle.bq_explain.specs.declared.verdict.Verdict.TheVariants.{Refused}
 use Rattle.bq_needs.specs.Needs.{IsNeed}
 use Rattle.bq_explain.specs.Telling.{TellsState}
-use Rattle.bq_explain.specs.Beginnings.{BeginsWith, first_words}
+use Rattle.bq_explain.specs.Beginnings.{first_words}
 use Rattle.bq_explain.specs.Texts.{IsStateText}
 use Rattle.bq_explain.specs.Verdicts.{IsVerdict, is_accepted}
 
@@ -72,5 +73,5 @@ pub record Explains (p : PolicySource) (l : Limits) (e : Explained) : Type 0 whe
   pub verdict : Verdict
   pub is_verdict : IsVerdict p l verdict
   pub accepted : e.accepted ≡ is_accepted verdict
-  pub begins : BeginsWith (string_bytes e.text) (first_words p verdict)
+  pub begins : StartsWith (first_words p verdict) (string_bytes e.text)
   pub known_of : IfSome e.known (λ known. IsKnownOf p verdict (string_bytes e.text) (string_bytes known))

@@ -1,7 +1,7 @@
 //! What is wrong with a text that the assembler refuses.
 ghost use Rattle.std.specs.Prelude.{IfOk, IfSome, string_bytes};
 ghost use Rattle.std.specs.Str.{IsUtf8};
-ghost use Rattle.bq_explain.specs.Beginnings.{BeginsWith};
+ghost use Rattle.bq_insn.specs.Appending.{StartsWith};
 ghost use Rattle.bq_explain.specs.Complaints.{ComplainsOf, NamesLine, line_words};
 
 use crate::forms::form_of;
@@ -32,7 +32,7 @@ fn line_complaint(
     number: usize,
     cause: Cause,
 ) -> Result<String, AllocError>
-    ensures { IfOk result (λ told. BeginsWith (string_bytes told) (line_words number)) }
+    ensures { IfOk result (λ told. StartsWith (line_words number) (string_bytes told)) }
 {
     if number == 0 {
         return String::from_str(alloc, "the text has no instruction\n");

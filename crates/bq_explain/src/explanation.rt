@@ -1,11 +1,11 @@
 //! A policy's verdict with its explanation.
 ghost use Rattle.std.specs.Prelude.{◌≡◌, ◌≤◌, IfOk, None, Some, false, true, length, string_bytes};
+ghost use Rattle.bq_insn.specs.Appending.{StartsWith};
 ghost use Rattle.bq_insn.specs.Spelling.{is_well_formed};
 ghost use Rattle.bq_insn.specs.Slots.{spread};
 ghost use Rattle.bq_bpf.specs.Hooks.{context_length_of};
 ghost use Rattle.bq_verify.specs.KnownAt.{ContainsRuns};
 ghost use Rattle.bq_bpf.specs.Steps.{instruction_at};
-ghost use Rattle.bq_explain.specs.Beginnings.{BeginsWith};
 ghost use Rattle.bq_explain.specs.Explained.{Explains, HasKnown, HasNeed};
 
 use crate::advice::{graph_advice, state_advice};
@@ -81,7 +81,7 @@ fn refused(
     cause: Cause,
 ) -> Result<Explained, AllocError>
     ensures accepted { IfOk result (λ e. e.accepted ≡ false) }
-    ensures begins { IfOk result (λ e. BeginsWith (string_bytes e.text) (string_bytes line)) }
+    ensures begins { IfOk result (λ e. StartsWith (string_bytes line) (string_bytes e.text)) }
     ensures known { IfOk result (HasKnown policy.now slot) }
     ensures need { IfOk result (HasNeed policy.now slot cause) }
 {
@@ -126,7 +126,7 @@ fn reasons(
 ) -> Result<Explained, AllocError>
     requires { instruction_at (spread policy.now.insns.items) fault.slot ≡ Some fault.insn }
     ensures accepted { IfOk result (λ e. e.accepted ≡ false) }
-    ensures begins { IfOk result (λ e. BeginsWith (string_bytes e.text) head.now) }
+    ensures begins { IfOk result (λ e. StartsWith head.now (string_bytes e.text)) }
     ensures known { IfOk result (HasKnown policy.now fault.slot) }
     ensures need { IfOk result (HasNeed policy.now fault.slot fault.cause) }
 {
@@ -156,7 +156,7 @@ fn state_reasons(
     requires here { instruction_at (spread policy.now.insns.items) fault.slot ≡ Some fault.insn }
     requires contains { ContainsRuns (spread policy.now.insns.items) policy.now.shapes.items (context_length_of policy.now.hook policy.now.version) fault.slot state.now }
     ensures accepted { IfOk result (λ e. e.accepted ≡ false) }
-    ensures begins { IfOk result (λ e. BeginsWith (string_bytes e.text) head.now) }
+    ensures begins { IfOk result (λ e. StartsWith head.now (string_bytes e.text)) }
     ensures known { IfOk result (HasKnown policy.now fault.slot) }
     ensures need { IfOk result (HasNeed policy.now fault.slot fault.cause) }
 {

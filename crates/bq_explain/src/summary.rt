@@ -1,6 +1,7 @@
 //! What is said of a program that is accepted.
 ghost use Rattle.std.specs.Prelude.{◌≡◌, IfOk, string_bytes};
-ghost use Rattle.bq_explain.specs.Beginnings.{BeginsWith, accepted_words, maps_text};
+ghost use Rattle.bq_insn.specs.Appending.{StartsWith};
+ghost use Rattle.bq_explain.specs.Beginnings.{accepted_words, maps_text};
 
 use bq_bpf::MapShape;
 use bq_bpf::helper::{ADD_COUNTER, LOOKUP, NOW, PROCESSOR, READ_COUNTER, UPDATE};
@@ -18,7 +19,7 @@ pub(crate) fn summary(
     policy: &PolicySource,
     budget: u32,
 ) -> Result<String, AllocError>
-    ensures { IfOk result (λ text. BeginsWith (string_bytes text) (accepted_words policy.now budget)) }
+    ensures { IfOk result (λ text. StartsWith (accepted_words policy.now budget) (string_bytes text)) }
 {
     let words = accepted_words(alloc, policy, budget)?;
     let insns = policy.insns.as_slice();

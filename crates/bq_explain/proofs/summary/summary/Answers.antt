@@ -2,12 +2,13 @@ use Rattle.std.proofs.Common.{◌≡◌, ◌++◌}
 use Rattle.std.specs.Prelude.{codes, string_bytes}
 use Rattle.std.specs.Fmt.{decimal}
 use Rattle.std.proofs.lemmas.Result.{IfOk-weaker}
-use Rattle.bq_explain.specs.Beginnings.{BeginsWith, accepted_words}
+use Rattle.bq_insn.specs.Appending.{StartsWith}
+use Rattle.bq_explain.specs.Beginnings.{accepted_words}
 use Rattle.bq_explain.proofs.BeginningLemmas.{goes_on}
 use Rattle.bq_explain.proofs.summary.summary.Goals as goal
 
 pub returns : goal.returns
 returns c =
     let behind = codes ", helpers " ++ (string_bytes c.in_ok-helpers.helpers ++ (codes ", counters " ++ (decimal c.counter_calls-counters.result ++ (codes ", slots " ++ (decimal c.slot_count-slots.result ++ codes "\n"))))) in
-    IfOk-weaker c.format.result (λ text. string_bytes text ≡ string_bytes c.in_ok-words.words ++ behind) (λ text. BeginsWith (string_bytes text) (accepted_words c.args.policy.now c.args.budget))
+    IfOk-weaker c.format.result (λ text. string_bytes text ≡ string_bytes c.in_ok-words.words ++ behind) (λ text. StartsWith (accepted_words c.args.policy.now c.args.budget) (string_bytes text))
     (λ text is. goes_on (string_bytes text) (string_bytes c.in_ok-words.words) _ behind is c.in_ok-words.ensures) c.format.ensures.ok
