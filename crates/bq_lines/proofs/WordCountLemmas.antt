@@ -1,7 +1,13 @@
 -- A text's words are its first one and those behind it.
 use Rattle.std.proofs.Common.{◌≡◌, ℕ, List, [], ◌∷◌, Option, Some, None, refl}
 use Rattle.std.specs.Option.{option_map}
-use Rattle.bq_lines.specs.Lines.{two_of, three_of, four_of}
+use Rattle.bq_lines.specs.Lines.{one_of, two_of, three_of, four_of}
+
+-- two words are one and one
+pub two_by_one : (word : List ℕ) (more : List (List ℕ)) → two_of (word ∷ more) ≡ option_map (λ w. (word, w)) (one_of more)
+two_by_one word [] = refl
+two_by_one word (a ∷ []) = refl
+two_by_one word (a ∷ b ∷ more) = refl
 
 -- three words are one and two
 pub three_by_two : (word : List ℕ) (more : List (List ℕ)) → three_of (word ∷ more) ≡ option_map (λ w. (word, w.0, w.1)) (two_of more)

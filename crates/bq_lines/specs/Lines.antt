@@ -25,6 +25,10 @@ size_of word = option_and_then size_numbered (processor_of word)
 
 -- the words of a line that has just so many
 
+abbrev pub one_of : List (List ℕ) → Option (List ℕ)
+one_of (word ∷ []) = Some word
+one_of other = None
+
 abbrev pub two_of : List (List ℕ) → Option (List ℕ × List ℕ)
 two_of (first ∷ second ∷ []) = Some (first, second)
 two_of other = None
@@ -53,13 +57,11 @@ install_words operands =
     option_and_then (λ w. option_and_then (λ c. option_and_then (λ g. option_map (λ h. (c, g, h, w.3)) (hook_of w.2)) (decimal_of w.1)) (processor_of w.0)) (four_of operands)
 
 abbrev pub one_task : List (List ℕ) → Option ℕ
-one_task (task ∷ []) = task_of task
-one_task other = None
+one_task operands = option_and_then task_of (one_of operands)
 
 -- a processor, or a counter
 abbrev pub one_number : List (List ℕ) → Option ℕ
-one_number (number ∷ []) = processor_of number
-one_number other = None
+one_number operands = option_and_then processor_of (one_of operands)
 
 abbrev pub processor_and_task : List (List ℕ) → Option (ℕ × ℕ)
 processor_and_task operands = option_and_then (λ w. option_and_then (λ c. option_map (λ i. (c, i)) (task_of w.1)) (processor_of w.0)) (two_of operands)

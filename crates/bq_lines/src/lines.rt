@@ -9,7 +9,7 @@ use crate::command::{Command, LineReading};
 use crate::image::HexWord;
 use crate::keyword::Keyword;
 use crate::numbers;
-use crate::words::{end_of_words, four_words, is_allowed_line, three_words, two_words};
+use crate::words::{end_of_words, four_words, is_allowed_line, only_word, three_words, two_words};
 use bq_core::{Event, Hook};
 use bq_words::{ProcessorCount, Rule, next_word};
 
@@ -78,22 +78,19 @@ fn command<'a>(name: &[u8], operands: &'a [u8]) -> LineReading<'a>
 fn machine_words(operands: &[u8]) -> Option<(Rule, ProcessorCount)>
     ensures { result ≡ machine_words (words operands.now) }
 {
-    let (first, second) = two_words(operands)?;
-    let rule = Rule::of_word(first)?;
-    let size = numbers::size(second)?;
-    Some((rule, size))
+    match two_words(operands) {
+        Some((first, second)) => Rule::of_word(first).zip(numbers::size(second)),
+        None => None,
+    }
 }
 
 /// A task, its nice value, its mask and its slice.
-fn admit_words(operands: &[u8]) -> Option<(u16, i8, u64, u64)>
-    ensures { result ≡ admit_words (words operands.now) }
+fn admit_words(operands: &[u8]) -> Option<(u16, (i8, (u64, u64)))>
+    ensures { option_map (λ w. (w.0, w.1.0, w.1.1.0, w.1.1.1)) result ≡ admit_words (words operands.now) }
 {
     let (first, second, third, fourth) = four_words(operands)?;
-    let task = numbers::task(first)?;
-    let nice = numbers::nice(second)?;
-    let mask = numbers::mask(third)?;
-    let slice = numbers::decimal(fourth)?;
-    Some((task, nice, mask, slice))
+    let mask_and_slice = numbers::mask(third).zip(numbers::decimal(fourth));
+    numbers::task(first).zip(numbers::nice(second).zip(mask_and_slice))
 }
 
 /// A processor, a generation, a hook, and the word that spells an image.
@@ -111,60 +108,50 @@ fn install_words(operands: &[u8]) -> Option<(u8, u64, Hook, &[u8])>
 fn one_task(operands: &[u8]) -> Option<u16>
     ensures { result ≡ one_task (words operands.now) }
 {
-    let (first, rest) = next_word(operands)?;
-    end_of_words(rest)?;
-    numbers::task(first)
+    numbers::task(only_word(operands)?)
 }
 
 /// A processor, or a counter.
 fn one_number(operands: &[u8]) -> Option<u8>
     ensures { result ≡ one_number (words operands.now) }
 {
-    let (first, rest) = next_word(operands)?;
-    end_of_words(rest)?;
-    numbers::processor(first)
+    numbers::processor(only_word(operands)?)
 }
 
 /// A processor and a task.
 fn processor_and_task(operands: &[u8]) -> Option<(u8, u16)>
     ensures { result ≡ processor_and_task (words operands.now) }
 {
-    let (first, second) = two_words(operands)?;
-    let processor = numbers::processor(first)?;
-    let task = numbers::task(second)?;
-    Some((processor, task))
+    match two_words(operands) {
+        Some((first, second)) => numbers::processor(first).zip(numbers::task(second)),
+        None => None,
+    }
 }
 
 /// A processor and a clock reading.
 fn processor_and_time(operands: &[u8]) -> Option<(u8, u64)>
     ensures { result ≡ processor_and_time (words operands.now) }
 {
-    let (first, second) = two_words(operands)?;
-    let processor = numbers::processor(first)?;
-    let now = numbers::decimal(second)?;
-    Some((processor, now))
+    match two_words(operands) {
+        Some((first, second)) => numbers::processor(first).zip(numbers::decimal(second)),
+        None => None,
+    }
 }
 
 /// A processor, a task and a clock reading.
-fn wake_words(operands: &[u8]) -> Option<(u8, u16, u64)>
-    ensures { result ≡ wake_words (words operands.now) }
+fn wake_words(operands: &[u8]) -> Option<(u8, (u16, u64))>
+    ensures { option_map (λ w. (w.0, w.1.0, w.1.1)) result ≡ wake_words (words operands.now) }
 {
     let (first, second, third) = three_words(operands)?;
-    let processor = numbers::processor(first)?;
-    let task = numbers::task(second)?;
-    let now = numbers::decimal(third)?;
-    Some((processor, task, now))
+    numbers::processor(first).zip(numbers::task(second).zip(numbers::decimal(third)))
 }
 
 /// Two processors and a clock reading.
-fn pull_words(operands: &[u8]) -> Option<(u8, u8, u64)>
-    ensures { result ≡ pull_words (words operands.now) }
+fn pull_words(operands: &[u8]) -> Option<(u8, (u8, u64))>
+    ensures { option_map (λ w. (w.0, w.1.0, w.1.1)) result ≡ pull_words (words operands.now) }
 {
     let (first, second, third) = three_words(operands)?;
-    let processor = numbers::processor(first)?;
-    let from = numbers::processor(second)?;
-    let now = numbers::decimal(third)?;
-    Some((processor, from, now))
+    numbers::processor(first).zip(numbers::processor(second).zip(numbers::decimal(third)))
 }
 
 fn machine(operands: &[u8]) -> LineReading<'_>
@@ -180,7 +167,7 @@ fn admit(operands: &[u8]) -> LineReading<'_>
     ensures { result ≡ said (admit_of (words operands.now)) }
 {
     match admit_words(operands) {
-        Some((task, nice, mask, slice)) => LineReading::Says(Command::Does(Event::Admit {
+        Some((task, (nice, (mask, slice)))) => LineReading::Says(Command::Does(Event::Admit {
             task,
             nice,
             mask,
@@ -256,7 +243,7 @@ fn wake(operands: &[u8]) -> LineReading<'_>
     ensures { result ≡ said (wake_of (words operands.now)) }
 {
     match wake_words(operands) {
-        Some((processor, task, now)) => LineReading::Says(Command::Wake {
+        Some((processor, (task, now))) => LineReading::Says(Command::Wake {
             processor,
             task,
             now,
@@ -296,7 +283,7 @@ fn pull(operands: &[u8]) -> LineReading<'_>
     ensures { result ≡ said (pull_of (words operands.now)) }
 {
     match pull_words(operands) {
-        Some((processor, from, now)) => LineReading::Says(Command::Does(Event::Pull {
+        Some((processor, (from, now))) => LineReading::Says(Command::Does(Event::Pull {
             processor,
             from,
             now,

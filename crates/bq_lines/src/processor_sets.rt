@@ -1,7 +1,7 @@
 //! Sets of processors, as bits: bit k is processor k.
-ghost use Rattle.std.specs.Prelude.{◌≡◌, ◌<◌, ◌≤◌, ◌+◌, ◌-◌, ◌^◌, [], ◌∷◌, IfNone, IfSome, length, option_and_then, position};
+ghost use Rattle.std.specs.Prelude.{◌≡◌, ◌<◌, ◌≤◌, ◌+◌, ◌-◌, ◌^◌, ◌==◌, [], ◌∷◌, IfNone, IfSome, length, option_and_then, position};
 ghost use Rattle.std.specs.List.{slice_split};
-ghost use Rattle.bq_lines.specs.ProcessorSets.{processors_of, is_comma, is_dash, bits_of, span_of, processor_below};
+ghost use Rattle.bq_lines.specs.ProcessorSets.{processors_of, is_comma, bits_of, span_of, processor_below};
 
 use crate::numbers;
 use bq_disc::limits::PROCESSORS;
@@ -35,51 +35,36 @@ pub fn first_part(word: &[u8]) -> Option<(&[u8], &[u8])>
     ensures less { IfSome result (λ p. length p.1.now < length word.now) }
     ensures none { IfNone result (slice_split is_comma word.now ≡ word.now ∷ []) }
 {
-    match comma(word) {
+    match place_of(b',', word) {
         Some(end) => Some((&word[..end], &word[end + 1..])),
         None => None,
     }
 }
 
-/// Where the first comma is.
-fn comma(word: &[u8]) -> Option<usize>
-    ensures value { result ≡ position is_comma word.now }
-    ensures within { IfSome result (λ end. end < length word.now) }
+/// Where such a byte first is.
+fn place_of(byte: u8, bytes: &[u8]) -> Option<usize>
+    ensures value { result ≡ position (λ b. b == byte) bytes.now }
+    ensures within { IfSome result (λ at. at < length bytes.now) }
 {
-    word.iter().position(|byte| is_comma(*byte))
-}
-
-fn is_comma(byte: u8) -> bool
-    ensures { result ≡ is_comma byte }
-{
-    byte == b','
-}
-
-fn is_dash(byte: u8) -> bool
-    ensures { result ≡ is_dash byte }
-{
-    byte == b'-'
-}
-
-/// Where a range has its dash.
-fn dash(part: &[u8]) -> Option<usize>
-    ensures value { result ≡ position is_dash part.now }
-    ensures within { IfSome result (λ at. at < length part.now) }
-{
-    part.iter().position(|byte| is_dash(*byte))
+    bytes.iter().position(|b| *b == byte)
 }
 
 /// The bits of a number, or of a range.
 fn span(part: &[u8]) -> Option<u64>
     ensures { result ≡ span_of part.now }
 {
-    match dash(part) {
+    match place_of(b'-', part) {
         Some(dash) => range(&part[..dash], &part[dash + 1..]),
-        None => {
-            let only = processor(part)?;
-            Some(bits(only, only))
-        }
+        None => one_bit(part),
     }
+}
+
+/// The bit of one processor.
+fn one_bit(word: &[u8]) -> Option<u64>
+    ensures { result ≡ option_and_then (λ only. bits_of only only) (processor_below word.now) }
+{
+    let only = processor(word)?;
+    Some(bits(only, only))
 }
 
 /// The bits of a range from one word to another.

@@ -1,10 +1,11 @@
 //! The bytes that may stand in a line, and the end of its words.
-ghost use Rattle.std.specs.Prelude.{◌≡◌, ◌∷◌, [], MatchOption};
+ghost use Rattle.std.specs.Prelude.{◌≡◌, ◌∷◌, [], ℕ, List, MatchOption};
+ghost use Rattle.std.specs.Borrow.{Bor};
 ghost use Rattle.std.specs.List.{list_all};
 ghost use Rattle.bq_words.specs.Words.{words};
 ghost use Rattle.std.specs.Option.{option_map};
 ghost use Rattle.bq_lines.specs.Bytes.{is_allowed};
-ghost use Rattle.bq_lines.specs.Lines.{two_of, three_of, four_of};
+ghost use Rattle.bq_lines.specs.Lines.{one_of, two_of, three_of, four_of};
 
 use bq_words::next_word;
 
@@ -35,14 +36,25 @@ pub fn end_of_words(text: &[u8]) -> Option<()>
     }
 }
 
+/// The word of a text that has one.
+pub fn only_word(text: &[u8]) -> Option<&[u8]>
+    ensures { option_map (λ (w : Bor (List ℕ)). w.now) result ≡ one_of (words text.now) }
+{
+    match next_word(text) {
+        Some((word, rest)) => end_of_words(rest).and(Some(word)),
+        None => None,
+    }
+}
+
 /// The two words of a text that has two.
+#[tactic(auto, using(crate::proofs::WordCountLemmas::two_by_one))]
 pub fn two_words(text: &[u8]) -> Option<(&[u8], &[u8])>
     ensures { option_map (λ w. (w.0.now, w.1.now)) result ≡ two_of (words text.now) }
 {
-    let (first, rest) = next_word(text)?;
-    let (second, rest) = next_word(rest)?;
-    end_of_words(rest)?;
-    Some((first, second))
+    match next_word(text) {
+        Some((first, rest)) => Some(first).zip(only_word(rest)),
+        None => None,
+    }
 }
 
 /// The three words of a text that has three.
@@ -50,9 +62,13 @@ pub fn two_words(text: &[u8]) -> Option<(&[u8], &[u8])>
 pub fn three_words(text: &[u8]) -> Option<(&[u8], &[u8], &[u8])>
     ensures { option_map (λ w. (w.0.now, w.1.now, w.2.now)) result ≡ three_of (words text.now) }
 {
-    let (first, rest) = next_word(text)?;
-    let (second, third) = two_words(rest)?;
-    Some((first, second, third))
+    let Some((first, rest)) = next_word(text) else {
+        return None;
+    };
+    match two_words(rest) {
+        Some((second, third)) => Some((first, second, third)),
+        None => None,
+    }
 }
 
 /// The four words of a text that has four.
@@ -60,7 +76,11 @@ pub fn three_words(text: &[u8]) -> Option<(&[u8], &[u8], &[u8])>
 pub fn four_words(text: &[u8]) -> Option<(&[u8], &[u8], &[u8], &[u8])>
     ensures { option_map (λ w. (w.0.now, w.1.now, w.2.now, w.3.now)) result ≡ four_of (words text.now) }
 {
-    let (first, rest) = next_word(text)?;
-    let (second, third, fourth) = three_words(rest)?;
-    Some((first, second, third, fourth))
+    let Some((first, rest)) = next_word(text) else {
+        return None;
+    };
+    match three_words(rest) {
+        Some((second, third, fourth)) => Some((first, second, third, fourth)),
+        None => None,
+    }
 }
