@@ -88,34 +88,46 @@ fn machine_words(operands: &[u8]) -> Option<(Rule, ProcessorCount)>
 fn admit_words(operands: &[u8]) -> Option<(u16, (i8, (u64, u64)))>
     ensures { option_map (λ w. (w.0, w.1.0, w.1.1.0, w.1.1.1)) result ≡ admit_words (words operands.now) }
 {
-    let (first, second, third, fourth) = four_words(operands)?;
-    let mask_and_slice = numbers::mask(third).zip(numbers::decimal(fourth));
-    numbers::task(first).zip(numbers::nice(second).zip(mask_and_slice))
+    match four_words(operands) {
+        Some((first, second, third, fourth)) => {
+            let mask_and_slice = numbers::mask(third).zip(numbers::decimal(fourth));
+            numbers::task(first).zip(numbers::nice(second).zip(mask_and_slice))
+        }
+        None => None,
+    }
 }
 
 /// A processor, a generation, a hook, and the word that spells an image.
-fn install_words(operands: &[u8]) -> Option<(u8, u64, Hook, &[u8])>
-    ensures { option_map (λ w. (w.0, w.1, w.2, w.3.now)) result ≡ install_words (words operands.now) }
+fn install_words(operands: &[u8]) -> Option<(u8, (u64, (Hook, &[u8])))>
+    ensures { option_map (λ w. (w.0, w.1.0, w.1.1.0, w.1.1.1.now)) result ≡ install_words (words operands.now) }
 {
-    let (first, second, third, image) = four_words(operands)?;
-    let processor = numbers::processor(first)?;
-    let generation = numbers::decimal(second)?;
-    let hook = Hook::of_word(third)?;
-    Some((processor, generation, hook, image))
+    match four_words(operands) {
+        Some((first, second, third, image)) => {
+            let hook_and_image = Hook::of_word(third).zip(Some(image));
+            numbers::processor(first).zip(numbers::decimal(second).zip(hook_and_image))
+        }
+        None => None,
+    }
 }
 
 /// A task.
 fn one_task(operands: &[u8]) -> Option<u16>
     ensures { result ≡ one_task (words operands.now) }
 {
-    numbers::task(only_word(operands)?)
+    match only_word(operands) {
+        Some(word) => numbers::task(word),
+        None => None,
+    }
 }
 
 /// A processor, or a counter.
 fn one_number(operands: &[u8]) -> Option<u8>
     ensures { result ≡ one_number (words operands.now) }
 {
-    numbers::processor(only_word(operands)?)
+    match only_word(operands) {
+        Some(word) => numbers::processor(word),
+        None => None,
+    }
 }
 
 /// A processor and a task.
@@ -142,16 +154,24 @@ fn processor_and_time(operands: &[u8]) -> Option<(u8, u64)>
 fn wake_words(operands: &[u8]) -> Option<(u8, (u16, u64))>
     ensures { option_map (λ w. (w.0, w.1.0, w.1.1)) result ≡ wake_words (words operands.now) }
 {
-    let (first, second, third) = three_words(operands)?;
-    numbers::processor(first).zip(numbers::task(second).zip(numbers::decimal(third)))
+    match three_words(operands) {
+        Some((first, second, third)) => {
+            numbers::processor(first).zip(numbers::task(second).zip(numbers::decimal(third)))
+        }
+        None => None,
+    }
 }
 
 /// Two processors and a clock reading.
 fn pull_words(operands: &[u8]) -> Option<(u8, (u8, u64))>
     ensures { option_map (λ w. (w.0, w.1.0, w.1.1)) result ≡ pull_words (words operands.now) }
 {
-    let (first, second, third) = three_words(operands)?;
-    numbers::processor(first).zip(numbers::processor(second).zip(numbers::decimal(third)))
+    match three_words(operands) {
+        Some((first, second, third)) => {
+            numbers::processor(first).zip(numbers::processor(second).zip(numbers::decimal(third)))
+        }
+        None => None,
+    }
 }
 
 fn machine(operands: &[u8]) -> LineReading<'_>
@@ -198,7 +218,7 @@ fn draw(operands: &[u8]) -> LineReading<'_>
 fn install(operands: &[u8]) -> LineReading<'_>
     ensures { result ≡ said (install_of (words operands.now)) }
 {
-    let Some((processor, generation, hook, image)) = install_words(operands) else {
+    let Some((processor, (generation, (hook, image)))) = install_words(operands) else {
         return LineReading::Bad;
     };
     if image == b"none".as_slice() {

@@ -1,7 +1,7 @@
 //! Sets of processors, as bits: bit k is processor k.
-ghost use Rattle.std.specs.Prelude.{◌≡◌, ◌<◌, ◌≤◌, ◌+◌, ◌-◌, ◌^◌, ◌==◌, [], ◌∷◌, IfNone, IfSome, length, option_and_then, position};
+ghost use Rattle.std.specs.Prelude.{◌≡◌, ◌<◌, ◌≤◌, ◌+◌, ◌-◌, ◌^◌, ◌==◌, [], ◌∷◌, IfNone, IfSome, bit_or, length, option_and_then, option_map, position};
 ghost use Rattle.std.specs.List.{slice_split};
-ghost use Rattle.bq_lines.specs.ProcessorSets.{processors_of, is_comma, bits_of, span_of, processor_below};
+ghost use Rattle.bq_lines.specs.ProcessorSets.{processors_of, is_comma, bits_of, span_of, span_at, processor_below};
 
 use crate::numbers;
 use bq_disc::limits::PROCESSORS;
@@ -17,15 +17,21 @@ pub fn processors(word: &[u8]) -> Option<u64>
     'parts: loop {
         match first_part(rest) {
             Some((part, more)) => {
-                let bits = span(part)?;
-                mask |= bits;
+                mask = with_span(mask, part)?;
                 rest = more;
             }
-            None => {
-                let bits = span(rest)?;
-                return Some(mask | bits);
-            }
+            None => return with_span(mask, rest),
         }
+    }
+}
+
+/// These bits, and those of a number or a range.
+fn with_span(mask: u64, part: &[u8]) -> Option<u64>
+    ensures { result ≡ option_map (bit_or mask) (span_of part.now) }
+{
+    match span(part) {
+        Some(bits) => Some(mask | bits),
+        None => None,
     }
 }
 
@@ -53,7 +59,15 @@ fn place_of(byte: u8, bytes: &[u8]) -> Option<usize>
 fn span(part: &[u8]) -> Option<u64>
     ensures { result ≡ span_of part.now }
 {
-    match place_of(b'-', part) {
+    span_at(part, place_of(b'-', part))
+}
+
+/// The bits of a number, or of a range with its dash there.
+fn span_at(part: &[u8], dash: Option<usize>) -> Option<u64>
+    requires { IfSome dash (λ at. at < length part.now) }
+    ensures { result ≡ span_at part.now dash }
+{
+    match dash {
         Some(dash) => range(&part[..dash], &part[dash + 1..]),
         None => one_bit(part),
     }
@@ -63,20 +77,20 @@ fn span(part: &[u8]) -> Option<u64>
 fn one_bit(word: &[u8]) -> Option<u64>
     ensures { result ≡ option_and_then (λ only. bits_of only only) (processor_below word.now) }
 {
-    let only = processor(word)?;
-    Some(bits(only, only))
+    match processor(word) {
+        Some(only) => Some(bits(only, only)),
+        None => None,
+    }
 }
 
 /// The bits of a range from one word to another.
 fn range(first: &[u8], last: &[u8]) -> Option<u64>
     ensures { result ≡ option_and_then (λ f. option_and_then (bits_of f) (processor_below last.now)) (processor_below first.now) }
 {
-    let first = processor(first)?;
-    let last = processor(last)?;
-    if last < first {
-        return None;
+    match processor(first).zip(processor(last)) {
+        Some((first, last)) if first <= last => Some(bits(first, last)),
+        _ => None,
     }
-    Some(bits(first, last))
 }
 
 /// The bits from the first to the last.
@@ -92,10 +106,8 @@ pub fn bits(first: u8, last: u8) -> u64
 fn processor(word: &[u8]) -> Option<u8>
     ensures { result ≡ processor_below word.now }
 {
-    let number = numbers::processor(word)?;
-    if number < PROCESSORS {
-        Some(number)
-    } else {
-        None
+    match numbers::processor(word) {
+        Some(number) if number < PROCESSORS => Some(number),
+        _ => None,
     }
 }
