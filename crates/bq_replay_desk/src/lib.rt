@@ -3,7 +3,6 @@
 //! What standard error says makes no promise beyond that it is safe.
 #![tactic(auto)]
 
-mod noticed;
 mod replaying;
 
 pub use replaying::replay_file;

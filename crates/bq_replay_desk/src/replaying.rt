@@ -1,11 +1,9 @@
 //! A trace is replayed, from a file or from standard input, to standard output.
 
-use crate::noticed::Noticed;
 use bq_console::{ended, say_unread, waiting_input};
 use bq_lines::with_first_line;
 use bq_streams::{Counted, Kept};
 use bq_trace::replay;
-use std::cell::Cell;
 use std::fs;
 use std::io::Read;
 use std::process::ExitCode;
@@ -25,19 +23,13 @@ pub fn replay_file(rt: &HostRuntime, name: Option<&str>) -> ExitCode {
     }
 }
 
-/// Replays the trace that is read from there.
+/// Replays the trace that is read from there. One that ends at the first read is empty.
 fn replay_from<R: Read + Drop>(rt: &HostRuntime, name: Option<&str>, trace: R) -> ExitCode {
-    let has_given = Cell::new(false);
-    let mut input = Counted::new(Kept::new(Noticed {
-        inner: trace,
-        has_given: &has_given,
-    }));
+    let mut input = Counted::new(Kept::new(trace));
     let mut output = Counted::new(Kept::new(rt.stdout()));
     let outcome = replay(rt.alloc(), &mut input, &mut output);
-    if let Ok(true) = outcome {
-        if !has_given.get() {
-            let _ = eprintln!(rt; "{EMPTY}");
-        }
+    if matches!(outcome, Ok(true)) && input.calls() == 1 {
+        let _ = rt.eprintln(EMPTY);
     }
     ended(rt, name, &outcome, input, output)
 }

@@ -29,6 +29,13 @@ impl<T> Counted<T> {
         }
     }
 
+    /// How often it was called.
+    pub fn calls(&self) -> u64
+        ensures { result ≡ calls_of self.now }
+    {
+        self.calls
+    }
+
     /// The reader or the writer.
     pub fn into_inner(self) -> T
         ensures { result ≡ inner_of self }
