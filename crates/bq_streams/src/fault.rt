@@ -2,24 +2,36 @@
 ghost use Rattle.std.specs.Prelude.{◌≡◌};
 
 use std::alloc::AllocError;
-use thiserror::Error;
+use std::error::Error;
+use std::fmt;
 
 /// Why what reads or writes ended before its input did. The first three are answered only for their causes, as specs/Faults says.
-#[derive(Clone, Copy, Debug, PartialEq, Eq, Error)]
+#[derive(Clone, Copy, Debug, PartialEq, Eq)]
 pub enum StreamFault {
     /// The reader failed.
-    #[error("a read failed")]
     Read,
     /// The writer failed, or took nothing.
-    #[error("a write failed")]
     Write,
     /// The reader went on after 2^32 reads.
-    #[error("the input had not ended after 2^32 reads")]
     TooLong,
     /// A growth was refused.
-    #[error("out of memory")]
     OutOfMemory,
 }
+
+/// The words of a message.
+impl fmt::Display for StreamFault {
+    fn fmt<W: fmt::Write>(&self, f: &mut fmt::Formatter<W>) -> fmt::Result {
+        let words = match self {
+            StreamFault::Read => "a read failed",
+            StreamFault::Write => "a write failed",
+            StreamFault::TooLong => "the input had not ended after 2^32 reads",
+            StreamFault::OutOfMemory => "out of memory",
+        };
+        f.write_str(words)
+    }
+}
+
+impl Error for StreamFault {}
 
 impl From<AllocError> for StreamFault {
     ghost use Rattle.bq_streams.specs.declared.fault.StreamFault.TheVariants.{OutOfMemory};
