@@ -6,3 +6,8 @@ pub returns-in-MapRef : goal.returns-in-MapRef
 returns-in-MapRef c =
     let fits : SFits w32 c.in-MapRef.index = search rules in
     rw c.in-MapRef.is (simp (to_z-of_z fits) at c.map_need.ensures)
+
+pub returns-in-Call : goal.returns-in-Call
+returns-in-Call c =
+    let fits : SFits w32 c.in-Call.helper = search rules in
+    rw c.in-Call.is (simp (to_z-of_z fits) at c.call_need.ensures)
