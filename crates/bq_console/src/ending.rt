@@ -29,12 +29,12 @@ pub fn ended<R: Read + Drop, W: Write + Drop>(
 ) -> ExitCode
     ensures { status result ≡ status_of outcome.now }
 {
+    let streams = Streams {
+        name,
+        read: input.into_inner().failure(),
+        written: output.into_inner().failure(),
+    };
     if let Err(fault) = outcome {
-        let streams = Streams {
-            name,
-            read: input.into_inner().failure(),
-            written: output.into_inner().failure(),
-        };
         say_fault(rt, *fault, &streams);
     }
     ExitCode::from(exit_status(outcome))

@@ -2,30 +2,25 @@
 ghost use Rattle.std.specs.Prelude.{◌≡◌, IfOk, map};
 ghost use Rattle.std.specs.String.{string_bytes};
 
-use crate::fault::WordsFault;
+use crate::fault::{WordsFault, words_fault};
 use std::alloc::{AllocError, Global};
 use std::env;
-use std::io::ErrorKind;
+use std::io::{Error, ErrorKind};
 
 /// The words after the program's name, in order. One that is no UTF-8 text is refused.
 pub fn given_words(rt: &HostRuntime) -> Result<Vec<String>, WordsFault> {
-    let alloc = rt.alloc();
     match env::args(rt) {
-        Ok(args) => {
-            let mut given = Vec::new(alloc);
-            for arg in args.skip(1) {
-                given.push(arg)?;
-            }
-            Ok(given)
-        }
-        Err(error) => {
-            if error.kind() == ErrorKind::OutOfMemory {
-                return Err(WordsFault::OutOfMemory);
-            }
-            let text = String::from_str(alloc, "error: a word is no UTF-8 text\n")?;
-            Err(WordsFault::Words(text))
-        }
+        Ok(args) => Ok(args.skip(1).collect(rt.alloc())?),
+        Err(error) => Err(no_words(rt.alloc(), &error)),
     }
+}
+
+/// Why there are no words.
+fn no_words(alloc: Global, error: &Error) -> WordsFault {
+    if error.kind() == ErrorKind::OutOfMemory {
+        return WordsFault::OutOfMemory;
+    }
+    words_fault(String::from_str(alloc, "error: a word is no UTF-8 text\n"))
 }
 
 /// The texts of words, in their order.

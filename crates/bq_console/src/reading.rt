@@ -54,7 +54,7 @@ pub fn whole_file(rt: &HostRuntime, path: &str) -> Result<Vec<u8>, ExitCode>
 pub fn waiting_input(rt: &HostRuntime) -> Stdin {
     let input = rt.stdin();
     if input.is_terminal() {
-        let _ = eprintln!(rt; "bqsim: waiting for standard input; Ctrl-D ends it");
+        let _ = rt.eprintln("bqsim: waiting for standard input; Ctrl-D ends it");
     }
     input
 }

@@ -16,7 +16,7 @@ use std::process::ExitCode;
 pub fn say_out_of_memory(rt: &HostRuntime) -> ExitCode
     ensures { exit_status result ≡ 3 }
 {
-    let _ = eprintln!(rt; "bqsim: out of memory");
+    let _ = rt.eprintln("bqsim: out of memory");
     ExitCode::from(OUT_OF_MEMORY)
 }
 
@@ -26,7 +26,7 @@ pub fn say_refused(rt: &HostRuntime, fault: &WordsFault) -> ExitCode
 {
     match fault {
         WordsFault::Words(text) => {
-            let _ = eprint!(rt; "{text}");
+            let _ = rt.eprint(text);
             ExitCode::from(REFUSED)
         }
         WordsFault::OutOfMemory => say_out_of_memory(rt),
@@ -59,12 +59,13 @@ fn say_failed<W: fmt::Display>(rt: &HostRuntime, what: &W, error: &Error) -> Exi
         return say_out_of_memory(rt);
     }
     match reason(rt.alloc(), error) {
-        Ok(why) => {
-            let _ = eprintln!(rt; "bqsim: {what}: {why}");
-        }
-        Err(_) => {
-            let _ = eprintln!(rt; "bqsim: {what}: {error}");
-        }
+        Ok(why) => say_why(rt, what, &why),
+        Err(_) => say_why(rt, what, error),
     }
     ExitCode::from(IO_FAILED)
+}
+
+/// Says what failed, and that this is why.
+fn say_why<W: fmt::Display, Y: fmt::Display>(rt: &HostRuntime, what: &W, why: &Y) {
+    let _ = eprintln!(rt; "bqsim: {what}: {why}");
 }

@@ -1,5 +1,5 @@
 //! The lines of a text that comes in pieces.
-ghost use Rattle.std.specs.Prelude.{◌≡◌, ◌↔◌, IsTrue, ◌+◌, ◌<◌, ◌==◌, ◌++◌, ◌∷◌, ℕ, List, [], length, take, drop, OnOk, OnErr, IfSome, IfNone, Some, None};
+ghost use Rattle.std.specs.Prelude.{◌≡◌, ◌↔◌, IsTrue, ◌==◌, ◌++◌, ◌∷◌, ℕ, List, [], length, OnOk, OnErr, IfSome, IfNone, Some, None};
 ghost use Rattle.std.specs.Borrow.{Bor};
 ghost use Rattle.std.specs.Option.{option_map};
 ghost use Rattle.std.specs.Str.Lines.{strip_carriage_return};
@@ -108,21 +108,12 @@ pub fn heard(line: &[u8]) -> Option<&[u8]>
     }
 }
 
-/// Where the first line feed is.
-fn line_feed(bytes: &[u8]) -> Option<usize>
-    ensures found { IfSome result (λ at. (at < length bytes.now) × IsOneLine (take at bytes.now)
-        × (bytes.now ≡ take at bytes.now ++ 10 ∷ drop (at + 1) bytes.now)) }
-    ensures none { IfNone result (IsOneLine bytes.now) }
-{
-    memchr(b'\n', bytes)
-}
-
 /// The first line, and what follows its line feed.
 pub fn first_line(bytes: &[u8]) -> Option<(&[u8], &[u8])>
     ensures found { IfSome result (λ p. (bytes.now ≡ p.0.now ++ 10 ∷ p.1.now) × IsOneLine p.0.now) }
     ensures none { IfNone result (IsOneLine bytes.now) }
 {
-    match line_feed(bytes) {
+    match memchr(b'\n', bytes) {
         Some(at) => Some((&bytes[..at], &bytes[at + 1..])),
         None => None,
     }

@@ -50,16 +50,9 @@ macro_rules! with_first_line {
     };
 }
 
-/// Whether a word is spelled so.
-#[inline(always)]
-fn is_spelled(word: &[u8], name: &str) -> bool
-    ensures { result ≡ bytes_eq word.now name.now }
-{
-    word == name.as_bytes()
-}
-
 impl Keyword {
     /// The word itself, as `tick`.
+    #[inline(always)]
     pub fn word(self) -> &'static str
         ensures { result.now ≡ keyword_word self }
     {
@@ -81,24 +74,32 @@ impl Keyword {
         }
     }
 
+    /// Whether a word is this one.
+    #[inline(always)]
+    fn is_word(self, word: &[u8]) -> bool
+        ensures { result ≡ bytes_eq word.now (keyword_word self) }
+    {
+        word == self.word().as_bytes()
+    }
+
     /// The keyword that a word is, if it is one.
     #[inline(always)]
     pub fn of_word(word: &[u8]) -> Option<Keyword>
         ensures { result ≡ keyword_of word.now }
     {
-        if is_spelled(word, "begin") {
+        if Keyword::Begin.is_word(word) {
             Some(Keyword::Begin)
-        } else if is_spelled(word, "end") {
+        } else if Keyword::End.is_word(word) {
             Some(Keyword::End)
-        } else if is_spelled(word, "wake") {
+        } else if Keyword::Wake.is_word(word) {
             Some(Keyword::Wake)
-        } else if is_spelled(word, "drain") {
+        } else if Keyword::Drain.is_word(word) {
             Some(Keyword::Drain)
-        } else if is_spelled(word, "tick") {
+        } else if Keyword::Tick.is_word(word) {
             Some(Keyword::Tick)
-        } else if is_spelled(word, "block") {
+        } else if Keyword::Block.is_word(word) {
             Some(Keyword::Block)
-        } else if is_spelled(word, "pull") {
+        } else if Keyword::Pull.is_word(word) {
             Some(Keyword::Pull)
         } else {
             Keyword::of_setting_word(word)
@@ -110,19 +111,19 @@ impl Keyword {
     fn of_setting_word(word: &[u8]) -> Option<Keyword>
         ensures { result ≡ setting_keyword_of word.now }
     {
-        if is_spelled(word, "install") {
+        if Keyword::Install.is_word(word) {
             Some(Keyword::Install)
-        } else if is_spelled(word, "machine") {
+        } else if Keyword::Machine.is_word(word) {
             Some(Keyword::Machine)
-        } else if is_spelled(word, "admit") {
+        } else if Keyword::Admit.is_word(word) {
             Some(Keyword::Admit)
-        } else if is_spelled(word, "retire") {
+        } else if Keyword::Retire.is_word(word) {
             Some(Keyword::Retire)
-        } else if is_spelled(word, "draw") {
+        } else if Keyword::Draw.is_word(word) {
             Some(Keyword::Draw)
-        } else if is_spelled(word, "show") {
+        } else if Keyword::Show.is_word(word) {
             Some(Keyword::Show)
-        } else if is_spelled(word, "counter") {
+        } else if Keyword::Counter.is_word(word) {
             Some(Keyword::Counter)
         } else {
             None

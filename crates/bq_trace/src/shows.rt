@@ -1,5 +1,5 @@
 //! The line that shows a processor.
-ghost use Rattle.std.specs.Prelude.{◌≡◌, ◌++◌, Some, OnOk, string_bytes};
+ghost use Rattle.std.specs.Prelude.{◌≡◌, ◌++◌, OnOk, string_bytes};
 ghost use Rattle.bq_trace.specs.Texts.{entity_text, current_text, spaced_entities, processor_line, show_line};
 
 use crate::any_core::{AnyCore, Seen};
@@ -7,21 +7,15 @@ use crate::texts::write_refusal;
 use bq_core::{Cpu, Refusal};
 use bq_disc::{Entity, RunQueue};
 use std::alloc::AllocError;
-use std::fmt;
 
-/// A task by its id, v and deadline.
-#[derive(Clone, Copy)]
-struct TaskText<'a>(&'a Entity);
-
-impl fmt::Display for TaskText<'_> {
-    ghost output = { λ t. Some (entity_text t.0.now) };
-
-    fn fmt<W: fmt::Write>(&self, f: &mut fmt::Formatter<W>) -> fmt::Result {
-        let id = self.0.id();
-        let v = self.0.v();
-        let deadline = self.0.deadline();
-        write!(f, "{id}:{v}:{deadline}")
-    }
+/// Adds what stands before a task, and the task by its id, v and deadline.
+fn write_entity(text: &mut String, before: &str, entity: &Entity) -> Result<(), AllocError>
+    ensures { OnOk result (string_bytes text.new ≡ string_bytes text.old ++ (before.now ++ entity_text entity.now)) }
+{
+    let id = entity.id();
+    let v = entity.v();
+    let deadline = entity.deadline();
+    write!(text, "{before}{id}:{v}:{deadline}")
 }
 
 /// Adds the task that runs, or `none`.
@@ -30,10 +24,7 @@ fn write_current<Q: RunQueue>(text: &mut String, cpu: &Cpu<Q>) -> Result<(), All
 {
     match cpu.current() {
         None => text.push_str("none"),
-        Some(node) => {
-            let current = TaskText(&node.entity);
-            write!(text, "{current}")
-        }
+        Some(node) => write_entity(text, "", &node.entity),
     }
 }
 
@@ -43,8 +34,7 @@ fn write_queue<Q: RunQueue>(text: &mut String, cpu: &Cpu<Q>) -> Result<(), Alloc
 {
     let mut last: Option<(u64, u16)> = None;
     while let Some(node) = cpu.after(last) {
-        let task = TaskText(&node.entity);
-        write!(text, " {task}")?;
+        write_entity(text, " ", &node.entity)?;
         last = Some((node.entity.v(), node.entity.id()));
     }
     Ok(())
