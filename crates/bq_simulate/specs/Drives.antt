@@ -55,6 +55,11 @@ IsDriveFault d event (Refused why) = refusal d.machine.world event ≡ Some why
 IsDriveFault d event OutOfMemory = Unit {0}
 IsDriveFault d event Answer = ⊥
 
+-- a reading that falls leaves the machine as it was, and the sink is told nothing
+abbrev pub IsUntouched : {S : Type 0} → DriveFault → Driver → Driver → S → S → Type 0
+IsUntouched Reading d e old new = (e ≡ d) × (new ≡ old)
+IsUntouched fault d e old new = Unit {0}
+
 -- a sink is told of it
 abbrev pub Did : {S : Type 0} → (S → ℕ → News → S → Type 0) → S → Driver → Event → Reply → S → Driver → Type 0
 Did takes old d event reply new e = Gets takes old new (λ told. Does d event reply told e)

@@ -1,6 +1,6 @@
 //! A machine, and how far it was driven.
 ghost use Rattle.std.specs.Prelude.{◌≡◌, IfErr, IfOk, OnErr, OnOk};
-ghost use Rattle.bq_simulate.specs.Drives.{reading_of, Falls, IsDriveFault, Rises, Does, Starts};
+ghost use Rattle.bq_simulate.specs.Drives.{reading_of, Falls, IsDriveFault, IsUntouched, Rises, Does, Starts};
 ghost use Rattle.bq_simulate.specs.declared.drive_fault.DriveFault.TheVariants.{Reading};
 ghost use Rattle.bq_trace.specs.News.{Gets};
 
@@ -39,7 +39,8 @@ impl Driver {
         })
     }
 
-    /// Does the event that the next line stands for, and tells of it. The machine may have moved where there is a fault.
+    /// Does the event that the next line stands for, and tells of it. Where there is a fault the machine may have moved, unless the
+    /// fault is its reading's.
     pub fn perform<S: Sink>(
         &mut self,
         alloc: Global,
@@ -48,6 +49,7 @@ impl Driver {
     ) -> Result<Reply, DriveFault>
         ensures does { IfOk result (λ reply. Gets S.takes sink.old sink.new (λ told. Does self.old event reply told self.new)) }
         ensures fault { IfErr result (λ fault. IsDriveFault self.old event fault) }
+        ensures untouched { IfErr result (λ fault. IsUntouched fault self.old self.new sink.old sink.new) }
     {
         self.read(reading_of(&event))?;
         self.line = self.line.saturating_add(1);
