@@ -1,5 +1,5 @@
 -- What the words of `simulate` ask for.
-use Rattle.std.specs.Prelude.{◌≡◌, ℕ, ◌&&◌, nat_le, List, [], Option, Some, None, String, if◌then◌else◌, codes, map, option_and_then, option_map, string_bytes, unwrap_or}
+use Rattle.std.specs.Prelude.{◌≡◌, ℕ, Bool, true, false, ◌&&◌, ◌||◌, nat_le, List, [], Option, Some, None, String, if◌then◌else◌, codes, is_some, map, option_and_then, option_map, string_bytes, unwrap_or}
 use Rattle.std.specs.Global.{Global}
 use Rattle.clap.specs.Words.{Row, all_of, first_of}
 use Rattle.bq_actions.specs.Lengths.{longest}
@@ -8,6 +8,7 @@ use Rattle.bq_lines.specs.Numbers.{decimal_of}
 use Rattle.bq_policy_commands.specs.Saying.{option_bytes}
 use Rattle.bq_timeline.specs.Asking.{AreWords}
 use Rattle.bq_timeline.specs.Settings.{AsksFor, IsNoSettings, asked_or, form_asked}
+use Rattle.bq_timeline.specs.declared.settings.Words.{Words}
 use Rattle.bq_words.specs.Sizes.{rule_of}
 use Rattle.bq_workload.specs.Durations.{duration_of}
 use Rattle.bq_workload.specs.declared.changes.Changes.{Changes}
@@ -69,13 +70,18 @@ IsNoChange w other = ⊥
 abbrev pub NamesTrace : StudyWords → Type 0
 NamesTrace w = option_bytes w.shown.form ≡ Some (codes "trace")
 
--- a trace where the form is called so, else what a timeline shows by these words
+-- the words choose what is shown: a stretch of time, processors, tasks or a width
+abbrev pub chooses_part : Words → Bool
+chooses_part w = is_some w.from || (is_some w.to || (is_some w.cpus || (is_some w.tasks || is_some w.width)))
+
+-- a trace, which is written whole, where the form is called so, else what a timeline shows by these words
 abbrev pub AskToShow : StudyWords → ShownAs → Type 0
-AskToShow w Trace = NamesTrace w
+AskToShow w Trace = NamesTrace w × (chooses_part w.shown ≡ false)
 AskToShow w (Timeline settings) = (¬ NamesTrace w) × AsksFor w.shown settings
 
--- the word that the fault names is none of its kind
+-- the word that the fault names is none of its kind, or a part is chosen of a trace
 abbrev pub IsNotShown : StudyWords → AskedFault → Type 0
+IsNotShown w fault.WholeTrace = NamesTrace w × (chooses_part w.shown ≡ true)
 IsNotShown w fault.Form = (¬ NamesTrace w) × (form_asked w.shown ≡ None)
 IsNotShown w (fault.Settings why) = (¬ NamesTrace w) × IsNoSettings w.shown why
 IsNotShown w other = ⊥

@@ -4,12 +4,12 @@ ghost use Rattle.bq_lines.specs.Lines.{size_of};
 ghost use Rattle.bq_lines.specs.Numbers.{decimal_of};
 ghost use Rattle.bq_policy_commands.specs.Saying.{option_bytes};
 ghost use Rattle.bq_words.specs.Sizes.{rule_of};
-ghost use Rattle.bq_study.specs.Asking.{AskForChanges, AskToShow, IsNoChange, IsNotShown, change_asked, time_in};
+ghost use Rattle.bq_study.specs.Asking.{AskForChanges, AskToShow, IsNoChange, IsNotShown, change_asked, chooses_part, time_in};
 
 use crate::command::StudyWords;
 use bq_actions::limits::LONGEST;
 use bq_lines::numbers::{decimal, size};
-use bq_timeline::{Settings, SettingsFault, with_forms};
+use bq_timeline::{Settings, SettingsFault, Words, with_forms};
 use bq_words::{ProcessorCount, Rule, with_rules, with_sizes, with_units};
 use bq_workload::{Changes, duration};
 use std::alloc::Global;
@@ -52,6 +52,8 @@ pub enum AskedFault {
     Seed,
     #[error("{words}", words = FORMS)]
     Form,
+    #[error("--as trace writes the whole run: --from, --to, --cpus, --tasks and --width choose nothing of it")]
+    WholeTrace,
     #[error("{0}")]
     Settings(SettingsFault),
 }
@@ -63,6 +65,9 @@ impl ShownAs {
         ensures fault { IfErr result (IsNotShown words.now) }
     {
         if names_trace(&words.shown.form) {
+            if chooses_part(&words.shown) {
+                return Err(AskedFault::WholeTrace);
+            }
             return Ok(ShownAs::Trace);
         }
         match Settings::of(alloc, &words.shown) {
@@ -81,6 +86,17 @@ fn names_trace(form: &Option<String>) -> bool
         Some(form) => form.as_str() == "trace",
         None => false,
     }
+}
+
+/// Whether the words choose what is shown: a stretch of time, processors, tasks or a width.
+fn chooses_part(words: &Words) -> bool
+    ensures { result ≡ chooses_part words.now }
+{
+    words.from.is_some()
+        || words.to.is_some()
+        || words.cpus.is_some()
+        || words.tasks.is_some()
+        || words.width.is_some()
 }
 
 /// What the words put in the place of a workload's own machine.
