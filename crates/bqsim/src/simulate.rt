@@ -103,7 +103,7 @@ fn others(rt: &HostRuntime, words: &StudyWords) -> Result<Option<Policies>, Exit
         if path.as_str() != "none" {
             let bytes = whole_file(rt, path.as_str())?;
             let taken = policies.add_as_said(rt.alloc(), bytes.as_slice());
-            told(rt, path.as_str(), taken)?;
+            told(rt, path.as_str(), None, taken)?;
         }
     }
     Ok(Some(policies))
@@ -169,15 +169,20 @@ fn add(
     }
     let bytes = whole_file(rt, path.as_str())?;
     let taken = policies.add(rt.alloc(), hook, bytes.as_slice());
-    told(rt, path.as_str(), taken)
+    told(rt, path.as_str(), Some(hook), taken)
 }
 
-/// Says why a file is no policy.
-fn told(rt: &HostRuntime, path: &str, taken: Result<(), AttachFault>) -> Result<(), ExitCode> {
+/// Says why a file is no policy for the hook that the words name, or without one for that which it says.
+fn told(
+    rt: &HostRuntime,
+    path: &str,
+    hook: Option<Hook>,
+    taken: Result<(), AttachFault>,
+) -> Result<(), ExitCode> {
     match taken {
         Ok(()) => Ok(()),
         Err(AttachFault::OutOfMemory) => Err(say_out_of_memory(rt)),
-        Err(AttachFault::Program(fault)) => Err(unaccepted(rt, path, fault)),
+        Err(AttachFault::Program(fault)) => Err(unaccepted(rt, path, hook, fault)),
         Err(fault) => {
             let _ = eprintln!(rt; "{path}: {fault}");
             Err(ExitCode::from(BAD_INPUT))
@@ -185,13 +190,22 @@ fn told(rt: &HostRuntime, path: &str, taken: Result<(), AttachFault>) -> Result<
     }
 }
 
-/// Says that a file's program is not accepted: by what `check` calls it, and what tells more.
-fn unaccepted(rt: &HostRuntime, path: &str, fault: LoadFault) -> ExitCode {
-    match fault_text(rt.alloc(), fault) {
-        Ok(named) => {
-            let _ = eprintln!(rt; "{path}: refused {named}; bqsim check --explain {path} says why");
-            ExitCode::from(BAD_INPUT)
+/// Says that a file's program is not accepted: by what `check` calls it, and what tells more. `check` is told the hook that
+/// the words name, since the file may leave it out.
+fn unaccepted(rt: &HostRuntime, path: &str, hook: Option<Hook>, fault: LoadFault) -> ExitCode {
+    let Ok(named) = fault_text(rt.alloc(), fault) else {
+        return say_out_of_memory(rt);
+    };
+    match hook {
+        Some(hook) => {
+            let hook = hook.word();
+            let _ = eprintln!(rt;
+                "{path}: refused {named}; bqsim check --explain --hook {hook} {path} says why"
+            );
         }
-        Err(_) => say_out_of_memory(rt),
+        None => {
+            let _ = eprintln!(rt; "{path}: refused {named}; bqsim check --explain {path} says why");
+        }
     }
+    ExitCode::from(BAD_INPUT)
 }
