@@ -71,8 +71,8 @@ fn as_timeline(
     let mut viewer = viewed(alloc, workload, policies, settings)?;
     viewer.end()?;
     Ok(Written {
-        text: viewer.screen.text.clone()?,
-        notes: viewer.screen.notes.clone()?,
+        text: viewer.screen.text,
+        notes: viewer.screen.notes,
     })
 }
 

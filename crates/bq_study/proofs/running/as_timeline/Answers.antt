@@ -13,5 +13,5 @@ returns-clause-written c =
       viewer = viewer;
       viewed = viewed;
       before = before;
-      whole = c.in_ok-clone-2.ensures.cases ∙ c.in_ok-end.ensures.notes ∙ ap (λ n. before ++ last_notes viewer.schedule n) viewed.clean;
+      whole = c.in_ok-end.ensures.notes ∙ ap (λ n. before ++ last_notes viewer.schedule n) viewed.clean;
     }
