@@ -165,14 +165,14 @@ long is placed on 0: the least load in its mask, where it was last if that ties\
 0.000 ms  line 7: end 0\n    \
 short is placed on 0: the least load in its mask, where it was last if that ties\n\
 0.000 ms  line 8: drain 0\n    mark 0.000\n      \
-task        weight          v   deadline        lag\n    \
-> short         1024      0.000      1.000     +0.000  eligible\n      \
-long          1024      0.000      3.000     +0.000  eligible\n    \
+task            weight          v   deadline        lag\n    \
+> short             1024      0.000      1.000     +0.000  eligible\n      \
+long              1024      0.000      3.000     +0.000  eligible\n    \
 short runs: the earliest deadline of the eligible {short, long}\n\
 1.000 ms  line 9: tick 0\n    mark 0.500\n      \
-task        weight          v   deadline        lag\n    \
-> long          1024      0.000      3.000     +0.500  eligible\n      \
-short         1024      1.000      2.000     -0.500  not eligible\n    \
+task            weight          v   deadline        lag\n    \
+> long              1024      0.000      3.000     +0.500  eligible\n      \
+short             1024      1.000      2.000     -0.500  not eligible\n    \
 long runs: the earliest deadline of the eligible {long}\n",
         ),
         notes: Some(""),

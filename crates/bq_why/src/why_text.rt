@@ -296,9 +296,9 @@ impl Why {
         run: Option<u16>,
     ) -> Result<(), AllocError> {
         match rule {
-            Rule::Cfs => text.push_str("      task        weight          v\n")?,
+            Rule::Cfs => text.push_str("      task            weight          v\n")?,
             Rule::Eevdf => text.push_str(
-                "      task        weight          v   deadline        lag\n",
+                "      task            weight          v   deadline        lag\n",
             )?,
         }
         for row in rows {
@@ -312,7 +312,7 @@ impl Why {
             let sign = if run == Some(row.task) { '>' } else { ' ' };
             let weight = row.weight;
             let v = format!(in self.alloc; "{}", Virtual(row.v))?;
-            write!(text, "    {sign} {who:<10}{weight:>8} {v:>10}")?;
+            write!(text, "    {sign} {who:<14.14}{weight:>8} {v:>10}")?;
             if let Rule::Eevdf = rule {
                 let deadline = format!(in self.alloc; "{}", Virtual(row.deadline))?;
                 let lag = format!(in self.alloc; "{}", Lag(row))?;
