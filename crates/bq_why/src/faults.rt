@@ -100,7 +100,7 @@ impl fmt::Display for Fault<'_> {
             }
             Fault::Count { name, wanted } => {
                 let name = Quoted(name);
-                write!(f, "{name} takes {wanted} words after it")
+                write!(f, "{name} takes another number of words: {wanted}")
             }
             Fault::Word { word, kind } => {
                 let quoted = Quoted(word);

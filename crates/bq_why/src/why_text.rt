@@ -57,8 +57,11 @@ impl Asked {
     fn write_answer(&self, text: &mut String, hook: &str) -> Result<(), AllocError> {
         let steps = self.steps;
         match self.answer {
-            Some(answer) => write!(text, "policy at {hook} answered {answer} ({steps} steps)\n"),
-            None => write!(text, "policy at {hook} answered so ({steps} steps)\n"),
+            Some(answer) => write!(
+                text,
+                "policy at {hook} answered {answer} (steps: {steps})\n"
+            ),
+            None => write!(text, "policy at {hook} answered so (steps: {steps})\n"),
         }
     }
 
@@ -68,7 +71,7 @@ impl Asked {
         match self.answer {
             Some(answer) => write!(
                 text,
-                "policy's answer {answer} is not permitted ({steps} steps); "
+                "policy's answer {answer} is not permitted (steps: {steps}); "
             ),
             None => Ok(()),
         }
