@@ -210,7 +210,7 @@ impl ScheduleForm for Map {
         }
         match Extent::of(schedule, &self.window) {
             Some(extent) => self.write_map(&extent, names, text),
-            None => text.push_str("no time passes\n"),
+            None => text.push_str("no time passes in what is shown\n"),
         }
     }
 }
