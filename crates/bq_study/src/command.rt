@@ -54,22 +54,22 @@ const MACHINE_OPTIONS: [OptionText; 6] = [
     OptionText {
         name: "discipline",
         given: Given::Once("RULE"),
-        help: with_rules!(""),
+        help: with_rules!("How processors choose, in place of the workload's own: "),
     },
     OptionText {
         name: "processors",
         given: Given::Once("P"),
-        help: with_sizes!(""),
+        help: with_sizes!("How many processors, in place of the workload's own: "),
     },
     OptionText {
         name: "duration",
         given: Given::Once("TIME"),
-        help: "How long it runs, as 500us or 2s",
+        help: "How long it runs, in place of the workload's own, as 500us or 2s",
     },
     OptionText {
         name: "seed",
         given: Given::Once("N"),
-        help: "Of the draws",
+        help: "The seed of the lengths that are drawn, in place of the workload's own",
     },
     OptionText {
         name: "seeds",
@@ -92,14 +92,18 @@ const FORM_OPTIONS: [OptionText; 2] = [
     },
 ];
 
+/// What is told of the option of each hook.
+const HOOK_HELP: &str =
+    "The policy's file for this hook of every processor (an image, its hex, or assembler text with its head), or none, which it is without this";
+
 /// The option that bears a hook's word.
-fn hook_option(hook: Hook, help: &'static str) -> OptionText
+fn hook_option(hook: Hook) -> OptionText
     ensures { rule_told result ≡ option_rule (hook_word hook) }
 {
     OptionText {
         name: hook.word(),
         given: Given::Once("POLICY"),
-        help,
+        help: HOOK_HELP,
     }
 }
 
@@ -112,12 +116,9 @@ pub fn study_words<'a>(alloc: Global, given: &'a [&'a str]) -> Result<StudyWords
     ensures taken { IfErr result (λ e. takes simulate_app (map (λ w. w.now) given.entry.now) ≡ true → e ≡ WordsFault.OutOfMemory) }
 {
     let hooks = [
-        hook_option(
-            Hook::Place,
-            "A policy's file: an image, its hex, or assembler text with its head; at every processor",
-        ),
-        hook_option(Hook::Preempt, "The same"),
-        hook_option(Hook::Pull, "The same"),
+        hook_option(Hook::Place),
+        hook_option(Hook::Preempt),
+        hook_option(Hook::Pull),
     ];
     let command = CommandText {
         name: "simulate",

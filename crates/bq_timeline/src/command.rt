@@ -30,12 +30,12 @@ pub const SHOWN_OPTIONS: [OptionText; 5] = [
     OptionText {
         name: "from",
         given: Given::Once("TIME"),
-        help: "Shows what is from then on: 1500, 1.5ms, 2s",
+        help: "Shows what is from then on: 1500, 1.5ms, 2s; the figures of report and json stay those of the whole",
     },
     OptionText {
         name: "to",
         given: Given::Once("TIME"),
-        help: "Shows what is up to then",
+        help: "Shows what is up to then; the figures of report and json stay those of the whole",
     },
     OptionText {
         name: "cpus",
