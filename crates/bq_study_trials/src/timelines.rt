@@ -436,7 +436,7 @@ static NOTED: [(Option<&str>, Option<&str>, Option<&str>, &str, &str); 9] = [
         None,
         Some("1"),
         "tick 0 0\n",
-        "line 1: a trace begins with its machine line; nothing after this is done\nlines bad or refused: 1\n",
+        "line 1: a trace begins with its machine line, and nothing after this is done\nlines bad or refused: 1\n",
     ),
 ];
 

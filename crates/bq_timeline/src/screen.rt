@@ -15,13 +15,10 @@ use bq_lines::with_first_line;
 use bq_load::{FaultInWords, LoadFault};
 use bq_schedule::{Change, Schedule};
 use bq_trace::AnyCore;
-use bq_why::faults::{Fault, why_bad};
+use bq_why::faults::{Fault, NOT_READ_ON, why_bad};
 use bq_why::{Because, InWords, Occurrence};
 use bq_words::Rule;
 use std::alloc::{AllocError, Global};
-
-/// What is said behind the fault of a line that should have made the machine.
-const NOT_READ_ON: &str = "; a trace begins with its machine line, and nothing after this is done";
 
 /// What is written of a trace, as far as it has come.
 #[derive(Drop)]
@@ -176,12 +173,10 @@ impl Screen {
         is_open: bool,
     ) -> Result<(), AllocError> {
         let fault = why_bad(line, is_open);
-        let end = match fault {
-            Fault::NoMachine => "",
-            _ if is_open => "",
-            _ => NOT_READ_ON,
-        };
-        write!(self.notes(), "line {number}: {fault}{end}\n")
+        if is_open || matches!(fault, Fault::NoMachine) {
+            return write!(self.notes(), "line {number}: {fault}\n");
+        }
+        write!(self.notes(), "line {number}: {fault}; {NOT_READ_ON}\n")
     }
 
     /// The trace is over. So many lines were bad or refused.

@@ -7,6 +7,10 @@ use bq_lines::words::is_allowed_line;
 use bq_words::next_word;
 use std::{fmt, str};
 
+/// What is said of a line that should have made the machine.
+pub const NOT_READ_ON: &str =
+    "a trace begins with its machine line, and nothing after this is done";
+
 /// Why a line is bad.
 #[derive(Clone, Copy)]
 pub enum Fault<'a> {
@@ -111,9 +115,7 @@ impl fmt::Display for Fault<'_> {
                 }
             }
             Fault::Again => f.write_str("the machine is made already"),
-            Fault::NoMachine => f.write_str(
-                "a trace begins with its machine line; nothing after this is done",
-            ),
+            Fault::NoMachine => f.write_str(NOT_READ_ON),
         }
     }
 }
