@@ -7,7 +7,7 @@ ghost use Rattle.bq_run_desk.specs.ImportText.{IsRefused, IsSection, IsTextOf, I
 
 use crate::import_settings::ImportSettings;
 use bq_asm::listing;
-use bq_import::{ImportFault, import};
+use bq_import::{Disorder, ImportFault, import};
 use bq_program::{bytes_of, is_blank, marks_text};
 use std::alloc::{AllocError, AllocFailed, Global};
 use thiserror::Error;
@@ -72,6 +72,7 @@ fn imported_bytes(
 {
     let ordered = match import(alloc, bytes, settings.form.shapes.len()) {
         Ok(ordered) => ordered,
+        Err(ImportFault::Order(Disorder::OutOfMemory)) => return Err(ImportRefusal::OutOfMemory),
         Err(fault) => return Err(ImportRefusal::Import(fault)),
     };
     let marks = marks(alloc, settings)?;
