@@ -214,7 +214,7 @@ type RunRow = (
 );
 
 /// Policies, and what is told of their runs.
-static RUN: [RunRow; 14] = [
+static RUN: [RunRow; 16] = [
     // Of words for the same field, counter or entry the last counts.
     (
         KEEP_HOME,
@@ -317,6 +317,26 @@ static RUN: [RunRow; 14] = [
         "",
         "0",
         "W --repeat 0: a number of runs is wanted, from 1 to 4294967295",
+    ),
+    (
+        KEEP_HOME,
+        "",
+        "",
+        "",
+        "cpu1",
+        "",
+        "",
+        "W --processor cpu1 is no number below 4294967296",
+    ),
+    (
+        KEEP_HOME,
+        "",
+        "",
+        "",
+        "4294967296",
+        "",
+        "",
+        "W --processor 4294967296 is no number below 4294967296",
     ),
     // nobody is 2^32 - 1, where there may be nobody
     (

@@ -1,5 +1,5 @@
 -- Words that name no inputs, and inputs that fit the program.
-use Rattle.std.proofs.Common.{◌≡◌, ℕ, ◌≤◌, ◌^◌, List, length, replicate, Option, Some, None, inl, inr, sym, subst, ap, ◌∙◌, arith, String, string_bytes}
+use Rattle.std.proofs.Common.{◌≡◌, ℕ, List, length, replicate, Option, Some, None, inl, inr, sym, subst, ap, ◌∙◌, String, string_bytes}
 use Rattle.std.specs.declared.alloc.Global.{Global}
 use Rattle.std.proofs.lemmas.List.{length-replicate}
 use Rattle.bq_bpf.specs.Hooks.{context_length_of}
@@ -13,22 +13,8 @@ use Rattle.bq_one_run.proofs.RefusalLemmas.{entry_seen, fields_seen, texts_seen}
 use Rattle.bq_policy_commands.specs.declared.words.RunWords.{RunWords}
 use Rattle.bq_words.specs.Numbers.{number_of}
 use Rattle.bq_workload.specs.Durations.{duration_of}
-use Rattle.bq_policy_runs.specs.Running.{HasInputs, IsNumberOrZero, SetsParts, WritesTime}
+use Rattle.bq_policy_runs.specs.Running.{HasInputs, SetsParts, WritesTime}
 use Rattle.bq_policy_commands.specs.Saying.{option_bytes}
-
--- a number that is too large for a processor names none
-pub no_processor : (word : Option (List ℕ)) (n : ℕ) → IsNumberOrZero (2 ^ 64) word n → 2 ^ 32 ≤ n → (k : ℕ) → ¬ IsNumberOrZero (2 ^ 32) word k
-no_processor None n zero past k other = omega (arith, zero, past)
-no_processor (Some word) n is past k other =
-    let both : Some k ≡ Some n = sym other.0 ∙ is.0 in
-    let same : k ≡ n = cc in
-    let below = other.1 in
-    omega (arith, same, below, past)
-
--- a number of 32 bits is one of 64
-pub number_of_more_bits : (word : Option (List ℕ)) (k : ℕ) → IsNumberOrZero (2 ^ 32) word k → IsNumberOrZero (2 ^ 64) word k
-number_of_more_bits None k zero = zero
-number_of_more_bits (Some word) k is = let below = is.1 in (is.0, omega (arith, below))
 
 -- what is no number of 64 bits, and no number with a unit, writes no time
 pub no_time : (word : List ℕ) → duration_of word ≡ None → number_of 10 word ≡ None → (time : ℕ) → ¬ WritesTime word time

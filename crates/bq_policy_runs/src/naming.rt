@@ -10,7 +10,7 @@ ghost use Rattle.bq_policy_commands.specs.Saying.{option_bytes};
 use bq_console::{WordsFault, words_fault};
 use bq_interp::Env;
 use bq_one_run::{Inputs, inputs_of};
-use bq_policy_commands::RunWords;
+use bq_policy_commands::{RunWords, small_number};
 use bq_verify::Verified;
 use bq_words::{with_32_bits, with_units};
 use bq_workload::duration;
@@ -88,13 +88,7 @@ fn env_named(alloc: Global, words: &RunWords) -> Result<Env, WordsFault>
 {
     let now = time(alloc, &words.time)?;
     let processor = number(alloc, &words.processor)?;
-    match u32::try_from(processor) {
-        Ok(processor) => Ok(Env { now, processor }),
-        Err(_) => Err(words_fault(String::from_str(
-            alloc,
-            with_32_bits!("--processor is a number below ", ""),
-        ))),
-    }
+    Ok(Env { now, processor })
 }
 
 /// The nanoseconds that a word names, by a unit or without; 0 without a word.
@@ -124,14 +118,14 @@ fn time_in(word: &str) -> Option<u64>
 }
 
 /// The number of a processor that a word names; 0 without a word.
-fn number(alloc: Global, word: &Option<String>) -> Result<u64, WordsFault>
-    ensures number { IfOk result (IsNumberOrZero (2 ^ 64) (option_bytes word.now)) }
-    ensures none { IfErr result (SaysNone (IsNumberOrZero (2 ^ 64) (option_bytes word.now))) }
+fn number(alloc: Global, word: &Option<String>) -> Result<u32, WordsFault>
+    ensures number { IfOk result (IsNumberOrZero (2 ^ 32) (option_bytes word.now)) }
+    ensures none { IfErr result (SaysNone (IsNumberOrZero (2 ^ 32) (option_bytes word.now))) }
 {
     let Some(word) = word else {
         return Ok(0);
     };
-    match bq_words::number(word.as_bytes(), 10) {
+    match small_number(word.as_str()) {
         Some(number) => Ok(number),
         None => Err(words_fault(format!(in alloc; "--processor {word} {NO_PROCESSOR}"))),
     }

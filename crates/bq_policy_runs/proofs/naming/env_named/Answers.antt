@@ -1,10 +1,9 @@
-use Rattle.std.proofs.Common.{◌^◌, arith}
+use Rattle.std.proofs.Common.{◌^◌}
 use Rattle.std.proofs.lemmas.Result.{err_from_is_err_and}
 use Rattle.bq_interp.specs.declared.env.Env.{Env}
 use Rattle.bq_policy_runs.specs.Running.{HasClock, IsNumberOrZero, IsTime}
 use Rattle.bq_policy_commands.specs.Saying.{option_bytes}
-use Rattle.bq_policy_runs.proofs.NamingLemmas.{no_processor, number_of_more_bits}
-use Rattle.bq_console.proofs.SayingLemmas.{none_said, none_whole}
+use Rattle.bq_console.proofs.SayingLemmas.{none_whole}
 use Rattle.bq_policy_runs.proofs.naming.env_named.Goals as goal
 
 pub returns-in_err-now-clause-none : goal.returns-in_err-now-clause-none
@@ -15,8 +14,4 @@ returns-in_err-now-clause-none c =
 pub returns-in_err-processor-clause-none : goal.returns-in_err-processor-clause-none
 returns-in_err-processor-clause-none c =
     let error = err_from_is_err_and c.from_residual-in_err-processor.result c.from_residual-in_err-processor.ensures.1 in
-    rw (error.1, error.2) (none_whole (IsNumberOrZero (2 ^ 64) (option_bytes c.args.words.now.processor)) (HasClock c.args.words.now) (λ (e : Env). e.processor) c.in_err-processor.field-0.0 (λ e has. number_of_more_bits (option_bytes c.args.words.now.processor) e.processor has.processor) c.in_err-processor.ensures.none)
-
-pub returns-in-Err-clause-none : goal.returns-in-Err-clause-none
-returns-in-Err-clause-none c =
-    none_said (HasClock c.args.words.now) c.words_fault.result (λ e has. no_processor (option_bytes c.args.words.now.processor) c.in_ok-processor.processor c.in_ok-processor.ensures.number (omega (arith, c.in-Err.ensures)) e.processor has.processor)
+    rw (error.1, error.2) (none_whole (IsNumberOrZero (2 ^ 32) (option_bytes c.args.words.now.processor)) (HasClock c.args.words.now) (λ (e : Env). e.processor) c.in_err-processor.field-0.0 (λ e has. has.processor) c.in_err-processor.ensures.none)
