@@ -174,12 +174,12 @@ fn named(value: &Value) -> Option<u64>
     processors(word.as_bytes())
 }
 
-/// The rule by which processors choose.
-pub(crate) fn rule(table: &Table) -> Result<Rule, Why<'_>>
-    ensures { result_ok result ≡ or_default Rule.Cfs rule_in (get_member (codes "discipline") (table_view table.now)) }
+/// The rule by which processors choose, or the default where the key is absent.
+pub(crate) fn rule(table: &Table, default: Rule) -> Result<Rule, Why<'_>>
+    ensures { result_ok result ≡ or_default default rule_in (get_member (codes "discipline") (table_view table.now)) }
 {
     match at(table, "discipline") {
-        None => Ok(Rule::Cfs),
+        None => Ok(default),
         Some(value) => match rule_named(value) {
             Some(rule) => Ok(rule),
             None => Err(Why::NoSuch {
@@ -199,12 +199,12 @@ fn rule_named(value: &Value) -> Option<Rule>
     Rule::of_word(word.as_bytes())
 }
 
-/// How many processors there are.
-pub(crate) fn size(table: &Table) -> Result<ProcessorCount, Why<'_>>
-    ensures { result_ok result ≡ or_default ProcessorCount.One size_in (get_member (codes "processors") (table_view table.now)) }
+/// How many processors there are, or the default where the key is absent.
+pub(crate) fn size(table: &Table, default: ProcessorCount) -> Result<ProcessorCount, Why<'_>>
+    ensures { result_ok result ≡ or_default default size_in (get_member (codes "processors") (table_view table.now)) }
 {
     match at(table, "processors") {
-        None => Ok(ProcessorCount::One),
+        None => Ok(default),
         Some(value) => match size_given(value) {
             Some(size) => Ok(size),
             None => Err(Why::NoSuch {

@@ -61,13 +61,13 @@ pub(crate) fn setup(table: &Table) -> Result<Setup, Why<'_>>
         least: 0,
         greatest: i64::MAX as u64,
     };
-    let rule = rule(table)?;
-    let size = size(table)?;
+    let rule = rule(table, DEFAULT.rule)?;
+    let size = size(table, DEFAULT.size)?;
     let duration = span_at(table, "duration", DEFAULT.duration, time)?;
     let tick = span_at(table, "tick", DEFAULT.tick, time)?;
     let balance = span_at(table, "balance", DEFAULT.balance, time)?;
-    let migration_cost = span_at(table, "migration_cost", 0, cost)?;
-    let seed = number_at(table, "seed", 1, seeds)?;
+    let migration_cost = span_at(table, "migration_cost", DEFAULT.migration_cost, cost)?;
+    let seed = number_at(table, "seed", DEFAULT.seed, seeds)?;
     Ok(Setup {
         rule,
         size,
