@@ -170,7 +170,7 @@ fn refusals_say_what_helps(rt: HostRuntime) -> Result<(), Fail> {
 }
 
 /// Texts that do not assemble, and what is said of them.
-static COMPLAINED: [(&str, &str); 15] = [
+static COMPLAINED: [(&str, &str); 17] = [
     (
         "mov r0, 1\nexit\n",
         "line 1: unknown word \"mov\", did you mean \"mov64\"?\n",
@@ -208,6 +208,15 @@ static COMPLAINED: [(&str, &str); 15] = [
     (
         "call,lookup\nexit\n",
         "line 1: \"call,lookup\" has other operands than call takes; write it as call 1; helpers go by their numbers",
+    ),
+    // the form is that of the word itself
+    (
+        "sub64 r1\nexit\n",
+        "line 1: \"sub64 r1\" has other operands than sub64 takes; write it as sub64 r1, 5, or sub64 r1, r2\n",
+    ),
+    (
+        "jne32 r1, end\nend:\nexit\n",
+        "line 1: \"jne32 r1, end\" has other operands than jne32 takes; write it as jne32 r1, 5, end, or jne32 r1, r2, +3\n",
     ),
     (
         "ldxw r0, [r1\t+4]\nexit\n",

@@ -5,8 +5,8 @@ ghost use Rattle.bq_insn.specs.Appending.{StartsWith};
 ghost use Rattle.bq_explain.specs.Complaints.{ComplainsOf, NamesLine, line_words};
 
 use crate::forms::form_of;
-use crate::vocabulary::{is_word, nearest};
-use bq_asm::{AsmFault, Cause, assemble};
+use crate::vocabulary::nearest;
+use bq_asm::{AsmFault, Cause, assemble, named};
 use bq_insn::SLOTS;
 use std::alloc::{AllocError, Global};
 
@@ -97,10 +97,10 @@ fn word_reason(alloc: Global, line: &str) -> Result<String, AllocError> {
     if first.ends_with(':') {
         return label_reason(alloc, said, first);
     }
-    if !is_word(first) {
+    let Some(mnemonic) = named(first.as_bytes()) else {
         return unknown(alloc, first);
-    }
-    let form = form_of(first);
+    };
+    let form = form_of(alloc, first, mnemonic)?;
     format!(in alloc; "\"{said}\" has other operands than {first} takes; write it as {form}")
 }
 

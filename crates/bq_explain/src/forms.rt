@@ -1,64 +1,32 @@
 //! How the operands of each kind of instruction look.
+use bq_asm::Mnemonic;
 use bq_bpf::with_helpers;
+use std::alloc::{AllocError, Global};
 
-/// An instruction of the kind that the word begins.
-pub(crate) fn form_of(word: &str) -> &'static str {
-    if word.starts_with("ld") || word.starts_with("st") {
-        return memory_form(word);
+/// The instruction that the word says, with operands that it takes.
+pub(crate) fn form_of(alloc: Global, word: &str, mnemonic: Mnemonic) -> Result<String, AllocError> {
+    match mnemonic {
+        Mnemonic::Alu(_, _) => format!(in alloc; "{word} r1, 5, or {word} r1, r2"),
+        Mnemonic::MovSx(_, _) => format!(in alloc; "{word} r1, r2"),
+        Mnemonic::Neg(_) | Mnemonic::End(_, _) => format!(in alloc; "{word} r1"),
+        Mnemonic::Goto | Mnemonic::Goto32 => format!(in alloc; "{word} end, or {word} +3"),
+        Mnemonic::Branch(_, _) => format!(in alloc; "{word} r1, 5, end, or {word} r1, r2, +3"),
+        Mnemonic::Call => String::from_str(
+            alloc,
+            with_helpers!("call 1; helpers go by their numbers: "),
+        ),
+        Mnemonic::Exit => String::from_str(alloc, "exit, alone on its line"),
+        _ => memory_form(alloc, word, mnemonic),
     }
-    if word.starts_with("j") || word.starts_with("call") || word.starts_with("exit") {
-        return control_form(word);
-    }
-    unary_form(word)
 }
 
-fn memory_form(word: &str) -> &'static str {
-    if word.starts_with("ldxdw") {
-        return "ldxdw r2, [r1+8]";
+/// The same of what goes to memory, and of what loads a number of 64 bits or a map.
+fn memory_form(alloc: Global, word: &str, mnemonic: Mnemonic) -> Result<String, AllocError> {
+    match mnemonic {
+        Mnemonic::StoreImm(_) => format!(in alloc; "{word} [r10-8], 0"),
+        Mnemonic::StoreReg(_) => format!(in alloc; "{word} [r10-8], r4"),
+        Mnemonic::Imm64 => format!(in alloc; "{word} r1, 4294967295"),
+        Mnemonic::MapRef => format!(in alloc; "{word} r1, 0"),
+        _ => format!(in alloc; "{word} r2, [r1+8]"),
     }
-    if word.starts_with("ldx") {
-        return "ldxw r2, [r1+8]";
-    }
-    if word.starts_with("stx") {
-        return "stxdw [r10-8], r4";
-    }
-    if word.starts_with("st") {
-        return "stw [r10-4], 0";
-    }
-    if word.starts_with("lddw") {
-        return "lddw r1, 4294967295";
-    }
-    "ldmap r1, 0"
-}
-
-fn control_form(word: &str) -> &'static str {
-    if word.starts_with("ja") {
-        return "ja end, or ja +3";
-    }
-    if word.starts_with("j") {
-        return "jeq64 r1, 5, end, or jlt64 r1, r2, +3";
-    }
-    if word.starts_with("call") {
-        return with_helpers!("call 1; helpers go by their numbers: ");
-    }
-    "exit, alone on its line"
-}
-
-fn unary_form(word: &str) -> &'static str {
-    if word.starts_with("neg") {
-        return "neg64 r1";
-    }
-    if word.starts_with("movsx") {
-        return "movsx64_32 r1, r2";
-    }
-    if word.starts_with("le") {
-        return "le16 r1";
-    }
-    if word.starts_with("be") {
-        return "be32 r1";
-    }
-    if word.starts_with("swap") {
-        return "swap64 r1";
-    }
-    "add64 r1, 5, or add64 r1, r2"
 }

@@ -1,12 +1,7 @@
 //! The first words of the assembler's language, and the one that a wrong word may mean.
-use bq_asm::{mnemonics, named};
+use bq_asm::mnemonics;
 use bq_words::Near;
 use std::alloc::{AllocError, Global};
-
-/// Whether an instruction begins with the word.
-pub(crate) fn is_word(word: &str) -> bool {
-    named(word.as_bytes()).is_some()
-}
 
 /// The first word of the language that is the same.
 fn known_as(word: &str) -> Option<&'static str> {
