@@ -77,7 +77,7 @@ fn check_policy(
     if words.is_explained || words.is_json {
         let explained = explain(alloc, policy, limits)?;
         let text = with_name(alloc, &words.policy.file, explained.text)?;
-        let text = shown(alloc, words, text)?;
+        let text = shown(alloc, words, explained.accepted, text)?;
         return Ok(answered(explained.accepted, text));
     }
     judge_policy(alloc, words, policy, limits)
@@ -110,7 +110,7 @@ fn refusal(
     let line = fault_line(alloc, fault)?;
     if words.is_explained || words.is_json {
         let text = reasoned(alloc, &words.policy.file, bytes, fault, &line)?;
-        return shown(alloc, words, text);
+        return shown(alloc, words, false, text);
     }
     Ok(line)
 }
@@ -127,9 +127,14 @@ fn answered(accepted: bool, text: String) -> Answered
 }
 
 /// The text of an answer, as it is or as JSON.
-fn shown(alloc: Global, words: &CheckWords, text: String) -> Result<String, AllocError> {
+fn shown(
+    alloc: Global,
+    words: &CheckWords,
+    accepted: bool,
+    text: String,
+) -> Result<String, AllocError> {
     if words.is_json {
-        return json_text(alloc, &words.policy.file, text.as_str());
+        return json_text(alloc, &words.policy.file, accepted, text.as_str());
     }
     Ok(text)
 }

@@ -8,11 +8,11 @@ use std::str::Lines;
 pub(crate) fn json_text(
     alloc: Global,
     file: &Option<String>,
+    accepted: bool,
     text: &str,
 ) -> Result<String, AllocError> {
     let mut lines = text.lines();
     let answer = lines.next().unwrap_or("");
-    let accepted = text.starts_with("accepted");
     let value = answer_value(alloc, file, accepted, answer, lines)?;
     let mut line = value.to_string(alloc)?;
     line.push_str("\n")?;
