@@ -15,7 +15,7 @@ use thiserror::Error;
 /// Why there is no text.
 #[derive(Clone, Copy, Debug, Error)]
 pub enum ImportRefusal {
-    /// The input begins as hex and is none.
+    /// All of the input is digits of hex and blanks, and the number of digits is odd.
     #[error("the hex has a half byte at its end")]
     Hex,
     /// The program is not imported.

@@ -17,7 +17,7 @@ pub enum DriveFault {
     #[error("an event was refused: {0}")]
     Refused(Refusal),
     /// The reading of a clock fell, or passed 2^48 - 1.
-    #[error("a clock went back")]
+    #[error("a clock went back, or past its latest reading")]
     Reading,
     /// An answer that is not of its event's kind.
     #[error("an answer is not of its event's kind")]
