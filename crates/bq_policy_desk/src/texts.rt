@@ -90,18 +90,22 @@ pub(crate) static COMMANDS: [CommandText<'static>; 3] = [
                     help: with_helper!(
                         NOW,
                         "The time, which helper ",
-                        " answers: in nanoseconds, or with a unit, as in 5ms"
+                        " answers: in nanoseconds, or with a unit, as in 5ms; 0 without it"
                     ),
                 },
                 OptionText {
                     name: "processor",
                     given: Given::Once("P"),
-                    help: with_helper!(PROCESSOR, "The processor, which helper ", " answers"),
+                    help: with_helper!(
+                        PROCESSOR,
+                        "The processor, which helper ",
+                        " answers; 0 without it"
+                    ),
                 },
                 OptionText {
                     name: "counter",
                     given: Given::Often("COUNTER"),
-                    help: "A counter before the run, as in 3=10",
+                    help: "A counter before the run, as in 3=10; others are 0",
                 },
                 OptionText {
                     name: "trace",
