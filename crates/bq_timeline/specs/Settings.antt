@@ -10,6 +10,7 @@ use Rattle.bq_lines.specs.Numbers.{decimal_of, task_of}
 use Rattle.bq_lines.specs.ProcessorSets.{is_comma, is_dash, processors_of}
 use Rattle.bq_timeline.specs.declared.form_names.FormName.{FormName}
 use Rattle.bq_timeline.specs.declared.form_names.FormName.TheVariants.{Report, Map, Timehist, Why, Csv, Json, Svg, Perfetto}
+use Rattle.bq_timeline.specs.declared.numbers.TheConstants.{GREATEST_WIDTH, LEAST_WIDTH}
 use Rattle.bq_timeline.specs.declared.settings.Words.{Words}
 use Rattle.bq_timeline.specs.declared.settings.Settings.{Settings}
 use Rattle.bq_timeline.specs.declared.settings.SettingsFault.{SettingsFault}
@@ -91,9 +92,9 @@ tasks_in (part ∷ parts) = option_and_then (λ some. option_map (λ more. some 
 abbrev pub tasks_of : List ℕ → Option (List ℕ)
 tasks_of word = tasks_in (slice_split is_comma word)
 
--- so many columns, if they are from 20 to 10,000
+-- so many columns, if they are from 20 to 10,000, the least and the greatest width
 abbrev pub as_width : ℕ → Option ℕ
-as_width columns = if nat_le 20 columns && nat_le columns 10000 then Some columns else None
+as_width columns = if nat_le LEAST_WIDTH columns && nat_le columns GREATEST_WIDTH then Some columns else None
 
 -- the columns that a word asks for
 abbrev pub width_of : List ℕ → Option ℕ

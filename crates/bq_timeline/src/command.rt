@@ -5,7 +5,7 @@ ghost use Rattle.bq_timeline.specs.Asking.{AreWords};
 ghost use Rattle.bq_timeline.specs.TimelineApp.{timeline_app};
 
 use crate::settings::Words;
-use crate::with_forms;
+use crate::{with_columns, with_forms};
 use bq_console::WordsFault;
 use bq_options::{CommandText, Given, OptionText, matches_of, texts, word};
 use clap::ArgMatches;
@@ -50,7 +50,7 @@ pub const SHOWN_OPTIONS: [OptionText; 5] = [
     OptionText {
         name: "width",
         given: Given::Once("COLUMNS"),
-        help: "How wide a map is, 80 without it",
+        help: with_columns!("How wide a map is, ", " without it"),
     },
 ];
 

@@ -9,6 +9,12 @@ use bq_lines::processor_sets::first_part;
 use bq_words::nanoseconds;
 use std::alloc::{AllocError, Global};
 
+/// The fewest columns of a map.
+pub const LEAST_WIDTH: u64 = 20;
+
+/// The most columns of a map.
+pub const GREATEST_WIDTH: u64 = 10_000;
+
 /// Nanoseconds in a word: a number, with a fraction or without, and `ns`, `us`, `ms`, `s` or nothing after it, which is `ns`.
 /// What is less than a nanosecond is cut off.
 ///
@@ -173,14 +179,14 @@ fn is_dash(byte: u8) -> bool
     byte == b'-'
 }
 
-/// The columns that a word asks for: from 20 to 10,000.
+/// The columns that a word asks for: from `LEAST_WIDTH` to `GREATEST_WIDTH`.
 ///
 /// None where the word is no number or another.
 pub fn width(word: &str) -> Option<usize>
     ensures { result ≡ width_of word.now }
 {
     let columns = decimal(word.as_bytes())?;
-    if 20 <= columns && columns <= 10_000 {
+    if LEAST_WIDTH <= columns && columns <= GREATEST_WIDTH {
         Some(columns as usize)
     } else {
         None

@@ -5,6 +5,7 @@ ghost use Rattle.bq_timeline.specs.Settings.{AsksFor, IsNoSettings, asked_or, fo
 ghost use Rattle.bq_timeline.specs.declared.settings.SettingsFault.TheVariants.{OutOfMemory};
 
 use crate::form_names::FormName;
+use crate::numbers::{GREATEST_WIDTH, LEAST_WIDTH};
 use crate::{numbers, with_forms};
 use bq_disc::limits::LAST_PROCESSOR;
 use bq_forms::Window;
@@ -80,7 +81,7 @@ pub enum SettingsFault {
     #[error("{words}", words = TASKS)]
     Tasks,
     /// That is no width.
-    #[error("--width: a width is a number from 20 to 10000")]
+    #[error("--width: a width is a number from {least} to {greatest}", least = LEAST_WIDTH, greatest = GREATEST_WIDTH)]
     Width,
     #[error("out of memory")]
     OutOfMemory,
@@ -96,6 +97,14 @@ impl From<AllocError> for SettingsFault {
 
 /// The columns of a map where none are asked for.
 const COLUMNS: usize = 80;
+
+/// A text with how many columns those are.
+#[macro_export]
+macro_rules! with_columns {
+    ($before:literal, $behind:literal) => {
+        concat!($before, "80", $behind)
+    };
+}
 
 impl Settings {
     /// What the words ask for: all of a trace, in a report, unless they say otherwise.
