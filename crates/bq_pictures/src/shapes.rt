@@ -1,6 +1,6 @@
 //! The shapes of the picture.
 
-use crate::colours::{COLOURS, STYLE, hex};
+use crate::colours::{COLOURS, GREY, LETTERS, hex};
 use crate::drawing::BAND;
 use crate::escaped::Escaped;
 use crate::lanes::Wait;
@@ -97,9 +97,18 @@ fn write_size(height: usize, text: &mut String) -> Result<(), AllocError> {
 fn write_styles(text: &mut String) -> Result<(), AllocError> {
     text.push_str("<title>Schedule</title>\n<style>\n")?;
     text.push_str(BASE)?;
-    text.push_str(STYLE)?;
+    for place in 0..COLOURS {
+        write_colour(place, hex(place), text)?;
+    }
+    text.push_str("\n")?;
+    text.push_str(LETTERS)?;
     text.push_str(DARK)?;
     text.push_str("</style>\n<defs>\n")
+}
+
+/// The style of what has a colour.
+fn write_colour(place: usize, colour: &str, text: &mut String) -> Result<(), AllocError> {
+    write!(text, ".c{place}{{fill:{colour};stroke:{colour}}}")
 }
 
 /// The hatches of the colours, and the page.
@@ -465,9 +474,10 @@ fn write_key(top: usize, text: &mut String) -> Result<(), AllocError> {
 
 /// What hatches are.
 fn write_wait_key(bar: usize, line: usize, text: &mut String) -> Result<(), AllocError> {
+    let grey = hex(GREY);
     write!(
         text,
-        "<rect class=\"wait\" x=\"72\" y=\"{bar}\" width=\"26\" height=\"6\" fill=\"url(#h7)\" stroke=\"#8c8c8c\"/>"
+        "<rect class=\"wait\" x=\"72\" y=\"{bar}\" width=\"26\" height=\"6\" fill=\"url(#h{GREY})\" stroke=\"{grey}\"/>"
     )?;
     write!(
         text,
@@ -479,7 +489,7 @@ fn write_wait_key(bar: usize, line: usize, text: &mut String) -> Result<(), Allo
 fn write_tick_key(tick: usize, line: usize, text: &mut String) -> Result<(), AllocError> {
     write!(
         text,
-        "<path class=\"tick c7\" d=\"M170 {tick}v9l-2.5 -4h5l-2.5 4\"/>"
+        "<path class=\"tick c{GREY}\" d=\"M170 {tick}v9l-2.5 -4h5l-2.5 4\"/>"
     )?;
     write!(
         text,
