@@ -91,8 +91,8 @@ def as_csv(told):
 
 
 def as_json(told):
-    keys = "runs mean_thousandths deviation_thousandths against_mean_thousandths against_deviation_thousandths difference_thousandths".split()
-    return [dict(zip(["of", "name", "figure", "unit", *keys], [*figure, *ours, *theirs[1:], difference])) for figure, ours, theirs, difference in told]
+    keys = "runs mean_thousandths deviation_thousandths against_runs against_mean_thousandths against_deviation_thousandths difference_thousandths".split()
+    return [dict(zip(["of", "name", "figure", "unit", *keys], [*figure, *ours, *theirs, difference])) for figure, ours, theirs, difference in told]
 
 
 def as_report(told, wide):

@@ -38,6 +38,12 @@ pub(crate) fn signed(
     format!(in alloc; "{sign}{size}")
 }
 
+/// How many runs have the value of a row, if there is a row.
+pub(crate) fn runs_of(row: Option<FigureRow>) -> Option<u128> {
+    let row = row?;
+    Some(row.runs as u128)
+}
+
 /// The mean of a row, if there is a row and it has one.
 pub(crate) fn mean_of(row: Option<FigureRow>) -> Option<u128> {
     row?.mean

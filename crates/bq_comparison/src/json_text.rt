@@ -1,15 +1,15 @@
 //! Figures as JSON.
 
 use crate::Figure;
-use crate::cells::{deviation_of, mean_of};
+use crate::cells::{deviation_of, mean_of, runs_of};
 use crate::difference::Difference;
 use crate::labels::{name, subject, unit, word};
 use crate::line::FigureLine;
 use serde_json::{Map, Value, put};
 use std::alloc::{AllocError, Global};
 
-/// An array with an object a figure. Means, deviations and differences are whole thousandths of the unit, and null where they
-/// are not there.
+/// An array with an object a figure. Means, deviations and differences are whole thousandths of the unit. What is not there is
+/// null.
 pub(crate) fn json_text(
     alloc: Global,
     lines: &[FigureLine],
@@ -58,7 +58,7 @@ fn put_word(
     put(object, alloc, key, Value::try_from_str(alloc, word)?)
 }
 
-/// Adds how many runs have a value, the means, the deviations and the difference.
+/// Adds how many runs of each side have a value, the means, the deviations and the difference.
 fn put_numbers(
     alloc: Global,
     object: &mut Map<String, Value>,
@@ -66,8 +66,10 @@ fn put_numbers(
 ) -> Result<(), AllocError> {
     let their_mean = mean_of(line.theirs);
     let sizes = [
+        ("runs", runs_of(Some(line.ours))),
         ("mean_thousandths", line.ours.mean),
         ("deviation_thousandths", line.ours.deviation),
+        ("against_runs", runs_of(line.theirs)),
         ("against_mean_thousandths", their_mean),
         ("against_deviation_thousandths", deviation_of(line.theirs)),
     ];
@@ -75,8 +77,7 @@ fn put_numbers(
         put(object, alloc, key, number(*size))?;
     }
     let difference = signed_number(Difference::of(line.ours.mean, their_mean));
-    put(object, alloc, "difference_thousandths", difference)?;
-    put(object, alloc, "runs", Value::from(line.ours.runs as u64))
+    put(object, alloc, "difference_thousandths", difference)
 }
 
 /// A number that fits in 64 bits, else null.
