@@ -13,26 +13,21 @@ const HEAD: &str = "of             name            figure    unit          mean 
 const WIDE_HEAD: &str =
     "of             name            figure    unit          mean     deviation       against     deviation    difference\n";
 
-/// A line a figure. Times are in microseconds.
+/// A line a figure, below the head of a table with others or without. Times are in microseconds.
 pub(crate) fn table_text(
     alloc: Global,
+    has_others: bool,
     lines: &[FigureLine],
     names: &[String],
 ) -> Result<String, AllocError> {
-    let mut text = String::from_str(alloc, head(lines))?;
+    let head = if has_others { WIDE_HEAD } else { HEAD };
+    let mut text = String::from_str(alloc, head)?;
     for line in lines {
         write_label(alloc, &mut text, line, names)?;
         write_cells(alloc, &mut text, line)?;
         text.push_str("\n")?;
     }
     Ok(text)
-}
-
-fn head(lines: &[FigureLine]) -> &'static str {
-    match lines.first() {
-        Some(line) if line.theirs.is_some() => WIDE_HEAD,
-        _ => HEAD,
-    }
 }
 
 /// What the figure is of, the name of its task, its word and the unit.

@@ -1,25 +1,59 @@
 //! Lines as text.
 
-use crate::asked::TableForm;
+use crate::asked::{Comparing, TableForm};
 use crate::csv_text::csv_text;
 use crate::json_text::json_text;
-use crate::line::FigureLine;
+use crate::line::{FigureLine, lines};
+use crate::sides::Sides;
 use crate::table::table_text;
 use bq_actions::Workload;
 use bq_study::{plain, task_names};
 use std::alloc::{AllocError, Global};
 
-/// The lines of a workload's figures, in a form. Tasks have the names that they have in a trace.
+/// What is shown of the two sides of a workload's comparison, as it is asked for. A table has the head of both sides just where
+/// there are both, even if no line is left. Tasks have the names that they have in a trace.
+pub fn comparison_text(
+    alloc: Global,
+    workload: &Workload,
+    sides: &Sides,
+    asked: &Comparing,
+) -> Result<String, AllocError> {
+    let lines = lines(alloc, sides, &asked.window)?;
+    let has_others = sides.theirs.is_some();
+    text_of(alloc, workload, has_others, lines.as_slice(), asked.form)
+}
+
+/// The lines of a workload's figures, in a form; a table has the head of its first line, and without lines that of one side.
+/// Tasks have the names that they have in a trace.
 pub fn written(
     alloc: Global,
     workload: &Workload,
     lines: &[FigureLine],
     form: TableForm,
 ) -> Result<String, AllocError> {
+    text_of(alloc, workload, has_others(lines), lines, form)
+}
+
+/// Whether the first of the lines tells of others.
+fn has_others(lines: &[FigureLine]) -> bool {
+    match lines.first() {
+        Some(line) => line.theirs.is_some(),
+        None => false,
+    }
+}
+
+/// Lines in a form, of a comparison with others or without.
+fn text_of(
+    alloc: Global,
+    workload: &Workload,
+    has_others: bool,
+    lines: &[FigureLine],
+    form: TableForm,
+) -> Result<String, AllocError> {
     let names = plain_names(alloc, workload)?;
     let names = names.as_slice();
     match form {
-        TableForm::Report => table_text(alloc, lines, names),
+        TableForm::Report => table_text(alloc, has_others, lines, names),
         TableForm::Csv => csv_text(alloc, lines, names),
         TableForm::Json => json_text(alloc, lines, names),
     }

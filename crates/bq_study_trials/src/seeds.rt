@@ -7,10 +7,10 @@
 
 use crate::cases::holds;
 use bq_actions::Workload;
-use bq_comparison::{Comparing, ComparingFault, Sides, asked_comparison, compare, lines, written};
+use bq_comparison::{Comparing, ComparingFault, asked_comparison, compare, comparison_text};
 use bq_study::{Policies, StudyWords, study_words};
 use bq_workload::{Changes, read};
-use std::alloc::{AllocError, Global};
+use std::alloc::Global;
 use std::test::Fail;
 use std::thread::Threads;
 
@@ -55,6 +55,11 @@ const REPORT: &str = concat!(
     "cpu 0                          busy      us       12874.500      1111.656\n",
     "cpu 0                          idle      us           0.000         0.000\n",
     "cpu 0                          switches               3.000         0.000\n",
+);
+
+const WIDE_HEAD: &str = concat!(
+    "of             name            figure    unit          mean     deviation       against ",
+    "    deviation    difference\n",
 );
 
 const WIDE_REPORT: &str = concat!(
@@ -106,7 +111,7 @@ const JSON: &str = concat!(
 );
 
 /// Words of options, and what is written. A word of `--against` stands for the policy.
-static WRITTEN: [(&[&str], &str); 4] = [
+static WRITTEN: [(&[&str], &str); 5] = [
     (
         &[
             "--seeds",
@@ -124,6 +129,10 @@ static WRITTEN: [(&[&str], &str); 4] = [
     (
         &["--against", "p", "--tasks", "1", "--cpus", "1"],
         WIDE_REPORT,
+    ),
+    (
+        &["--against", "p", "--tasks", "9", "--cpus", "9"],
+        WIDE_HEAD,
     ),
     (
         &[
@@ -151,17 +160,6 @@ static REFUSED: [(&[&str], ComparingFault); 4] = [
     ),
 ];
 
-/// What is written of the two sides.
-fn table(
-    alloc: Global,
-    workload: &Workload,
-    sides: &Sides,
-    asked: &Comparing,
-) -> Result<String, AllocError> {
-    let lines = lines(alloc, sides, &asked.window)?;
-    written(alloc, workload, lines.as_slice(), asked.form)
-}
-
 /// What is written of the workload under no policy, beside others.
 fn compared<T: Threads + Sync>(
     threads: &T,
@@ -172,7 +170,7 @@ fn compared<T: Threads + Sync>(
 ) -> Result<String, Fail> {
     let none = Policies::new(alloc);
     match compare(threads, alloc, workload, &none, others, asked.seeds) {
-        Ok(sides) => Ok(table(alloc, workload, &sides, asked)?),
+        Ok(sides) => Ok(comparison_text(alloc, workload, &sides, asked)?),
         Err(_) => Err(Fail::from("it does not run")),
     }
 }
