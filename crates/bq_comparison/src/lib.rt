@@ -38,4 +38,4 @@ pub use seeds::{Rows, summary};
 pub use sides::{Sides, compare, size_of_machine};
 pub use summing::{FigureRow, rows};
 pub use values::{Delay, value_of};
-pub use writing::{comparison_text, written};
+pub use writing::comparison_text;

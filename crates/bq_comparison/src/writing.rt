@@ -3,7 +3,7 @@
 use crate::asked::{Comparing, TableForm};
 use crate::csv_text::csv_text;
 use crate::json_text::json_text;
-use crate::line::{FigureLine, lines};
+use crate::line::lines;
 use crate::sides::Sides;
 use crate::table::table_text;
 use bq_actions::Workload;
@@ -19,41 +19,11 @@ pub fn comparison_text(
     asked: &Comparing,
 ) -> Result<String, AllocError> {
     let lines = lines(alloc, sides, &asked.window)?;
-    let has_others = sides.theirs.is_some();
-    text_of(alloc, workload, has_others, lines.as_slice(), asked.form)
-}
-
-/// The lines of a workload's figures, in a form; a table has the head of its first line, and without lines that of one side.
-/// Tasks have the names that they have in a trace.
-pub fn written(
-    alloc: Global,
-    workload: &Workload,
-    lines: &[FigureLine],
-    form: TableForm,
-) -> Result<String, AllocError> {
-    text_of(alloc, workload, has_others(lines), lines, form)
-}
-
-/// Whether the first of the lines tells of others.
-fn has_others(lines: &[FigureLine]) -> bool {
-    match lines.first() {
-        Some(line) => line.theirs.is_some(),
-        None => false,
-    }
-}
-
-/// Lines in a form, of a comparison with others or without.
-fn text_of(
-    alloc: Global,
-    workload: &Workload,
-    has_others: bool,
-    lines: &[FigureLine],
-    form: TableForm,
-) -> Result<String, AllocError> {
+    let lines = lines.as_slice();
     let names = plain_names(alloc, workload)?;
     let names = names.as_slice();
-    match form {
-        TableForm::Report => table_text(alloc, has_others, lines, names),
+    match asked.form {
+        TableForm::Report => table_text(alloc, sides.theirs.is_some(), lines, names),
         TableForm::Csv => csv_text(alloc, lines, names),
         TableForm::Json => json_text(alloc, lines, names),
     }

@@ -2,7 +2,7 @@
 
 use bq_actions::Workload;
 use bq_comparison::{
-    Comparing, ComparingFault, SeedsFault, asked_comparison, compare, lines, written,
+    Comparing, ComparingFault, SeedsFault, asked_comparison, compare, comparison_text,
 };
 use bq_console::status::{BAD_INPUT, REFUSED};
 use bq_console::{name_of, say_out_of_memory, whole_file, whole_input};
@@ -89,8 +89,7 @@ fn tabled<T: Threads + Sync>(
 ) -> Result<String, SeedsFault> {
     let alloc = rt.alloc();
     let sides = compare(threads, alloc, workload, ours, others, asked.seeds)?;
-    let lines = lines(alloc, &sides, &asked.window)?;
-    Ok(written(alloc, workload, lines.as_slice(), asked.form)?)
+    Ok(comparison_text(alloc, workload, &sides, asked)?)
 }
 
 /// The policies that the words compare with, if they compare; `none` adds none.
