@@ -79,15 +79,23 @@ fn told_of_cpus(alloc: Global, word: &str) -> Result<String, Fail> {
     }
 }
 
+/// The text that bytes spell.
+fn text_of(alloc: Global, bytes: &Vec<u8>) -> Result<String, Fail> {
+    let text = from_utf8(bytes.as_slice())?;
+    Ok(String::from_str(alloc, text)?)
+}
+
 /// What a row's form shows of its trace.
 fn shown(alloc: Global, row: &Row) -> Result<Told, Fail> {
     let settings = settings_of(alloc, row.form, row.to)?;
     let mut input = Counted::new(row.trace.as_bytes());
     let mut output = Counted::new(Vec::new(alloc));
-    let outcome = show(alloc, settings, &mut input, &mut output)?;
+    let mut notes = Vec::new(alloc);
+    let outcome = show(alloc, settings, &mut input, &mut output, &mut notes)?;
+    notes.extend_from_slice(outcome.notes.as_bytes())?;
     Ok(Told {
         written: output.into_inner(),
-        notes: outcome.notes,
+        notes: text_of(alloc, &notes)?,
         is_clean: outcome.clean,
     })
 }
@@ -457,8 +465,10 @@ fn noted(
     };
     let mut input = Counted::new(trace.as_bytes());
     let mut output = Counted::new(Vec::new(alloc));
-    let outcome = show(alloc, settings, &mut input, &mut output)?;
-    Ok(outcome.notes)
+    let mut notes = Vec::new(alloc);
+    let outcome = show(alloc, settings, &mut input, &mut output, &mut notes)?;
+    notes.extend_from_slice(outcome.notes.as_bytes())?;
+    text_of(alloc, &notes)
 }
 
 #[test]

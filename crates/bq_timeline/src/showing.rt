@@ -19,16 +19,18 @@ use std::io::{Read, Write};
 pub struct Outcome {
     /// Whether no line was bad or refused.
     pub clean: bool,
-    /// What goes to standard error.
+    /// What goes to standard error at the end.
     pub notes: String,
 }
 
-/// Reads a trace to its end and writes its timeline.
-pub fn show<R: Read, W: Write>(
+/// Reads a trace to its end and writes its timeline. Notes on lines that do not stand in it go to `errors` as the lines come; that one
+/// is not taken there stops nothing.
+pub fn show<R: Read, W: Write, E: Write>(
     alloc: Global,
     settings: Settings,
     input: &mut Counted<R>,
     output: &mut Counted<W>,
+    errors: &mut E,
 ) -> Result<Outcome, StreamFault>
     // It is that of all lines that the reader gave.
     ensures timeline { IfOk result (IsTimeline (R.remaining (inner_of input.old)) (R.remaining (inner_of input.new))) }
@@ -48,7 +50,7 @@ pub fn show<R: Read, W: Write>(
         if count == 0 {
             return showing.finish(output);
         }
-        showing.feed(&piece[..count], output)?;
+        showing.feed(&piece[..count], output, errors)?;
     }
     Err(StreamFault::TooLong)
 }
@@ -85,14 +87,21 @@ impl Showing {
         }
     }
 
-    /// Takes a piece, and writes what is ripe.
-    fn feed<W: Write>(&mut self, piece: &[u8], output: &mut Counted<W>) -> Result<(), StreamFault>
+    /// Takes a piece, and writes what is ripe, notes first.
+    fn feed<W: Write, E: Write>(
+        &mut self,
+        piece: &[u8],
+        output: &mut Counted<W>,
+        errors: &mut E,
+    ) -> Result<(), StreamFault>
         ensures told { OnOk result ((begun : List ℕ) → StandsFor self.old.position.begun begun
             → Watches self.old.viewer self.new.viewer (λ told. GoesOn self.old.position begun piece.now told self.new.position)) }
         ensures kept { OnOk result (failures_of output.new ≡ failures_of output.old) }
         ensures fault { IfErr result (λ e. IsWriteFault e (failures_of output.old) (failures_of output.new)) }
     {
         self.position.go_on(self.alloc, piece, &mut self.viewer)?;
+        let _ = errors.write_all(self.viewer.screen.notes.as_bytes());
+        self.viewer.screen.notes.clear();
         output.write_text(self.viewer.screen.text.as_bytes())?;
         self.viewer.screen.text.clear();
         Ok(())

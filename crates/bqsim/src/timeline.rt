@@ -36,7 +36,8 @@ fn show_from<R: Read + Drop>(
 ) -> ExitCode {
     let mut input = Counted::new(Kept::new(reader));
     let mut output = Counted::new(Kept::new(rt.stdout()));
-    let outcome = match show(rt.alloc(), settings, &mut input, &mut output) {
+    let mut errors = rt.stderr();
+    let outcome = match show(rt.alloc(), settings, &mut input, &mut output, &mut errors) {
         Ok(outcome) => {
             let notes = outcome.notes;
             let _ = eprint!(rt; "{notes}");
