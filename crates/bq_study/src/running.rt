@@ -70,9 +70,10 @@ fn as_timeline(
 {
     let mut viewer = viewed(alloc, workload, policies, settings)?;
     viewer.end()?;
+    let screen = viewer.screen;
     Ok(Written {
-        text: viewer.screen.text,
-        notes: viewer.screen.notes,
+        text: screen.text,
+        notes: screen.notes,
     })
 }
 
