@@ -1,5 +1,6 @@
 mod LineLemmas
 mod GatheringLemmas
+mod LatencyLemmas
 mod RunLemmas
 mod RangeLemmas
 mod RowLemmas

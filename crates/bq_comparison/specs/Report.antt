@@ -7,6 +7,7 @@ use Rattle.bq_comparison.specs.declared.all.MachineSize.{MachineSize}
 use Rattle.bq_comparison.specs.declared.naming.Figure.{Figure}
 use Rattle.bq_comparison.specs.declared.naming.Figure.TheVariants.{Task, Latency, Processor, Hook as AtHook}
 use Rattle.bq_comparison.specs.declared.naming.HookFigure.TheVariants.{Asked, Overruled, Steps}
+use Rattle.bq_comparison.specs.declared.naming.LatencyFigure.TheVariants as of_latency
 use Rattle.bq_comparison.specs.declared.naming.ProcessorFigure.TheVariants as of_processor
 use Rattle.bq_comparison.specs.declared.naming.TaskFigure.TheVariants as of_task
 
@@ -14,7 +15,7 @@ use Rattle.bq_comparison.specs.declared.naming.TaskFigure.TheVariants as of_task
 abbrev pub figures_of_task : ℕ → List Figure
 figures_of_task id =
     Task id of_task.Ran ∷ Task id of_task.Fair ∷ Task id of_task.Waited ∷ Task id of_task.Switches ∷ Task id of_task.Preemptions ∷ Task id of_task.Migrations
-    ∷ Task id of_task.Wakes ∷ Latency id 50 ∷ Latency id 95 ∷ Latency id 99 ∷ Latency id 100 ∷ []
+    ∷ Task id of_task.Wakes ∷ Latency id of_latency.P50 ∷ Latency id of_latency.P95 ∷ Latency id of_latency.P99 ∷ Latency id of_latency.Greatest ∷ []
 
 -- of a hook at a processor
 abbrev pub figures_of_hook : ℕ → Hook → List Figure

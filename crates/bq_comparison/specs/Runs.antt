@@ -1,15 +1,15 @@
 -- The values of the figures in one run.
 use Rattle.std.specs.Prelude.{◌≡◌, ℕ, List, Option, All, map, slice_get, option_and_then}
 use Rattle.bq_schedule.specs.Figures.{Figures}
+use Rattle.bq_schedule.specs.WakeLatencies.{Tasks}
 use Rattle.bq_comparison.specs.declared.naming.Figure.{Figure}
 use Rattle.bq_comparison.specs.declared.runs.RunFigures.{RunFigures}
-use Rattle.bq_comparison.specs.declared.values.Delay.{Delay}
 use Rattle.bq_comparison.specs.Values.{IsValue}
 
 -- each of the figures, with its value
-pub record IsRunOf (s : Figures) (delays : List Delay) (figures : List Figure) (run : RunFigures) : Type 0 where
+pub record IsRunOf (s : Figures) (tasks : Tasks) (figures : List Figure) (run : RunFigures) : Type 0 where
   pub named : map (λ v. v.figure) run.values.items ≡ figures
-  pub valued : All (λ v. IsValue s delays v.figure v.value) run.values.items
+  pub valued : All (λ v. IsValue s tasks v.figure v.value) run.values.items
 
 -- the number at a place, if there is one
 abbrev pub number_at : ℕ → RunFigures → Option ℕ

@@ -2,10 +2,10 @@
 use Rattle.std.specs.Prelude.{◌≡◌, ℕ, ◌+◌, List, [], ◌∷◌, ◌++◌, Some, Result, Ok, IfErr, IfOk, map, length, slice_get}
 use Rattle.bq_actions.specs.declared.workload.Workload.{Workload}
 use Rattle.bq_schedule.specs.Figures.{Figures}
+use Rattle.bq_schedule.specs.WakeLatencies.{Tasks}
 use Rattle.bq_comparison.specs.declared.naming.Figure.{Figure}
 use Rattle.bq_comparison.specs.declared.summing.FigureRow.{FigureRow}
 use Rattle.bq_comparison.specs.declared.runs.RunFigures.{RunFigures}
-use Rattle.bq_comparison.specs.declared.values.Delay.{Delay}
 use Rattle.bq_comparison.specs.Rows.{AreRows}
 use Rattle.bq_comparison.specs.Runs.{IsRunOf}
 use Rattle.bq_simulate.specs.Simulations.{Accepted, with_seed}
@@ -16,9 +16,9 @@ use Rattle.bq_comparison.specs.Faults.{IsNoRun}
 -- the figures of a simulation of that workload with these policies
 pub record IsRun (policies : List Accepted) (w : Workload) (figures : List Figure) (run : RunFigures) : Type 0 where
   pub schedule : Figures
-  pub delays : List Delay
-  pub gathered : IsGathered policies w (Some schedule) delays
-  pub told : IsRunOf schedule delays figures run
+  pub tasks : Tasks
+  pub gathered : IsGathered policies w (Some schedule) tasks
+  pub told : IsRunOf schedule tasks figures run
 
 -- a run with each seed in turn, from that one on
 abbrev pub AreRuns : List Accepted → Workload → List Figure → ℕ → List RunFigures → Type 0

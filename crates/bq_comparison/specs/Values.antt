@@ -1,6 +1,5 @@
 -- The values of figures.
-use Rattle.std.specs.Prelude.{◌≡◌, ℕ, ◌==◌, List, [], Option, Some, None, length, slice_index, if◌then◌else◌, IsPermutation, IsSorted}
-use Rattle.std.specs.List.{filter_map}
+use Rattle.std.specs.Prelude.{◌≡◌, ℕ, List, Option, Some, IsPermutation, IsSorted}
 use Rattle.std.specs.Ordering.{nat_cmp}
 use Rattle.bq_bpf.specs.declared.hook.Hook.{Hook}
 use Rattle.bq_bpf.specs.declared.hook.Hook.TheVariants as hook
@@ -8,17 +7,19 @@ use Rattle.bq_forms.specs.Columns.{nearest}
 use Rattle.bq_schedule.specs.declared.figures.HookFigures.{HookFigures}
 use Rattle.bq_schedule.specs.Figures.{Figures, processor_of, task_of}
 use Rattle.bq_schedule.specs.Passing.{idle_of}
-use Rattle.bq_schedule.specs.Percentiles.{rank}
 use Rattle.bq_schedule.specs.Runnable.{fair_of}
+use Rattle.bq_schedule.specs.WakeLatencies.{Tasks, latencies_of, percentiles_of}
+use Rattle.bq_schedule.specs.declared.percentiles.Percentiles.{Percentiles}
 use Rattle.bq_comparison.specs.declared.naming.Figure.{Figure}
 use Rattle.bq_comparison.specs.declared.naming.Figure.TheVariants as figure
 use Rattle.bq_comparison.specs.declared.naming.HookFigure.{HookFigure}
 use Rattle.bq_comparison.specs.declared.naming.HookFigure.TheVariants as of_hook
+use Rattle.bq_comparison.specs.declared.naming.LatencyFigure.{LatencyFigure}
+use Rattle.bq_comparison.specs.declared.naming.LatencyFigure.TheVariants as of_latency
 use Rattle.bq_comparison.specs.declared.naming.ProcessorFigure.{ProcessorFigure}
 use Rattle.bq_comparison.specs.declared.naming.ProcessorFigure.TheVariants as of_processor
 use Rattle.bq_comparison.specs.declared.naming.TaskFigure.{TaskFigure}
 use Rattle.bq_comparison.specs.declared.naming.TaskFigure.TheVariants as of_task
-use Rattle.bq_comparison.specs.declared.values.Delay.{Delay}
 
 abbrev pub task_value : Figures → ℕ → TaskFigure → ℕ
 task_value s id of_task.Ran = (task_of s id).time
@@ -44,20 +45,23 @@ hook_value s processor at of_hook.Asked = (hook_figures s processor at).asked
 hook_value s processor at of_hook.Overruled = (hook_figures s processor at).overruled
 hook_value s processor at of_hook.Steps = (hook_figures s processor at).steps
 
--- the latency of a delay, where it is the task's
-abbrev pub latency_in : ℕ → Delay → Option ℕ
-latency_in id d = if d.task == id then Some d.latency else None
+-- of some percentiles the one that is named
+abbrev pub percentile_value : Percentiles → LatencyFigure → Option ℕ
+percentile_value p of_latency.P50 = p.p50
+percentile_value p of_latency.P95 = p.p95
+percentile_value p of_latency.P99 = p.p99
+percentile_value p of_latency.Greatest = p.greatest
 
-abbrev pub latencies_of : List Delay → ℕ → List ℕ
-latencies_of delays id = filter_map (latency_in id) delays
+-- a percentile of just these numbers, or the greatest of them; nothing where there are no numbers
+abbrev pub IsPercentile : LatencyFigure → List ℕ → Option ℕ → Type 0
+IsPercentile f xs v = (sorted : List ℕ) × IsPermutation xs sorted × IsSorted nat_cmp sorted × (v ≡ percentile_value (percentiles_of sorted) f)
 
--- what so many percent of the numbers do not exceed, by nearest rank; nothing where there are no numbers
-abbrev pub IsPercentile : ℕ → List ℕ → Option ℕ → Type 0
-IsPercentile percent xs None = xs ≡ []
-IsPercentile percent xs (Some v) = (sorted : List ℕ) × IsPermutation xs sorted × IsSorted nat_cmp sorted × (v ≡ slice_index sorted (rank percent (length sorted)))
+abbrev pub IsValue : Figures → Tasks → Figure → Option ℕ → Type 0
+IsValue s tasks (figure.Task id f) v = v ≡ Some (task_value s id f)
+IsValue s tasks (figure.Latency id f) v = IsPercentile f (latencies_of tasks id) v
+IsValue s tasks (figure.Processor processor f) v = v ≡ Some (processor_value s processor f)
+IsValue s tasks (figure.Hook processor at f) v = v ≡ Some (hook_value s processor at f)
 
-abbrev pub IsValue : Figures → List Delay → Figure → Option ℕ → Type 0
-IsValue s delays (figure.Task id f) v = v ≡ Some (task_value s id f)
-IsValue s delays (figure.Latency id percent) v = IsPercentile percent (latencies_of delays id) v
-IsValue s delays (figure.Processor processor f) v = v ≡ Some (processor_value s processor f)
-IsValue s delays (figure.Hook processor at f) v = v ≡ Some (hook_value s processor at f)
+-- each task has the latencies that it had, in whatever order
+abbrev pub AreReordered : Tasks → Tasks → Type 0
+AreReordered old new = (task : ℕ) → IsPermutation (latencies_of old task) (latencies_of new task)

@@ -2,7 +2,7 @@
 ghost use Rattle.std.specs.Prelude.{◌≡◌, IfOk};
 ghost use Rattle.bq_comparison.specs.Report.{figures_of_processor, figures_of_report, figures_of_task};
 
-use crate::naming::{Figure, HookFigure, ProcessorFigure, TaskFigure};
+use crate::naming::{Figure, HookFigure, LatencyFigure, ProcessorFigure, TaskFigure};
 use bq_parts::Hook;
 use std::alloc::{AllocError, Global};
 
@@ -38,10 +38,10 @@ fn task_figures(task: u16) -> [Figure; 11]
         Figure::Task(task, TaskFigure::Preemptions),
         Figure::Task(task, TaskFigure::Migrations),
         Figure::Task(task, TaskFigure::Wakes),
-        Figure::Latency(task, 50),
-        Figure::Latency(task, 95),
-        Figure::Latency(task, 99),
-        Figure::Latency(task, 100),
+        Figure::Latency(task, LatencyFigure::P50),
+        Figure::Latency(task, LatencyFigure::P95),
+        Figure::Latency(task, LatencyFigure::P99),
+        Figure::Latency(task, LatencyFigure::Greatest),
     ]
 }
 

@@ -1,45 +1,46 @@
 //! What is kept of one simulation.
-ghost use Rattle.std.specs.Prelude.{◌≡◌, ◌++◌, [], IfErr, IfOk, None};
+ghost use Rattle.std.specs.Prelude.{◌≡◌, ℕ, [], IfErr, IfOk, None};
 ghost use Rattle.bq_actions.specs.Soundness.{first_flaw};
-ghost use Rattle.bq_comparison.specs.Gathering.{IsGathered, delays_with};
+ghost use Rattle.bq_comparison.specs.Gathering.{IsGathered, start_told};
+ghost use Rattle.bq_schedule.specs.WakeLatencies.{TakesStart, latencies_of};
 ghost use Rattle.bq_timeline.specs.Watching.{watched};
 ghost use Rattle.bq_simulate.specs.Faults.{flaw_told};
 ghost use Rattle.bq_simulate.specs.Simulations.{with_seed};
 
-use crate::Delay;
 use bq_actions::Workload;
 use bq_core::{Event, Policy, Refusal, Reply};
 use bq_load::LoadFault;
-use bq_schedule::Schedule;
+use bq_schedule::{Schedule, WakeLatencies};
 use bq_simulate::{SimulateFault, simulate_seed};
 use bq_trace::{AnyCore, Sink};
 use bq_words::{ProcessorCount, Rule};
 use std::alloc::{AllocError, Global};
 
-/// A simulation as far as it has come: its schedule, once it has a machine, and each delay from a wake until its task ran.
+/// A simulation as far as it has come: its schedule, once it has a machine, and the latencies of each task, from a wake until it
+/// ran.
 #[derive(Drop)]
 pub struct Gatherer {
     alloc: Global,
     pub schedule: Option<Schedule>,
-    pub delays: Vec<Delay>,
+    pub latencies: WakeLatencies,
 }
 
 impl Gatherer {
     /// Nothing has come.
     pub fn new(alloc: Global) -> Gatherer
         ensures schedule { result.schedule ≡ None }
-        ensures delays { result.delays.items ≡ [] }
+        ensures latencies { (task : ℕ) → latencies_of result.latencies task ≡ [] }
     {
         Gatherer {
             alloc,
             schedule: None,
-            delays: Vec::new(alloc),
+            latencies: WakeLatencies::new(alloc),
         }
     }
 }
 
 impl Sink for Gatherer {
-    ghost takes = { λ old n news new. (new.schedule ≡ watched old.schedule news) × (new.delays.items ≡ old.delays.items ++ delays_with old.schedule news) };
+    ghost takes = { λ old n news new. (new.schedule ≡ watched old.schedule news) × TakesStart (start_told news old.schedule) old.latencies new.latencies };
 
     fn opened(
         &mut self,
@@ -75,15 +76,7 @@ impl Sink for Gatherer {
             return Ok(());
         };
         let change = schedule.take(event, answer);
-        if let Some(start) = change.start {
-            if let Some(latency) = start.latency {
-                self.delays.push(Delay {
-                    task: start.task,
-                    latency,
-                })?;
-            }
-        }
-        Ok(())
+        self.latencies.take(&change)
     }
 
     fn unspelled(&mut self, _number: u64) -> Result<(), AllocError> {
@@ -119,7 +112,7 @@ pub(crate) fn gather(
     seed: u64,
     policies: &[Policy],
 ) -> Result<Gatherer, SimulateFault>
-    ensures gathered { IfOk result (λ g. IsGathered policies.now (with_seed workload.now seed) g.schedule g.delays.items) }
+    ensures gathered { IfOk result (λ g. IsGathered policies.now (with_seed workload.now seed) g.schedule g.latencies) }
     ensures sound { IfOk result (λ _. first_flaw workload.now ≡ None) }
     ensures flaw { IfErr result (λ fault. flaw_told fault ≡ first_flaw workload.now) }
 {

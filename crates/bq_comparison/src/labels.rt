@@ -1,6 +1,6 @@
 //! The words for figures.
 
-use crate::{Figure, HookFigure, ProcessorFigure, TaskFigure};
+use crate::{Figure, HookFigure, LatencyFigure, ProcessorFigure, TaskFigure};
 use std::alloc::{AllocError, Global};
 
 /// What a figure is of: `task 3`, `cpu 0` or `cpu 0 place`.
@@ -31,7 +31,7 @@ pub(crate) fn name<'a>(figure: Figure, names: &'a [String]) -> &'a str {
 pub(crate) fn word(figure: Figure) -> &'static str {
     match figure {
         Figure::Task(_, figure) => task_word(figure),
-        Figure::Latency(_, percent) => latency_word(percent),
+        Figure::Latency(_, figure) => latency_word(figure),
         Figure::Processor(_, ProcessorFigure::Busy) => "busy",
         Figure::Processor(_, ProcessorFigure::Idle) => "idle",
         Figure::Processor(_, ProcessorFigure::Switches) => "switches",
@@ -53,12 +53,12 @@ fn task_word(figure: TaskFigure) -> &'static str {
     }
 }
 
-fn latency_word(percent: u8) -> &'static str {
-    match percent {
-        50 => "p50",
-        95 => "p95",
-        99 => "p99",
-        _ => "max",
+fn latency_word(figure: LatencyFigure) -> &'static str {
+    match figure {
+        LatencyFigure::P50 => "p50",
+        LatencyFigure::P95 => "p95",
+        LatencyFigure::P99 => "p99",
+        LatencyFigure::Greatest => "max",
     }
 }
 

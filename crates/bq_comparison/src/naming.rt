@@ -21,6 +21,19 @@ pub enum TaskFigure {
     Wakes,
 }
 
+/// A figure of a task's latencies from wake to run, by nearest rank. Times are nanoseconds.
+#[derive(Clone, Copy)]
+pub enum LatencyFigure {
+    /// What half of them do not exceed.
+    P50,
+    /// What 95 percent of them do not exceed.
+    P95,
+    /// What 99 percent of them do not exceed.
+    P99,
+    /// The greatest.
+    Greatest,
+}
+
 /// A figure of a processor. Times are nanoseconds.
 #[derive(Clone, Copy)]
 pub enum ProcessorFigure {
@@ -48,8 +61,8 @@ pub enum HookFigure {
 pub enum Figure {
     /// A figure of a task.
     Task(u16, TaskFigure),
-    /// What so many percent of a task's latencies from wake to run do not exceed, by nearest rank, in nanoseconds.
-    Latency(u16, u8),
+    /// A figure of a task's latencies.
+    Latency(u16, LatencyFigure),
     /// A figure of a processor.
     Processor(u8, ProcessorFigure),
     /// A figure of a hook at a processor.

@@ -3,8 +3,8 @@ ghost use Rattle.std.specs.Prelude.{◌≡◌, IfOk};
 ghost use Rattle.bq_comparison.specs.Runs.{IsRunOf, number_at};
 
 use crate::naming::Figure;
-use crate::values::{Delay, value_of};
-use bq_schedule::Schedule;
+use crate::values::value_of;
+use bq_schedule::{Schedule, WakeLatencies};
 use std::alloc::{AllocError, Global};
 
 /// A figure with its value in a run, if it has one there.
@@ -20,19 +20,19 @@ pub struct RunFigures {
     pub values: Vec<FigureValue>,
 }
 
-/// The values that figures have in a schedule in which tasks had these delays.
+/// The values that figures have in a schedule in which tasks had these latencies. It sorts them.
 pub fn run_of(
     alloc: Global,
     schedule: &Schedule,
-    delays: &[Delay],
+    latencies: &mut WakeLatencies,
     figures: &[Figure],
 ) -> Result<RunFigures, AllocError>
-    ensures { IfOk result (IsRunOf schedule.now delays.now figures.now) }
+    ensures { IfOk result (IsRunOf schedule.now latencies.old figures.now) }
 {
     let mut values = Vec::new(alloc);
     'figures: for figure in figures {
         let figure = *figure;
-        let value = value_of(alloc, schedule, delays, figure)?;
+        let value = value_of(schedule, latencies, figure);
         values.push(FigureValue { figure, value })?;
     }
     Ok(RunFigures { values })

@@ -152,9 +152,9 @@ fn run(alloc: Global, experiment: &Experiment<'_>, seed: u64) -> Result<RunFigur
         policies,
         figures,
     } = *experiment;
-    let gathered = gather(alloc, workload, seed, policies)?;
+    let mut gathered = gather(alloc, workload, seed, policies)?;
     match &gathered.schedule {
-        Some(schedule) => Ok(run_of(alloc, schedule, gathered.delays.as_slice(), figures)?),
+        Some(schedule) => Ok(run_of(alloc, schedule, &mut gathered.latencies, figures)?),
         None => Err(SeedsFault::Run(SimulateFault::Astray)),
     }
 }

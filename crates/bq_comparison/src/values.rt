@@ -1,37 +1,25 @@
 //! The value of a figure.
-ghost use Rattle.std.specs.Prelude.{◌≡◌, IfOk};
-ghost use Rattle.bq_comparison.specs.Values.{IsPercentile, IsValue, hook_value, latencies_of, processor_value, task_value};
+ghost use Rattle.std.specs.Prelude.{◌≡◌};
+ghost use Rattle.bq_schedule.specs.WakeLatencies.{latencies_of};
+ghost use Rattle.bq_comparison.specs.Values.{AreReordered, IsPercentile, IsValue, hook_value, percentile_value, processor_value, task_value};
 
-use crate::naming::{Figure, HookFigure, ProcessorFigure, TaskFigure};
+use crate::naming::{Figure, HookFigure, LatencyFigure, ProcessorFigure, TaskFigure};
 use bq_forms::tables::nanoseconds;
 use bq_parts::Hook;
-use bq_schedule::{Latencies, Schedule};
-use std::alloc::{AllocError, Global};
+use bq_schedule::{Percentiles, Schedule, WakeLatencies};
 
-/// How long a task waited from a wake until it ran, in nanoseconds.
-#[derive(Clone, Copy)]
-pub struct Delay {
-    pub task: u16,
-    pub latency: u64,
-}
-
-/// The value of a figure in a schedule in which tasks had these delays. A latency of a task that had none has no value.
-pub fn value_of(
-    alloc: Global,
-    schedule: &Schedule,
-    delays: &[Delay],
-    figure: Figure,
-) -> Result<Option<u64>, AllocError>
-    ensures { IfOk result (IsValue schedule.now delays.now figure) }
+/// The value of a figure in a schedule in which tasks had these latencies. A latency of a task that had none has no value. It
+/// sorts the latencies of a task that the figure is a latency of.
+pub fn value_of(schedule: &Schedule, latencies: &mut WakeLatencies, figure: Figure) -> Option<u64>
+    ensures value { IsValue schedule.now latencies.old figure result }
+    ensures kept { AreReordered latencies.old latencies.new }
 {
     match figure {
-        Figure::Task(task, figure) => Ok(Some(task_value(schedule, task, figure))),
-        Figure::Latency(task, percent) => percentile(alloc, delays, task, percent),
-        Figure::Processor(processor, figure) => {
-            Ok(Some(processor_value(schedule, processor, figure)))
-        }
+        Figure::Task(task, figure) => Some(task_value(schedule, task, figure)),
+        Figure::Latency(task, figure) => latency_value(latencies, task, figure),
+        Figure::Processor(processor, figure) => Some(processor_value(schedule, processor, figure)),
         Figure::Hook(processor, hook, figure) => {
-            Ok(Some(hook_value(schedule, processor, hook, figure)))
+            Some(hook_value(schedule, processor, hook, figure))
         }
     }
 }
@@ -78,28 +66,22 @@ fn hook_value(schedule: &Schedule, processor: u8, hook: Hook, figure: HookFigure
     }
 }
 
-/// A percentile of a task's latencies.
-fn percentile(
-    alloc: Global,
-    delays: &[Delay],
-    task: u16,
-    percent: u8,
-) -> Result<Option<u64>, AllocError>
-    ensures { IfOk result (IsPercentile percent (latencies_of delays.now task)) }
+/// A figure of a task's latencies.
+fn latency_value(latencies: &mut WakeLatencies, task: u16, figure: LatencyFigure) -> Option<u64>
+    ensures value { IsPercentile figure (latencies_of latencies.old task) result }
+    ensures kept { AreReordered latencies.old latencies.new }
 {
-    let mut latencies = latencies(alloc, delays, task)?;
-    Ok(latencies.percentile(percent))
+    percentile_value(latencies.percentiles(task), figure)
 }
 
-/// The latencies of a task.
-fn latencies(alloc: Global, delays: &[Delay], task: u16) -> Result<Latencies, AllocError>
-    ensures { IfOk result (λ l. l ≡ latencies_of delays.now task) }
+/// Of some percentiles the one that is named.
+fn percentile_value(percentiles: Percentiles, figure: LatencyFigure) -> Option<u64>
+    ensures { result ≡ percentile_value percentiles figure }
 {
-    let mut latencies = Latencies::new(alloc);
-    'delays: for delay in delays {
-        if delay.task == task {
-            latencies.push(delay.latency)?;
-        }
+    match figure {
+        LatencyFigure::P50 => percentiles.p50,
+        LatencyFigure::P95 => percentiles.p95,
+        LatencyFigure::P99 => percentiles.p99,
+        LatencyFigure::Greatest => percentiles.greatest,
     }
-    Ok(latencies)
 }
