@@ -8,7 +8,7 @@ rule, TIMES times over (once where it is left out), since each goes another way;
 left to the schedule. A run that takes over a minute is an error. Else the runs are
   - `replay` of tests/every_line.trace, which uses each line that a trace may have,
   - `replay` of examples/policies.trace, which installs images,
-  - `asm` of a policy, `asm` with `--hook` and `--maps` of it, and `check` of the image that this writes.
+  - `asm` of a policy, `asm` with `--hook` and `--maps` of it, `check` of the image that this writes, and `import` of the bytes.
 It is run by hand, on Linux with glibc and a C compiler, and is no part of the gate: failing_calls.c is loaded before the
 program, and makes its Nth allocation, read or write fail, the Nth write take nothing, or the Nth read or write of several
 bytes move one byte. For each kind N goes from 1 to the last call of that kind.
@@ -27,6 +27,7 @@ TOP = os.path.dirname(HERE)
 POLICY = os.path.join(TOP, "policies", "heaviest.s")
 PAR = ["par", "--processors", "4", "--ticks", "50"]
 IMAGE = ["asm", "--hook", "pull", "--maps", "8:2,16:4"]
+IMPORT = ["import", "--hook", "pull", "--maps", "8:2,16:4"]
 
 
 def failing_library(folder):
@@ -43,14 +44,17 @@ def runs(program, folder):
     if len(sys.argv) == 3:
         return [(["replay"], sys.argv[2])]
     image = os.path.join(folder, "image")
-    with open(POLICY, "rb") as text, open(image, "wb") as out:
-        subprocess.run([program, *IMAGE], stdin=text, stdout=out, check=True)
+    section = os.path.join(folder, "section")
+    for words, path in ((IMAGE, image), (["asm"], section)):
+        with open(POLICY, "rb") as text, open(path, "wb") as out:
+            subprocess.run([program, *words], stdin=text, stdout=out, check=True)
     return [
         (["replay"], os.path.join(HERE, "every_line.trace")),
         (["replay"], os.path.join(TOP, "examples", "policies.trace")),
         (["asm"], POLICY),
         (IMAGE, POLICY),
         (["check"], image),
+        (IMPORT, section),
     ]
 
 
