@@ -2,7 +2,8 @@
 
 use bq_actions::Workload;
 use bq_comparison::{
-    Comparing, ComparingFault, SeedsFault, asked_comparison, compare, comparison_text,
+    Comparing, ComparingFault, MachineSize, SeedsFault, asked_comparison, compare, comparison_text,
+    size_of_machine,
 };
 use bq_console::status::{BAD_INPUT, REFUSED};
 use bq_console::{name_of, say_out_of_memory, whole_file, whole_input};
@@ -69,7 +70,10 @@ fn side_by_side<T: Threads + Sync>(
     let ours = policies(rt, words)?;
     let others = others(rt, words)?;
     match tabled(rt, threads, &workload, &ours, others.as_ref(), asked) {
-        Ok(text) => Ok(bq_console::written(rt, text.as_str(), ExitCode::SUCCESS)),
+        Ok(text) => {
+            say_absent(rt, &workload, asked);
+            Ok(bq_console::written(rt, text.as_str(), ExitCode::SUCCESS))
+        }
         Err(SeedsFault::OutOfMemory) => Err(say_out_of_memory(rt)),
         Err(fault) => {
             let _ = eprintln!(rt; "bqsim: {fault}");
@@ -90,6 +94,41 @@ fn tabled<T: Threads + Sync>(
     let alloc = rt.alloc();
     let sides = compare(threads, alloc, workload, ours, others, asked.seeds)?;
     Ok(comparison_text(alloc, workload, &sides, asked)?)
+}
+
+/// Says which of the tasks and processors that are asked for are not there at all.
+fn say_absent(rt: &HostRuntime, workload: &Workload, asked: &Comparing) {
+    let MachineSize { tasks, processors } = size_of_machine(workload);
+    if !has_task(asked, tasks) {
+        let _ = eprintln!(rt;
+            "--tasks: the workload has none of these tasks; how many it has: {tasks}"
+        );
+    }
+    if !has_processor(asked, processors) {
+        let _ = eprintln!(rt;
+            "--cpus: the workload's machine has none of these processors; how many it has: {processors}"
+        );
+    }
+}
+
+/// Whether one of so many tasks is asked for.
+fn has_task(asked: &Comparing, count: u16) -> bool {
+    for task in 0..count {
+        if asked.window.shows_task(task) {
+            return true;
+        }
+    }
+    false
+}
+
+/// Whether one of so many processors is asked for.
+fn has_processor(asked: &Comparing, count: u8) -> bool {
+    for processor in 0..count {
+        if asked.window.shows_processor(processor) {
+            return true;
+        }
+    }
+    false
 }
 
 /// The policies that the words compare with, if they compare; `none` adds none.
