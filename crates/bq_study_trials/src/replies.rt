@@ -1,6 +1,8 @@
 //! Worked traces, with values from outside this program.
 
 use crate::cases::{Answered, Case, answered, holds, is_answered, replays};
+use crate::timelines::{settings_of, text_of};
+use bq_timeline::show;
 use bq_trace::{Counted, ReplayFault, replay};
 use std::alloc::Global;
 use std::io;
@@ -393,4 +395,28 @@ fn ends_at_a_failed_write(rt: HostRuntime) {
         let ended = ended_writing(rt.alloc(), output);
         ends_by(&rt, &ended, ReplayFault::Write, b"admit".as_slice());
     }
+}
+
+/// What is noted of a trace whose rows can't be written.
+fn noted_unwritten(alloc: Global, trace: &str) -> Result<String, Fail> {
+    let settings = settings_of(alloc, "csv", None)?;
+    let mut input = Counted::new(trace.as_bytes());
+    let mut output = Counted::new(Filling {
+        taken: Vec::new(alloc),
+        room: 5,
+        fails: true,
+    });
+    let mut notes = Vec::new(alloc);
+    match show(alloc, settings, &mut input, &mut output, &mut notes) {
+        Ok(_) => Err(Fail::from("the rows are written")),
+        Err(_) => text_of(alloc, &notes),
+    }
+}
+
+#[test]
+fn notes_come_before_rows(rt: HostRuntime) -> Result<(), Fail> {
+    let noted = noted_unwritten(rt.alloc(), "machine cfs 1\ntock 0 1\n")?;
+    let wanted = "line 2: tock is no command\n";
+    holds(&rt, noted.as_str() == wanted, noted.as_str(), wanted);
+    Ok(())
 }

@@ -8,7 +8,7 @@
 use crate::cases::holds;
 use bq_actions::Workload;
 use bq_comparison::{Comparing, ComparingFault, asked_comparison, compare, comparison_text};
-use bq_study::{Policies, StudyWords, study_words};
+use bq_study::{Policies, ShownAs, StudyWords, study_words};
 use bq_workload::{Changes, read};
 use std::alloc::Global;
 use std::test::Fail;
@@ -241,6 +241,39 @@ fn shown_by<T: Threads + Sync>(threads: &T, alloc: Global, words: &[&str]) -> Re
 fn tables_written(rt: HostRuntime) -> Result<(), Fail> {
     for (words, text) in &WRITTEN {
         let shown = shown_by(&rt, rt.alloc(), words)?;
+        holds(&rt, shown.as_str() == *text, shown.as_str(), text);
+    }
+    Ok(())
+}
+
+/// Words that ask for one run, and as what it is shown, or why it is not.
+static SHOWN: [(&[&str], &str); 4] = [
+    (&["--as", "trace"], "trace"),
+    (
+        &["--as", "trace", "--to", "1ms"],
+        "--as trace writes the whole run: --from, --to, --cpus, --tasks and --width choose nothing of it",
+    ),
+    (
+        &["--as", "trace", "--cpus", "nonsense"],
+        "--as trace writes the whole run: --from, --to, --cpus, --tasks and --width choose nothing of it",
+    ),
+    (&["--as", "map", "--width", "100"], "timeline"),
+];
+
+/// As what a run is shown with these words, or why it is not.
+fn shown_as(alloc: Global, words: &[&str]) -> Result<String, Fail> {
+    let words = taken(alloc, words)?;
+    match ShownAs::of(alloc, &words) {
+        Ok(ShownAs::Trace) => Ok(String::from_str(alloc, "trace")?),
+        Ok(ShownAs::Timeline(_)) => Ok(String::from_str(alloc, "timeline")?),
+        Err(fault) => Ok(fault.to_string(alloc)?),
+    }
+}
+
+#[test]
+fn a_trace_is_whole(rt: HostRuntime) -> Result<(), Fail> {
+    for (words, text) in &SHOWN {
+        let shown = shown_as(rt.alloc(), words)?;
         holds(&rt, shown.as_str() == *text, shown.as_str(), text);
     }
     Ok(())

@@ -65,7 +65,7 @@ fn words_of(
 }
 
 /// The settings of a form up to a time.
-fn settings_of(alloc: Global, form: &str, to: Option<&str>) -> Result<Settings, Fail> {
+pub fn settings_of(alloc: Global, form: &str, to: Option<&str>) -> Result<Settings, Fail> {
     let words = words_of(alloc, Some(form), to, None)?;
     Ok(Settings::of(alloc, &words)?)
 }
@@ -80,7 +80,7 @@ fn told_of_cpus(alloc: Global, word: &str) -> Result<String, Fail> {
 }
 
 /// The text that bytes spell.
-fn text_of(alloc: Global, bytes: &Vec<u8>) -> Result<String, Fail> {
+pub fn text_of(alloc: Global, bytes: &Vec<u8>) -> Result<String, Fail> {
     let text = from_utf8(bytes.as_slice())?;
     Ok(String::from_str(alloc, text)?)
 }
