@@ -10,6 +10,9 @@ use bq_words::{with_rules, with_sizes};
 use clap::Command;
 use std::alloc::{AllocError, Global};
 
+/// The version of the program, which `--version` writes.
+pub const VERSION: &str = "0.2.0";
+
 /// The commands, in the order of the help page. One without options here is known by its name alone where words are read:
 /// whoever does it takes its options.
 static COMMANDS: [CommandText<'static>; 9] = [
@@ -94,6 +97,6 @@ pub fn program<'a>(alloc: Global) -> Result<Command<'a>, AllocError>
         alloc,
         "Simulates processors that choose among their tasks as CFS and EEVDF do",
     )?
-    .version("0.1.0");
+    .version(VERSION);
     with_commands(alloc, program, &COMMANDS)
 }

@@ -41,7 +41,7 @@ static TOLD: [(&str, &str); 29] = [
     ("--help", "Usage: bqsim"),
     ("help", "Usage: bqsim"),
     ("replay --help", "Usage: bqsim replay"),
-    ("--version", "bqsim 0.1.0\n"),
+    ("--version", "bqsim 0.2.0\n"),
     ("play", "error: "),
     ("replay again", "error: "),
     ("--replay", "error: "),

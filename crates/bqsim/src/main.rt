@@ -7,7 +7,8 @@ mod simulate;
 mod timeline;
 
 use crate::requests::{Request, asked};
-use bq_console::say_refused;
+use bq_cli::program::VERSION;
+use bq_console::{say_out_of_memory, say_refused, written};
 use bq_policy_desk::do_policy;
 use bq_run_desk::{do_import, do_run};
 use std::process::ExitCode;
@@ -32,5 +33,14 @@ fn done<T: Threads + Wait + Sync>(rt: &HostRuntime, threads: &T, request: &Reque
             Some(words) => do_run(rt, words),
             None => do_policy(rt, request),
         },
+        Request::Version => tell_version(rt),
+    }
+}
+
+/// Writes the version to standard output: it is neither a refused word nor a request for help.
+fn tell_version(rt: &HostRuntime) -> ExitCode {
+    match format!(in rt.alloc(); "bqsim {VERSION}\n") {
+        Ok(line) => written(rt, line.as_str(), ExitCode::SUCCESS),
+        Err(_) => say_out_of_memory(rt),
     }
 }

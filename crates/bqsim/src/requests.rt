@@ -18,6 +18,8 @@ pub(crate) enum Request {
     Simulate(StudyWords),
     Import(bq_run_desk::ImportWords),
     Policy(PolicyRequest),
+    /// The version of the program.
+    Version,
 }
 
 /// What the words after the program's name ask for. A word that is no text is refused.
@@ -33,6 +35,7 @@ fn request_of<'a>(alloc: Global, words: &'a [&'a str]) -> Result<Request, WordsF
         return Ok(Request::Policy(request));
     }
     match words {
+        ["--version" | "-V"] => Ok(Request::Version),
         ["timeline", rest @ ..] => timeline_words(alloc, rest),
         ["simulate", rest @ ..] => simulate_words(alloc, rest),
         ["import", rest @ ..] => import_words(alloc, rest),
