@@ -1,0 +1,53 @@
+"""The progress of the checks on standard error, and what failed on standard output."""
+import shutil
+import sys
+import time
+from collections import Counter
+
+
+class Board:
+    """Counts answers. On a terminal one line is written anew with each; elsewhere a line a group, when all of it is done."""
+
+    def __init__(self, jobs):
+        self.total = sum(job.count for job in jobs)
+        self.left = Counter(job.group for job in jobs)
+        self.passed, self.failed, self.skipped = Counter(), Counter(), []
+        self.begun, self.is_terminal = time.monotonic(), sys.stderr.isatty()
+
+    def take(self, group, answer):
+        if answer.skipped:
+            self.skipped.append(answer)
+        elif answer.failure:
+            self.failed[group] += 1
+            self.clear()
+            print(f"FAILED {answer.name}\n{answer.failure}", f"again: {answer.again}\n" if answer.again else "", sep="\n", flush=True)
+        else:
+            self.passed[group] += 1
+        self.show(answer.name)
+
+    def ends(self, group):
+        """A job of the group is done."""
+        self.left[group] -= 1
+        if not self.left[group] and not self.is_terminal:
+            print(f"{group}: {self.passed[group]} passed, {self.failed[group]} failed, {self.seconds()} s", file=sys.stderr, flush=True)
+
+    def show(self, name=""):
+        if self.is_terminal:
+            done = self.passed.total() + self.failed.total() + len(self.skipped)
+            line = f"{done} of {self.total} checks, {self.failed.total()} failed, {self.seconds()} s  {name}"
+            print(f"\r{line[: shutil.get_terminal_size().columns - 1]}\033[K", end="", file=sys.stderr, flush=True)
+
+    def clear(self):
+        if self.is_terminal:
+            print("\r\033[K", end="", file=sys.stderr, flush=True)
+
+    def seconds(self):
+        return round(time.monotonic() - self.begun)
+
+    def sum(self):
+        """Says what was not run, and the sum; answers the exit status."""
+        self.clear()
+        for answer in sorted(self.skipped, key=lambda it: it.name):
+            print(f"not run: {answer.name} ({answer.skipped})")
+        print(f"{self.passed.total()} passed, {self.failed.total()} failed", flush=True)
+        return 1 if self.failed.total() or not self.passed.total() else 0

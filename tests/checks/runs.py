@@ -1,0 +1,89 @@
+"""Programs that checks run: each in a process group of its own, so that all can be ended at once; and what a check answers."""
+import difflib
+import os
+import signal
+import subprocess
+import threading
+from dataclasses import dataclass
+
+TOP = os.path.dirname(os.path.dirname(os.path.dirname(os.path.abspath(__file__))))
+SECONDS = 300  # a program that takes longer than this is ended, and has failed
+SHOWN = 40  # lines of a difference that are shown
+
+
+@dataclass
+class Answer:
+    """What a check answers: nothing more if it passed, else why it failed, or why it was not made."""
+
+    name: str
+    failure: str = ""
+    again: str = ""  # the command that makes it again
+    skipped: str = ""
+
+
+class Stopped(Exception):
+    """All programs were ended; nothing more is to be done."""
+
+
+class Failed(Exception):
+    """A program could not be run to its end; the text says why."""
+
+
+class Runner:
+    """Runs programs, from any thread, until it is stopped."""
+
+    def __init__(self):
+        self.lock, self.running, self.is_stopped = threading.Lock(), set(), False
+        self.environment = {**os.environ, "PYTHONDONTWRITEBYTECODE": "1"}
+
+    def run(self, words, folder):
+        """The exit status, and all that was written, standard error in its place among it."""
+        with self.lock:
+            if self.is_stopped:
+                raise Stopped
+            try:
+                process = subprocess.Popen(
+                    words, cwd=folder, env=self.environment, start_new_session=True,
+                    stdin=subprocess.DEVNULL, stdout=subprocess.PIPE, stderr=subprocess.STDOUT,
+                )  # fmt: skip
+            except OSError as reason:
+                raise Failed(f"{words[0]} can't be run: {reason.strerror}") from reason
+            self.running.add(process)
+        try:
+            written, _ = process.communicate(timeout=SECONDS)
+        except subprocess.TimeoutExpired as late:
+            raise Failed(f"{words[0]} did not end within {SECONDS} seconds") from late
+        finally:
+            with self.lock:
+                self.running.discard(process)
+                end(process)
+        if self.is_stopped:
+            raise Stopped
+        return process.returncode, written.decode("utf-8", "replace")
+
+    def stop(self):
+        with self.lock:
+            self.is_stopped = True
+            for process in self.running:
+                end(process)
+
+
+def end(process):
+    """Ends a program and all that it started."""
+    try:
+        os.killpg(process.pid, signal.SIGKILL)
+    except ProcessLookupError:
+        pass  # all of it has ended
+
+
+def difference(expected, came):
+    """A unified diff of two texts, cut where it is long; nothing where they are the same."""
+    lines = list(difflib.unified_diff(expected.splitlines(), came.splitlines(), "expected", "came", lineterm="", n=2))
+    if not lines and expected != came:
+        lines = [f"the last line ends otherwise: expected {expected[-20:]!r}, came {came[-20:]!r}"]
+    return cut(lines)
+
+
+def cut(lines):
+    more = [f".. and {len(lines) - SHOWN} lines more"] if len(lines) > SHOWN else []
+    return "\n".join([*lines[:SHOWN], *more])
