@@ -10,8 +10,8 @@ changed a little; `asm` must assemble them to the model's bytes, and `check` mus
 is known. Where it is not known the program decides what is accepted, and then no run may trap in the model: the traces run
 these policies too.
 
-The first trace that is answered otherwise is left in differs.trace, without the lines that do not matter. All this is run
-by hand, and is no part of the gate. Last seen: 4,000 traces, 3,973,694 replies alike.
+The first trace that is answered otherwise is left in differs.trace, without the lines that do not matter. `tests/quick.py`
+compares some of these. Last seen: 4,000 traces, 3,973,694 replies alike.
 
 `tests/model/` is the model, a file for each page: `scheduler` (SCHEDULING.md), `contexts` (CONTEXTS.md), `machine`
 (BPF.md, INSTRUCTIONS.md), `assembler` (ASSEMBLER.md), `images` (IMAGE.md), `replies` (TRACE.md). `programs`, `changes`
