@@ -3,7 +3,8 @@
 In a page commands stand in blocks that begin with ```sh. In a block a command begins with `$ ` and goes on below a line that ends
 with a backslash, or up to the end of its here-document; the lines after it are what it writes, on standard output and standard
 error. A line `..` stands for any lines, and ` ..` at the end of a line for any text. Where a block shows no output at all, each of
-its commands has to end with status 0. A block in which no line begins with `$ ` has a command a line.
+its commands has to end with status 0, and so has a command of which nothing is shown. A block in which no line begins with `$ ` has a
+command a line.
 """
 import os
 import re
@@ -13,13 +14,13 @@ import tempfile
 from dataclasses import dataclass, field
 from pathlib import Path
 
-from .runs import TOP, Answer, Failed, cut, difference
+from .runs import TOP, Answer, Failed, cut, difference, read
 
 TREE = ["README.md", "CHANGELOG.md", "docs", "examples", "policies", "studies", "tests", "workloads"]
 
 # What is not run, by how it begins, and why.
 SKIPPED = [
-    (r"rt ", "the Rattle kit proves for an hour"),
+    (r"rt |\./test|\./bqsim --(prove|build)|tools/", "proves and builds all, or is this very test"),
     (r"clang-19 |llvm-objcopy-19 ", "needs clang 19"),
     (r"\./bqsim (import|asm) --hook preempt .*turns\.", "reads what clang compiles"),
     (r"studies/policies/run_all\.sh ", "1,600 runs, by GNU parallel"),
@@ -54,23 +55,20 @@ def with_commands():
     return [page for page in pages() if commands(page)]
 
 
-def read(page):
-    with open(os.path.join(TOP, page), encoding="utf-8") as file:
-        return file.read()
-
-
 def blocks(text):
     """The fenced blocks of a page: the language, the number of the first line within, and the lines."""
-    language, lines, first = None, [], 0
-    for number, line in enumerate(text.splitlines(), 1):
-        fence = re.match(r"\s*```(\w*)\s*$", line)
+    language, margin, lines, first = None, "", [], 0
+    for number, line in enumerate(text.split("\n"), 1):
+        fence = re.match(r"(\s*)```(\w*)\s*$", line)
         if not fence:
-            lines.append(line)
+            lines.append(line.removeprefix(margin))
         elif language is None:
-            language, lines, first = fence[1], [], number + 1
+            language, margin, lines, first = fence[2], fence[1], [], number + 1
         else:
             yield language, first, lines
             language = None
+    if language is not None:
+        yield "a block without an end", first, lines
 
 
 def goes_on(lines, at):
@@ -107,8 +105,8 @@ def commands(page):
     return [it for language, first, lines in blocks(read(page)) if language == "sh" for it in commands_of_block(first, lines)]
 
 
-def matches(shown, came):
-    """Whether lines are those that are shown, where these may leave some out."""
+def matches(shown, written):
+    """Whether a text is the lines that are shown, where these may leave some out."""
     pattern = ""
     for line in shown:
         if line.strip() in ("..", "..."):
@@ -117,25 +115,24 @@ def matches(shown, came):
             pattern += re.escape(line[:-2]) + r".*\n"
         else:
             pattern += re.escape(line) + r"\n"
-    return re.fullmatch(pattern, "".join(line + "\n" for line in came)) is not None
+    return re.fullmatch(pattern, written) is not None
 
 
-def steady(lines):
-    """Lines without what differs from one run to the next."""
+def steady(text):
+    """A text without what differs from one run to the next."""
     for pattern, instead in VARIES:
-        lines = [re.sub(pattern, instead, line) for line in lines]
-    return lines
+        text = re.sub(pattern, instead, text)
+    return text
 
 
 def wrong(command, status, written):
     """What is wrong with what a command wrote; nothing where it is as shown."""
+    if status and not command.shown:
+        return f"status 0 was expected, and {status} came\n{cut(written.splitlines()[-10:])}"
     if command.shown is None:
-        tail = cut(written.splitlines()[-10:])
-        return f"status 0 was expected, and {status} came\n{tail}" if status else ""
-    shown, came = steady(command.shown), steady(written.splitlines())
-    if matches(shown, came):
         return ""
-    return difference("".join(f"{line}\n" for line in shown), "".join(f"{line}\n" for line in came))
+    shown, came = [steady(line) for line in command.shown], steady(written)
+    return "" if matches(shown, came) else difference("".join(f"{line}\n" for line in shown), came)
 
 
 class Copy:
@@ -186,8 +183,8 @@ def check_blocks():
     found = []
     for page in pages():
         inside = {number for language, first, lines in blocks(read(page)) if language == "sh" for number in range(first, first + len(lines))}
-        for number, line in enumerate(read(page).splitlines(), 1):
-            if number not in inside and re.match(r"\s*\$ ", line):
+        for number, line in enumerate(read(page).split("\n"), 1):
+            if number not in inside and re.match(r"\s*(\$|\./bqsim|\./test) ", line):
                 found.append(f"{page}:{number}: a command outside of a block that begins with ```sh: {line.strip()}")
     yield Answer("pages: each command stands in a block of commands", cut(found), "tests/quick.py BQSIM pages:")
 

@@ -5,7 +5,7 @@ import sys
 from pathlib import Path
 
 from . import documents
-from .runs import TOP, Answer, Failed, cut, difference
+from .runs import TOP, Answer, Failed, cut, difference, read
 
 WORDS = {".replies": ["replay"], ".txt": ["timeline", "--as", "why"]}
 
@@ -29,7 +29,7 @@ def check_example(runner, program, stem):
     words = [program, *WORDS[ending], f"{stem}.trace"]
     try:
         status, written = runner.run(words, TOP)
-        failure = difference(documents.read(stem + ending), written)
+        failure = difference(read(stem + ending), written)
         if status and not failure:
             failure = f"status 0 was expected, and {status} came"
     except Failed as reason:
@@ -78,13 +78,7 @@ def check_picture(runner, program, picture):
         os.remove(path)
         try:
             status, written = documents.run_shown(runner, text, folder)
-            failure = f"status {status}\n{written}" if status else compared(picture, path)
+            failure = f"status {status}\n{written}" if status else difference(read(picture), read(path))
         except Failed as reason:
             failure = str(reason)
-    yield Answer(picture, failure, f"the command of {page}, and git diff: {text}")
-
-
-def compared(picture, path):
-    with open(os.path.join(TOP, picture), encoding="utf-8") as kept, open(path, encoding="utf-8") as made:
-        lines = [line[:200] for line in difference(kept.read(), made.read()).splitlines()]
-    return cut(lines)
+    yield Answer(picture, failure, f"{text} && git diff {picture}    # by {page}")

@@ -8,7 +8,7 @@ from dataclasses import dataclass
 
 TOP = os.path.dirname(os.path.dirname(os.path.dirname(os.path.abspath(__file__))))
 SECONDS = 300  # a program that takes longer than this is ended, and has failed
-SHOWN = 40  # lines of a difference that are shown
+SHOWN, WIDTH = 40, 300  # lines of a difference that are shown, and characters of a line
 
 
 @dataclass
@@ -34,7 +34,7 @@ class Runner:
 
     def __init__(self):
         self.lock, self.running, self.is_stopped = threading.Lock(), set(), False
-        self.environment = {**os.environ, "PYTHONDONTWRITEBYTECODE": "1"}
+        self.environment = {**os.environ, "PYTHONDONTWRITEBYTECODE": "1", "LC_ALL": "C.UTF-8"}
 
     def run(self, words, folder):
         """The exit status, and all that was written, standard error in its place among it."""
@@ -59,13 +59,24 @@ class Runner:
                 end(process)
         if self.is_stopped:
             raise Stopped
-        return process.returncode, written.decode("utf-8", "replace")
+        return process.returncode, text_of(written)
 
     def stop(self):
         with self.lock:
             self.is_stopped = True
             for process in self.running:
                 end(process)
+
+
+def text_of(written):
+    """Bytes as a text, in which those that are no UTF-8 can still be told apart."""
+    return written.decode("utf-8", "backslashreplace")
+
+
+def read(path):
+    """A file of the repository, as it stands."""
+    with open(os.path.join(TOP, path), "rb") as file:
+        return text_of(file.read())
 
 
 def end(process):
@@ -85,5 +96,6 @@ def difference(expected, came):
 
 
 def cut(lines):
+    """Lines as one text, the first ones alone where they are many, and cut where they are long."""
     more = [f".. and {len(lines) - SHOWN} lines more"] if len(lines) > SHOWN else []
-    return "\n".join([*lines[:SHOWN], *more])
+    return "\n".join([*(line[:WIDTH] for line in lines[:SHOWN]), *more])
