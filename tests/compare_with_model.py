@@ -22,6 +22,7 @@ import os
 import random
 import subprocess
 import sys
+import time
 
 sys.dont_write_bytecode = True
 
@@ -29,6 +30,9 @@ from model import contexts, draw, images, worked
 from model.changes import changed
 from model.machine import COUNTERS, Run, Trap
 from model.replies import replies
+
+
+SHORTENING = 20
 
 
 class Differs(Exception):
@@ -76,11 +80,13 @@ def differs(program, lines):
 
 
 def shortened(program, lines):
-    """Lines are left out, many at once and then fewer, while the answers still differ."""
-    length = len(lines) // 2
+    """Lines are left out, many at once and then fewer, while the answers still differ, for SHORTENING seconds at most."""
+    length, end = len(lines) // 2, time.monotonic() + SHORTENING
     while length:
         at = 0
         while at < len(lines):
+            if time.monotonic() > end:
+                return lines
             fewer = lines[:at] + lines[at + length :]
             if differs(program, fewer):
                 lines = fewer

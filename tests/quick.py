@@ -92,7 +92,7 @@ def check(runner, program, parts):
     first = Job("program", "the program runs", partial(check_program, runner, program))
     jobs = [job for job in all_jobs(runner, program) if not parts or any(part in job.name for part in parts)]
     if not jobs:
-        print(f"no check has {' or '.join(parts)} in its name", file=sys.stderr)
+        print(f"no check has a name with {' or '.join(map(repr, parts))}", file=sys.stderr)
         return 2
     board = Board([first, *jobs])
     make([first], board, runner)

@@ -7,7 +7,7 @@ import threading
 from dataclasses import dataclass
 
 TOP = os.path.dirname(os.path.dirname(os.path.dirname(os.path.abspath(__file__))))
-SECONDS = 300  # a program that takes longer than this is ended, and has failed
+SECONDS = 120  # a program that takes longer than this is ended, and has failed
 SHOWN, WIDTH = 40, 300  # lines of a difference that are shown, and characters of a line
 
 
@@ -52,7 +52,7 @@ class Runner:
         try:
             written, _ = process.communicate(timeout=SECONDS)
         except subprocess.TimeoutExpired as late:
-            raise Failed(f"{words[0]} did not end within {SECONDS} seconds") from late
+            raise Failed(f"it did not end within {SECONDS} seconds, and wrote:\n{cut(text_of(late.output or b'').splitlines()[-20:])}") from late
         finally:
             with self.lock:
                 self.running.discard(process)
