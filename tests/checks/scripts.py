@@ -1,4 +1,4 @@
-"""The scripts beside this folder, each on so many cases, by a fixed seed, that all of them fit in the time."""
+"""The scripts of tests/, each on a number of cases that fits the time, drawn by a fixed seed."""
 import os
 import sys
 import tempfile
@@ -18,7 +18,14 @@ MODELS = [
     "tests/compare_with_model.py BQSIM tests/every_line.trace",
     "tests/pages.py BQSIM",
 ]
-SOURCES = ["tests/one_place.py", "tests/long_functions.py", "tests/lemmas.py", "tests/examples.py"]
+SOURCES = [
+    "tests/one_place.py",
+    "tests/fairness.py 1000 1",
+    "tests/long_functions.py",
+    "tests/lemmas.py",
+    "tests/examples.py",
+    "tests/more_edits.py --texts",
+]
 
 
 def words(program, line):
