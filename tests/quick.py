@@ -14,6 +14,7 @@ what came, and the command to repeat it. The last line is `N passed, M failed`; 
 written only in a temporary folder, which is removed at the end.
 """
 import os
+import shlex
 import shutil
 import signal
 import sys
@@ -33,22 +34,18 @@ SIGNALS = [signal.SIGINT, signal.SIGTERM, signal.SIGHUP]
 def all_jobs(runner, program):
     """Those that take longest come first."""
 
-    def each(group, names, check, *given):
-        found = [Job(group, name, partial(check, *given, name)) for name in names]
+    def each(group, names, check, *given, count=lambda name: 1):
+        found = [Job(group, name, partial(check, *given, name), count(name)) for name in names]
         return found or [Job(group, f"no {group}", lambda: [Answer(f"no {group}", "nothing is there to be checked")])]
 
-    pages = each("pages", documents.with_commands(), documents.check_page, runner, program)
-    for job in pages:
-        job.count = len(documents.commands(job.name))
     return [
         *each("models", scripts.MODELS, scripts.check_script, runner, program),
-        *pages,
+        *each("pages", documents.with_commands(), documents.check_page, runner, program, count=documents.count),
         *each("reports", kept.reports(), kept.check_report, runner, program),
         *each("sources", scripts.SOURCES, scripts.check_script, runner, program),
         *each("pictures", kept.pictures(), kept.check_picture, runner, program),
         *each("examples", kept.examples(), kept.check_example, runner, program),
-        Job("blocks", "pages: blocks", documents.check_blocks),
-        Job("blocks", "pages: what is not run", documents.check_skipped),
+        *each("blocks", documents.RULES, documents.check_rule),
         *each("links", links.linked(), links.check_links),
     ]
 
@@ -94,6 +91,8 @@ def check(runner, program, parts):
     if not jobs:
         print(f"no check has a name with {' or '.join(map(repr, parts))}", file=sys.stderr)
         return 2
+    for job in jobs:
+        job.again = shlex.join(["tests/quick.py", program, job.name])
     board = Board([first, *jobs])
     make([first], board, runner)
     if not board.failed:

@@ -14,13 +14,14 @@ class Board:
         self.passed, self.failed, self.skipped = Counter(), Counter(), []
         self.begun, self.is_terminal = time.monotonic(), sys.stderr.isatty()
 
-    def take(self, group, answer):
+    def take(self, job, answer):
+        group = job.group
         if answer.skipped:
             self.skipped.append(answer)
         elif answer.failure:
             self.failed[group] += 1
             self.clear()
-            print(f"FAILED {answer.name}\n{answer.failure}", f"again: {answer.again}\n" if answer.again else "", sep="\n", flush=True)
+            print(f"FAILED {answer.name}", answer.failure, f"again: {answer.again or job.again}\n", sep="\n", flush=True)
         else:
             self.passed[group] += 1
         self.show(answer.name)

@@ -50,6 +50,10 @@ def pages():
     return [str(page.relative_to(top)) for page in found]
 
 
+def count(page):
+    return len(commands(page))
+
+
 def with_commands():
     """The pages that show commands."""
     return [page for page in pages() if commands(page)]
@@ -175,23 +179,27 @@ def check_page(runner, program, page):
                 failure = wrong(command, *run_shown(runner, command.text, folder))
             except Failed as reason:
                 failure = str(reason)
-            yield Answer(name, failure, f"tests/quick.py {program} {page}")
+            yield Answer(name, failure)
 
 
-def check_blocks():
-    """Whether all commands of the pages are found: none stands outside of a block of commands."""
-    found = []
+def outside():
+    """The commands that do not stand in a block of commands, and so would not be run."""
     for page in pages():
         inside = {number for language, first, lines in blocks(read(page)) if language == "sh" for number in range(first, first + len(lines))}
         for number, line in enumerate(read(page).split("\n"), 1):
             if number not in inside and re.match(r"\s*(\$|\./bqsim|\./test) ", line):
-                found.append(f"{page}:{number}: a command outside of a block that begins with ```sh: {line.strip()}")
-    yield Answer("pages: each command stands in a block of commands", cut(found), "tests/quick.py BQSIM pages:")
+                yield f"{page}:{number}: {line.strip()}"
 
 
-def check_skipped():
-    """Whether each line of the table of what is not run is met by a command."""
+def unused():
+    """The lines of the table of what is not run that no command meets."""
     texts = [command.text for page in pages() for command in commands(page)]
-    unused = [pattern for pattern, _ in SKIPPED if not any(re.match(pattern, text) for text in texts)]
-    failure = f"SKIPPED of tests/checks/documents.py names what no page has: {', '.join(unused)}" if unused else ""
-    yield Answer("pages: what is not run stands in a page", failure, "tests/quick.py BQSIM pages:")
+    return (pattern for pattern, _ in SKIPPED if not any(re.match(pattern, text) for text in texts))
+
+
+RULES = {"pages: each command stands in a block that begins with ```sh": outside, "pages: each line of SKIPPED is of a command": unused}
+
+
+def check_rule(name):
+    """Whether nothing is found that breaks a rule of the pages."""
+    yield Answer(name, cut(list(RULES[name]())))

@@ -2,8 +2,8 @@
 import os
 import re
 
-from .documents import pages, read
-from .runs import TOP, Answer, cut
+from .documents import pages
+from .runs import TOP, Answer, cut, read
 
 LINK = re.compile(r"\[[^\]]*\]\(([^()\s]+)\)")
 
@@ -45,10 +45,10 @@ def links(page):
 
 
 def linked():
-    """The pages that have links."""
-    return [page for page in [*pages(), "CHANGELOG.md"] if any(links(page))]
+    """The names of the checks: one for each page that has links."""
+    return [f"links of {page}" for page in [*pages(), "CHANGELOG.md"] if any(links(page))]
 
 
-def check_links(page):
-    found = [f"{page}:{number}: ({target}): {why}" for number, target in links(page) if (why := broken(page, target))]
-    yield Answer(f"links of {page}", cut(found), f"tests/quick.py BQSIM 'links of {page}'")
+def check_links(name):
+    page = name.removeprefix("links of ")
+    yield Answer(name, cut([f"{page}:{number}: ({target}): {why}" for number, target in links(page) if (why := broken(page, target))]))

@@ -18,6 +18,7 @@ class Job:
     name: str
     check: Callable
     count: int = 1
+    again: str = ""  # the command that makes them again
 
 
 class Work:
@@ -59,7 +60,7 @@ class Work:
                 board.show()
                 continue
             if answer:
-                board.take(job.group, answer)
+                board.take(job, answer)
             else:
                 board.ends(job.group)
                 self.left -= 1
