@@ -45,6 +45,7 @@ def all_jobs(runner, program):
         *each("sources", scripts.SOURCES, scripts.check_script, runner, program),
         *each("pictures", kept.pictures(), kept.check_picture, runner, program),
         *each("examples", kept.examples(), kept.check_example, runner, program),
+        *each("examples", kept.stored(), kept.check_stored),
         *each("blocks", documents.RULES, documents.check_rule),
         *each("links", links.linked(), links.check_links),
     ]
@@ -97,7 +98,7 @@ def check(runner, program, parts):
     make([first], board, runner)
     if not board.failed:
         make(jobs, board, runner)
-    return board.sum()
+    return board.end()
 
 
 def main():

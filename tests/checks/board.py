@@ -34,8 +34,8 @@ class Board:
 
     def show(self, name=""):
         if self.is_terminal:
-            done = self.passed.total() + self.failed.total() + len(self.skipped)
-            line = f"{done} of {self.total} checks, {self.failed.total()} failed, {self.seconds()} s  {name}"
+            passed, failed = self.sums()
+            line = f"{passed + failed + len(self.skipped)} of {self.total} checks, {failed} failed, {self.seconds()} s  {name}"
             print(f"\r{line[: shutil.get_terminal_size().columns - 1]}\033[K", end="", file=sys.stderr, flush=True)
 
     def clear(self):
@@ -45,10 +45,14 @@ class Board:
     def seconds(self):
         return round(time.monotonic() - self.begun)
 
-    def sum(self):
-        """Says what was not run, and the sum; answers the exit status."""
+    def sums(self):
+        return sum(self.passed.values()), sum(self.failed.values())
+
+    def end(self):
+        """Says what was not run, and the sums; answers the exit status."""
         self.clear()
         for answer in sorted(self.skipped, key=lambda it: it.name):
-            print(f"not run: {answer.name} ({answer.skipped})")
-        print(f"{self.passed.total()} passed, {self.failed.total()} failed", flush=True)
-        return 1 if self.failed.total() or not self.passed.total() else 0
+            print(f"not run, {answer.skipped}: {answer.name}")
+        passed, failed = self.sums()
+        print(f"{passed} passed, {failed} failed", flush=True)
+        return 1 if failed else 0

@@ -23,8 +23,8 @@ SKIPPED = [
     (r"rt |\./test|\./bqsim --(prove|build)|tools/", "proves and builds all, or is this very test"),
     (r"clang-19 |llvm-objcopy-19 ", "needs clang 19"),
     (r"\./bqsim (import|asm) --hook preempt .*turns\.", "reads what clang compiles"),
-    (r"studies/policies/run_all\.sh ", "1,600 runs, by GNU parallel"),
-    (r"studies/policies/gather\.py ", "gathers those 1,600 runs"),
+    (r"studies/policies/run_all\.sh ", "takes GNU parallel, for 1,600 runs"),
+    (r"studies/policies/gather\.py ", "reads the answers of those 1,600 runs"),
     (r"sbatch ", "needs Slurm"),
 ]
 
@@ -149,7 +149,10 @@ class Copy:
         self.folder = tempfile.mkdtemp()
         for name in TREE:
             source, to = os.path.join(TOP, name), os.path.join(self.folder, name)
-            (shutil.copytree if os.path.isdir(source) else shutil.copy)(source, to)
+            if os.path.isdir(source):
+                shutil.copytree(source, to, ignore=shutil.ignore_patterns("edits", "__pycache__"))
+            else:
+                shutil.copy(source, to)
         for folder, folders, files in os.walk(self.folder):
             for name in (*folders, *files):
                 path = os.path.join(folder, name)

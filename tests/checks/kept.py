@@ -37,6 +37,15 @@ def check_example(runner, program, stem):
     yield Answer(f"{stem}.trace", failure, f"{' '.join(words)} | diff {stem}{ending} -")
 
 
+def stored():
+    """The example that is the program's stored run too, which the gate has in the program's own folder."""
+    return ["examples/first.trace is crates/bqsim/stdin", "examples/first.replies is crates/bqsim/stdout"]
+
+
+def check_stored(name):
+    yield Answer(name, difference(*map(read, name.split(" is "))))
+
+
 def reports():
     """The reports that are there, and those of workloads that have none yet."""
     return sorted({*names("workloads/reports", ".txt"), *(f"workloads/reports/{Path(it).stem}.txt" for it in names("workloads", ".toml"))})
