@@ -16,7 +16,7 @@ from pathlib import Path
 
 from .runs import TOP, Answer, Failed, cut, difference, read
 
-TREE = ["README.md", "CHANGELOG.md", "docs", "examples", "policies", "studies", "tests", "workloads"]
+TREE = ["README.md", "CHANGELOG.md", "LICENSE", "docs", "examples", "policies", "prebuilt", "studies", "tests", "workloads"]
 
 # What is not run, by how it begins, and why.
 SKIPPED = [
@@ -90,7 +90,7 @@ def commands_of_block(first, lines):
     marked = any(line.startswith("$ ") for line in lines)
     found, at = [], 0
     while at < len(lines):
-        if lines[at].startswith("$ ") or (not marked and lines[at].strip()):
+        if lines[at].startswith("$ ") or (not (marked and found) and re.match(r"\s*[^\s#]", lines[at])):
             end = goes_on(lines, at)
             text = "\n".join(lines[at:end])
             found.append(Command(first + at, text.removeprefix("$ ")))
@@ -151,7 +151,7 @@ class Copy:
             source, to = os.path.join(TOP, name), os.path.join(self.folder, name)
             if os.path.isdir(source):
                 shutil.copytree(source, to, ignore=shutil.ignore_patterns("edits", "__pycache__"))
-            else:
+            elif os.path.exists(source):
                 shutil.copy(source, to)
         for folder, folders, files in os.walk(self.folder):
             for name in (*folders, *files):

@@ -5,7 +5,7 @@ import re
 from .documents import pages
 from .runs import TOP, Answer, cut, read
 
-LINK = re.compile(r"\[[^\]]*\]\(([^()\s]+)\)")
+LINK = re.compile(r"""\[[^\]]*\]\(([^()\s]+)(?:\s+"[^"]*")?\)|\b(?:src|srcset|href)="([^"\s]+)""")
 
 
 def plain(text):
@@ -39,7 +39,7 @@ def broken(page, target):
 def links(page):
     """The relative links of a page, with their lines."""
     for number, line in enumerate(plain(read(page)).splitlines(), 1):
-        for target in LINK.findall(line):
+        for target in map("".join, LINK.findall(line)):
             if not re.match(r"[a-z]+:", target):
                 yield number, target
 

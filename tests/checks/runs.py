@@ -7,7 +7,7 @@ import threading
 from dataclasses import dataclass
 
 TOP = os.path.dirname(os.path.dirname(os.path.dirname(os.path.abspath(__file__))))
-SECONDS = 120  # a program that takes longer than this is ended, and has failed
+SECONDS = 100  # a program that takes longer than this is ended, and has failed
 SHOWN, WIDTH = 40, 300  # lines of a difference that are shown, and characters of a line
 
 
@@ -49,14 +49,17 @@ class Runner:
             except OSError as reason:
                 raise Failed(f"{words[0]} can't be run: {reason.strerror}") from reason
             self.running.add(process)
+        is_late = False
         try:
             written, _ = process.communicate(timeout=SECONDS)
-        except subprocess.TimeoutExpired as late:
-            raise Failed(f"it did not end within {SECONDS} seconds, and wrote:\n{cut(text_of(late.output or b'').splitlines()[-20:])}") from late
-        finally:
-            with self.lock:
-                self.running.discard(process)
-                end(process)
+        except subprocess.TimeoutExpired:
+            is_late = True
+            end(process)
+            written, _ = process.communicate()
+        with self.lock:
+            self.running.discard(process)
+        if is_late:
+            raise Failed(f"it did not end within {SECONDS} seconds, and wrote:\n{cut(text_of(written).splitlines()[-20:])}")
         if self.is_stopped:
             raise Stopped
         return process.returncode, text_of(written)
@@ -80,11 +83,9 @@ def read(path):
 
 
 def end(process):
-    """Ends a program and all that it started."""
-    try:
+    """Ends a program and all that it started, unless it was seen to end."""
+    if process.returncode is None:
         os.killpg(process.pid, signal.SIGKILL)
-    except ProcessLookupError:
-        pass  # all of it has ended
 
 
 def difference(expected, came):
