@@ -43,6 +43,7 @@ def all_jobs(runner, program):
         *each("pages", documents.with_commands(), documents.check_page, runner, program, count=documents.count),
         *each("reports", kept.reports(), kept.check_report, runner, program),
         *each("sources", scripts.SOURCES, scripts.check_script, runner, program),
+        *each("sources", scripts.COMPLETE, scripts.check_complete),
         *each("pictures", kept.pictures(), kept.check_picture, runner, program),
         *each("examples", kept.examples(), kept.check_example, runner, program),
         *each("examples", kept.stored(), kept.check_stored),

@@ -2,6 +2,7 @@
 import os
 import sys
 import tempfile
+from pathlib import Path
 
 from .runs import TOP, Answer, Failed, cut
 
@@ -27,6 +28,17 @@ SOURCES = [
     "tests/more_edits.py --texts",
 ]
 
+LEFT_OUT = {
+    "quick.py": "is what runs the others",
+    "workload_reports.py": "is run for each report",
+    "check_perfetto.py": "is run as docs/TIMELINE.md shows it",
+    "simulate_theory.py": "takes minutes",
+    "compare_with_llvm.py": "needs LLVM 19",
+    "policies_in_c.py": "needs clang 19",
+    "native_policies.py": "needs clang 19",
+    "fail_each_call.py": "needs a C compiler, and takes minutes",
+}
+
 
 def words(program, line):
     """What to run for a line of the tables, from any folder."""
@@ -43,3 +55,13 @@ def check_script(runner, program, line):
     except Failed as reason:
         failure = str(reason)
     yield Answer(line, failure, f"python3 {line.replace('BQSIM', program)}")
+
+
+COMPLETE = ["tests: each script is run, or stands in LEFT_OUT"]
+
+
+def check_complete(name):
+    there = {path.name for path in Path(TOP, "tests").glob("*.py")}
+    named = {os.path.basename(line.split()[0]) for line in (*MODELS, *SOURCES)} | set(LEFT_OUT)
+    wrong = [f"{it} is not run" for it in sorted(there - named)] + [f"there is no {it}" for it in sorted(named - there)]
+    yield Answer(name, cut(wrong))
