@@ -5,7 +5,7 @@
     tests/pages.py BQSIM --write    writes both
 
 BQSIM is the path of the program. Its commands are those that `bqsim --help` lists and those of MORE, and each command's words
-are those of `bqsim COMMAND --help`. It is run by hand, and has to be run again where a help text changes.
+are those of `bqsim COMMAND --help`. Write both again where a help text changes.
 """
 import re
 import subprocess
