@@ -1,3 +1,5 @@
+pub mod Pulls
 pub mod Reasons
+pub mod Rivals
 pub mod Rows
 pub mod Words
