@@ -1,3 +1,4 @@
+pub mod Laws
 pub mod Pulls
 pub mod Reasons
 pub mod Rivals

@@ -11,6 +11,7 @@ mod choice_text;
 pub mod choices;
 pub mod faults;
 pub mod happenings;
+pub mod laws;
 mod move_text;
 pub mod operands;
 pub mod presence;

@@ -85,7 +85,7 @@ pub(crate) fn write_equal_runtime(
         if let Some(other) = tied_with(Rule::Cfs, &chosen, tasks) {
             let who = who(names, &other);
             let tied = other.id();
-            write!(text, "; {who} has the same")?;
+            write!(text, "; {who} has the same v")?;
             if was == Some(run) {
                 let run = Who { names, task: run };
                 write!(text, ", and {run} runs on")?;
