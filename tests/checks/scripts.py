@@ -13,6 +13,7 @@ MODELS = [
     "tests/compare_with_model.py BQSIM 10 1",
     "tests/compare_timeline.py BQSIM 20 1",
     "tests/compare_timeline.py BQSIM --near 20 1",
+    "tests/compare_why.py BQSIM 20 1",
     "tests/compare_run.py BQSIM 100 1",
     "tests/simulate_model.py BQSIM 30 1",
     "tests/drawn_policies.py BQSIM 2000 1",
@@ -36,6 +37,7 @@ LEFT_OUT = {
     "compare_with_llvm.py": "needs LLVM 19",
     "policies_in_c.py": "needs clang 19",
     "native_policies.py": "needs clang 19",
+    "long_runs.py": "needs clang 19",
     "fail_each_call.py": "needs a C compiler, and takes minutes",
 }
 

@@ -160,28 +160,49 @@ const LEAVES: &str = concat!(
     "drain 0 0\ntick 0 1000000\nblock 0 1000000\ntick 0 1100000\n",
 );
 
+/// At 1 ms 1 has run for its 1 ms and is due at 2 ms, as 2 is that asked for 2 ms at once; the mean is 0.5 ms. At 2 ms v is 1 ms for
+/// both. At 3 ms 1 leaves, and its v is 2 ms: the mark is the mean of both, 1.5 ms, and then the mean is the v of 2, 1 ms.
+const EQUAL_DEADLINES: &str =
+    "machine eevdf 1\nadmit 1 0 1 1000000\nadmit 2 0 1 2000000\nwake 0 1 0\nbegin 0 2\nend 0 0\n\
+drain 0 0\ntick 0 1000000\ntick 0 2000000\nblock 0 3000000\n";
+
+/// Under CFS 1 and 2 have the same v when 1 is chosen, and still at the tick. 2 may not go to processor 1.
+const EQUAL_RUNTIMES: &str =
+    "machine cfs 2\nadmit 1 0 1 1000000\nadmit 2 0 1 1000000\nwake 0 1 0\nwake 0 2 0\ndrain 0 0\n\
+tick 0 0\npull 1 0 0\n";
+
+/// A policy at `place` answers 0, so that ten tasks come to processor 0. One of them runs, and nine may go to processor 1; then that
+/// has one task, which runs.
+const PULLS: &str = concat!(
+    "machine cfs 2\n# task 9 ninth\nadmit 0 0 3 1000000\nadmit 1 0 3 1000000\nadmit 2 0 3 1000000\nadmit 3 0 3 1000000\n",
+    "admit 4 0 3 1000000\nadmit 5 0 3 1000000\nadmit 6 0 3 1000000\nadmit 7 0 3 1000000\nadmit 8 0 3 1000000\nadmit 9 0 3 1000000\n",
+    "draw\ninstall 0 1 place 425150490100000002000000b7000000000000009500000000000000\n",
+    "wake 0 0 0\nwake 0 1 0\nwake 0 2 0\nwake 0 3 0\nwake 0 4 0\nwake 0 5 0\nwake 0 6 0\nwake 0 7 0\nwake 0 8 0\nwake 0 9 0\n",
+    "drain 0 0\npull 1 0 0\npull 0 1 0\n",
+);
+
 /// What forms show of these traces.
-static SHOWN: [Row; 9] = [
+static SHOWN: [Row; 12] = [
     // the earliest deadline is passed over
     Row {
         form: "why",
         to: Some("1ms"),
         trace: EEVDF,
         text: Text::Whole(
-            "0.000 ms  line 6: end 0\n    \
+            "0.000 ms  line 6: wake of long at cpu 0\n    \
 long is placed on 0: the least load in its mask, where it was last if that ties\n\
-0.000 ms  line 7: end 0\n    \
+0.000 ms  line 7: wake of short at cpu 0\n    \
 short is placed on 0: the least load in its mask, where it was last if that ties\n\
-0.000 ms  line 8: drain 0\n    mark 0.000\n      \
+0.000 ms  line 8: drain 0\n    mark 0.000  mean 0.000\n      \
 task            weight          v   deadline        lag\n    \
 > short             1024      0.000      1.000     +0.000  eligible\n      \
 long              1024      0.000      3.000     +0.000  eligible\n    \
 short runs: the earliest deadline of the eligible {short, long}\n\
-1.000 ms  line 9: tick 0\n    mark 0.500\n      \
+1.000 ms  line 9: tick 0\n    mark 0.500  mean 0.500\n      \
 task            weight          v   deadline        lag\n    \
 > long              1024      0.000      3.000     +0.500  eligible\n      \
 short             1024      1.000      2.000     -0.500  not eligible\n    \
-long runs: the earliest deadline of the eligible {long}\n",
+long runs: the earliest deadline of the eligible {long}; short is due first (2.000) but not eligible\n",
         ),
         notes: Some(""),
         is_clean: Some(true),
@@ -192,7 +213,8 @@ long runs: the earliest deadline of the eligible {long}\n",
         to: None,
         trace: CFS,
         text: Text::Parts(&[
-            "    1 runs: least virtual runtime\n",
+            "    mark 0.000  least v 0.000\n",
+            "    1 runs: least virtual runtime; 2 has the same v, and the lower id wins (1 < 2)\n",
             "    1 runs: 1.000 ms ahead of 2, and gives way only beyond 1.000 ms\n",
         ]),
         notes: None,
@@ -205,6 +227,46 @@ long runs: the earliest deadline of the eligible {long}\n",
         text: Text::End("    2 runs: 1 gives way: 2.000 ms ahead of 2\n"),
         notes: None,
         is_clean: None,
+    },
+    // only the ids tell tasks apart; tasks leave after the charge; a wake of two lines
+    Row {
+        form: "why",
+        to: None,
+        trace: EQUAL_DEADLINES,
+        text: Text::Parts(&[
+            "line 4: wake of 1 at cpu 0\n",
+            "line 6: end 0\n",
+            "    2 runs: the earliest deadline of the eligible {2}; 1 has the same deadline and the lower id (1 < 2), but is not eligible\n",
+            "    1 runs: the earliest deadline of the eligible {1, 2}; 2 has the same deadline, and the lower id wins (1 < 2)\n",
+            "    1 goes to sleep\n    mark 1.500  mean 1.000\n",
+        ]),
+        notes: Some(""),
+        is_clean: Some(true),
+    },
+    Row {
+        form: "why",
+        to: None,
+        trace: EQUAL_RUNTIMES,
+        text: Text::Parts(&[
+            "    1 runs: least virtual runtime; 2 has the same v, and the lower id wins (1 < 2)\n",
+            "    1 runs: least virtual runtime; 2 has the same v, and 1 runs on\n",
+            "pull 1 0\n    sizes: 0 at cpu 1, 2 at cpu 0; none may go\n    nothing is pulled: none may go\n",
+        ]),
+        notes: Some(""),
+        is_clean: Some(true),
+    },
+    // what pulls see
+    Row {
+        form: "why",
+        to: None,
+        trace: PULLS,
+        text: Text::Parts(&[
+            "    sizes: 0 at cpu 1, 10 at cpu 0; 9 may go: ninth, 8, 7, 6, 5, 4, 3, 2 and 1 more\n    \
+ninth is pulled: 10 >= 0 + 2, and of those that may go it has the greatest (v, id)\n",
+            "    sizes: 9 at cpu 0, 1 at cpu 1; none may go\n    nothing is pulled: 1 < 9 + 2\n",
+        ]),
+        notes: Some(""),
+        is_clean: Some(true),
     },
     // lines stand in their places
     Row {

@@ -91,14 +91,20 @@ impl Screen {
         self.names.learn(line)
     }
 
-    /// An event is about to be done.
-    pub fn comes(&mut self, event: &Event, machine: &AnyCore) {
+    /// The event of a line is about to be done.
+    pub fn comes(
+        &mut self,
+        number: u64,
+        event: &Event,
+        machine: &AnyCore,
+    ) -> Result<(), AllocError> {
         if let Shown::Why(form) = &mut self.shown {
-            form.comes(event, machine);
+            form.comes(number, event, machine)?;
         }
         if let Some(near) = &mut self.near {
             near.comes(event, machine);
         }
+        Ok(())
     }
 
     /// An event was done, or refused.

@@ -66,9 +66,8 @@ impl Sink for Viewer {
         self.screen.comment(line)
     }
 
-    fn comes(&mut self, _number: u64, event: &Event, machine: &AnyCore) -> Result<(), AllocError> {
-        self.screen.comes(event, machine);
-        Ok(())
+    fn comes(&mut self, number: u64, event: &Event, machine: &AnyCore) -> Result<(), AllocError> {
+        self.screen.comes(number, event, machine)
     }
 
     fn answered(

@@ -1,8 +1,12 @@
 -- The tasks of a processor, as a choice sees them.
-use Rattle.std.specs.Prelude.{ℕ, ◌+◌, ◌-◌, List, unwrap_or}
+use Rattle.std.specs.Prelude.{ℕ, ◌+◌, ◌-◌, List, Option, unwrap_or}
+use Rattle.std.specs.Option.{option_map}
 use Rattle.bq_weights.specs.VirtualTime.{time_of}
 use Rattle.bq_disc.specs.Tasks.{Task}
 use Rattle.bq_disc.specs.Totals.{total_weight, weighted_sum, is_at_most_mean, mean_of}
+use Rattle.bq_words.specs.declared.rule.Rule.{Rule}
+use Rattle.bq_words.specs.declared.rule.Rule.TheVariants.{Cfs, Eevdf}
+use Rattle.bq_cfs.specs.Cfs.{least}
 use Rattle.bq_why.specs.declared.table.TaskRow.{TaskRow}
 
 -- how far two numbers are apart
@@ -18,3 +22,8 @@ row_by weight sum mean t =
 -- a task's row among all
 abbrev pub row_of : List Task → Task → TaskRow
 row_of xs t = row_by (total_weight xs) (weighted_sum xs) (unwrap_or (mean_of xs) 0) t
+
+-- what a rule measures some tasks from: CFS their least v, EEVDF their mean v
+abbrev pub measured_from : Rule → List Task → Option ℕ
+measured_from Cfs xs = option_map (λ (t : Task). t.v) (least xs)
+measured_from Eevdf xs = mean_of xs

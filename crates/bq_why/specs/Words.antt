@@ -1,9 +1,13 @@
 -- What is said of a choice.
-use Rattle.std.specs.Prelude.{◌^◌, ◌-◌, ℕ, min, Bool, true, false, List, ◌++◌, Option, Some, None, codes}
+use Rattle.std.specs.Prelude.{◌^◌, ◌-◌, ℕ, min, nat_lt, if◌then◌else◌, Bool, true, false, List, ◌++◌, Option, Some, None, codes}
 use Rattle.bq_parts.specs.declared.event.Event.{Event}
 use Rattle.bq_parts.specs.declared.event.Event.TheVariants.{EndWake, Drain, Tick, Block, Pull}
 use Rattle.bq_forms.specs.Amounts.{millis_text}
+use Rattle.bq_words.specs.declared.rule.Rule.{Rule}
+use Rattle.bq_words.specs.declared.rule.Rule.TheVariants.{Cfs, Eevdf}
 use Rattle.bq_why.specs.declared.table.TaskRow.{TaskRow}
+use Rattle.bq_why.specs.declared.words_of.Standing.{Standing}
+use Rattle.bq_why.specs.Rows.{apart}
 
 -- the processor at which an event may choose, and its time
 abbrev pub place_of : Event → Option (ℕ × ℕ)
@@ -31,3 +35,20 @@ eligibility_text false = codes "not eligible"
 -- the same of a row
 abbrev pub eligibility : TaskRow → List ℕ
 eligibility row = eligibility_text row.is_eligible
+
+-- the sign of a virtual time: a minus before 2^32, where all marks begin
+abbrev pub sign_before : ℕ → List ℕ
+sign_before time = if nat_lt time (2 ^ 32) then codes "-" else codes ""
+
+-- a virtual time, in milliseconds from 2^32
+abbrev pub virtual_text : ℕ → List ℕ
+virtual_text time = sign_before time ++ millis_text (apart time (2 ^ 32))
+
+-- what a rule measures its tasks from
+abbrev pub origin_name : Rule → List ℕ
+origin_name Cfs = codes "least v"
+origin_name Eevdf = codes "mean"
+
+-- the mark, and what the rule measures its tasks from
+abbrev pub standing_text : Standing → List ℕ
+standing_text s = codes "mark " ++ (virtual_text s.mark ++ (codes "  " ++ (origin_name s.rule ++ (codes " " ++ virtual_text s.from))))

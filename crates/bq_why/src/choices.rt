@@ -62,7 +62,7 @@ fn earliest(tasks: &[Entity], weight: u64, moment: u128) -> Option<Entity>
 }
 
 /// A task, unless another that is given is due before it.
-fn due_first(task: &Entity, other: Option<Entity>) -> Entity
+pub(crate) fn due_first(task: &Entity, other: Option<Entity>) -> Entity
     ensures { result ≡ former due_before task.now other }
 {
     match other {

@@ -6,12 +6,19 @@
 #![tactic(auto)]
 
 pub mod answers;
+mod asked;
+mod choice_text;
 pub mod choices;
 pub mod faults;
 pub mod happenings;
+pub mod laws;
+mod move_text;
 pub mod operands;
 pub mod presence;
+pub mod pulling;
 pub mod reasons;
+mod rival_text;
+pub mod rivals;
 pub mod table;
 pub mod why_text;
 pub mod words_of;
@@ -19,7 +26,9 @@ pub mod words_of;
 pub use answers::answer;
 pub use choices::choice;
 pub use happenings::{Because, InWords};
-pub use presence::present;
+pub use presence::{present, waiting};
+pub use pulling::{OwnPull, PullSight, sight};
 pub use reasons::{Reason, why};
-pub use table::{TaskRow, rows};
+pub use rivals::{passed_over, tied_with};
+pub use table::{TaskRow, measured_from, rows};
 pub use why_text::{Occurrence, Why, place_of};

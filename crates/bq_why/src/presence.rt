@@ -21,6 +21,16 @@ pub fn present<Q: RunQueue>(alloc: Global, cpu: &Cpu<Q>) -> Result<Vec<Entity>, 
     Ok(tasks)
 }
 
+/// The tasks that wait at a processor, by rising (v, id). Were there more than 1,024, some would be left out.
+pub fn waiting<Q: RunQueue>(alloc: Global, cpu: &Cpu<Q>) -> Result<Vec<Entity>, AllocError>
+    ensures few { IfOk result (λ tasks. length tasks.items ≤ 1024) }
+    ensures all { IfOk result (λ tasks. length cpu.now.running.queue ≤ 1024 → tasks.items ≡ cpu.now.running.queue) }
+{
+    let mut tasks = Vec::new(alloc);
+    add_queue(cpu, &mut tasks)?;
+    Ok(tasks)
+}
+
 /// Adds the tasks of the queue by rising (v, id), as long as there are fewer than 1,024.
 fn add_queue<Q: RunQueue>(cpu: &Cpu<Q>, tasks: &mut Vec<Entity>) -> Result<(), AllocError>
     requires { length tasks.old.items ≤ 1024 }

@@ -94,7 +94,7 @@ fn least_reason(former: Option<Entity>, least: &Entity) -> Reason
 }
 
 /// The task of this number.
-fn with_number(tasks: &[Entity], id: u16) -> Option<Entity>
+pub(crate) fn with_number(tasks: &[Entity], id: u16) -> Option<Entity>
     ensures { result ≡ with_id id tasks.now }
 {
     tasks.iter().copied().find(|task| task.id() == id)

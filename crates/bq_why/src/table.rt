@@ -1,10 +1,12 @@
 //! The tasks of a processor, as a choice saw them.
 ghost use Rattle.std.specs.Prelude.{◌≡◌, ◌≤◌, length, map, IfOk};
-ghost use Rattle.bq_why.specs.Rows.{row_of, row_by};
+ghost use Rattle.bq_why.specs.Rows.{row_of, row_by, measured_from};
 
+use crate::choices::choice;
 use bq_bounds::totals::totals;
 use bq_disc::Entity;
 use bq_weights::time_of;
+use bq_words::Rule;
 use std::alloc::{AllocError, Global};
 
 /// A task as a choice saw it.
@@ -53,5 +55,20 @@ fn row_among(task: &Entity, weight: u64, moment: u128, mean: u64) -> TaskRow
         deadline: task.deadline(),
         is_eligible: task.is_at_most_mean(weight, moment),
         lag: time_of(distance, task.weight()),
+    }
+}
+
+/// The virtual time that a rule measures its tasks from: under CFS the least v, under EEVDF the mean v, rounded down. `None` where
+/// no task is there.
+pub fn measured_from(rule: Rule, tasks: &[Entity]) -> Option<u64>
+    requires { length tasks.now ≤ 1024 }
+    ensures { result ≡ measured_from rule tasks.now }
+{
+    match rule {
+        Rule::Cfs => match choice(Rule::Cfs, tasks) {
+            Some(least) => Some(least.v()),
+            None => None,
+        },
+        Rule::Eevdf => totals(tasks).mean(),
     }
 }

@@ -2,81 +2,17 @@
 ghost use Rattle.std.specs.Prelude.{◌≡◌};
 ghost use Rattle.bq_why.specs.Words.{place_of};
 
-use crate::answers::answer;
+use crate::asked::Asked;
+use crate::choice_text::{RunChoice, write_choice};
 use crate::happenings::InWords;
-use crate::presence::present;
-use crate::reasons::{Reason, why};
-use crate::table::{TaskRow, rows};
-use crate::words_of::{Ids, Lag, Virtual, Who, eligibility};
-use bq_cfs::GRANULARITY;
+use crate::move_text::{write_place, write_pull, write_sight};
+use crate::pulling::{PullSight, sight_of};
+use crate::words_of::Who;
 use bq_core::{By, Event, Hook, Reply};
 use bq_forms::{Millis, Names, Window};
 use bq_schedule::Change;
 use bq_trace::{AnyCore, Seen};
-use bq_words::Rule;
 use std::alloc::{AllocError, Global};
-
-/// A choice of the task that runs at a processor.
-#[derive(Clone, Copy)]
-struct RunChoice {
-    processor: u8,
-    run: Option<u16>,
-    by: By,
-    asked: Asked,
-}
-
-/// What came of asking a policy.
-#[derive(Clone, Copy)]
-struct Asked {
-    /// The instructions that it took, 0 where none was asked.
-    steps: u32,
-    /// The number that it answered.
-    answer: Option<u64>,
-}
-
-impl Asked {
-    /// No policy was asked.
-    fn nobody() -> Asked {
-        Asked {
-            steps: 0,
-            answer: None,
-        }
-    }
-
-    /// The policy at a hook of a processor took so many steps.
-    fn at(machine: &AnyCore, processor: u8, hook: Hook, steps: u32) -> Asked {
-        let answer = match machine.seen(processor) {
-            Some(Seen::Cfs(cpu)) => answer(cpu, hook, steps),
-            Some(Seen::Eevdf(cpu)) => answer(cpu, hook, steps),
-            None => None,
-        };
-        Asked { steps, answer }
-    }
-
-    /// Adds what the policy at a hook answered.
-    fn write_answer(&self, text: &mut String, hook: &str) -> Result<(), AllocError> {
-        let steps = self.steps;
-        match self.answer {
-            Some(answer) => write!(
-                text,
-                "policy at {hook} answered {answer} (steps: {steps})\n"
-            ),
-            None => write!(text, "policy at {hook} answered so (steps: {steps})\n"),
-        }
-    }
-
-    /// Adds that the policy's answer is not permitted, where one was asked and the rule chose all the same.
-    fn write_overruled(&self, text: &mut String) -> Result<(), AllocError> {
-        let steps = self.steps;
-        match self.answer {
-            Some(answer) => write!(
-                text,
-                "policy's answer {answer} is not permitted (steps: {steps}); "
-            ),
-            None => Ok(()),
-        }
-    }
-}
 
 /// An event that was done.
 #[derive(Clone, Copy)]
@@ -96,6 +32,10 @@ pub struct Why {
     window: Window,
     /// Who ran where the next event happens.
     was: Option<u16>,
+    /// The line on which a wake began last.
+    begun: Option<u64>,
+    /// What the next event sees, where it is a pull.
+    sight: Option<PullSight>,
 }
 
 /// The processor at which an event may choose, and its time.
@@ -132,15 +72,34 @@ impl Why {
             alloc,
             window,
             was: None,
+            begun: None,
+            sight: None,
         }
     }
 
-    /// Notes who runs before an event.
-    pub fn comes(&mut self, event: &Event, machine: &AnyCore) {
+    /// Notes how a processor is before the event of a line.
+    pub fn comes(
+        &mut self,
+        number: u64,
+        event: &Event,
+        machine: &AnyCore,
+    ) -> Result<(), AllocError> {
+        if let Event::BeginWake { .. } = event {
+            self.begun = Some(number);
+        }
         self.was = match place_of(event) {
             Some((processor, _)) => running(machine, processor),
             None => None,
         };
+        self.sight = match event {
+            Event::Pull {
+                processor,
+                from,
+                ..
+            } => sight_of(self.alloc, machine, *processor, *from)?,
+            _ => None,
+        };
+        Ok(())
     }
 
     /// Adds the choices of an event that was done.
@@ -151,26 +110,44 @@ impl Why {
         names: &Names,
         text: &mut String,
     ) -> Result<(), AllocError> {
-        let Occurrence {
-            number,
-            event,
-            reply,
-            change,
-        } = *done;
-        let Some((processor, now)) = place_of(event) else {
+        let Some((processor, now)) = place_of(done.event) else {
             return Ok(());
         };
-        let at = match &change.reading {
+        let at = match &done.change.reading {
             Some(reading) => reading.to,
             None => now,
         };
-        if !self.shows(processor, at, reply) {
+        if !self.shows(processor, at, done.reply) {
             return Ok(());
         }
+        self.write_heading(text, names, done, processor, at)?;
+        self.write_reply(text, names, machine, processor, done)
+    }
+
+    /// Adds when an event was done, and the words of its line. A wake that one line begins and ends is named by its task.
+    fn write_heading(
+        &self,
+        text: &mut String,
+        names: &Names,
+        done: &Occurrence<'_>,
+        processor: u8,
+        at: u64,
+    ) -> Result<(), AllocError> {
         let time = Millis(at);
-        let event = InWords(event);
-        write!(text, "{time} ms  line {number}: {event}\n")?;
-        self.write_reply(text, names, machine, processor, reply)
+        let number = done.number;
+        match done.reply {
+            Reply::Placed { task, .. } if self.begun == Some(number) => {
+                let who = Who { names, task: *task };
+                write!(
+                    text,
+                    "{time} ms  line {number}: wake of {who} at cpu {processor}\n"
+                )
+            }
+            _ => {
+                let event = InWords(done.event);
+                write!(text, "{time} ms  line {number}: {event}\n")
+            }
+        }
     }
 
     /// Adds the choices that a reply tells of.
@@ -180,9 +157,9 @@ impl Why {
         names: &Names,
         machine: &AnyCore,
         processor: u8,
-        reply: &Reply,
+        done: &Occurrence<'_>,
     ) -> Result<(), AllocError> {
-        match reply {
+        match done.reply {
             Reply::Placed {
                 task,
                 to,
@@ -195,11 +172,12 @@ impl Why {
             Reply::Drained { run, by, steps, .. } | Reply::Ticked { run, by, steps } => {
                 let choice = RunChoice {
                     processor,
+                    was: self.was,
                     run: *run,
                     by: *by,
                     asked: Asked::at(machine, processor, Hook::Preempt, *steps),
                 };
-                self.write_choice(text, names, machine, &choice)
+                write_choice(self.alloc, text, names, machine, &choice)
             }
             Reply::Blocked { task, run } => {
                 let who = Who { names, task: *task };
@@ -213,7 +191,7 @@ impl Why {
                 steps,
             } => {
                 let asked = Asked::at(machine, processor, Hook::Pull, *steps);
-                write_pull(text, names, *task, *by, &asked)?;
+                self.write_pulled(text, names, *task, *by, &asked)?;
                 if self.was.is_none() {
                     self.write_start(text, names, machine, processor, *run)
                 } else {
@@ -221,6 +199,24 @@ impl Why {
                 }
             }
             _ => Ok(()),
+        }
+    }
+
+    /// Adds what a pull saw, which task is pulled, and why.
+    fn write_pulled(
+        &self,
+        text: &mut String,
+        names: &Names,
+        task: Option<u16>,
+        by: By,
+        asked: &Asked,
+    ) -> Result<(), AllocError> {
+        match &self.sight {
+            Some(sight) => {
+                write_sight(text, names, sight)?;
+                write_pull(text, names, sight, task, by, asked)
+            }
+            None => Ok(()),
         }
     }
 
@@ -258,168 +254,11 @@ impl Why {
     ) -> Result<(), AllocError> {
         let choice = RunChoice {
             processor,
+            was: self.was,
             run,
             by: By::Discipline,
             asked: Asked::nobody(),
         };
-        self.write_choice(text, names, machine, &choice)
-    }
-
-    /// Adds the tasks that were there, and why the one that runs was chosen.
-    fn write_choice(
-        &self,
-        text: &mut String,
-        names: &Names,
-        machine: &AnyCore,
-        choice: &RunChoice,
-    ) -> Result<(), AllocError> {
-        let rule = machine.rule();
-        let (mark, tasks) = match machine.seen(choice.processor) {
-            Some(Seen::Cfs(cpu)) => (cpu.kept(), present(self.alloc, cpu)?),
-            Some(Seen::Eevdf(cpu)) => (cpu.kept(), present(self.alloc, cpu)?),
-            None => return Ok(()),
-        };
-        let rows = rows(self.alloc, tasks.as_slice())?;
-        if !rows.is_empty() {
-            let mark = Virtual(mark);
-            write!(text, "    mark {mark}\n")?;
-            self.write_rows(text, names, rule, rows.as_slice(), choice.run)?;
-        }
-        let reason = why(rule, choice.by, self.was, choice.run, tasks.as_slice());
-        self.write_reason(text, names, choice, reason, rows.as_slice())
-    }
-
-    /// Adds a line a task.
-    fn write_rows(
-        &self,
-        text: &mut String,
-        names: &Names,
-        rule: Rule,
-        rows: &[TaskRow],
-        run: Option<u16>,
-    ) -> Result<(), AllocError> {
-        match rule {
-            Rule::Cfs => text.push_str("      task            weight          v\n")?,
-            Rule::Eevdf => text.push_str(
-                "      task            weight          v   deadline        lag\n",
-            )?,
-        }
-        for row in rows {
-            let who = format!(in self.alloc;
-                "{}",
-                Who {
-                    names,
-                    task: row.task
-                }
-            )?;
-            let sign = if run == Some(row.task) { '>' } else { ' ' };
-            let weight = row.weight;
-            let v = format!(in self.alloc; "{}", Virtual(row.v))?;
-            write!(text, "    {sign} {who:<14.14}{weight:>8} {v:>10}")?;
-            if let Rule::Eevdf = rule {
-                let deadline = format!(in self.alloc; "{}", Virtual(row.deadline))?;
-                let lag = format!(in self.alloc; "{}", Lag(row))?;
-                let eligible = eligibility(row);
-                write!(text, " {deadline:>10} {lag:>10}  {eligible}")?;
-            }
-            text.push_str("\n")?;
-        }
-        Ok(())
-    }
-
-    /// Adds why the task that runs was chosen.
-    fn write_reason(
-        &self,
-        text: &mut String,
-        names: &Names,
-        choice: &RunChoice,
-        reason: Reason,
-        rows: &[TaskRow],
-    ) -> Result<(), AllocError> {
-        let Some(run) = choice.run else {
-            return text.push_str("    nothing runs: nobody is there\n");
-        };
-        let who = Who { names, task: run };
-        write!(text, "    {who} runs: ")?;
-        if choice.by == By::Discipline {
-            choice.asked.write_overruled(text)?;
-        }
-        match reason {
-            Reason::Policy => choice.asked.write_answer(text, Hook::Preempt.word()),
-            Reason::EarliestDeadline => {
-                let eligible = Ids { names, rows };
-                write!(text, "the earliest deadline of the eligible {eligible}\n")
-            }
-            Reason::LeastRuntime => text.push_str("least virtual runtime\n"),
-            Reason::GivesWay { ahead } => {
-                let ahead = Millis(ahead);
-                match self.was {
-                    Some(was) => {
-                        let was = Who { names, task: was };
-                        write!(text, "{was} gives way: {ahead} ms ahead of {who}\n")
-                    }
-                    None => text.push_str("least virtual runtime\n"),
-                }
-            }
-            Reason::Stays { ahead, of } => {
-                let ahead = Millis(ahead);
-                let of = Who { names, task: of };
-                let bound = Millis(GRANULARITY);
-                write!(
-                    text,
-                    "{ahead} ms ahead of {of}, and gives way only beyond {bound} ms\n"
-                )
-            }
-            Reason::Nobody | Reason::Other => text.push_str("not the rule's choice\n"),
-        }
-    }
-}
-
-/// Adds where a woken task is placed, and why.
-fn write_place(
-    text: &mut String,
-    names: &Names,
-    task: u16,
-    to: u8,
-    by: By,
-    asked: &Asked,
-) -> Result<(), AllocError> {
-    let who = Who { names, task };
-    write!(text, "    {who} is placed on {to}: ")?;
-    match by {
-        By::Policy => asked.write_answer(text, Hook::Place.word()),
-        By::Discipline => {
-            asked.write_overruled(text)?;
-            text.push_str("the least load in its mask, where it was last if that ties\n")
-        }
-    }
-}
-
-/// Adds which task is pulled, and why.
-fn write_pull(
-    text: &mut String,
-    names: &Names,
-    task: Option<u16>,
-    by: By,
-    asked: &Asked,
-) -> Result<(), AllocError> {
-    match task {
-        Some(task) => {
-            let who = Who { names, task };
-            write!(text, "    {who} is pulled: ")?;
-        }
-        None => text.push_str("    nothing is pulled: ")?,
-    }
-    match by {
-        By::Policy => asked.write_answer(text, Hook::Pull.word()),
-        By::Discipline => {
-            asked.write_overruled(text)?;
-            match task {
-                Some(_) => text.push_str(
-                    "two tasks more are there, and of those that may go it is last by v\n",
-                ),
-                None => text.push_str("fewer than two tasks more are there, or none may go\n"),
-            }
-        }
+        write_choice(self.alloc, text, names, machine, &choice)
     }
 }

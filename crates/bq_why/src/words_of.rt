@@ -1,10 +1,11 @@
 //! Tasks, virtual times and lags as text.
 ghost use Rattle.std.specs.Prelude.{◌≡◌, ◌^◌, ◌-◌, min, Some};
-ghost use Rattle.bq_why.specs.Words.{lag_text, sign_of, eligibility};
+ghost use Rattle.bq_why.specs.Words.{lag_text, sign_of, eligibility, standing_text, origin_name, virtual_text, sign_before};
 
 use crate::table::TaskRow;
 use bq_disc::limits::FIRST_MARK;
 use bq_forms::{Millis, Names};
+use bq_words::Rule;
 use std::fmt;
 
 /// A task by its name, or by its number.
@@ -59,10 +60,48 @@ impl fmt::Display for Ids<'_> {
 pub struct Virtual(pub u64);
 
 impl fmt::Display for Virtual {
+    ghost output = { λ v. Some (virtual_text v.0) };
+
     fn fmt<W: fmt::Write>(&self, f: &mut fmt::Formatter<W>) -> fmt::Result {
         let distance = Millis(self.0.abs_diff(FIRST_MARK));
-        let sign = if self.0 < FIRST_MARK { "-" } else { "" };
+        let sign = sign_before(self.0);
         write!(f, "{sign}{distance}")
+    }
+}
+
+/// The sign of a virtual time: a minus where it lies before the first mark.
+fn sign_before(time: u64) -> &'static str
+    ensures { result.now ≡ sign_before time }
+{
+    if time < FIRST_MARK { "-" } else { "" }
+}
+
+/// The mark of a processor, and the virtual time that its rule measures its tasks from.
+#[derive(Clone, Copy)]
+pub struct Standing {
+    pub rule: Rule,
+    pub mark: u64,
+    pub from: u64,
+}
+
+impl fmt::Display for Standing {
+    ghost output = { λ s. Some (standing_text s) };
+
+    fn fmt<W: fmt::Write>(&self, f: &mut fmt::Formatter<W>) -> fmt::Result {
+        let mark = Virtual(self.mark);
+        let name = origin_name(self.rule);
+        let from = Virtual(self.from);
+        write!(f, "mark {mark}  {name} {from}")
+    }
+}
+
+/// What a rule measures its tasks from, in words.
+fn origin_name(rule: Rule) -> &'static str
+    ensures { result.now ≡ origin_name rule }
+{
+    match rule {
+        Rule::Cfs => "least v",
+        Rule::Eevdf => "mean",
     }
 }
 

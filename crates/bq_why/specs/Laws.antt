@@ -1,0 +1,29 @@
+-- Laws of what is said of a choice.
+use Rattle.std.specs.Prelude.{◌≡◌, ◌<◌, ℕ, Bool, true, false, nat_le, List, Some, IfSome, is_some, length}
+use Rattle.bq_words.specs.declared.rule.Rule.{Rule}
+use Rattle.bq_disc.specs.Tasks.{Task}
+use Rattle.bq_disc.specs.Totals.{total_weight, mean_of}
+use Rattle.bq_disc.specs.Movable.{movable_to}
+use Rattle.bq_disc.specs.Pulls.{pull_of}
+use Rattle.bq_trace.specs.Machines.{discipline_of}
+use Rattle.bq_why.specs.Rows.{row_of}
+use Rattle.bq_why.specs.Rivals.{tied_with}
+use Rattle.bq_why.specs.Pulls.{own_pull_of}
+use Rattle.bq_why.specs.declared.pulling.OwnPull.{OwnPull}
+use Rattle.bq_why.specs.declared.pulling.OwnPull.TheVariants.{Greatest}
+
+-- a task is eligible exactly where its v is at most the mean of those that are there, rounded down
+abbrev pub EligibleUpToTheMean : Type 0
+EligibleUpToTheMean = (xs : List Task) (t : Task) (mean : ℕ) → 0 < total_weight xs → mean_of xs ≡ Some mean → (row_of xs t).is_eligible ≡ nat_le t.v mean
+
+-- of the choice and a task that only the id tells apart from it the choice has the lower id
+abbrev pub LowerIdWins : Type 0
+LowerIdWins = (rule : Rule) (xs : List Task) → IfSome ((discipline_of rule).choice xs) (λ t. IfSome (tied_with rule t xs) (λ u. t.id < u.id))
+
+abbrev pub is_taken : OwnPull → Bool
+is_taken Greatest = true
+is_taken other = false
+
+-- the discipline takes a task exactly where that is said
+abbrev pub NamesThePull : Type 0
+NamesThePull = (puller size other : ℕ) (queue : List Task) → is_taken (own_pull_of size other (length (movable_to puller queue))) ≡ is_some (pull_of puller size other queue)

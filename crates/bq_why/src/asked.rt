@@ -1,0 +1,59 @@
+//! What came of asking a policy, in words.
+
+use crate::answers::answer;
+use bq_core::Hook;
+use bq_trace::{AnyCore, Seen};
+use std::alloc::AllocError;
+
+/// What came of asking a policy.
+#[derive(Clone, Copy)]
+pub(crate) struct Asked {
+    /// The instructions that it took, 0 where none was asked.
+    steps: u32,
+    /// The number that it answered.
+    answer: Option<u64>,
+}
+
+impl Asked {
+    /// No policy was asked.
+    pub fn nobody() -> Asked {
+        Asked {
+            steps: 0,
+            answer: None,
+        }
+    }
+
+    /// The policy at a hook of a processor took so many steps.
+    pub fn at(machine: &AnyCore, processor: u8, hook: Hook, steps: u32) -> Asked {
+        let answer = match machine.seen(processor) {
+            Some(Seen::Cfs(cpu)) => answer(cpu, hook, steps),
+            Some(Seen::Eevdf(cpu)) => answer(cpu, hook, steps),
+            None => None,
+        };
+        Asked { steps, answer }
+    }
+
+    /// Adds what the policy at a hook answered.
+    pub fn write_answer(&self, text: &mut String, hook: &str) -> Result<(), AllocError> {
+        let steps = self.steps;
+        match self.answer {
+            Some(answer) => write!(
+                text,
+                "policy at {hook} answered {answer} (steps: {steps})\n"
+            ),
+            None => write!(text, "policy at {hook} answered so (steps: {steps})\n"),
+        }
+    }
+
+    /// Adds that the policy's answer is not permitted, where one was asked and the rule chose all the same.
+    pub fn write_overruled(&self, text: &mut String) -> Result<(), AllocError> {
+        let steps = self.steps;
+        match self.answer {
+            Some(answer) => write!(
+                text,
+                "policy's answer {answer} is not permitted (steps: {steps}); "
+            ),
+            None => Ok(()),
+        }
+    }
+}

@@ -1,0 +1,152 @@
+//! The tasks that a choice was among, and why the one that runs was chosen, in words.
+
+ghost use Rattle.std.specs.Prelude.{◌≤◌, length};
+
+use crate::asked::Asked;
+use crate::presence::present;
+use crate::reasons::{Reason, why};
+use crate::rival_text::{write_deadlines, write_equal_runtime, write_giving_way};
+use crate::table::{TaskRow, measured_from, rows};
+use crate::words_of::{Ids, Lag, Standing, Virtual, Who, eligibility};
+use bq_cfs::GRANULARITY;
+use bq_core::{By, Hook};
+use bq_disc::Entity;
+use bq_forms::{Millis, Names};
+use bq_trace::{AnyCore, Seen};
+use bq_words::Rule;
+use std::alloc::{AllocError, Global};
+
+/// A choice of the task that runs at a processor.
+#[derive(Clone, Copy)]
+pub(crate) struct RunChoice {
+    pub processor: u8,
+    /// Who ran before.
+    pub was: Option<u16>,
+    /// Who runs.
+    pub run: Option<u16>,
+    pub by: By,
+    pub asked: Asked,
+}
+
+/// Adds the tasks that were there, and why the one that runs was chosen.
+pub(crate) fn write_choice(
+    alloc: Global,
+    text: &mut String,
+    names: &Names,
+    machine: &AnyCore,
+    choice: &RunChoice,
+) -> Result<(), AllocError> {
+    let rule = machine.rule();
+    let (mark, tasks) = match machine.seen(choice.processor) {
+        Some(Seen::Cfs(cpu)) => (cpu.kept(), present(alloc, cpu)?),
+        Some(Seen::Eevdf(cpu)) => (cpu.kept(), present(alloc, cpu)?),
+        None => return Ok(()),
+    };
+    if let Some(from) = measured_from(rule, tasks.as_slice()) {
+        let standing = Standing { rule, mark, from };
+        write!(text, "    {standing}\n")?;
+    }
+    let rows = rows(alloc, tasks.as_slice())?;
+    write_rows(alloc, text, names, rule, rows.as_slice(), choice.run)?;
+    write_reason(text, names, rule, choice, tasks.as_slice(), rows.as_slice())
+}
+
+/// Adds a line a task, below a head, where there are tasks.
+fn write_rows(
+    alloc: Global,
+    text: &mut String,
+    names: &Names,
+    rule: Rule,
+    rows: &[TaskRow],
+    run: Option<u16>,
+) -> Result<(), AllocError> {
+    if rows.is_empty() {
+        return Ok(());
+    }
+    match rule {
+        Rule::Cfs => text.push_str("      task            weight          v\n")?,
+        Rule::Eevdf => text.push_str(
+            "      task            weight          v   deadline        lag\n",
+        )?,
+    }
+    for row in rows {
+        write_row(alloc, text, names, rule, row, run == Some(row.task))?;
+    }
+    Ok(())
+}
+
+/// Adds the line of a task.
+fn write_row(
+    alloc: Global,
+    text: &mut String,
+    names: &Names,
+    rule: Rule,
+    row: &TaskRow,
+    runs: bool,
+) -> Result<(), AllocError> {
+    let who = format!(in alloc;
+        "{}",
+        Who {
+            names,
+            task: row.task
+        }
+    )?;
+    let sign = if runs { '>' } else { ' ' };
+    let weight = row.weight;
+    let v = format!(in alloc; "{}", Virtual(row.v))?;
+    write!(text, "    {sign} {who:<14.14}{weight:>8} {v:>10}")?;
+    if let Rule::Eevdf = rule {
+        let deadline = format!(in alloc; "{}", Virtual(row.deadline))?;
+        let lag = format!(in alloc; "{}", Lag(row))?;
+        let eligible = eligibility(row);
+        write!(text, " {deadline:>10} {lag:>10}  {eligible}")?;
+    }
+    text.push_str("\n")
+}
+
+/// Adds why the task that runs was chosen.
+fn write_reason(
+    text: &mut String,
+    names: &Names,
+    rule: Rule,
+    choice: &RunChoice,
+    tasks: &[Entity],
+    rows: &[TaskRow],
+) -> Result<(), AllocError>
+    requires { length tasks.now ≤ 1024 }
+{
+    let Some(run) = choice.run else {
+        return text.push_str("    nothing runs: nobody is there\n");
+    };
+    let who = Who { names, task: run };
+    write!(text, "    {who} runs: ")?;
+    if choice.by == By::Discipline {
+        choice.asked.write_overruled(text)?;
+    }
+    match why(rule, choice.by, choice.was, choice.run, tasks) {
+        Reason::Policy => choice.asked.write_answer(text, Hook::Preempt.word()),
+        Reason::EarliestDeadline => {
+            let eligible = Ids { names, rows };
+            write!(text, "the earliest deadline of the eligible {eligible}")?;
+            write_deadlines(text, names, run, tasks)
+        }
+        Reason::LeastRuntime => {
+            text.push_str("least virtual runtime")?;
+            write_equal_runtime(text, names, run, choice.was, tasks)
+        }
+        Reason::GivesWay { ahead } => {
+            write_giving_way(text, names, choice.was, run, ahead)?;
+            write_equal_runtime(text, names, run, choice.was, tasks)
+        }
+        Reason::Stays { ahead, of } => {
+            let ahead = Millis(ahead);
+            let of = Who { names, task: of };
+            let bound = Millis(GRANULARITY);
+            write!(
+                text,
+                "{ahead} ms ahead of {of}, and gives way only beyond {bound} ms\n"
+            )
+        }
+        Reason::Nobody | Reason::Other => text.push_str("not the rule's choice\n"),
+    }
+}

@@ -1,0 +1,103 @@
+//! Where a woken task is placed, and which task is pulled, in words.
+
+use crate::asked::Asked;
+use crate::pulling::{OwnPull, PullSight};
+use crate::words_of::Who;
+use bq_core::{By, Hook};
+use bq_forms::Names;
+use std::alloc::AllocError;
+
+/// Adds where a woken task is placed, and why.
+pub(crate) fn write_place(
+    text: &mut String,
+    names: &Names,
+    task: u16,
+    to: u8,
+    by: By,
+    asked: &Asked,
+) -> Result<(), AllocError> {
+    let who = Who { names, task };
+    write!(text, "    {who} is placed on {to}: ")?;
+    match by {
+        By::Policy => asked.write_answer(text, Hook::Place.word()),
+        By::Discipline => {
+            asked.write_overruled(text)?;
+            text.push_str("the least load in its mask, where it was last if that ties\n")
+        }
+    }
+}
+
+/// Adds the sizes of both processors, and which tasks may go: how many they are, and the first of them by falling (v, id).
+pub(crate) fn write_sight(
+    text: &mut String,
+    names: &Names,
+    sight: &PullSight,
+) -> Result<(), AllocError> {
+    let PullSight {
+        puller,
+        other,
+        size,
+        other_size,
+        ref movable,
+    } = *sight;
+    let count = movable.count;
+    write!(
+        text,
+        "    sizes: {size} at cpu {puller}, {other_size} at cpu {other}; "
+    )?;
+    if count == 0 {
+        return text.push_str("none may go\n");
+    }
+    write!(text, "{count} may go")?;
+    let mut shown: u32 = 0;
+    for task in movable.first.as_slice() {
+        let who = Who { names, task: *task };
+        let before = if shown == 0 { ": " } else { ", " };
+        write!(text, "{before}{who}")?;
+        shown = shown.saturating_add(1);
+    }
+    if shown < count {
+        let more = count - shown;
+        write!(text, " and {more} more")?;
+    }
+    text.push_str("\n")
+}
+
+/// Adds which task is pulled, and why.
+pub(crate) fn write_pull(
+    text: &mut String,
+    names: &Names,
+    sight: &PullSight,
+    task: Option<u16>,
+    by: By,
+    asked: &Asked,
+) -> Result<(), AllocError> {
+    match task {
+        Some(task) => {
+            let who = Who { names, task };
+            write!(text, "    {who} is pulled: ")?;
+        }
+        None => text.push_str("    nothing is pulled: ")?,
+    }
+    match by {
+        By::Policy => asked.write_answer(text, Hook::Pull.word()),
+        By::Discipline => {
+            asked.write_overruled(text)?;
+            write_own_pull(text, sight)
+        }
+    }
+}
+
+/// Ends a line: why the discipline takes what it takes.
+fn write_own_pull(text: &mut String, sight: &PullSight) -> Result<(), AllocError> {
+    let size = sight.size;
+    let other_size = sight.other_size;
+    match sight.own() {
+        OwnPull::TooFew => write!(text, "{other_size} < {size} + 2\n"),
+        OwnPull::NoneMayGo => text.push_str("none may go\n"),
+        OwnPull::Greatest => write!(
+            text,
+            "{other_size} >= {size} + 2, and of those that may go it has the greatest (v, id)\n"
+        ),
+    }
+}

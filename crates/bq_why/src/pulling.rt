@@ -1,0 +1,111 @@
+//! What a pull sees, and which part of the rule decides it.
+ghost use Rattle.std.specs.Prelude.{◌≡◌, ◌<◌, ◌≤◌, length, take, IfOk};
+ghost use Rattle.bq_disc.specs.Movable.{movable_to, ids};
+ghost use Rattle.bq_why.specs.Pulls.{Sees, own_pull_of};
+
+use crate::presence::{present, waiting};
+use bq_core::Cpu;
+use bq_disc::limits::PROCESSORS;
+use bq_disc::{Entity, Movable, RunQueue};
+use bq_trace::{AnyCore, Seen};
+use std::alloc::{AllocError, Global};
+
+/// What a pull sees before it.
+#[derive(Drop)]
+pub struct PullSight {
+    pub puller: u8,
+    pub other: u8,
+    /// How many tasks run or wait at the puller.
+    pub size: usize,
+    /// How many run or wait at the other processor.
+    pub other_size: usize,
+    /// The tasks of the other's queue that may go to the puller.
+    pub movable: Movable,
+}
+
+/// Why the discipline takes what it takes.
+#[derive(Clone, Copy)]
+pub enum OwnPull {
+    /// It takes none: the other's size is not greater by two.
+    TooFew,
+    /// It takes none: no task of the other's queue may go.
+    NoneMayGo,
+    /// It takes the task of greatest (v, id) of those that may go.
+    Greatest,
+}
+
+impl PullSight {
+    /// Why the discipline takes what it takes.
+    pub fn own(&self) -> OwnPull
+        ensures { result ≡ own_pull_of self.now.size self.now.other_size self.now.movable.count }
+    {
+        if self.other_size.saturating_sub(self.size) < 2 {
+            OwnPull::TooFew
+        } else if self.movable.count == 0 {
+            OwnPull::NoneMayGo
+        } else {
+            OwnPull::Greatest
+        }
+    }
+}
+
+/// What a pull of a machine's processor from another sees; `None` where the machine lacks one of them.
+pub(crate) fn sight_of(
+    alloc: Global,
+    machine: &AnyCore,
+    puller: u8,
+    other: u8,
+) -> Result<Option<PullSight>, AllocError> {
+    if puller >= PROCESSORS {
+        return Ok(None);
+    }
+    let sight = match (machine.seen(puller), machine.seen(other)) {
+        (Some(Seen::Cfs(here)), Some(Seen::Cfs(there))) => {
+            sight(alloc, puller, other, here, there)?
+        }
+        (Some(Seen::Eevdf(here)), Some(Seen::Eevdf(there))) => {
+            sight(alloc, puller, other, here, there)?
+        }
+        _ => return Ok(None),
+    };
+    Ok(Some(sight))
+}
+
+/// What a pull from one processor to another sees.
+pub fn sight<Q: RunQueue>(
+    alloc: Global,
+    puller: u8,
+    other: u8,
+    here: &Cpu<Q>,
+    there: &Cpu<Q>,
+) -> Result<PullSight, AllocError>
+    requires { puller < 64 }
+    ensures { IfOk result (λ sight. Sees puller here.now.running there.now.running sight) }
+{
+    let size = present(alloc, here)?.len();
+    let other_size = present(alloc, there)?.len();
+    let queue = waiting(alloc, there)?;
+    Ok(PullSight {
+        puller,
+        other,
+        size,
+        other_size,
+        movable: movable(queue.as_slice(), puller),
+    })
+}
+
+/// The tasks of a queue that may go to a processor.
+fn movable(queue: &[Entity], processor: u8) -> Movable
+    requires inside { processor < 64 }
+    requires few { length queue.now ≤ 1024 }
+    ensures count { result.count ≡ length (movable_to processor queue.now) }
+    ensures first { result.first.items ≡ take 8 (ids (movable_to processor queue.now)) }
+{
+    let mut found = Movable::new();
+    let mut at = queue.len();
+    while at > 0 {
+        at -= 1;
+        found.add(&queue[at], processor);
+    }
+    found
+}

@@ -1,0 +1,60 @@
+//! The tasks that a choice is told apart from: one that is due first and is passed over, and one that is as near to being chosen.
+ghost use Rattle.std.specs.Prelude.{◌≡◌, ◌≤◌, length, find};
+ghost use Rattle.bq_disc.specs.Tasks.{first_by};
+ghost use Rattle.bq_disc.specs.Dues.{due_before};
+ghost use Rattle.bq_why.specs.Rivals.{passed_over, is_tied, tied_with};
+
+use crate::choices::due_first;
+use bq_bounds::totals::totals;
+use bq_disc::{Entity, Totals};
+use bq_words::Rule;
+
+/// Under EEVDF the task that is due first of all, where it is not eligible: the choice passes it over.
+pub fn passed_over(tasks: &[Entity]) -> Option<Entity>
+    requires { length tasks.now ≤ 1024 }
+    ensures { result ≡ passed_over tasks.now }
+{
+    let totals = totals(tasks);
+    match first_due(tasks) {
+        Some(task) if !task.is_at_most_mean(totals.weight, totals.moment) => Some(task),
+        _ => None,
+    }
+}
+
+/// The task that is due first, eligible or not.
+fn first_due(tasks: &[Entity]) -> Option<Entity>
+    ensures { result ≡ first_by due_before tasks.now }
+{
+    let mut best: Option<Entity> = None;
+    let mut at = tasks.len();
+    while at > 0 {
+        at -= 1;
+        best = Some(due_first(&tasks[at], best));
+    }
+    best
+}
+
+/// Another task that is as near to being chosen as this one, so that the lower id wins: under CFS one of the same virtual runtime,
+/// under EEVDF an eligible one of the same deadline. Of several the first in their order.
+pub fn tied_with(rule: Rule, chosen: &Entity, tasks: &[Entity]) -> Option<Entity>
+    requires { length tasks.now ≤ 1024 }
+    ensures { result ≡ tied_with rule chosen.now tasks.now }
+{
+    let totals = totals(tasks);
+    tasks.iter().copied().find(|task| is_tied(rule, totals.weight, totals.moment, chosen, task))
+}
+
+/// Whether a task is another one than the chosen and as near to being chosen, among tasks of this weight and this sum of weight times v.
+fn is_tied(rule: Rule, weight: u64, moment: u128, chosen: &Entity, task: &Entity) -> bool
+    ensures { result ≡ is_tied rule weight moment chosen.now task.now }
+{
+    if task.id() == chosen.id() {
+        return false;
+    }
+    match rule {
+        Rule::Cfs => task.v() == chosen.v(),
+        Rule::Eevdf => {
+            task.deadline() == chosen.deadline() && task.is_at_most_mean(weight, moment)
+        }
+    }
+}
