@@ -11,6 +11,7 @@ use bq_disc::limits::LAST_PROCESSOR;
 use bq_forms::Window;
 use bq_lines::processor_sets::processors;
 use bq_lines::with_tasks;
+use bq_pictures::{Look, Theme};
 use bq_words::with_units;
 use std::alloc::{AllocError, Global};
 use thiserror::Error;
@@ -45,6 +46,8 @@ pub struct Settings {
     pub named: Vec<u16>,
     /// The columns of a map, from 20 to 10,000.
     pub width: usize,
+    /// How a picture looks, and what it is called.
+    pub look: Look,
 }
 
 /// What a word for the form has to be.
@@ -136,6 +139,10 @@ impl Settings {
             window,
             named,
             width,
+            look: Look {
+                theme: Theme::Light,
+                title: None,
+            },
         })
     }
 }
