@@ -13,8 +13,8 @@ _bqsim() {
         par) words="--rule --processors --ticks --help" ;;
         replay) words="--help" ;;
         run) words="--hook --maps --format --ctx --set --map --time --processor --counter --trace --repeat --help" ;;
-        simulate) words="--discipline --processors --duration --seed --seeds --place --preempt --pull --against --as --from --to --cpus --tasks --width --help" ;;
-        timeline) words="--as --from --to --cpus --tasks --width --help" ;;
+        simulate) words="--discipline --processors --duration --seed --seeds --place --preempt --pull --against --as --from --to --cpus --tasks --width --theme --title --help" ;;
+        timeline) words="--as --from --to --cpus --tasks --width --theme --title --help" ;;
         help) words="asm check dis import par replay run simulate timeline" ;;
         *) words="" ;;
     esac

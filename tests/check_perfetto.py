@@ -6,9 +6,11 @@
 It is one JSON object whose `traceEvents` is a list of events. For each event:
 - `ph` is one of M, X, s, f, i, C, and the event has the members that this phase needs, each of its type;
 - `ts` and `dur` are numbers that are not negative.
-For each track (a process and a thread): the times of its events do not go back in the file, and its runs (X) do not overlap.
+For each track (a process and a thread): the times of its events do not go back in the file, save the beginnings of migrations, and
+its slices (X) lie apart, or begin and end at once.
 For each counter: its times do not go back.
-For each flow: one beginning (s) with its id, before its one end (f); an end lies at the beginning of a run.
+For each flow: one beginning (s) with its id, before its one end (f); a beginning lies within a slice of its track; an end lies at
+the beginning of a run.
 
 With --slices: the runs, joined where one goes on from another, are those that the rows of the CSV make (`bqsim timeline --as csv`).
 Prints how many events it saw. Status 1 at the first that breaks a rule.
@@ -54,25 +56,31 @@ def check_members(place, event):
 
 
 def check_order(events):
-    last, over, begun, ended, starts = {}, {}, {}, set(), {}
+    last, over, begun, ended, starts, slices = {}, {}, {}, set(), {}, {}
     for place, event in enumerate(events):
         check_members(place, event)
         phase = event["ph"]
         if phase == "M":
             continue
         track = (event["pid"], event["name"]) if phase == "C" else (event["pid"], event["tid"])
-        if event["ts"] < last.get(track, 0):
-            fail(place, event, "its track's time goes back")
-        last[track] = event["ts"]
+        if event.get("cat") != "migration" or phase != "s":
+            if event["ts"] < last.get(track, 0):
+                fail(place, event, "its track's time goes back")
+            last[track] = event["ts"]
         if phase == "X":
-            if event["ts"] < over.get(track, 0):
-                fail(place, event, "runs overlap")
-            over[track] = event["ts"] + event["dur"]
-            starts.setdefault(track, set()).add(event["ts"])
+            lasts = (event["ts"], event["ts"] + event["dur"])
+            if lasts[0] < over.get(track, (0, 0))[1] and lasts != over[track]:
+                fail(place, event, "slices overlap")
+            over[track] = lasts
+            slices.setdefault(track, []).append(lasts)
+            if event["cat"] == "run":
+                starts.setdefault(track, set()).add(event["ts"])
         if phase == "s":
             if event["id"] in begun:
                 fail(place, event, "the flow has begun already")
             begun[event["id"]] = place
+            if not any(begin <= event["ts"] < end for begin, end in reversed(slices.get(track, []))):
+                fail(place, event, "no slice is there")
         if phase == "f":
             if event["id"] in ended:
                 fail(place, event, "the flow has ended already")
@@ -98,7 +106,7 @@ def joined(slices):
 
 def check_slices(events, path):
     runs = joined(
-        (e["tid"], e["args"]["task"], int(e["ts"] * 1000), int((e["ts"] + e["dur"]) * 1000)) for e in events if e["ph"] == "X"
+        (e["tid"], e["args"]["task"], int(e["ts"] * 1000), int((e["ts"] + e["dur"]) * 1000)) for e in events if e["ph"] == "X" and e["cat"] == "run"
     )
     with open(path, newline="") as file:
         rows = list(csv.DictReader(file))

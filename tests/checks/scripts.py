@@ -26,6 +26,7 @@ SOURCES = [
     "tests/long_functions.py",
     "tests/lemmas.py",
     "tests/examples.py",
+    "tests/pictures.py",
     "tests/more_edits.py --texts",
 ]
 

@@ -9,6 +9,8 @@ use std::alloc::AllocError;
 ///
 /// ```text
 /// form.begin(&schedule, &names, &mut text)?;
+/// // for each event that admits a task:
+/// form.admit(task)?;
 /// // for each event and its answer:
 /// let change = schedule.take(&event, &answer);
 /// form.take(&change, &schedule, &names, &mut text)?;
@@ -23,6 +25,11 @@ pub trait ScheduleForm: Drop {
         names: &Names,
         text: &mut String,
     ) -> Result<(), AllocError>;
+
+    /// A task is admitted. A form in which tasks have letters or colours gives it the next one.
+    fn admit(&mut self, _task: u16) -> Result<(), AllocError> {
+        Ok(())
+    }
 
     /// Takes what one answer changed, and the schedule after it.
     fn take(

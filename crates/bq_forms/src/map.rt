@@ -5,6 +5,7 @@ use crate::extent::Extent;
 use crate::form::ScheduleForm;
 use crate::longest::longest_in;
 use crate::names::Names;
+use crate::roster::Roster;
 use crate::steps::round_step;
 use crate::window::Window;
 use bq_disc::limits::PROCESSORS;
@@ -12,7 +13,7 @@ use bq_schedule::{Change, Schedule, Slice};
 use std::alloc::{AllocError, Global};
 use std::collections::BTreeSet;
 
-/// The letters of the tasks, by rising number.
+/// The letters of the tasks, in the order in which they are admitted.
 const LETTERS: [char; 62] = [
     'A', 'B', 'C', 'D', 'E', 'F', 'G', 'H', 'I', 'J', 'K', 'L', 'M', 'N', 'O', 'P', 'Q', 'R', 'S',
     'T', 'U', 'V', 'W', 'X', 'Y', 'Z', 'a', 'b', 'c', 'd', 'e', 'f', 'g', 'h', 'i', 'j', 'k', 'l',
@@ -20,21 +21,49 @@ const LETTERS: [char; 62] = [
     '5', '6', '7', '8', '9',
 ];
 
+/// What stands for the tasks after those that have a letter.
+const BEYOND: char = '*';
+
+/// What stands for a task that is not shown.
+const HIDDEN: char = '-';
+
+/// What stands for no task.
+const IDLE: char = '.';
+
 /// How wide the names of the rows are.
 const MARGIN: usize = 8;
 
 /// How many columns lie between two moments of the ruler.
 const TICK: u64 = 20;
 
-/// A row a processor, a column a step of time. A column shows the task that ran longest in it, `.` where none did. It holds
-/// the runs, since the step depends on where the trace ends.
+/// A row a processor, a column a step of time. A column shows the letter of the task that ran longest in it, of those that are
+/// shown; `-` where only other tasks ran, and `.` where none did. It holds the runs, since the step depends on where the trace
+/// ends.
 #[derive(Drop)]
 pub struct Map {
     alloc: Global,
     window: Window,
+    /// The same window with every task.
+    everyone: Window,
     width: usize,
-    rows: Vec<Vec<Slice>>,
+    roster: Roster,
+    rows: Vec<MapRow>,
+}
+
+/// The runs of a processor: those of tasks that are shown, and the others.
+#[derive(Drop)]
+struct MapRow {
+    shown: Vec<Slice>,
+    hidden: Vec<Slice>,
+}
+
+/// What a map says below its rows.
+#[derive(Drop)]
+struct Legend {
+    /// The tasks that appear in a column.
     tasks: BTreeSet<u16>,
+    /// Whether a column stands for a task that is not shown.
+    has_hidden: bool,
 }
 
 impl Map {
@@ -42,24 +71,27 @@ impl Map {
     pub fn new(alloc: Global, window: Window, width: usize) -> Map {
         Map {
             alloc,
+            everyone: window.with_every_task(alloc),
             window,
             width,
+            roster: Roster::new(alloc),
             rows: Vec::new(alloc),
-            tasks: BTreeSet::new(alloc),
         }
     }
 
-    /// Holds the part of a run that is shown.
+    /// Holds the part of a run that lies in the window, be its task shown or not.
     fn hold(&mut self, run: Option<Slice>) -> Result<(), AllocError> {
-        let Some(run) = run else {
+        let Some(run) = self.everyone.shown_part(run) else {
             return Ok(());
         };
-        let Some(run) = self.window.clip(&run) else {
+        let is_shown = self.window.shows_task(run.task);
+        let Some(row) = self.rows.get_mut(usize::from(run.processor)) else {
             return Ok(());
         };
-        if let Some(row) = self.rows.get_mut(usize::from(run.processor)) {
-            self.tasks.insert(run.task)?;
-            row.push(run)?;
+        if is_shown {
+            row.shown.push(run)?;
+        } else {
+            row.hidden.push(run)?;
         }
         Ok(())
     }
@@ -74,19 +106,20 @@ impl Map {
         let Some(step) = round_step(extent.length(), columns) else {
             return Ok(());
         };
-        let unit = Unit::for_step(step);
         let count = extent.length().div_ceil(step.max(1));
         write_ruler(self.alloc, extent, step, count, text)?;
+        let mut legend = Legend {
+            tasks: BTreeSet::new(self.alloc),
+            has_hidden: false,
+        };
         for (number, row) in self.rows.iter().enumerate() {
             if self.window.shows_row(number) {
                 write!(text, "cpu {number:<4}")?;
-                self.write_row(row.as_slice(), extent, step, columns, text)?;
+                self.write_row(row, extent, step, columns, &mut legend, text)?;
                 text.push_str("\n")?;
             }
         }
-        let length = MomentText { time: step, unit };
-        write!(text, "\na column is {length}; . is idle\n")?;
-        self.write_legend(names, text)
+        self.write_legend(&legend, step, names, text)
     }
 
     /// How many columns there are for steps of time.
@@ -96,59 +129,115 @@ impl Map {
             .max(1)
     }
 
-    /// The columns of a processor, whose runs these are.
+    /// The columns of a processor.
     fn write_row(
         &self,
-        runs: &[Slice],
+        row: &MapRow,
         extent: &Extent,
         step: u64,
         columns: u16,
+        legend: &mut Legend,
         text: &mut String,
     ) -> Result<(), AllocError> {
-        let mut rest = runs;
+        let mut shown = row.shown.as_slice();
+        let mut hidden = row.hidden.as_slice();
         let mut from = extent.from;
         for _ in 0..columns {
             if from >= extent.to {
                 break;
             }
             let to = from.saturating_add(step);
-            let begun = rest.iter().take_while(|run| run.from < to).count();
-            let letter = match longest_in(self.alloc, &rest[..begun], from, to)? {
-                Some(task) => self.letter(task),
-                None => '.',
-            };
-            text.push(letter)?;
-            let over = rest.iter().take_while(|run| run.to <= to).count();
-            rest = &rest[over..];
+            let task = longest_in(self.alloc, begun_before(shown, to), from, to)?;
+            let other = longest_in(self.alloc, begun_before(hidden, to), from, to)?;
+            text.push(self.letter_of(task, other, legend)?)?;
+            shown = not_over(shown, to);
+            hidden = not_over(hidden, to);
             from = to;
         }
         Ok(())
     }
 
-    fn write_legend(&self, names: &Names, text: &mut String) -> Result<(), AllocError> {
-        for (place, task) in self.tasks.iter().enumerate() {
-            let letter = letter_at(place);
-            write!(text, "{letter}  task {task}")?;
-            if let Some(name) = names.of(*task) {
-                write!(text, "  {name}")?;
+    /// What stands in a column, by the task that ran longest in it and by that of the others. The legend has what stands there.
+    fn letter_of(
+        &self,
+        task: Option<u16>,
+        other: Option<u16>,
+        legend: &mut Legend,
+    ) -> Result<char, AllocError> {
+        match (task, other) {
+            (Some(task), _) => {
+                legend.tasks.insert(task)?;
+                Ok(self.letter(task))
             }
-            text.push_str("\n")?;
+            (None, Some(_)) => {
+                legend.has_hidden = true;
+                Ok(HIDDEN)
+            }
+            (None, None) => Ok(IDLE),
+        }
+    }
+
+    /// What the rows show: their columns, and the tasks that appear in them, in the order of their letters.
+    fn write_legend(
+        &self,
+        legend: &Legend,
+        step: u64,
+        names: &Names,
+        text: &mut String,
+    ) -> Result<(), AllocError> {
+        let unit = Unit::for_step(step);
+        let length = MomentText { time: step, unit };
+        write!(text, "\na column is {length}; {IDLE} is idle")?;
+        if legend.has_hidden {
+            write!(text, "; {HIDDEN} runs a task that is not shown")?;
+        }
+        text.push_str("\n")?;
+        for (place, task) in self.roster.tasks().iter().enumerate() {
+            if legend.tasks.contains(task) {
+                write_legend_line(letter_at(place), *task, names.of(*task), text)?;
+            }
         }
         Ok(())
     }
 
     /// The letter of a task.
     fn letter(&self, task: u16) -> char {
-        match self.tasks.iter().position(|other| *other == task) {
+        match self.roster.place(task) {
             Some(place) => letter_at(place),
-            None => '.',
+            None => BEYOND,
         }
     }
 }
 
-/// The letter of the task at this place among all that are shown; from the 63rd on, `*`.
+/// A task in the legend, with its name if it has one.
+fn write_legend_line(
+    letter: char,
+    task: u16,
+    name: Option<&str>,
+    text: &mut String,
+) -> Result<(), AllocError> {
+    write!(text, "{letter}  task {task}")?;
+    if let Some(name) = name {
+        write!(text, "  {name}")?;
+    }
+    text.push_str("\n")
+}
+
+/// Those of a processor's runs that begin before a moment.
+fn begun_before(runs: &[Slice], to: u64) -> &[Slice] {
+    let begun = runs.iter().take_while(|run| run.from < to).count();
+    &runs[..begun]
+}
+
+/// Those of a processor's runs that are not over at a moment.
+fn not_over(runs: &[Slice], at: u64) -> &[Slice] {
+    let over = runs.iter().take_while(|run| run.to <= at).count();
+    &runs[over..]
+}
+
+/// The letter of the task at this place among all that are admitted.
 fn letter_at(place: usize) -> char {
-    LETTERS.get(place).copied().unwrap_or('*')
+    LETTERS.get(place).copied().unwrap_or(BEYOND)
 }
 
 /// The moments of every 20th column.
@@ -184,9 +273,16 @@ impl ScheduleForm for Map {
         _text: &mut String,
     ) -> Result<(), AllocError> {
         for _ in 0..schedule.processors() {
-            self.rows.push(Vec::new(self.alloc))?;
+            self.rows.push(MapRow {
+                shown: Vec::new(self.alloc),
+                hidden: Vec::new(self.alloc),
+            })?;
         }
         Ok(())
+    }
+
+    fn admit(&mut self, task: u16) -> Result<(), AllocError> {
+        self.roster.admit(task)
     }
 
     fn take(

@@ -36,6 +36,19 @@ impl Window {
         }
     }
 
+    /// The same stretch of time and the same processors, of every task.
+    pub fn with_every_task(&self, alloc: Global) -> Window
+        ensures tasks { result.tasks.items ≡ [] }
+        ensures rest { (result.from ≡ self.now.from) × (result.to ≡ self.now.to) × (result.processors ≡ self.now.processors) }
+    {
+        Window {
+            from: self.from,
+            to: self.to,
+            processors: self.processors,
+            tasks: Vec::new(alloc),
+        }
+    }
+
     /// Whether a processor is shown.
     pub fn shows_processor(&self, processor: u8) -> bool
         ensures { IsTrue result ↔ ShowsProcessor self.now processor }

@@ -1,3 +1,4 @@
 pub mod Events
 pub mod Lanes
 pub mod Places
+pub mod Themes

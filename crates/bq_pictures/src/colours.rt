@@ -1,4 +1,4 @@
-//! The colours of tasks, which readers with any colour vision can tell apart.
+//! The colours of a picture, on a light page and on a dark one.
 
 /// How many tasks have a colour of their own. The next ones have these again.
 pub const COLOURS: usize = 8;
@@ -6,15 +6,52 @@ pub const COLOURS: usize = 8;
 /// The place of the grey, in which the key is drawn.
 pub const GREY: usize = 7;
 
-/// The colours of letters on the colours of tasks.
-pub const LETTERS: &str = ".l0,.l5{fill:#fff}.l1,.l2,.l3,.l4,.l6,.l7{fill:#111}\n";
-
-/// The colours that Okabe and Ito chose, without black, and a grey.
-const HEX: [&str; COLOURS] = [
-    "#0072b2", "#e69f00", "#009e73", "#cc79a7", "#56b4e9", "#d55e00", "#f0e442", "#8c8c8c",
-];
-
-/// A colour as CSS writes it, by the place of its task among those that are shown.
-pub fn hex(place: usize) -> &'static str {
-    HEX[place % COLOURS]
+/// The colours of a page, as CSS writes them. By WCAG's measure an area of a task stands out from the page and from the band by
+/// 3 to 1, and a text from what is behind it by 4.5 to 1; `tests/pictures.py` computes it.
+#[derive(Clone, Copy)]
+pub struct Palette {
+    /// The page.
+    pub page: &'static str,
+    /// Where runs lie, and where none does.
+    pub band: &'static str,
+    /// The lines of the axis.
+    pub grid: &'static str,
+    /// What is written on the page.
+    pub ink: &'static str,
+    /// The numbers and the words around the picture.
+    pub faint: &'static str,
+    /// The tasks.
+    pub tasks: [&'static str; COLOURS],
+    /// What is written on the tasks.
+    pub letters: [&'static str; COLOURS],
 }
+
+/// On a light page.
+pub const LIGHT: Palette = Palette {
+    page: "#ffffff",
+    band: "#eef0f3",
+    grid: "#c9d1d9",
+    ink: "#1b1f24",
+    faint: "#4f5863",
+    tasks: [
+        "#114ed4", "#b87e0d", "#295351", "#9c2889", "#0083ff", "#ca140e", "#4b7131", "#638a8b",
+    ],
+    letters: [
+        "#ffffff", "#111111", "#ffffff", "#ffffff", "#111111", "#ffffff", "#ffffff", "#111111",
+    ],
+};
+
+/// On a dark page.
+pub const DARK: Palette = Palette {
+    page: "#0d1117",
+    band: "#1c2128",
+    grid: "#3d444d",
+    ink: "#e6edf3",
+    faint: "#a5adb7",
+    tasks: [
+        "#1971ca", "#e8aa00", "#13a561", "#b78eb0", "#68c7f4", "#c44d14", "#f3fd58", "#818480",
+    ],
+    letters: [
+        "#ffffff", "#111111", "#111111", "#111111", "#111111", "#ffffff", "#111111", "#111111",
+    ],
+};

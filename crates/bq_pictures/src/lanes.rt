@@ -1,16 +1,16 @@
-//! Waits side by side.
+//! Stretches of time side by side.
 ghost use Rattle.std.specs.Prelude.{◌≡◌, ◌<◌, IfOk, IfSome, [], length, nat_le};
 ghost use Rattle.bq_pictures.specs.Lanes.{first_free, lane_of, taken};
 
 use std::alloc::{AllocError, Global};
 use std::marker::Model;
 
-/// How many waits of a processor are drawn one above another. Where more tasks wait, the rest are left out.
-pub const LANES: usize = 8;
+/// How many stretches are drawn one above another. Where there are more at a time, the rest are left out.
+pub const LANES: usize = 16;
 
-/// A stretch of time in which a task waits at a processor.
+/// A stretch of time that a task takes up at a processor.
 #[derive(Clone, Copy, PartialEq, Eq, PartialOrd, Ord)]
-pub struct Wait {
+pub struct Stretch {
     pub from: u64,
     pub to: u64,
     pub task: u16,
@@ -47,22 +47,22 @@ impl Lanes {
         self.free.len()
     }
 
-    /// The first lane that is free where a wait begins, which it takes; one more where none is. `None` where all are taken.
-    /// Waits come in the order in which they begin.
-    pub fn take(&mut self, wait: &Wait) -> Result<Option<usize>, AllocError>
-        ensures lane { IfOk result (λ lane. lane ≡ lane_of wait.now self.old) }
-        ensures taken { IfOk result (λ lane. self.new ≡ taken lane wait.now.to self.old) }
+    /// The first lane that is free where a stretch begins, which it takes; one more where none is. `None` where all are taken.
+    /// Stretches come in the order in which they begin.
+    pub fn take(&mut self, stretch: &Stretch) -> Result<Option<usize>, AllocError>
+        ensures lane { IfOk result (λ lane. lane ≡ lane_of stretch.now self.old) }
+        ensures taken { IfOk result (λ lane. self.new ≡ taken lane stretch.now.to self.old) }
     {
-        if let Some(place) = self.first_free(wait.from) {
+        if let Some(place) = self.first_free(stretch.from) {
             if let Some(free) = self.free.get_mut(place) {
-                *free = wait.to;
+                *free = stretch.to;
                 return Ok(Some(place));
             }
         }
         if self.free.len() >= LANES {
             return Ok(None);
         }
-        self.free.push(wait.to)?;
+        self.free.push(stretch.to)?;
         Ok(Some(self.free.len() - 1))
     }
 

@@ -1,16 +1,29 @@
 //! The forms in which a schedule is shown as a picture: SVG, and the trace format that ui.perfetto.dev opens.
 //! Promises that a form only adds to its text, and shows what lies in its window, cut at its edges.
-//! Stands on bq_forms for windows, names and text of times.
+//! Stands on bq_forms for windows, names and the order of tasks.
 #![tactic(auto)]
 
+pub mod axis;
 pub mod colours;
 pub mod drawing;
 pub mod escaped;
+pub mod events;
+pub mod frame;
+pub mod heading;
 pub mod lanes;
+pub mod legend;
+pub mod links;
+pub mod look;
 pub mod perfetto;
+pub mod picture_name;
 pub mod scale;
 pub mod shapes;
+pub mod sheet;
 pub mod svg;
+pub mod theme;
+pub mod unit;
 
+pub use look::Look;
 pub use perfetto::Perfetto;
 pub use svg::Svg;
+pub use theme::Theme;

@@ -1,32 +1,44 @@
 //! The trace format that ui.perfetto.dev and chrome://tracing open.
-ghost use Rattle.std.specs.Prelude.{◌≡◌, IfOk, string_bytes};
-ghost use Rattle.bq_pictures.specs.Events.{run_event};
-
+use crate::events::{
+    EVENTS, MIGRATION, WAKE, event_text, write_beginning, write_counter, write_end, write_mark,
+    write_overruled, write_tracks,
+};
 use bq_disc::limits::PROCESSORS;
-use bq_forms::{Label, Micros, Names, ScheduleForm, Window};
-use bq_schedule::{Change, ClockReading, Decision, Schedule, Slice, Start, Wake};
+use bq_forms::{Label, Names, ScheduleForm, Window};
+use bq_schedule::{Change, ClockReading, Decision, PulledTask, Schedule, Slice, Start, Wake};
 use serde_json::{Value, json};
 use std::alloc::{AllocError, Global};
 use std::collections::BTreeMap;
 
-/// A track a processor, a slice a run, a flow from each wake to the task's first run, an instant for each answer of a policy that
-/// was overruled, and a counter of the tasks that are runnable at each processor.
+/// Two tracks a processor. On one a slice is a run. On the other, that of its events, a slice of a nanosecond is a wake that ended
+/// there or a pull by it, and an instant is an answer of a policy that was overruled. An arrow leads from each wake to the task's
+/// first run after it: from the wake, and not from the task that runs there, since a timer may have woken it. An arrow leads from
+/// the end of a run to the task's next one, where that is at another processor. A counter has the tasks that are runnable at each
+/// processor.
 ///
-/// It is streamed. The events of a track stand in the order of their times: those that happen within a run are held till the
-/// run is over.
+/// It is streamed. The events of a track stand in the order of their times, save the beginnings of a migration's arrow, which is
+/// known only later.
 #[derive(Drop)]
 pub struct Perfetto {
     alloc: Global,
     window: Window,
-    /// For each processor the events within the run that goes on.
-    held: Vec<String>,
-    /// For each processor the flow that ends where the run that goes on began.
-    ends: Vec<Option<u64>>,
+    /// For each processor the arrows that end where the run that goes on began.
+    ends: Vec<Arrows>,
     /// For each processor how many tasks were runnable when it was told last.
     runnable: Vec<u64>,
-    /// For each task that was woken and has not run since: the flow of that wake.
-    flows: BTreeMap<u16, u64>,
-    wakes: u64,
+    /// For each task that was woken and has not run since: the arrow of that wake.
+    woken: BTreeMap<u16, u64>,
+    /// The last run of each task that has ceased to run, as far as it is shown.
+    runs: BTreeMap<u16, Slice>,
+    /// How many arrows have begun.
+    arrows: u64,
+}
+
+/// The arrows that end at the beginning of a run, by their numbers.
+#[derive(Clone, Copy)]
+struct Arrows {
+    wake: Option<u64>,
+    migration: Option<u64>,
 }
 
 impl Perfetto {
@@ -35,11 +47,11 @@ impl Perfetto {
         Perfetto {
             alloc,
             window,
-            held: Vec::new(alloc),
             ends: Vec::new(alloc),
             runnable: Vec::new(alloc),
-            flows: BTreeMap::new(alloc),
-            wakes: 0,
+            woken: BTreeMap::new(alloc),
+            runs: BTreeMap::new(alloc),
+            arrows: 0,
         }
     }
 
@@ -60,37 +72,24 @@ impl Perfetto {
         self.quoted(name.as_str())
     }
 
-    /// Adds an event of a track: at once where nothing runs there, and else after the event of its run.
-    fn put(
-        &mut self,
-        processor: u8,
-        is_held: bool,
-        event: &str,
-        text: &mut String,
-    ) -> Result<(), AllocError> {
-        if is_held {
-            if let Some(held) = self.held.get_mut(usize::from(processor)) {
-                return held.push_str(event);
-            }
-        }
-        text.push_str(event)
+    /// What happens to a task, as JSON.
+    fn act_name(&self, act: &str, task: u16, names: &Names) -> Result<String, AllocError> {
+        let label = Label { names, task };
+        let name = format!(in self.alloc; "{act} {label}")?;
+        self.quoted(name.as_str())
     }
 
     /// One processor more.
     fn push_processor(&mut self) -> Result<(), AllocError> {
-        self.held.push(String::new(self.alloc))?;
-        self.ends.push(None)?;
+        self.ends.push(Arrows {
+            wake: None,
+            migration: None,
+        })?;
         self.runnable.push(0)?;
         Ok(())
     }
 
-    /// Names the track of a processor.
-    fn write_track(&self, processor: usize, text: &mut String) -> Result<(), AllocError> {
-        write_track_name(processor, text)?;
-        write_track_place(processor, text)
-    }
-
-    /// A run, with the end of the flow that led to it, and what happened within it.
+    /// A run, with the ends of the arrows that lead to it.
     fn write_run(
         &mut self,
         start: &Start,
@@ -105,32 +104,31 @@ impl Perfetto {
             from: start.at,
             to: at,
         };
-        if let Some(run) = self.window.clip(&run) {
-            let event = self.run_event(&run, start, schedule, names)?;
-            text.push_str(event.as_str())?;
-            self.write_end(&run, start.at, text)?;
-        }
-        if let Some(held) = self.held.get_mut(usize::from(start.processor)) {
-            text.push_str(held.as_str())?;
-            held.clear();
+        let Some(run) = self.window.clip(&run) else {
+            let _ = self.runs.remove(&start.task);
+            return Ok(());
+        };
+        let event = self.run_event(&run, start, schedule, names)?;
+        text.push_str(event.as_str())?;
+        self.runs.insert(start.task, run)?;
+        if run.from == start.at {
+            self.write_ends(&run, text)?;
         }
         Ok(())
     }
 
-    /// The end of the flow of a wake, at the task's first run, where the beginning of that run is shown.
-    fn write_end(&self, run: &Slice, begun: u64, text: &mut String) -> Result<(), AllocError> {
-        let Some(Some(id)) = self.ends.get(usize::from(run.processor)).copied() else {
+    /// The ends of the arrows that lead to the beginning of a run.
+    fn write_ends(&self, run: &Slice, text: &mut String) -> Result<(), AllocError> {
+        let Some(arrows) = self.ends.get(usize::from(run.processor)).copied() else {
             return Ok(());
         };
-        if run.from != begun {
-            return Ok(());
+        if let Some(id) = arrows.wake {
+            write_end(WAKE, id, run, text)?;
         }
-        let processor = run.processor;
-        let at = Micros(run.from);
-        write!(
-            text,
-            ",\n{{\"ph\":\"f\",\"bp\":\"e\",\"cat\":\"wake\",\"name\":\"wake\",\"id\":{id},\"pid\":0,\"tid\":{processor},\"ts\":{at}}}"
-        )
+        if let Some(id) = arrows.migration {
+            write_end(MIGRATION, id, run, text)?;
+        }
+        Ok(())
     }
 
     fn run_event(
@@ -162,44 +160,91 @@ impl Perfetto {
         self.json(&args)
     }
 
-    /// The beginning of the flow of a wake.
+    /// The number of an arrow more.
+    fn new_arrow(&mut self) -> u64 {
+        self.arrows = self.arrows.saturating_add(1);
+        self.arrows
+    }
+
+    /// A wake, and the beginning of its arrow.
     fn write_wake(
         &mut self,
         wake: &Wake,
-        schedule: &Schedule,
+        names: &Names,
         text: &mut String,
     ) -> Result<(), AllocError> {
-        self.wakes = self.wakes.saturating_add(1);
         if !self.window.shows(wake.from, wake.task, wake.at) {
+            let _ = self.woken.remove(&wake.task);
             return Ok(());
         }
-        let event = wake_text(self.alloc, wake, self.wakes)?;
-        self.flows.insert(wake.task, self.wakes)?;
-        let is_held = schedule.processor(wake.from).running.is_some();
-        self.put(wake.from, is_held, event.as_str(), text)
+        let id = self.new_arrow();
+        self.woken.insert(wake.task, id)?;
+        let name = self.act_name("wake", wake.task, names)?;
+        let track = EVENTS + u64::from(wake.from);
+        let task = wake.task;
+        let to = wake.to;
+        write_mark(WAKE, name.as_str(), track, wake.at, text)?;
+        write!(text, "{{\"task\":{task},\"to\":{to}}}}}")?;
+        write_beginning(WAKE, id, track, wake.at, text)
     }
 
-    /// Keeps the flow that ends where a run begins.
-    fn keep_end(&mut self, start: &Start) {
-        let flow = self.flows.remove(&start.task);
-        if let Some(end) = self.ends.get_mut(usize::from(start.processor)) {
-            *end = flow;
+    /// A pull.
+    fn write_pull(
+        &self,
+        pull: &PulledTask,
+        names: &Names,
+        text: &mut String,
+    ) -> Result<(), AllocError> {
+        if !self.window.shows(pull.to, pull.task, pull.at) {
+            return Ok(());
         }
+        let name = self.act_name("pull", pull.task, names)?;
+        let track = EVENTS + u64::from(pull.to);
+        let task = pull.task;
+        let from = pull.from;
+        write_mark("pull", name.as_str(), track, pull.at, text)?;
+        write!(text, "{{\"task\":{task},\"from\":{from}}}}}")
     }
 
-    /// An instant for a policy's answer that was overruled.
-    fn write_decision(
+    /// A run begins: keeps the arrows that end there, and begins that of a migration.
+    fn begin_run(&mut self, start: &Start, text: &mut String) -> Result<(), AllocError> {
+        let wake = self.woken.remove(&start.task);
+        let migration = self.begin_migration(start, text)?;
+        if let Some(ends) = self.ends.get_mut(usize::from(start.processor)) {
+            *ends = Arrows { wake, migration };
+        }
+        Ok(())
+    }
+
+    /// The beginning of a migration's arrow, in the last nanosecond of the task's last run, where that and the new run are shown.
+    fn begin_migration(
         &mut self,
+        start: &Start,
+        text: &mut String,
+    ) -> Result<Option<u64>, AllocError> {
+        if !start.has_migrated() || !self.window.shows(start.processor, start.task, start.at) {
+            return Ok(None);
+        }
+        let Some(run) = self.runs.get(&start.task).copied() else {
+            return Ok(None);
+        };
+        let id = self.new_arrow();
+        let track = u64::from(run.processor);
+        write_beginning(MIGRATION, id, track, run.to.saturating_sub(1), text)?;
+        Ok(Some(id))
+    }
+
+    /// An instant for a policy's answer, if it was overruled.
+    fn write_decision(
+        &self,
         decision: &Decision,
         reading: &ClockReading,
-        is_held: bool,
         text: &mut String,
     ) -> Result<(), AllocError> {
         if !decision.was_overruled() || !self.shows_moment(reading) {
             return Ok(());
         }
-        let event = decision_text(self.alloc, decision, reading)?;
-        self.put(reading.processor, is_held, event.as_str(), text)
+        write_overruled(decision, reading, text)
     }
 
     /// How many tasks are runnable at a processor, where that has changed.
@@ -224,30 +269,21 @@ impl Perfetto {
         write_counter(reading, count, text)
     }
 
-    /// An instant for the answer of a policy, if a change has one that was overruled.
-    fn take_decision(
+    /// What a change has of wakes, pulls and policies.
+    fn take_events(
         &mut self,
         change: &Change,
-        schedule: &Schedule,
+        names: &Names,
         text: &mut String,
     ) -> Result<(), AllocError> {
-        let (Some(decision), Some(reading)) = (&change.decision, &change.reading) else {
-            return Ok(());
-        };
-        let is_held = change.stop.is_some()
-            || change.start.is_none() && schedule.processor(reading.processor).running.is_some();
-        self.write_decision(decision, reading, is_held, text)
-    }
-
-    /// The beginning of the flow of a change's wake, if it has one.
-    fn take_wake(
-        &mut self,
-        change: &Change,
-        schedule: &Schedule,
-        text: &mut String,
-    ) -> Result<(), AllocError> {
-        match &change.wake {
-            Some(wake) => self.write_wake(wake, schedule, text),
+        if let (Some(decision), Some(reading)) = (&change.decision, &change.reading) {
+            self.write_decision(decision, reading, text)?;
+        }
+        if let Some(wake) = &change.wake {
+            self.write_wake(wake, names, text)?;
+        }
+        match &change.pull {
+            Some(pull) => self.write_pull(pull, names, text),
             None => Ok(()),
         }
     }
@@ -257,68 +293,6 @@ impl Perfetto {
             && reading.to <= self.window.to
             && self.window.shows_processor(reading.processor)
     }
-}
-
-/// The name of the track of a processor.
-fn write_track_name(processor: usize, text: &mut String) -> Result<(), AllocError> {
-    write!(
-        text,
-        ",\n{{\"ph\":\"M\",\"pid\":0,\"tid\":{processor},\"name\":\"thread_name\",\"args\":{{\"name\":\"cpu {processor}\"}}}}"
-    )
-}
-
-/// The place of the track of a processor.
-fn write_track_place(processor: usize, text: &mut String) -> Result<(), AllocError> {
-    write!(
-        text,
-        ",\n{{\"ph\":\"M\",\"pid\":0,\"tid\":{processor},\"name\":\"thread_sort_index\",\"args\":{{\"sort_index\":{processor}}}}}"
-    )
-}
-
-/// The beginning of the flow of that number, at a wake.
-fn wake_text(alloc: Global, wake: &Wake, id: u64) -> Result<String, AllocError> {
-    let processor = wake.from;
-    let at = Micros(wake.at);
-    format!(in alloc;
-        ",\n{{\"ph\":\"s\",\"cat\":\"wake\",\"name\":\"wake\",\"id\":{id},\"pid\":0,\"tid\":{processor},\"ts\":{at}}}"
-    )
-}
-
-/// The instant of a policy's answer that was overruled.
-fn decision_text(
-    alloc: Global,
-    decision: &Decision,
-    reading: &ClockReading,
-) -> Result<String, AllocError> {
-    let hook = decision.hook.word();
-    let steps = decision.steps;
-    let processor = reading.processor;
-    let at = Micros(reading.to);
-    format!(in alloc;
-        ",\n{{\"ph\":\"i\",\"s\":\"t\",\"cat\":\"policy\",\"name\":\"{hook} overruled\",\"pid\":0,\"tid\":{processor},\"ts\":{at},\"args\":{{\"steps\":{steps}}}}}"
-    )
-}
-
-/// So many runnable tasks at a processor.
-fn write_counter(reading: &ClockReading, count: u64, text: &mut String) -> Result<(), AllocError> {
-    let processor = reading.processor;
-    let at = Micros(reading.to);
-    write!(
-        text,
-        ",\n{{\"ph\":\"C\",\"name\":\"cpu {processor} runnable\",\"pid\":0,\"ts\":{at},\"args\":{{\"tasks\":{count}}}}}"
-    )
-}
-
-/// The event of a run, with this name and these arguments, each JSON already.
-fn event_text(alloc: Global, run: &Slice, name: &str, args: &str) -> Result<String, AllocError>
-    ensures { IfOk result (λ text. string_bytes text ≡ run_event run.now name.now args.now) }
-{
-    let processor = run.processor;
-    let from = Micros(run.from);
-    let length = Micros(run.to.saturating_sub(run.from));
-    format!(in alloc;
-        ",\n{{\"ph\":\"X\",\"cat\":\"run\",\"name\":{name},\"pid\":0,\"tid\":{processor},\"ts\":{from},\"dur\":{length},\"args\":{args}}}"
-    )
 }
 
 impl ScheduleForm for Perfetto {
@@ -334,7 +308,7 @@ impl ScheduleForm for Perfetto {
         )?;
         for processor in 0..schedule.processors() {
             self.push_processor()?;
-            self.write_track(processor, text)?;
+            write_tracks(self.alloc, processor as u64, text)?;
         }
         Ok(())
     }
@@ -346,13 +320,12 @@ impl ScheduleForm for Perfetto {
         names: &Names,
         text: &mut String,
     ) -> Result<(), AllocError> {
-        self.take_decision(change, schedule, text)?;
-        self.take_wake(change, schedule, text)?;
+        self.take_events(change, names, text)?;
         if let Some(stop) = &change.stop {
             self.write_run(&stop.start, stop.at, schedule, names, text)?;
         }
         if let Some(start) = &change.start {
-            self.keep_end(start);
+            self.begin_run(start, text)?;
         }
         match &change.reading {
             Some(reading) => self.write_count(reading, schedule, text),

@@ -25,8 +25,14 @@ impl fmt::Display for Hundredths {
 /// How wide the stretch of time is drawn.
 pub const WIDTH: u64 = 1080;
 
+/// How wide the arrow of a wake is.
+const ARROW: u64 = 9;
+
 /// How far it lies from the left edge.
 pub const LEFT: u64 = 72;
+
+/// How wide the picture is.
+pub const PAGE: u64 = LEFT + WIDTH + 24;
 
 /// A stretch of time, drawn over `WIDTH`.
 #[derive(Clone, Copy)]
@@ -52,5 +58,10 @@ impl Scale {
         let Hundredths(begin) = self.place(from);
         let Hundredths(end) = self.place(to);
         Hundredths(end.saturating_sub(begin).max(40))
+    }
+
+    /// How long the time is over which the arrow of a wake is drawn.
+    pub fn arrow(&self) -> u64 {
+        self.extent.length() / WIDTH * ARROW + 1
     }
 }

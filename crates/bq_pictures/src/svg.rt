@@ -1,30 +1,57 @@
 //! The picture of a schedule.
 
-use crate::drawing::Drawing;
-use crate::lanes::Wait;
+use crate::drawing::{Drawing, Written};
+use crate::escaped::Escaped;
+use crate::heading::Heading;
+use crate::lanes::Stretch;
+use crate::links::{Link, LinkKind, Spot};
+use crate::look::Look;
+use crate::picture_name::PictureName;
+use crate::scale::PAGE;
+use crate::sheet::{write_hatches, write_styles};
+use crate::theme::Theme;
 use bq_disc::limits::{PROCESSORS, TASKS};
-use bq_forms::{Extent, Names, ScheduleForm, Window};
-use bq_schedule::{Change, PulledTask, Schedule, Slice, Start, Wake};
+use bq_forms::{Extent, Names, Roster, ScheduleForm, Window};
+use bq_schedule::{Change, PulledTask, Schedule, Slice, Start, Stop, Wake};
+use bq_words::Rule;
 use std::alloc::{AllocError, Global};
+use std::collections::BTreeMap;
 
-/// A picture: a row a processor, the runs in the colours of their tasks, below them the waits, hatched, and the wakes as ticks,
-/// over an axis of time. It is a file of its own, for a browser or a slide, in light and in dark. It holds the runs, since the
-/// scale depends on where the trace ends.
+/// What a picture is called that has no title.
+const UNTITLED: &str = "Schedule";
+
+/// A picture: a row a processor, the runs in the colours of their tasks, below them the waits, hatched, above them the wakes, and
+/// between rows the pulls and the migrations, over an axis of time. It is a file of its own, for a browser or a slide, and changes
+/// nothing else on a page that it is put into. It holds the runs, since the scale depends on where the trace ends.
 #[derive(Drop)]
 pub struct Svg {
     alloc: Global,
     window: Window,
+    look: Look,
+    rule: Option<Rule>,
+    roster: Roster,
     drawing: Drawing,
+    /// When each task last ceased to run.
+    stops: BTreeMap<u16, u64>,
 }
 
 impl Svg {
     /// The picture of what is in the window.
-    pub fn new(alloc: Global, window: Window) -> Svg {
+    pub fn new(alloc: Global, window: Window, look: Look) -> Svg {
         Svg {
             alloc,
             window,
+            look,
+            rule: None,
+            roster: Roster::new(alloc),
             drawing: Drawing::new(alloc),
+            stops: BTreeMap::new(alloc),
         }
+    }
+
+    /// The picture names the discipline by which the processors choose.
+    pub fn under(&mut self, rule: Rule) {
+        self.rule = Some(rule);
     }
 
     /// Holds the part of a run that is shown.
@@ -58,7 +85,7 @@ impl Svg {
         match self.window.clip(&wait) {
             Some(wait) => self.drawing.push_wait(
                 processor,
-                Wait {
+                Stretch {
                     from: wait.from,
                     to: wait.to,
                     task,
@@ -68,14 +95,63 @@ impl Svg {
         }
     }
 
-    fn hold_start(&mut self, start: &Start) -> Result<(), AllocError> {
-        let from = start.at.saturating_sub(start.waited);
-        self.hold_wait(start.processor, start.task, from, start.at)
+    /// Holds a run that is over.
+    fn hold_stop(&mut self, stop: &Stop) -> Result<(), AllocError> {
+        self.stops.insert(stop.start.task, stop.at)?;
+        self.hold_run(&stop.start, stop.at)
     }
 
-    fn hold_move(&mut self, pull: &PulledTask) -> Result<(), AllocError> {
+    /// Holds the wait before a run, and that its task has migrated, if it has.
+    fn hold_start(&mut self, start: &Start) -> Result<(), AllocError> {
+        let from = start.at.saturating_sub(start.waited);
+        self.hold_wait(start.processor, start.task, from, start.at)?;
+        let Some(before) = start.before else {
+            return Ok(());
+        };
+        if !start.has_migrated() {
+            return Ok(());
+        }
+        let stopped = self.stops.get(&start.task).copied().unwrap_or(start.at);
+        self.hold_link(Link {
+            kind: LinkKind::Migration,
+            task: start.task,
+            from: Spot {
+                processor: before,
+                at: stopped,
+            },
+            to: Spot {
+                processor: start.processor,
+                at: start.at,
+            },
+        })
+    }
+
+    /// Holds the wait before a pull, and the pull.
+    fn hold_pull(&mut self, pull: &PulledTask) -> Result<(), AllocError> {
         let from = pull.at.saturating_sub(pull.waited);
-        self.hold_wait(pull.from, pull.task, from, pull.at)
+        self.hold_wait(pull.from, pull.task, from, pull.at)?;
+        self.hold_link(Link {
+            kind: LinkKind::Pull,
+            task: pull.task,
+            from: Spot {
+                processor: pull.from,
+                at: pull.at,
+            },
+            to: Spot {
+                processor: pull.to,
+                at: pull.at,
+            },
+        })
+    }
+
+    /// Holds a pull or a migration that is shown: it ends in the window, and both of its processors are shown.
+    fn hold_link(&mut self, link: Link) -> Result<(), AllocError> {
+        let is_shown = self.window.shows(link.to.processor, link.task, link.to.at)
+            && self.window.shows_processor(link.from.processor);
+        if is_shown {
+            self.drawing.push_link(link)?;
+        }
+        Ok(())
     }
 
     fn hold_wake(&mut self, wake: &Wake) -> Result<(), AllocError> {
@@ -98,6 +174,51 @@ impl Svg {
         }
         Ok(())
     }
+
+    /// Writes the picture of what is held.
+    fn write(
+        &mut self,
+        extent: Extent,
+        names: &Names,
+        text: &mut String,
+    ) -> Result<(), AllocError> {
+        let title = match &self.look.title {
+            Some(title) => title.as_str(),
+            None => UNTITLED,
+        };
+        let heading = Heading {
+            title,
+            rule: self.rule,
+        };
+        let drawn = self
+            .drawing
+            .write(&self.window, extent, &heading, &self.roster, names)?;
+        write_picture(title, self.look.theme, &drawn, text)
+    }
+}
+
+/// The picture: its root with its name, its styles, its hatches, and what is drawn.
+fn write_picture(
+    title: &str,
+    theme: Theme,
+    drawn: &Written,
+    text: &mut String,
+) -> Result<(), AllocError> {
+    let name = PictureName::of(theme, drawn.text.as_str());
+    let height = drawn.height;
+    let title = Escaped {
+        text: title,
+        most: usize::MAX,
+    };
+    write!(
+        text,
+        "<svg xmlns=\"http://www.w3.org/2000/svg\" class=\"{name}\" width=\"{PAGE}\" height=\"{height}\" viewBox=\"0 0 {PAGE} {height}\" role=\"img\">\n"
+    )?;
+    write!(text, "<title>{title}</title>\n")?;
+    write_styles(name, theme, text)?;
+    write_hatches(name, text)?;
+    text.push_str(drawn.text.as_str())?;
+    text.push_str("</svg>\n")
 }
 
 fn runs(running: Option<Start>, task: u16) -> bool {
@@ -120,6 +241,10 @@ impl ScheduleForm for Svg {
         Ok(())
     }
 
+    fn admit(&mut self, task: u16) -> Result<(), AllocError> {
+        self.roster.admit(task)
+    }
+
     fn take(
         &mut self,
         change: &Change,
@@ -131,10 +256,10 @@ impl ScheduleForm for Svg {
             self.hold_wake(&wake)?;
         }
         if let Some(pull) = change.pull {
-            self.hold_move(&pull)?;
+            self.hold_pull(&pull)?;
         }
         if let Some(stop) = change.stop {
-            self.hold_run(&stop.start, stop.at)?;
+            self.hold_stop(&stop)?;
         }
         match change.start {
             Some(start) => self.hold_start(&start),
@@ -159,6 +284,6 @@ impl ScheduleForm for Svg {
             Some(extent) => extent,
             None => Extent { from: 0, to: 1 },
         };
-        self.drawing.write(&self.window, extent, names, text)
+        self.write(extent, names, text)
     }
 }

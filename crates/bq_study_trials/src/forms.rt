@@ -128,6 +128,32 @@ fn part(alloc: Global) -> Result<Window, AllocError> {
     Ok(window)
 }
 
+/// Of processor 0 task 1, where task 2 runs in between.
+const PART: &str = concat!(
+    "        |1.000 ms\n",
+    "cpu 0   AA------A\n",
+    "\n",
+    "a column is 0.500 ms; . is idle; - runs a task that is not shown\n",
+    "A  task 1\n",
+);
+
+/// Task 3, which has its own letter whoever else is shown.
+fn third(alloc: Global) -> Result<Window, AllocError> {
+    let mut window = Window::whole(alloc);
+    window.processors = 2;
+    window.tasks.push(3)?;
+    Ok(window)
+}
+
+/// The clock of processor 1 is read from 1 ms to 8 ms.
+const THIRD: &str = concat!(
+    "        |1.000 ms\n",
+    "cpu 1   ............CC\n",
+    "\n",
+    "a column is 0.500 ms; . is idle\n",
+    "C  task 3  server\n",
+);
+
 #[test]
 fn windows(rt: HostRuntime) -> Result<(), AllocError> {
     let alloc = rt.alloc();
@@ -137,12 +163,8 @@ fn windows(rt: HostRuntime) -> Result<(), AllocError> {
         Csv::new(alloc, part(alloc)?),
         "processor,task,from,to\n0,1,1000000,2000000\n0,1,5000000,5500000\n",
     )?;
-    shows(
-        &rt,
-        alloc,
-        Map::new(alloc, part(alloc)?, 17),
-        "        |1.000 ms\ncpu 0   AA......A\n\na column is 0.500 ms; . is idle\nA  task 1\n",
-    )
+    shows(&rt, alloc, Map::new(alloc, part(alloc)?, 17), PART)?;
+    shows(&rt, alloc, Map::new(alloc, third(alloc)?, 24), THIRD)
 }
 
 /// Task 4 runs 1 ms at processor 0, is pulled by processor 1 and runs there: it has migrated once.

@@ -111,6 +111,9 @@ fn takes<F: ScheduleForm>(
     steps: &[Step],
 ) -> Result<(), AllocError> {
     for step in steps {
+        if let Step::Admitted(task, _) = step {
+            form.admit(*task)?;
+        }
         let change = step.change(schedule);
         form.take(&change, schedule, names, text)?;
     }
@@ -185,6 +188,31 @@ pub fn shown_between<F: ScheduleForm>(
 ) -> Result<String, AllocError> {
     let mut text = String::new(alloc);
     tells(alloc, &mut form, &mut text, steps)?;
+    Ok(text)
+}
+
+/// Shows these steps on two processors in a form, from its begin to its end.
+fn tells_all<F: ScheduleForm>(
+    alloc: Global,
+    form: &mut F,
+    text: &mut String,
+    steps: &[Step],
+) -> Result<(), AllocError> {
+    let names = Names::new(alloc);
+    let mut schedule = Schedule::new(alloc, 2)?;
+    form.begin(&schedule, &names, text)?;
+    takes(form, &mut schedule, &names, text, steps)?;
+    form.end(&schedule, &names, text)
+}
+
+/// What a form shows of these steps on two processors, from its begin to its end.
+pub fn shown_all<F: ScheduleForm>(
+    alloc: Global,
+    mut form: F,
+    steps: &[Step],
+) -> Result<String, AllocError> {
+    let mut text = String::new(alloc);
+    tells_all(alloc, &mut form, &mut text, steps)?;
     Ok(text)
 }
 

@@ -61,6 +61,8 @@ fn words_of(
         cpus,
         tasks: None,
         width: None,
+        theme: None,
+        title: None,
     })
 }
 

@@ -13,3 +13,5 @@ pub record AreWords (rows : List Row) (words : Words) : Type 0 where
   pub cpus : option_map (λ (t : String Global). string_bytes t) words.cpus ≡ first_of (codes "cpus") rows
   pub tasks : option_map (λ (t : String Global). string_bytes t) words.tasks ≡ first_of (codes "tasks") rows
   pub width : option_map (λ (t : String Global). string_bytes t) words.width ≡ first_of (codes "width") rows
+  pub theme : option_map (λ (t : String Global). string_bytes t) words.theme ≡ first_of (codes "theme") rows
+  pub title : option_map (λ (t : String Global). string_bytes t) words.title ≡ first_of (codes "title") rows

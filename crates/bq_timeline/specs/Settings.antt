@@ -8,6 +8,9 @@ use Rattle.bq_words.specs.Numbers.{below}
 use Rattle.bq_words.specs.Units.{unit_of}
 use Rattle.bq_lines.specs.Numbers.{decimal_of, task_of}
 use Rattle.bq_lines.specs.ProcessorSets.{is_comma, is_dash, processors_of}
+use Rattle.bq_pictures.specs.Themes.{theme_of}
+use Rattle.bq_pictures.specs.declared.theme.Theme.{Theme}
+use Rattle.bq_pictures.specs.declared.theme.Theme.TheVariants.{Light}
 use Rattle.bq_timeline.specs.declared.form_names.FormName.{FormName}
 use Rattle.bq_timeline.specs.declared.form_names.FormName.TheVariants.{Report, Map, Timehist, Why, Csv, Json, Svg, Perfetto}
 use Rattle.bq_timeline.specs.declared.numbers.TheConstants.{GREATEST_WIDTH, LEAST_WIDTH}
@@ -129,6 +132,14 @@ tasks_asked w = asked_or [] tasks_of w.tasks
 abbrev pub width_asked : Words → Option ℕ
 width_asked w = asked_or 80 width_of w.width
 
+-- the theme of a picture, light where none is named
+abbrev pub theme_asked : Words → Option Theme
+theme_asked w = asked_or Light theme_of w.theme
+
+-- the text of a word, where there is one
+abbrev pub text_of : Option (String Global) → Option (List ℕ)
+text_of word = option_map (λ (t : String Global). string_bytes t) word
+
 -- the words ask for these settings
 pub record AsksFor (w : Words) (s : Settings) : Type 0 where
   pub form : form_asked w ≡ Some s.form
@@ -139,6 +150,8 @@ pub record AsksFor (w : Words) (s : Settings) : Type 0 where
   pub tasks : tasks_asked w ≡ Some s.window.tasks.items
   pub named : s.named.items ≡ s.window.tasks.items
   pub width : width_asked w ≡ Some s.width
+  pub theme : theme_asked w ≡ Some s.look.theme
+  pub title : text_of s.look.title ≡ text_of w.title
 
 -- both moments are named, and the last is before the first
 abbrev pub RunBackwards : Words → Type 0
@@ -153,4 +166,5 @@ IsNoSettings w fault.Backwards = RunBackwards w
 IsNoSettings w fault.Processors = processors_asked w ≡ None
 IsNoSettings w fault.Tasks = tasks_asked w ≡ None
 IsNoSettings w fault.Width = width_asked w ≡ None
+IsNoSettings w fault.Theme = theme_asked w ≡ None
 IsNoSettings w fault.OutOfMemory = ⊤

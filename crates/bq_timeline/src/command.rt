@@ -8,6 +8,7 @@ use crate::settings::Words;
 use crate::{with_columns, with_forms};
 use bq_console::WordsFault;
 use bq_options::{CommandText, Given, OptionText, matches_of, texts, word};
+use bq_pictures::with_themes;
 use clap::ArgMatches;
 use std::alloc::{AllocError, Global};
 
@@ -26,7 +27,7 @@ const FORM_OPTIONS: [OptionText; 2] = [
 ];
 
 /// The options that say what is shown.
-pub const SHOWN_OPTIONS: [OptionText; 5] = [
+pub const SHOWN_OPTIONS: [OptionText; 7] = [
     OptionText {
         name: "from",
         given: Given::Once("TIME"),
@@ -51,6 +52,16 @@ pub const SHOWN_OPTIONS: [OptionText; 5] = [
         name: "width",
         given: Given::Once("COLUMNS"),
         help: with_columns!("How wide a map is, ", " without it"),
+    },
+    OptionText {
+        name: "theme",
+        given: Given::Once("THEME"),
+        help: with_themes!("How an svg looks: light (without it), "),
+    },
+    OptionText {
+        name: "title",
+        given: Given::Once("TEXT"),
+        help: "What an svg is called, above the picture",
     },
 ];
 
@@ -87,6 +98,8 @@ pub fn shown_words(alloc: Global, matches: &ArgMatches<'_>) -> Result<Words, All
     let cpus = word(alloc, matches, "cpus")?;
     let tasks = word(alloc, matches, "tasks")?;
     let width = word(alloc, matches, "width")?;
+    let theme = word(alloc, matches, "theme")?;
+    let title = word(alloc, matches, "title")?;
     Ok(Words {
         file,
         form,
@@ -95,5 +108,7 @@ pub fn shown_words(alloc: Global, matches: &ArgMatches<'_>) -> Result<Words, All
         cpus,
         tasks,
         width,
+        theme,
+        title,
     })
 }

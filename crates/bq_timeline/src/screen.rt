@@ -50,6 +50,7 @@ impl Screen {
             window,
             named,
             width,
+            look,
         } = settings;
         let processors = window.processors;
         Screen {
@@ -57,7 +58,7 @@ impl Screen {
             processors,
             tasks: named,
             names: Names::new(alloc),
-            shown: Shown::of(alloc, form, window, width),
+            shown: Shown::of(alloc, form, window, width, look),
             has_notes: form.has_notes(),
             text: String::new(alloc),
             notes: String::new(alloc),
@@ -83,7 +84,8 @@ impl Screen {
         if let Shown::Report(_) = &self.shown {
             self.near = Some(BoundsTable::new(alloc, rule, schedule.processors())?);
         }
-        self.shown.begin(schedule, &self.names, &mut self.text)
+        self.shown
+            .begin(rule, schedule, &self.names, &mut self.text)
     }
 
     /// A comment may name a task.
@@ -146,6 +148,9 @@ impl Screen {
         }
         if let Some(near) = &mut self.near {
             near.answered(event, reply, machine, change)?;
+        }
+        if let Event::Admit { task, .. } = event {
+            self.shown.admit(*task)?;
         }
         self.shown
             .take(change, schedule, &self.names, &mut self.text)

@@ -1,7 +1,8 @@
 //! What a timeline is to show, by the words of its options.
 ghost use Rattle.std.specs.Prelude.{◌≡◌, IfErr, IfOk};
 ghost use Rattle.bq_lines.specs.ProcessorSets.{processors_of};
-ghost use Rattle.bq_timeline.specs.Settings.{AsksFor, IsNoSettings, asked_or, form_of, time_of, width_of};
+ghost use Rattle.bq_pictures.specs.Themes.{theme_of};
+ghost use Rattle.bq_timeline.specs.Settings.{AsksFor, IsNoSettings, asked_or, form_of, text_of, time_of, width_of};
 ghost use Rattle.bq_timeline.specs.declared.settings.SettingsFault.TheVariants.{OutOfMemory};
 
 use crate::form_names::FormName;
@@ -11,6 +12,7 @@ use bq_disc::limits::LAST_PROCESSOR;
 use bq_forms::Window;
 use bq_lines::processor_sets::processors;
 use bq_lines::with_tasks;
+use bq_pictures::{Look, Theme, with_themes};
 use bq_words::with_units;
 use std::alloc::{AllocError, Global};
 use thiserror::Error;
@@ -32,6 +34,10 @@ pub struct Words {
     pub tasks: Option<String>,
     /// The columns of a map, from 20 to 10,000; 80 where none are named.
     pub width: Option<String>,
+    /// The theme of a picture, `light` where none is named.
+    pub theme: Option<String>,
+    /// What a picture is called.
+    pub title: Option<String>,
 }
 
 /// What a timeline is to show.
@@ -45,6 +51,8 @@ pub struct Settings {
     pub named: Vec<u16>,
     /// The columns of a map, from 20 to 10,000.
     pub width: usize,
+    /// How a picture looks, and what it is called.
+    pub look: Look,
 }
 
 /// What a word for the form has to be.
@@ -58,6 +66,9 @@ const TASKS: &str = with_tasks!(
     "--tasks: tasks are numbers from ",
     " and ranges, as 1-3 or 1,4"
 );
+
+/// What a word for the theme has to be.
+const THEMES: &str = with_themes!("--theme: a theme is light, ");
 
 /// Why words are no settings.
 #[derive(Clone, Copy, Debug, PartialEq, Eq, Error)]
@@ -83,6 +94,9 @@ pub enum SettingsFault {
     /// That is no width.
     #[error("--width: a width is a number from {least} to {greatest}", least = LEAST_WIDTH, greatest = GREATEST_WIDTH)]
     Width,
+    /// No theme has that name.
+    #[error("{words}", words = THEMES)]
+    Theme,
     #[error("out of memory")]
     OutOfMemory,
 }
@@ -109,7 +123,7 @@ macro_rules! with_columns {
 impl Settings {
     /// What the words ask for: all of a trace, in a report, unless they say otherwise.
     ///
-    /// A fault other than `OutOfMemory` names a word that is none of its kind (a form, a time, processors, tasks or a width), or says
+    /// A fault other than `OutOfMemory` names a word that is none of its kind (a form, a time, processors, tasks, a width or a theme), or says
     /// that the first moment is after the last.
     #[tactic(auto, using(crate::proofs::TaskLemmas::runs_backwards))]
     pub fn of(alloc: Global, words: &Words) -> Result<Settings, SettingsFault>
@@ -131,11 +145,14 @@ impl Settings {
         }
         let named = Vec::from_slice(alloc, window.tasks.as_slice())?;
         let width = width_or(&words.width, COLUMNS).ok_or(SettingsFault::Width)?;
+        let theme = theme_or(&words.theme, Theme::Light).ok_or(SettingsFault::Theme)?;
+        let title = copied(alloc, &words.title)?;
         Ok(Settings {
             form,
             window,
             named,
             width,
+            look: Look { theme, title },
         })
     }
 }
@@ -177,5 +194,25 @@ fn width_or(word: &Option<String>, default: usize) -> Option<usize>
     match word {
         Some(word) => numbers::width(word.as_str()),
         None => Some(default),
+    }
+}
+
+/// The theme that a word names, or the default where there is no word. None where no theme has that name.
+fn theme_or(word: &Option<String>, default: Theme) -> Option<Theme>
+    ensures { result ≡ asked_or default theme_of word.now }
+{
+    match word {
+        Some(word) => Theme::of_word(word.as_str()),
+        None => Some(default),
+    }
+}
+
+/// A word once more, where there is one.
+fn copied(alloc: Global, word: &Option<String>) -> Result<Option<String>, AllocError>
+    ensures { IfOk result (λ copy. text_of copy ≡ text_of word.now) }
+{
+    match word {
+        Some(word) => Ok(Some(String::from_str(alloc, word.as_str())?)),
+        None => Ok(None),
     }
 }

@@ -3,9 +3,10 @@ ghost use Rattle.bq_timeline.specs.Shown.{IsShown};
 
 use crate::form_names::FormName;
 use bq_forms::{Csv, Json, Map, Names, Report, ScheduleForm, Timehist, Window};
-use bq_pictures::{Perfetto, Svg};
+use bq_pictures::{Look, Perfetto, Svg};
 use bq_schedule::{Change, Schedule};
 use bq_why::Why;
+use bq_words::Rule;
 use std::alloc::{AllocError, Global};
 
 /// A form of one of the names.
@@ -24,7 +25,7 @@ pub enum Shown {
 
 impl Shown {
     /// The form of that name, of what the window shows.
-    pub fn of(alloc: Global, form: FormName, window: Window, width: usize) -> Shown
+    pub fn of(alloc: Global, form: FormName, window: Window, width: usize, look: Look) -> Shown
         ensures { IsShown form window result }
     {
         match form {
@@ -33,15 +34,16 @@ impl Shown {
             FormName::Timehist => Shown::Timehist(Timehist::new(window)),
             FormName::Csv => Shown::Csv(Csv::new(alloc, window)),
             FormName::Json => Shown::Json(Json::new(alloc, window)),
-            FormName::Svg => Shown::Svg(Svg::new(alloc, window)),
+            FormName::Svg => Shown::Svg(Svg::new(alloc, window, look)),
             FormName::Perfetto => Shown::Perfetto(Perfetto::new(alloc, window)),
             FormName::Why => Shown::Why(Why::new(alloc, window)),
         }
     }
 
-    /// Begins, at a schedule to which nothing has happened.
+    /// Begins, under a rule, at a schedule to which nothing has happened.
     pub fn begin(
         &mut self,
+        rule: Rule,
         schedule: &Schedule,
         names: &Names,
         text: &mut String,
@@ -52,9 +54,21 @@ impl Shown {
             Shown::Timehist(form) => form.begin(schedule, names, text),
             Shown::Csv(form) => form.begin(schedule, names, text),
             Shown::Json(form) => form.begin(schedule, names, text),
-            Shown::Svg(form) => form.begin(schedule, names, text),
+            Shown::Svg(form) => {
+                form.under(rule);
+                form.begin(schedule, names, text)
+            }
             Shown::Perfetto(form) => form.begin(schedule, names, text),
             Shown::Why(_) => Ok(()),
+        }
+    }
+
+    /// A task is admitted.
+    pub fn admit(&mut self, task: u16) -> Result<(), AllocError> {
+        match self {
+            Shown::Map(form) => form.admit(task),
+            Shown::Svg(form) => form.admit(task),
+            _ => Ok(()),
         }
     }
 

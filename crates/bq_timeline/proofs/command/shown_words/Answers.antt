@@ -9,4 +9,6 @@ returns c = record {
   cpus = c.in_ok-cpus.ensures;
   tasks = c.in_ok-tasks.ensures;
   width = c.in_ok-width.ensures;
+  theme = c.in_ok-theme.ensures;
+  title = c.in_ok-title.ensures;
 }

@@ -1,0 +1,49 @@
+//! What the shapes of a picture share.
+
+use crate::colours::COLOURS;
+use crate::escaped::Escaped;
+use crate::scale::Scale;
+use crate::unit::{Amount, TimeUnit};
+use bq_forms::{Names, Roster};
+use std::alloc::AllocError;
+
+/// What the shapes of a picture share: where a moment lies, the unit of each time, and the colours and the names of tasks.
+#[derive(Clone, Copy)]
+pub struct Frame<'a> {
+    pub scale: Scale,
+    pub unit: TimeUnit,
+    pub roster: &'a Roster,
+    pub names: &'a Names,
+}
+
+impl Frame<'_> {
+    /// The number of a task's colour: by its place among all tasks of the trace, whichever of them are shown.
+    pub fn colour(&self, task: u16) -> usize {
+        self.roster.place(task).unwrap_or(0) % COLOURS
+    }
+
+    /// A time in the picture's unit.
+    pub fn amount(&self, time: u64) -> Amount {
+        let unit = self.unit;
+        Amount { time, unit }
+    }
+
+    /// Adds the name of a task, cut after so many characters, or its number.
+    pub fn write_name(&self, task: u16, most: usize, text: &mut String) -> Result<(), AllocError> {
+        match self.names.of(task) {
+            Some(name) => {
+                let name = Escaped { text: name, most };
+                write!(text, "{name}")
+            }
+            None => write!(text, "task {task}"),
+        }
+    }
+
+    /// How many characters the name has.
+    pub fn name_length(&self, task: u16) -> u64 {
+        match self.names.of(task) {
+            Some(name) => name.chars().count() as u64,
+            None => 9,
+        }
+    }
+}

@@ -1,0 +1,40 @@
+//! The name of a picture, by which its styles are its own.
+
+use crate::theme::Theme;
+use std::fmt;
+
+/// The hash of nothing.
+const BASIS: u32 = 0x811c_9dc5;
+
+/// The name of a picture, a class of its root: each rule of its styles and each id begins with it, so that neither changes anything
+/// else on a page. It is made from what the picture shows, so that two pictures on a page have two names.
+#[derive(Clone, Copy)]
+pub struct PictureName(u32);
+
+impl PictureName {
+    /// The name for what is drawn in a theme: by the hash of Fowler, Noll and Vo (FNV-1a) of 32 bits.
+    pub fn of(theme: Theme, drawn: &str) -> PictureName {
+        let theme = match theme {
+            Theme::Light => b'l',
+            Theme::Dark => b'd',
+            Theme::Auto => b'a',
+        };
+        let mut hash = mixed(BASIS, theme);
+        for byte in drawn.as_bytes() {
+            hash = mixed(hash, *byte);
+        }
+        PictureName(hash)
+    }
+}
+
+/// The hash with a byte more.
+fn mixed(hash: u32, byte: u8) -> u32 {
+    (hash ^ u32::from(byte)).wrapping_mul(0x0100_0193)
+}
+
+impl fmt::Display for PictureName {
+    fn fmt<W: fmt::Write>(&self, f: &mut fmt::Formatter<W>) -> fmt::Result {
+        let hash = self.0;
+        write!(f, "bqsim-{hash:08x}")
+    }
+}

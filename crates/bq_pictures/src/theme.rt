@@ -1,0 +1,34 @@
+//! Whether a picture is light or dark.
+ghost use Rattle.std.specs.Prelude.{◌≡◌};
+ghost use Rattle.bq_pictures.specs.Themes.{theme_of};
+
+/// Whether a picture is light or dark.
+#[derive(Clone, Copy, PartialEq, Eq)]
+pub enum Theme {
+    Light,
+    Dark,
+    /// As the reader's system is.
+    Auto,
+}
+
+/// A text that ends with the words for themes that come behind `light`.
+#[macro_export]
+macro_rules! with_themes {
+    ($before:literal) => {
+        concat!($before, "dark or auto")
+    };
+}
+
+impl Theme {
+    /// The theme of that name.
+    pub fn of_word(word: &str) -> Option<Theme>
+        ensures { result ≡ theme_of word.now }
+    {
+        match word {
+            "light" => Some(Theme::Light),
+            "dark" => Some(Theme::Dark),
+            "auto" => Some(Theme::Auto),
+            _ => None,
+        }
+    }
+}

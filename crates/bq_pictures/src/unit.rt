@@ -1,0 +1,78 @@
+//! The unit of the times in a picture.
+
+use std::fmt;
+
+/// The unit in which a picture tells each of its times. Each step of its axis is a whole number of it.
+#[derive(Clone, Copy)]
+pub enum TimeUnit {
+    Nanoseconds,
+    Microseconds,
+    Milliseconds,
+    Seconds,
+}
+
+impl TimeUnit {
+    /// That of an axis with such steps.
+    pub fn of_step(step: u64) -> TimeUnit {
+        if step < 1000 {
+            TimeUnit::Nanoseconds
+        } else if step < 1_000_000 {
+            TimeUnit::Microseconds
+        } else if step < 1_000_000_000 {
+            TimeUnit::Milliseconds
+        } else {
+            TimeUnit::Seconds
+        }
+    }
+
+    /// How many nanoseconds it has.
+    pub fn length(self) -> u64 {
+        match self {
+            TimeUnit::Nanoseconds => 1,
+            TimeUnit::Microseconds => 1000,
+            TimeUnit::Milliseconds => 1_000_000,
+            TimeUnit::Seconds => 1_000_000_000,
+        }
+    }
+
+    /// How it is written behind a number.
+    pub fn name(self) -> &'static str {
+        match self {
+            TimeUnit::Nanoseconds => "ns",
+            TimeUnit::Microseconds => "us",
+            TimeUnit::Milliseconds => "ms",
+            TimeUnit::Seconds => "s",
+        }
+    }
+}
+
+/// A time in a unit, without its name: to the microsecond, and in microseconds to the nanosecond. What is less is cut off.
+///
+/// 1,234,567 ns are `1.234` in milliseconds, `1234.567` in microseconds and `0.001234` in seconds.
+#[derive(Clone, Copy)]
+pub struct Amount {
+    pub time: u64,
+    pub unit: TimeUnit,
+}
+
+impl fmt::Display for Amount {
+    fn fmt<W: fmt::Write>(&self, f: &mut fmt::Formatter<W>) -> fmt::Result {
+        let time = self.time;
+        let whole = time / self.unit.length().max(1);
+        match self.unit {
+            TimeUnit::Nanoseconds => write!(f, "{time}"),
+            TimeUnit::Microseconds => {
+                let part = time % 1000;
+                write!(f, "{whole}.{part:03}")
+            }
+            TimeUnit::Milliseconds => {
+                let part = time / 1000 % 1000;
+                write!(f, "{whole}.{part:03}")
+            }
+            TimeUnit::Seconds => {
+                let part = time / 1000 % 1_000_000;
+                write!(f, "{whole}.{part:06}")
+            }
+        }
+    }
+}
