@@ -1,12 +1,13 @@
-//! Words that are refused: by clap, and by a value that an option does not take.
+//! Words that are refused: by clap, by an option that does not take their value, or by the command that they name.
 ghost use Rattle.std.specs.Prelude.{◌≡◌};
 ghost use Rattle.clap.specs.Words.{kind_of};
+ghost use Rattle.bq_console.specs.Values.{refusal};
 ghost use Rattle.bq_console.specs.Words.{IsRefusedBy};
-ghost use Rattle.bq_options.specs.Values.{refusal};
 
-use bq_console::{WordsFault, words_fault};
+use crate::fault::{WordsFault, words_fault};
 use clap::error::ErrorKind;
 use std::alloc::Global;
+use std::fmt;
 
 /// The fault of words that clap refuses, with its text.
 pub(crate) fn fault_of(alloc: Global, error: &clap::Error) -> WordsFault
@@ -21,11 +22,16 @@ pub(crate) fn fault_of(alloc: Global, error: &clap::Error) -> WordsFault
     }
 }
 
-/// The fault of an option's value that is none of those that it takes, which are listed.
+/// The fault of a value that an option does not take, with the values that it takes.
 pub fn refused_value(alloc: Global, option: &str, value: &str, taken: &str) -> WordsFault
     ensures { IsRefusedBy (refusal option.now value.now taken.now) result }
 {
     words_fault(format!(in alloc;
         "error: invalid value '{value}' for '--{option}'\n  [possible values: {taken}]\n\nFor more information, try '--help'.\n"
     ))
+}
+
+/// The fault of words that a command refuses for this reason: `error: ` and the reason, as a line.
+pub fn refused_words<Y: fmt::Display>(alloc: Global, why: &Y) -> WordsFault {
+    words_fault(format!(in alloc; "error: {why}\n"))
 }

@@ -2,8 +2,8 @@ use Rattle.std.proofs.Common.{◌∙◌, ◌||◌, ap}
 use Rattle.std.proofs.Math.Bool.{or-false}
 use Rattle.clap.specs.Words.{app_of, with_rule}
 use Rattle.clap.specs.declared.builder.command.Command.TheViews.{out-Command as fields_of}
-use Rattle.bq_options.proofs.TableLemmas.{with_options-next}
-use Rattle.bq_options.proofs.tables.with_options.Goals as goal
+use Rattle.bq_console.proofs.TableLemmas.{with_options-next}
+use Rattle.bq_console.proofs.tables.with_options.Goals as goal
 
 pub options-preserved : goal.options-preserved
 options-preserved c = record {

@@ -4,10 +4,10 @@ use Rattle.std.specs.Borrow.{Bor}
 use Rattle.clap.specs.Simple.{on_top}
 use Rattle.clap.specs.Words.{App, Rule, Text, new_app, new_rule, with_rule, with_subcommand}
 use Rattle.clap.specs.declared.builder.action.ArgAction.TheVariants.{Append, SetTrue}
-use Rattle.bq_options.specs.declared.tables.Given.{Given}
-use Rattle.bq_options.specs.declared.tables.Given.TheVariants.{Alone, Once, Needed, Often, Flag}
-use Rattle.bq_options.specs.declared.tables.OptionText.{OptionText}
-use Rattle.bq_options.specs.declared.tables.CommandText.{CommandText}
+use Rattle.bq_console.specs.declared.tables.Given.{Given}
+use Rattle.bq_console.specs.declared.tables.Given.TheVariants.{Alone, Once, Needed, Often, Flag}
+use Rattle.bq_console.specs.declared.tables.OptionText.{OptionText}
+use Rattle.bq_console.specs.declared.tables.CommandText.{CommandText}
 
 -- a word without a name
 abbrev pub word_rule : Text → Rule
@@ -21,7 +21,7 @@ option_rule name = record (new_rule name) { long = Some name; value_names = 1 }
 abbrev pub needed_rule : Text → Rule
 needed_rule name = record (option_rule name) { required = true }
 
--- an option that may stand several times, each time with one value
+-- an option that may be given several times, each time with one value
 abbrev pub often_rule : Text → Rule
 often_rule name = record (option_rule name) { action = Some Append }
 
@@ -38,13 +38,13 @@ rule_given name (Often value) = often_rule name
 rule_given name Flag = flag_rule name
 
 -- an option of a table
-abbrev pub rule_told : OptionText → Rule
-rule_told o = rule_given o.name.now o.given
+abbrev pub option_of : OptionText → Rule
+option_of o = rule_given o.name.now o.given
 
 -- a command with these options more, one after another
 abbrev pub with_options : App → List OptionText → App
 with_options a [] = a
-with_options a (o ∷ more) = with_options (with_rule a (rule_told o)) more
+with_options a (o ∷ more) = with_options (with_rule a (option_of o)) more
 
 -- a command with the options of these tables more, one table after another
 abbrev pub with_tables : App → List (Bor (List OptionText)) → App
@@ -52,22 +52,14 @@ with_tables a [] = a
 with_tables a (t ∷ more) = with_tables (with_options a t.now) more
 
 -- a command of a table, with its options
-abbrev pub app_told : CommandText → App
-app_told c = with_tables (new_app c.name.now) c.options.now
-
--- a command by itself: words come without its name
-abbrev pub by_itself : App → App
-by_itself a = on_top (λ s. record s { no_binary_name = true }) a
-
--- a command of a table by itself
-abbrev pub alone : CommandText → App
-alone c = by_itself (app_told c)
+abbrev pub command_of : CommandText → App
+command_of c = with_tables (new_app c.name.now) c.options.now
 
 -- a program with these commands more, one after another
 abbrev pub with_commands : App → List CommandText → App
 with_commands a [] = a
-with_commands a (c ∷ more) = with_commands (with_subcommand a (app_told c).top) more
+with_commands a (c ∷ more) = with_commands (with_subcommand a (command_of c).top) more
 
--- the program by its name: words come without it, and one of them has to be a command
-abbrev pub named : App
-named = on_top (λ s. record s { no_binary_name = true; subcommand_required = true; arg_required_else_help = true }) (new_app (codes "bqsim"))
+-- the program without commands: it has a version, words come without its name, and one of them has to be a command
+abbrev pub empty_program : App
+empty_program = on_top (λ s. record s { no_binary_name = true; subcommand_required = true; arg_required_else_help = true; has_version = true }) (new_app (codes "bqsim"))

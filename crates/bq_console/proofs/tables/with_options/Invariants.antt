@@ -1,8 +1,8 @@
 use Rattle.std.proofs.Common.{◌≡◌, drop}
 use Rattle.clap.specs.Words.{app_of}
 use Rattle.clap.specs.declared.builder.command.Command.TheViews.{out-Command as fields_of}
-use Rattle.bq_options.specs.Tables.{with_options}
-use Rattle.bq_options.proofs.tables.with_options.Given as goal
+use Rattle.bq_console.specs.Tables.{with_options}
+use Rattle.bq_console.proofs.tables.with_options.Given as goal
 
 -- the options that are left lead where all lead
 abbrev pub invariant-options : goal.invariant-options

@@ -1,7 +1,7 @@
 use Rattle.std.proofs.Common.{◌≡◌, drop}
 use Rattle.clap.specs.Words.{app_of}
-use Rattle.bq_options.specs.Tables.{with_commands}
-use Rattle.bq_options.proofs.tables.with_commands.Given as goal
+use Rattle.bq_console.specs.Tables.{with_commands}
+use Rattle.bq_console.proofs.tables.with_commands.Given as goal
 
 -- the commands that are left lead where all lead
 abbrev pub invariant-commands : goal.invariant-commands

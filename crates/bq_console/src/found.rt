@@ -14,7 +14,7 @@ pub fn value<'a>(matches: &ArgMatches<'a>, option: &str) -> Option<&'a str>
     matches.get_str(option)
 }
 
-/// A text of its own with an option's value, if it has one.
+/// A copy of the first value of an option, if it has one.
 pub fn word(
     alloc: Global,
     matches: &ArgMatches<'_>,
@@ -28,7 +28,7 @@ pub fn word(
     }
 }
 
-/// Whether a flag stands among the words.
+/// Whether a flag is given.
 pub fn is_set(matches: &ArgMatches<'_>, flag: &str) -> bool
     ensures { IsTrue result ↔ (first_of flag.now (rows_of (found_of matches.now)) ≡ Some (codes "true")) }
 {
@@ -38,7 +38,7 @@ pub fn is_set(matches: &ArgMatches<'_>, flag: &str) -> bool
     }
 }
 
-/// Texts of their own with the values of an option that may stand several times, in their order.
+/// Copies of all values of an option that may be given several times, in their order.
 pub fn all_words(
     alloc: Global,
     matches: &ArgMatches<'_>,
@@ -52,7 +52,7 @@ pub fn all_words(
     }
 }
 
-/// Texts of their own with these words, in their order.
+/// Copies of these words, in their order.
 fn texts_of(alloc: Global, words: &[&str]) -> Result<Vec<String>, AllocError>
     ensures { IfOk result (λ all. map (λ t. string_bytes t) all.items ≡ map (λ w. w.now) words.now) }
 {

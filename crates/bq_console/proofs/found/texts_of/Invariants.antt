@@ -1,6 +1,6 @@
 use Rattle.std.proofs.Common.{◌≡◌, map, take}
 use Rattle.std.specs.String.{string_bytes}
-use Rattle.bq_options.proofs.found.texts_of.Given as goal
+use Rattle.bq_console.proofs.found.texts_of.Given as goal
 
 -- the words so far have their texts
 abbrev pub invariant-words : goal.invariant-words

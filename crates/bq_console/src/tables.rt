@@ -2,29 +2,29 @@
 ghost use Rattle.std.specs.Prelude.{◌≡◌, [], IfErr, IfOk, false, map, true};
 ghost use Rattle.clap.specs.Words.{HasMatchesOf, app_of, fault_of as faults_in, is_simple_and_free, rule_of, takes};
 ghost use Rattle.clap.specs.declared.builder.command.Command.TheViews.{out-Command as fields_of};
-ghost use Rattle.bq_options.specs.Tables.{alone, app_told, named, rule_told, with_commands, with_options, with_tables};
+ghost use Rattle.bq_console.specs.Tables.{command_of, empty_program, option_of, with_commands, with_options, with_tables};
 
+use crate::fault::WordsFault;
 use crate::refused::fault_of;
-use bq_console::WordsFault;
 use clap::{Arg, ArgAction, ArgMatches, Command};
 use std::alloc::{AllocError, Global};
 
 /// How an option is given.
 #[derive(Clone, Copy)]
 pub enum Given {
-    /// As a word alone, which is its value. The value's name.
+    /// As a word without the option's name. The text names the value on a help page.
     Alone(&'static str),
-    /// With one value after its name. The value's name.
+    /// By its name, and then one value.
     Once(&'static str),
     /// The same, and it may not be left out.
     Needed(&'static str),
-    /// Several times, each time with one value. The value's name.
+    /// Several times, each time by its name and one value.
     Often(&'static str),
     /// By its name, without a value.
     Flag,
 }
 
-/// What a help page tells of an option.
+/// An option, with what its help page says of it.
 #[derive(Clone, Copy)]
 pub struct OptionText {
     pub name: &'static str,
@@ -32,20 +32,18 @@ pub struct OptionText {
     pub help: &'static str,
 }
 
-/// What a help page tells of a command.
+/// A command, with what its help page says of it.
 #[derive(Clone, Copy)]
 pub struct CommandText<'a> {
     pub name: &'static str,
     pub about: &'static str,
-    /// Its usage line, where clap does not know of all words that it takes; else clap's own.
-    pub usage: Option<&'static str>,
     /// Its options, table after table.
     pub options: &'a [&'a [OptionText]],
 }
 
 /// An option.
 fn option<'a>(alloc: Global, text: &OptionText) -> Arg<'a>
-    ensures rule { rule_of result ≡ rule_told text.now }
+    ensures rule { rule_of result ≡ option_of text.now }
     ensures local { result.global ≡ false }
 {
     let option = Arg::new(alloc, text.name).help(text.help);
@@ -95,18 +93,15 @@ fn with_tables<'a>(
 
 /// A command, with its options.
 fn command<'a>(alloc: Global, text: &CommandText<'_>) -> Result<Command<'a>, AllocError>
-    ensures app { IfOk result (λ c. app_of c ≡ app_told text.now) }
+    ensures app { IfOk result (λ c. app_of c ≡ command_of text.now) }
     ensures local { IfOk result (λ c. (fields_of c).has_globals ≡ false) }
 {
     let command = Command::new(alloc, text.name).about(text.about);
-    match text.usage {
-        Some(line) => with_tables(alloc, command.override_usage(line), text.options),
-        None => with_tables(alloc, command, text.options),
-    }
+    with_tables(alloc, command, text.options)
 }
 
 /// A program with these commands more.
-pub fn with_commands<'a>(
+fn with_commands<'a>(
     alloc: Global,
     program: Command<'a>,
     texts: &[CommandText<'_>],
@@ -120,16 +115,23 @@ pub fn with_commands<'a>(
     Ok(program)
 }
 
-/// The program, as yet without commands. Words come without its name, and one of them has to be a command.
-pub fn program<'a>(alloc: Global, about: &'static str) -> Result<Command<'a>, AllocError>
-    ensures { IfOk result (λ c. app_of c ≡ named) }
+/// The program with these commands. Words come without its name, and one of them has to be a command.
+pub fn program<'a>(
+    alloc: Global,
+    about: &'static str,
+    version: &'static str,
+    texts: &[CommandText<'_>],
+) -> Result<Command<'a>, AllocError>
+    ensures { IfOk result (λ c. app_of c ≡ with_commands empty_program texts.now) }
 {
-    Command::new(alloc, "bqsim")
+    let program = Command::new(alloc, "bqsim")
         .about(about)
+        .version(version)
         .no_binary_name(true)
         .subcommand_required(true)
         .arg_required_else_help(true)
-        .bin_name("bqsim")
+        .bin_name("bqsim")?;
+    with_commands(alloc, program, texts)
 }
 
 /// What clap finds in words, by its own rules for the command.
@@ -140,33 +142,14 @@ pub fn found_in<'a>(
 ) -> Result<ArgMatches<'a>, WordsFault>
     ensures matches { IfOk result (HasMatchesOf (app_of command.entry) (map (λ w. w.now) given.entry.now)) }
 
-    // Words are taken only where clap finds no fault in them.
+    // Words are taken only if clap finds no fault in them.
     ensures faultless { is_simple_and_free (app_of command.entry) ≡ true → IfOk result (λ _. faults_in (app_of command.entry) (map (λ w. w.now) given.entry.now) ≡ []) }
 
-    // Words that clap takes are refused for want of memory alone.
+    // Words that clap takes are refused only if memory runs out.
     ensures taken { IfErr result (λ e. takes (app_of command.entry) (map (λ w. w.now) given.entry.now) ≡ true → e ≡ WordsFault.OutOfMemory) }
 {
     match command.try_get_matches_from(given) {
         Ok(matches) => Ok(matches),
         Err(error) => Err(fault_of(alloc, &error)),
     }
-}
-
-/// What clap finds in the words after a command's name. Help pages call the command by its line, as `bqsim timeline`.
-pub fn matches_of<'a>(
-    alloc: Global,
-    text: &CommandText<'_>,
-    line: &'static str,
-    given: &'a [&'a str],
-) -> Result<ArgMatches<'a>, WordsFault>
-    ensures matches { IfOk result (HasMatchesOf (alone text.entry.now) (map (λ w. w.now) given.entry.now)) }
-
-    // Words are taken only where clap finds no fault in them.
-    ensures faultless { is_simple_and_free (alone text.entry.now) ≡ true → IfOk result (λ _. faults_in (alone text.entry.now) (map (λ w. w.now) given.entry.now) ≡ []) }
-
-    // Words that clap takes are refused for want of memory alone.
-    ensures taken { IfErr result (λ e. takes (alone text.entry.now) (map (λ w. w.now) given.entry.now) ≡ true → e ≡ WordsFault.OutOfMemory) }
-{
-    let command = command(alloc, text)?.no_binary_name(true).bin_name(line)?;
-    found_in(alloc, command, given)
 }

@@ -1,6 +1,6 @@
 use Rattle.std.proofs.Common.{◌∙◌}
-use Rattle.bq_options.proofs.TableLemmas.{with_tables-next}
-use Rattle.bq_options.proofs.tables.with_tables.Goals as goal
+use Rattle.bq_console.proofs.TableLemmas.{with_tables-next}
+use Rattle.bq_console.proofs.tables.with_tables.Goals as goal
 
 pub tables-preserved : goal.tables-preserved
 tables-preserved c = record {

@@ -1,7 +1,7 @@
 use Rattle.std.proofs.Common.{◌∙◌, ap}
 use Rattle.clap.specs.Words.{app_of, with_subcommand}
-use Rattle.bq_options.proofs.TableLemmas.{with_commands-next}
-use Rattle.bq_options.proofs.tables.with_commands.Goals as goal
+use Rattle.bq_console.proofs.TableLemmas.{with_commands-next}
+use Rattle.bq_console.proofs.tables.with_commands.Goals as goal
 
 pub commands-preserved : goal.commands-preserved
 commands-preserved c =
