@@ -1,8 +1,8 @@
 -- Tables of commands and their options, as clap's words on command lines have them.
-use Rattle.std.specs.Prelude.{true, Some, List, [], ◌∷◌, codes}
+use Rattle.std.specs.Prelude.{true, Some, List, [], ◌∷◌, ◌++◌, codes, flat_map, map}
 use Rattle.std.specs.Borrow.{Bor}
-use Rattle.clap.specs.Simple.{on_top}
-use Rattle.clap.specs.Words.{App, Rule, Text, new_app, new_rule, with_rule, with_subcommand}
+use Rattle.clap.specs.Simple.{new_shape, on_top}
+use Rattle.clap.specs.Words.{App, Rule, Shape, Text, new_app, new_rule, with_subcommand}
 use Rattle.clap.specs.declared.builder.action.ArgAction.TheVariants.{Append, SetTrue}
 use Rattle.bq_console.specs.declared.tables.Given.{Given}
 use Rattle.bq_console.specs.declared.tables.Given.TheVariants.{Alone, Once, Needed, Often, Flag}
@@ -41,25 +41,27 @@ rule_given name Flag = flag_rule name
 abbrev pub option_of : OptionText → Rule
 option_of o = rule_given o.name.now o.given
 
--- a command with these options more, one after another
-abbrev pub with_options : App → List OptionText → App
-with_options a [] = a
-with_options a (o ∷ more) = with_options (with_rule a (option_of o)) more
+-- the options of these tables, one table after another
+abbrev pub options_of : List (Bor (List OptionText)) → List Rule
+options_of tables = flat_map (λ table. map option_of table.now) tables
 
--- a command with the options of these tables more, one table after another
-abbrev pub with_tables : App → List (Bor (List OptionText)) → App
-with_tables a [] = a
-with_tables a (t ∷ more) = with_tables (with_options a t.now) more
+-- a command with these options
+abbrev pub command : Text → List Rule → Shape
+command name rules = record (new_shape name) { rules = rules }
 
--- a command of a table, with its options
-abbrev pub command_of : CommandText → App
-command_of c = with_tables (new_app c.name.now) c.options.now
-
--- a program with these commands more, one after another
-abbrev pub with_commands : App → List CommandText → App
-with_commands a [] = a
-with_commands a (c ∷ more) = with_commands (with_subcommand a (command_of c).top) more
+-- a command of a table
+abbrev pub command_of : CommandText → Shape
+command_of c = command c.name.now (options_of c.options.now)
 
 -- the program without commands: it has a version, words come without its name, and one of them has to be a command
 abbrev pub empty_program : App
-empty_program = on_top (λ s. record s { no_binary_name = true; subcommand_required = true; arg_required_else_help = true; has_version = true }) (new_app (codes "bqsim"))
+empty_program = on_top (λ s. record s { no_binary_name = true; has_version = true; subcommand_required = true; arg_required_else_help = true }) (new_app (codes "bqsim"))
+
+-- a program with these commands more, one after another
+abbrev pub with_commands : App → List Shape → App
+with_commands a [] = a
+with_commands a (c ∷ more) = with_commands (with_subcommand a c) more
+
+-- a command with these options more
+abbrev pub with_rules : App → List Rule → App
+with_rules a rules = on_top (λ s. record s { rules = s.rules ++ rules }) a

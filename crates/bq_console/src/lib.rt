@@ -25,5 +25,5 @@ pub use reasons::reason;
 pub use refused::{refused_value, refused_words};
 pub use saying::{say_out_of_memory, say_refused, say_unread, say_unwritten};
 pub use status::{OUT_OF_MEMORY, exit_status};
-pub use tables::{CommandText, Given, OptionText, found_in, program};
+pub use tables::{CommandText, Given, OptionText, found_in, program, with_commands};
 pub use writing::written;

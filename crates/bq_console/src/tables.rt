@@ -2,7 +2,7 @@
 ghost use Rattle.std.specs.Prelude.{◌≡◌, [], IfErr, IfOk, false, map, true};
 ghost use Rattle.clap.specs.Words.{HasMatchesOf, app_of, fault_of as faults_in, is_simple_and_free, rule_of, takes};
 ghost use Rattle.clap.specs.declared.builder.command.Command.TheViews.{out-Command as fields_of};
-ghost use Rattle.bq_console.specs.Tables.{command_of, empty_program, option_of, with_commands, with_options, with_tables};
+ghost use Rattle.bq_console.specs.Tables.{command_of, empty_program, option_of, options_of, with_commands, with_rules};
 
 use crate::fault::WordsFault;
 use crate::refused::fault_of;
@@ -65,7 +65,7 @@ fn with_options<'a>(
     command: Command<'a>,
     options: &[OptionText],
 ) -> Result<Command<'a>, AllocError>
-    ensures app { IfOk result (λ c. app_of c ≡ with_options (app_of command.entry) options.now) }
+    ensures app { IfOk result (λ c. app_of c ≡ with_rules (app_of command.entry) (map option_of options.now)) }
     ensures globals { IfOk result (λ c. (fields_of c).has_globals ≡ (fields_of command.entry).has_globals) }
 {
     let mut command = command;
@@ -81,7 +81,7 @@ fn with_tables<'a>(
     command: Command<'a>,
     tables: &[&[OptionText]],
 ) -> Result<Command<'a>, AllocError>
-    ensures app { IfOk result (λ c. app_of c ≡ with_tables (app_of command.entry) tables.now) }
+    ensures app { IfOk result (λ c. app_of c ≡ with_rules (app_of command.entry) (options_of tables.now)) }
     ensures globals { IfOk result (λ c. (fields_of c).has_globals ≡ (fields_of command.entry).has_globals) }
 {
     let mut command = command;
@@ -93,45 +93,43 @@ fn with_tables<'a>(
 
 /// A command, with its options.
 fn command<'a>(alloc: Global, text: &CommandText<'_>) -> Result<Command<'a>, AllocError>
-    ensures app { IfOk result (λ c. app_of c ≡ command_of text.now) }
+    ensures shape { IfOk result (λ c. (app_of c).top ≡ command_of text.now) }
     ensures local { IfOk result (λ c. (fields_of c).has_globals ≡ false) }
 {
     let command = Command::new(alloc, text.name).about(text.about);
     with_tables(alloc, command, text.options)
 }
 
+/// The program without commands. Words come without its name, and one of them has to be a command.
+pub fn program<'a>(
+    alloc: Global,
+    about: &'static str,
+    version: &'static str,
+) -> Result<Command<'a>, AllocError>
+    ensures { IfOk result (λ c. app_of c ≡ empty_program) }
+{
+    Command::new(alloc, "bqsim")
+        .about(about)
+        .version(version)
+        .no_binary_name(true)
+        .subcommand_required(true)
+        .arg_required_else_help(true)
+        .bin_name("bqsim")
+}
+
 /// A program with these commands more.
-fn with_commands<'a>(
+pub fn with_commands<'a>(
     alloc: Global,
     program: Command<'a>,
     texts: &[CommandText<'_>],
 ) -> Result<Command<'a>, AllocError>
-    ensures { IfOk result (λ p. app_of p ≡ with_commands (app_of program.entry) texts.now) }
+    ensures { IfOk result (λ p. app_of p ≡ with_commands (app_of program.entry) (map command_of texts.now)) }
 {
     let mut program = program;
     'commands: for text in texts {
         program = program.subcommand(command(alloc, text)?)?;
     }
     Ok(program)
-}
-
-/// The program with these commands. Words come without its name, and one of them has to be a command.
-pub fn program<'a>(
-    alloc: Global,
-    about: &'static str,
-    version: &'static str,
-    texts: &[CommandText<'_>],
-) -> Result<Command<'a>, AllocError>
-    ensures { IfOk result (λ c. app_of c ≡ with_commands empty_program texts.now) }
-{
-    let program = Command::new(alloc, "bqsim")
-        .about(about)
-        .version(version)
-        .no_binary_name(true)
-        .subcommand_required(true)
-        .arg_required_else_help(true)
-        .bin_name("bqsim")?;
-    with_commands(alloc, program, texts)
 }
 
 /// What clap finds in words, by its own rules for the command.
