@@ -1,1 +1,2 @@
-pub mod ParWordLemmas
+pub mod AnswerLemmas
+pub mod CommandLemmas

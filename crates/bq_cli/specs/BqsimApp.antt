@@ -1,38 +1,64 @@
 -- The program's commands and their options, as clap's words on command lines have them.
-use Rattle.std.specs.Prelude.{true, codes}
-use Rattle.clap.specs.Simple.{on_top}
-use Rattle.clap.specs.Words.{App, Text, new_app, with_rule, with_subcommand}
-use Rattle.bq_options.specs.Tables.{named, needed_rule}
-use Rattle.bq_filters.specs.AsmApp.{asm_app}
+use Rattle.std.specs.Prelude.{List, [], ◌∷◌, ◌++◌, codes}
+use Rattle.clap.specs.Words.{App, Rule, Shape}
+use Rattle.bq_console.specs.Tables.{command, empty_program, flag_rule, needed_rule, often_rule, option_rule, with_commands, word_rule}
 
-abbrev pub check_app : App
-check_app = new_app (codes "check")
+-- a file, and what is said beside it: its hook, its maps and its format
+abbrev pub policy_rules : List Rule
+policy_rules = word_rule (codes "file") ∷ option_rule (codes "hook") ∷ option_rule (codes "maps") ∷ option_rule (codes "format") ∷ []
 
-abbrev pub dis_app : App
-dis_app = new_app (codes "dis")
+-- the same, of which the hook may not be left out
+abbrev pub import_rules : List Rule
+import_rules = word_rule (codes "file") ∷ needed_rule (codes "hook") ∷ option_rule (codes "maps") ∷ option_rule (codes "format") ∷ []
 
-abbrev pub par_app : App
-par_app = with_rule (with_rule (with_rule (new_app (codes "par")) (needed_rule (codes "rule"))) (needed_rule (codes "processors"))) (needed_rule (codes "ticks"))
+-- what `check` answers and refuses
+abbrev pub check_rules : List Rule
+check_rules = flag_rule (codes "explain") ∷ flag_rule (codes "json") ∷ option_rule (codes "max-steps") ∷ option_rule (codes "helpers") ∷ []
 
-abbrev pub replay_app : App
-replay_app = new_app (codes "replay")
+-- what a run begins with, and how it is reported
+abbrev pub run_rules : List Rule
+run_rules =
+    option_rule (codes "ctx") ∷ often_rule (codes "set") ∷ often_rule (codes "map") ∷ option_rule (codes "time") ∷ option_rule (codes "processor")
+    ∷ often_rule (codes "counter") ∷ flag_rule (codes "trace") ∷ option_rule (codes "repeat") ∷ []
 
--- by its name alone: its options are taken elsewhere
-abbrev pub named_app : Text → App
-named_app name = new_app name
+abbrev pub par_rules : List Rule
+par_rules = needed_rule (codes "rule") ∷ needed_rule (codes "processors") ∷ needed_rule (codes "ticks") ∷ []
 
--- the program by its name, which tells its version
-abbrev pub versioned : App
-versioned = on_top (λ s. record s { has_version = true }) named
+-- the part of a schedule that is shown
+abbrev pub part_rules : List Rule
+part_rules = option_rule (codes "from") ∷ option_rule (codes "to") ∷ option_rule (codes "cpus") ∷ option_rule (codes "tasks") ∷ option_rule (codes "width")
+    ∷ option_rule (codes "theme") ∷ option_rule (codes "title") ∷ []
 
--- with the commands of single programs and images
-abbrev pub with_programs : App
-with_programs = with_subcommand (with_subcommand (with_subcommand versioned asm_app.top) check_app.top) dis_app.top
+-- a workload's file, and what stands in the place of its machine and its seed
+abbrev pub workload_rules : List Rule
+workload_rules =
+    word_rule (codes "file") ∷ option_rule (codes "discipline") ∷ option_rule (codes "processors") ∷ option_rule (codes "duration") ∷ option_rule (codes "seed")
+    ∷ option_rule (codes "seeds") ∷ []
 
--- with the commands of worlds
-abbrev pub with_worlds : App
-with_worlds = with_subcommand (with_subcommand with_programs par_app.top) replay_app.top
+-- the policies of a simulation, those that it is compared with, and its form
+abbrev pub simulate_rules : List Rule
+simulate_rules =
+    option_rule (codes "place") ∷ option_rule (codes "preempt") ∷ option_rule (codes "pull") ∷ often_rule (codes "against") ∷ option_rule (codes "as") ∷ []
 
--- all commands: with those whose options are taken elsewhere
+-- the commands on programs
+abbrev pub program_commands : List Shape
+program_commands = command (codes "asm") policy_rules ∷ command (codes "import") import_rules ∷ []
+
+-- the commands on policies
+abbrev pub policy_commands : List Shape
+policy_commands =
+    command (codes "check") (policy_rules ++ check_rules)
+    ∷ command (codes "dis") (policy_rules ++ flag_rule (codes "slots") ∷ [])
+    ∷ command (codes "run") (policy_rules ++ run_rules) ∷ []
+
+-- the commands on machines and their traces
+abbrev pub machine_commands : List Shape
+machine_commands =
+    command (codes "par") par_rules
+    ∷ command (codes "replay") (word_rule (codes "file") ∷ [])
+    ∷ command (codes "timeline") (word_rule (codes "file") ∷ option_rule (codes "as") ∷ part_rules)
+    ∷ command (codes "simulate") (workload_rules ++ simulate_rules ++ part_rules) ∷ []
+
+-- the program with its nine commands
 abbrev pub bqsim_app : App
-bqsim_app = with_subcommand (with_subcommand (with_subcommand (with_subcommand with_worlds (named_app (codes "timeline")).top) (named_app (codes "simulate")).top) (named_app (codes "run")).top) (named_app (codes "import")).top
+bqsim_app = with_commands (with_commands (with_commands empty_program program_commands) policy_commands) machine_commands

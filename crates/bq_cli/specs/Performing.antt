@@ -1,16 +1,19 @@
--- What a command reads and writes.
-use Rattle.std.specs.Prelude.{◌≡◌, ℕ, Bool, true, List, Option, ◌⊎◌}
+-- What `perform` reads and writes.
+use Rattle.std.specs.Prelude.{◌≡◌, ℕ, Bool, true, false, List, Option, ◌⊎◌}
 use Rattle.std.specs.Io.KnownBytes.{Appends, Keeps}
 use Rattle.bq_streams.specs.Writing.{AppendsPart}
-use Rattle.bq_filters.specs.Filtering.{Filters, FiltersInPart}
+use Rattle.bq_program.specs.Check.{CheckWrites}
+use Rattle.bq_program.specs.Dis.{DisWrites}
 use Rattle.bq_trace.specs.Machines.{discipline_of}
 use Rattle.bq_trace.specs.Replaying.{Replays, ReplaysInPart}
 use Rattle.bq_words.specs.Sizes.{processors_in}
 use Rattle.bq_par.specs.Summaries.{IsSummary, summary_line}
 use Rattle.bq_par.specs.declared.summary.HistorySummary.{HistorySummary}
-use Rattle.bq_cli.specs.declared.asked.Parallel.{Parallel}
-use Rattle.bq_cli.specs.declared.asked.Job.{Job}
-use Rattle.bq_cli.specs.declared.asked.Job.TheVariants.{Filter, Par, Replay}
+use Rattle.bq_cli.specs.Filtering.{AnswersAll, AsmFilters, AsmFiltersInPart, BreaksOff, DoesNothing}
+use Rattle.bq_cli.specs.Words.{is_plain_check, is_plain_dis}
+use Rattle.bq_cli.specs.declared.command.Command.{Command}
+use Rattle.bq_cli.specs.declared.command.Command.TheVariants.{Asm, Check, Dis, Par, Replay}
+use Rattle.bq_cli.specs.declared.par.Parallel.{Parallel}
 
 -- The line says what a history of the scheduler that was asked for has.
 abbrev pub IsParLine : Parallel → List ℕ → Type 0
@@ -24,14 +27,30 @@ WritesPar p old new = (line : List ℕ) × IsParLine p line × Appends old new l
 abbrev pub WritesParInPart : Parallel → Option (List ℕ) → Option (List ℕ) → Type 0
 WritesParInPart p old new = Keeps old new ⊎ ((line : List ℕ) × IsParLine p line × AppendsPart old new line)
 
--- What was read and written where a command has ended, with whether its input was accepted, or no line of it bad.
-abbrev pub Performs : Job → Option (List ℕ) → Option (List ℕ) → Option (List ℕ) → Option (List ℕ) → Bool → Type 0
-Performs (Filter f) from to old new accepted = Filters f from to old new accepted
-Performs (Par p) from to old new accepted = (to ≡ from) × (accepted ≡ true) × WritesPar p old new
-Performs Replay from to old new clean = Replays from to old new clean
+-- Without file and options the whole input is answered; else nothing is done.
+abbrev pub PerformsIf : Bool → (List ℕ → Bool → List ℕ → Type 0) → Option (List ℕ) → Option (List ℕ) → Option (List ℕ) → Option (List ℕ) → Bool → Type 0
+PerformsIf true Writes from to old new accepted = AnswersAll Writes from to old new accepted
+PerformsIf false Writes from to old new accepted = (accepted ≡ false) × DoesNothing from to old new
 
--- What was read and written where it ended by a fault.
-abbrev pub PerformsInPart : Job → Option (List ℕ) → Option (List ℕ) → Option (List ℕ) → Option (List ℕ) → Type 0
-PerformsInPart (Filter f) from to old new = FiltersInPart f from to old new
+-- The same, if it ended by a fault: then there was something to do.
+abbrev pub PerformsInPartIf : Bool → (List ℕ → Bool → List ℕ → Type 0) → Option (List ℕ) → Option (List ℕ) → Option (List ℕ) → Option (List ℕ) → Type 0
+PerformsInPartIf true Writes from to old new = BreaksOff Writes from to old new
+PerformsInPartIf false Writes from to old new = ⊥
+
+-- What was read and written if a command has ended, with whether its input was accepted, or no line of it was bad.
+abbrev pub Performs : Command → Option (List ℕ) → Option (List ℕ) → Option (List ℕ) → Option (List ℕ) → Bool → Type 0
+Performs (Asm w) from to old new accepted = AsmFilters w.options from to old new accepted
+Performs (Check w) from to old new accepted = PerformsIf (is_plain_check w) CheckWrites from to old new accepted
+Performs (Dis w) from to old new accepted = PerformsIf (is_plain_dis w) DisWrites from to old new accepted
+Performs (Par p) from to old new accepted = (to ≡ from) × (accepted ≡ true) × WritesPar p old new
+Performs (Replay w) from to old new clean = Replays from to old new clean
+Performs other from to old new accepted = (accepted ≡ false) × DoesNothing from to old new
+
+-- What was read and written if it ended by a fault.
+abbrev pub PerformsInPart : Command → Option (List ℕ) → Option (List ℕ) → Option (List ℕ) → Option (List ℕ) → Type 0
+PerformsInPart (Asm w) from to old new = AsmFiltersInPart w.options from to old new
+PerformsInPart (Check w) from to old new = PerformsInPartIf (is_plain_check w) CheckWrites from to old new
+PerformsInPart (Dis w) from to old new = PerformsInPartIf (is_plain_dis w) DisWrites from to old new
 PerformsInPart (Par p) from to old new = (to ≡ from) × WritesParInPart p old new
-PerformsInPart Replay from to old new = ReplaysInPart from to old new
+PerformsInPart (Replay w) from to old new = ReplaysInPart from to old new
+PerformsInPart other from to old new = ⊥

@@ -1,15 +1,30 @@
-//! The jobs `asm`, `check`, `dis`, `par` and `replay`: the words that ask for one, and what it reads and writes.
-//! Promises that words ask for what clap finds in them, that filters keep the promise of bq_filters, and that a replay keeps that of
-//! bq_trace.
+//! The commands of bqsim, one file each, from the words after the program's name to the exit status.
+//! Promises that words ask for what clap finds in them by the one table of commands (`job`), and what is read and written for an
+//! assembler text, a program's hex, threads of processors and a trace (`perform`). `execute` does any command on its files.
+//! Stands on the crates that answer: bq_policy_commands, bq_policy_runs, bq_import, bq_par, bq_trace, bq_timeline, bq_comparison.
 #![tactic(auto)]
 
-pub mod asked;
-pub mod commands;
-mod par_words;
-pub mod program;
-pub mod words;
+mod answer;
+pub mod asm;
+mod check;
+pub mod command;
+mod dis;
+mod execute;
+mod filter;
+pub mod import;
+pub mod par;
+pub mod perform;
+mod policy_words;
+pub mod replay;
+mod run;
+mod simulate;
+pub mod tables;
+mod timeline;
 
-pub use bq_console::exit_status;
-pub use bq_trace::Counted;
-pub use commands::perform;
-pub use words::job;
+pub use answer::{exit_status_of, written_answer};
+pub use bq_console::{WordsFault as JobFault, exit_status};
+pub use bq_streams::Counted;
+pub use bq_trace::{ReplayFault, Session, replay};
+pub use command::{Command, job};
+pub use execute::{execute, write_version};
+pub use perform::perform;

@@ -1,7 +1,7 @@
 //! Words that the program takes and words that it refuses, and what the commands write.
 
-use crate::done::{Row, all_give, all_give_unread, holds, words_of};
-use bq_cli::job;
+use crate::done::{Row, all_give, all_give_unread, does_nothing, done, holds, words_of};
+use bq_cli::{Command, job};
 use bq_console::WordsFault;
 use std::alloc::Global;
 use std::test::Fail;
@@ -36,14 +36,14 @@ fn replays_assembles_and_lists(rt: HostRuntime) -> Result<(), Fail> {
 }
 
 /// What some words are told, and where in the text.
-static TOLD: [(&str, &str); 29] = [
+static TOLD: [(&str, &str); 33] = [
     ("", "Usage: bqsim"),
     ("--help", "Usage: bqsim"),
     ("help", "Usage: bqsim"),
     ("replay --help", "Usage: bqsim replay"),
     ("--version", "bqsim 0.2.0\n"),
     ("play", "error: "),
-    ("replay again", "error: "),
+    ("replay once again", "error: "),
     ("--replay", "error: "),
     ("--help", "check "),
     ("--help", "timeline "),
@@ -64,7 +64,11 @@ static TOLD: [(&str, &str); 29] = [
         "invalid value '3' for '--format'",
     ),
     ("asm --hook pull --hook place", "error: "),
-    ("check --hook pull", "error: "),
+    ("asm one.s two.s", "error: "),
+    ("asm -k.s", "error: "),
+    ("check --hook", "error: "),
+    ("import", "--hook <HOOK>"),
+    ("help simulate", "Usage: bqsim simulate"),
     ("par --help", "--processors <PROCESSORS>"),
     ("par", "error: "),
     ("par --rule cfs --ticks 10", "error: "),
@@ -102,6 +106,71 @@ fn tells_other_words(rt: HostRuntime) -> Result<(), Fail> {
             text,
             told,
         );
+    }
+    Ok(())
+}
+
+/// Words with a file among them, and the file.
+static FILES: [(&str, &str); 8] = [
+    ("asm k.s --hook place", "k.s"),
+    ("asm --hook place --maps 8:1 k.s", "k.s"),
+    ("asm --hook k.s", "refused"),
+    ("asm -- -k.s", "-k.s"),
+    ("asm", "none"),
+    ("replay -", "-"),
+    ("check --explain k.s --json", "k.s"),
+    ("simulate --place k.s two.toml", "two.toml"),
+];
+
+/// The file of a command.
+fn file_of(command: &Command) -> Option<&str> {
+    let file = match command {
+        Command::Asm(words) => &words.file,
+        Command::Check(words) => &words.policy.file,
+        Command::Dis(words) => &words.policy.file,
+        Command::Run(words) => &words.policy.file,
+        Command::Import(words) => &words.file,
+        Command::Par(_) => return None,
+        Command::Replay(words) => &words.file,
+        Command::Timeline(words) => &words.file,
+        Command::Simulate(words) => &words.shown.file,
+    };
+    file.as_deref()
+}
+
+#[test]
+fn words_name_their_file(rt: HostRuntime) -> Result<(), Fail> {
+    for (line, wanted) in &FILES {
+        let words = words_of(rt.alloc(), line)?;
+        match job(rt.alloc(), words.as_slice()) {
+            Ok(command) => {
+                let file = file_of(&command).unwrap_or("none");
+                holds(&rt, file == *wanted, file, wanted);
+            }
+            Err(_) => holds(&rt, *wanted == "refused", "refused", wanted),
+        }
+    }
+    Ok(())
+}
+
+/// Words of commands that `perform` leaves to others: nothing is read and nothing is written.
+static LEFT: [&str; 8] = [
+    "check -",
+    "check --explain",
+    "check --hook pull",
+    "dis --slots",
+    "run -- -k.s",
+    "import --hook pull --maps 8:1",
+    "timeline - --as map",
+    "simulate one.toml --seeds 3 --against none --against two.s",
+];
+
+#[test]
+fn other_commands_do_nothing_here(rt: HostRuntime) -> Result<(), Fail> {
+    for line in &LEFT {
+        let words = words_of(rt.alloc(), line)?;
+        let done = done(&rt, rt.alloc(), words.as_slice(), b"not read")?;
+        does_nothing(&rt, &done, line);
     }
     Ok(())
 }

@@ -1,8 +1,10 @@
 // Programs as the bytes of a text section, with their texts: orders, distances and slots were worked out by hand.
 
 use crate::done::holds;
+use bq_cli::import::import_settings;
+use bq_cli::{Command, job};
+use bq_import::{ImportSettings, imported};
 use bq_program::{Head, read_policy};
-use bq_run_desk::{ImportSettings, import_words, imported};
 use std::alloc::Global;
 use std::process::Abort;
 use std::test::Fail;
@@ -118,8 +120,13 @@ static REFUSED: [(&str, &str); 15] = [
 
 /// A program beside two maps, of the hook preempt.
 fn settings(alloc: Global) -> Result<ImportSettings, Fail> {
-    let words = ["--hook", "preempt", "--maps", "8:1,16:4", "--format", "2"];
-    Ok(ImportSettings::of(alloc, &import_words(alloc, &words)?)?)
+    let words = [
+        "import", "--hook", "preempt", "--maps", "8:1,16:4", "--format", "2",
+    ];
+    match job(alloc, &words)? {
+        Command::Import(words) => Ok(import_settings(alloc, &words)?),
+        _ => Err(Fail::from("the words are those of another command")),
+    }
 }
 
 /// The lines of a text that say its settings.

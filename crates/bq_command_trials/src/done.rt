@@ -3,8 +3,7 @@
 //! A proof of an assertion, or of an early return, carries all that the function would drop there: so there is one assertion, of
 //! what is lent, and the tests walk tables.
 
-use bq_cli::asked::Job;
-use bq_cli::{Counted, exit_status, job, perform};
+use bq_cli::{Command, Counted, exit_status, job, perform};
 use std::alloc::{AllocError, Global};
 use std::process::Abort;
 use std::str::from_utf8;
@@ -49,11 +48,16 @@ pub fn words_of<'a>(alloc: Global, line: &'a str) -> Result<Vec<&'a str>, AllocE
     Ok(words)
 }
 
-/// A job that is done over this input.
-fn do_job<R: Threads + Wait + Sync>(rt: &R, alloc: Global, job: &Job, input: &[u8]) -> Performed {
+/// A command that is performed over this input.
+fn performed<R: Threads + Wait + Sync>(
+    rt: &R,
+    alloc: Global,
+    command: &Command,
+    input: &[u8],
+) -> Performed {
     let mut read = Counted::new(input);
     let mut output = Counted::new(Vec::new(alloc));
-    let status = exit_status(&perform(rt, alloc, job, &mut read, &mut output));
+    let status = exit_status(&perform(rt, alloc, command, &mut read, &mut output));
     let is_unread = read.into_inner() == input;
     Performed {
         written: output.into_inner(),
@@ -70,7 +74,7 @@ pub fn done<R: Threads + Wait + Sync>(
     input: &[u8],
 ) -> Result<Performed, Fail> {
     match job(alloc, words) {
-        Ok(job) => Ok(do_job(rt, alloc, &job, input)),
+        Ok(command) => Ok(performed(rt, alloc, &command, input)),
         Err(_) => Err(Fail::from("the words were refused")),
     }
 }
@@ -111,6 +115,12 @@ fn writes(rt: &impl Abort, done: &Performed, text: &str, status: u8) {
 pub fn writes_unread(rt: &impl Abort, done: &Performed, text: &str, status: u8) {
     writes(rt, done, text, status);
     holds(rt, done.is_unread, "its input was read", text);
+}
+
+/// It read nothing, wrote nothing and answered false.
+pub fn does_nothing(rt: &impl Abort, done: &Performed, line: &str) {
+    let is = done.is_unread && done.written.is_empty() && done.status == 1;
+    holds(rt, is, "it did something", line);
 }
 
 /// The command of a line, over this input, writes this and ends so.

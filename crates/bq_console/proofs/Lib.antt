@@ -1,2 +1,4 @@
+pub mod FoundLemmas
 pub mod SayingLemmas
+pub mod TableLemmas
 pub mod WordLemmas

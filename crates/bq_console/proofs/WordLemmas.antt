@@ -1,5 +1,5 @@
 -- Words that are one thing, or none.
-use Rattle.std.proofs.Common.{◌≡◌, ℕ, suc, ◌<◌, Bor, List, [], ◌∷◌, ◌++◌, Option, Some, None, MatchOption, refl, sym, subst, ◌∙◌, arith}
+use Rattle.std.proofs.Common.{◌≡◌, ℕ, suc, Bor, List, [], ◌∷◌, ◌++◌, Option, Some, None, MatchOption, refl, sym, subst, ◌∙◌, arith}
 use Rattle.bq_console.specs.Words.{IsCut, IsFreeOf, IsNumber, IsValue}
 
 -- a text with the mark in it is not free of it

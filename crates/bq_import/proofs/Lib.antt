@@ -10,3 +10,4 @@ pub mod ProgramLemmas
 pub mod TurningLemmas
 pub mod AddressLemmas
 pub mod RoomLemmas
+pub mod RefusalLemmas

@@ -6,3 +6,4 @@ pub mod Search
 pub mod Searching
 pub mod Reasons
 pub mod Importing
+pub mod Text

@@ -1,4 +1,4 @@
-//! Compiled programs: their instructions in an order in which every jump goes forward.
+//! Compiled programs: their instructions in an order in which every jump goes forward, and the assembler text of these.
 //!
 //! `import` takes the bytes of a compiled program's text section and answers a copy of the program: each instruction goes on
 //! to copies of what it goes on to there. By `laws` a copy has the same runs, step for step, and the same budget.
@@ -14,8 +14,10 @@ mod putting;
 pub mod reason;
 mod search;
 pub mod section;
+mod text;
 
 pub use fault::Disorder;
 pub use order::Ordered;
 pub use reason::Reason;
 pub use section::{ImportFault, import};
+pub use text::{ImportRefusal, ImportSettings, imported};

@@ -1,4 +1,3 @@
-pub mod CommandLemmas
 pub mod NameLemmas
 pub mod StandingLemmas
 pub mod TakingLemmas

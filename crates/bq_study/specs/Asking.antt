@@ -1,12 +1,10 @@
 -- What the words of `simulate` ask for.
-use Rattle.std.specs.Prelude.{◌≡◌, ℕ, Bool, true, false, ◌&&◌, ◌||◌, nat_le, List, [], Option, Some, None, String, if◌then◌else◌, codes, is_some, map, option_and_then, option_map, string_bytes, unwrap_or}
+use Rattle.std.specs.Prelude.{◌≡◌, ℕ, Bool, true, false, ◌&&◌, ◌||◌, nat_le, List, Option, Some, None, String, if◌then◌else◌, codes, is_some, option_and_then, option_map}
 use Rattle.std.specs.Global.{Global}
-use Rattle.clap.specs.Words.{Row, all_of, first_of}
 use Rattle.bq_actions.specs.Lengths.{longest}
 use Rattle.bq_lines.specs.Lines.{size_of}
 use Rattle.bq_lines.specs.Numbers.{decimal_of}
 use Rattle.bq_policy_commands.specs.Saying.{option_bytes}
-use Rattle.bq_timeline.specs.Asking.{AreWords}
 use Rattle.bq_timeline.specs.Settings.{AsksFor, IsNoSettings, asked_or, form_asked}
 use Rattle.bq_timeline.specs.declared.settings.Words.{Words}
 use Rattle.bq_words.specs.Sizes.{rule_of}
@@ -16,29 +14,8 @@ use Rattle.bq_study.specs.declared.asked.ShownAs.{ShownAs}
 use Rattle.bq_study.specs.declared.asked.ShownAs.TheVariants.{Trace, Timeline}
 use Rattle.bq_study.specs.declared.asked.AskedFault.{AskedFault}
 use Rattle.bq_study.specs.declared.asked.AskedFault.TheVariants as fault
-use Rattle.bq_study.specs.declared.command.HookWords.{HookWords}
-use Rattle.bq_study.specs.declared.command.MachineWords.{MachineWords}
-use Rattle.bq_study.specs.declared.command.StudyWords.{StudyWords}
-
--- each word is the first that was found for its option
-pub record AreMachineWords (rows : List Row) (w : MachineWords) : Type 0 where
-  pub discipline : option_bytes w.discipline ≡ first_of (codes "discipline") rows
-  pub processors : option_bytes w.processors ≡ first_of (codes "processors") rows
-  pub duration : option_bytes w.duration ≡ first_of (codes "duration") rows
-  pub seed : option_bytes w.seed ≡ first_of (codes "seed") rows
-
-pub record AreHookWords (rows : List Row) (w : HookWords) : Type 0 where
-  pub place : option_bytes w.place ≡ first_of (codes "place") rows
-  pub preempt : option_bytes w.preempt ≡ first_of (codes "preempt") rows
-  pub pull : option_bytes w.pull ≡ first_of (codes "pull") rows
-
--- and those after `--against` are all, in their order
-pub record AreStudyWords (rows : List Row) (w : StudyWords) : Type 0 where
-  pub machine : AreMachineWords rows w.machine
-  pub seeds : option_bytes w.seeds ≡ first_of (codes "seeds") rows
-  pub hooks : AreHookWords rows w.hooks
-  pub against : map (λ (t : String Global). string_bytes t) w.against.items ≡ unwrap_or (all_of (codes "against") rows) []
-  pub shown : AreWords rows w.shown
+use Rattle.bq_study.specs.declared.words.MachineWords.{MachineWords}
+use Rattle.bq_study.specs.declared.words.StudyWords.{StudyWords}
 
 -- a change, where a word asks for one
 abbrev pub change_asked : {A : Type 0} → (List ℕ → Option A) → Option (String Global) → Option (Option A)

@@ -1,6 +1,5 @@
 pub mod Asking
 pub mod Names
-pub mod SimulateApp
 pub mod Standing
 pub mod Taking
 pub mod Traces

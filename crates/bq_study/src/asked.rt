@@ -6,7 +6,7 @@ ghost use Rattle.bq_policy_commands.specs.Saying.{option_bytes};
 ghost use Rattle.bq_words.specs.Sizes.{rule_of};
 ghost use Rattle.bq_study.specs.Asking.{AskForChanges, AskToShow, IsNoChange, IsNotShown, change_asked, chooses_part, time_in};
 
-use crate::command::StudyWords;
+use crate::words::StudyWords;
 use bq_actions::limits::LONGEST;
 use bq_lines::numbers::{decimal, size};
 use bq_timeline::{Settings, SettingsFault, Words, with_forms};

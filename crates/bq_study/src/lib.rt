@@ -6,15 +6,15 @@
 #![tactic(auto)]
 
 pub mod asked;
-pub mod command;
 pub mod later;
 pub mod laws;
 pub mod names;
 pub mod policies;
 pub mod running;
+pub mod words;
 
 pub use asked::{AskedFault, ShownAs, asked_changes};
-pub use command::{HookWords, MachineWords, StudyWords, study_words};
 pub use names::{plain, task_names};
 pub use policies::{AttachFault, Policies};
 pub use running::{Written, run_as};
+pub use words::{HookWords, MachineWords, StudyWords};

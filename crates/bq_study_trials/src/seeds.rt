@@ -7,8 +7,9 @@
 
 use crate::cases::holds;
 use bq_actions::Workload;
+use bq_cli::{Command, job};
 use bq_comparison::{Comparing, ComparingFault, asked_comparison, compare, comparison_text};
-use bq_study::{Policies, ShownAs, StudyWords, study_words};
+use bq_study::{Policies, ShownAs, StudyWords};
 use bq_workload::{Changes, read};
 use std::alloc::Global;
 use std::test::Fail;
@@ -114,6 +115,7 @@ const JSON: &str = concat!(
 static WRITTEN: [(&[&str], &str); 5] = [
     (
         &[
+            "simulate",
             "--seeds",
             "2",
             "--against",
@@ -125,17 +127,18 @@ static WRITTEN: [(&[&str], &str); 5] = [
         ],
         CSV,
     ),
-    (&["--seeds", "2", "--tasks", "9"], REPORT),
+    (&["simulate", "--seeds", "2", "--tasks", "9"], REPORT),
     (
-        &["--against", "p", "--tasks", "1", "--cpus", "1"],
+        &["simulate", "--against", "p", "--tasks", "1", "--cpus", "1"],
         WIDE_REPORT,
     ),
     (
-        &["--against", "p", "--tasks", "9", "--cpus", "9"],
+        &["simulate", "--against", "p", "--tasks", "9", "--cpus", "9"],
         WIDE_HEAD,
     ),
     (
         &[
+            "simulate",
             "--seeds",
             "2",
             "--against",
@@ -151,11 +154,14 @@ static WRITTEN: [(&[&str], &str); 5] = [
 
 /// Words that are refused, and why.
 static REFUSED: [(&[&str], ComparingFault); 4] = [
-    (&["--seeds", "0"], ComparingFault::Seeds),
-    (&["--seeds", "1001"], ComparingFault::Seeds),
-    (&["--seeds", "2", "--as", "map"], ComparingFault::Form),
+    (&["simulate", "--seeds", "0"], ComparingFault::Seeds),
+    (&["simulate", "--seeds", "1001"], ComparingFault::Seeds),
     (
-        &["--against", "none", "--as", "trace"],
+        &["simulate", "--seeds", "2", "--as", "map"],
+        ComparingFault::Form,
+    ),
+    (
+        &["simulate", "--against", "none", "--as", "trace"],
         ComparingFault::Form,
     ),
 ];
@@ -225,9 +231,9 @@ fn shown<T: Threads + Sync>(
 
 /// The words as clap takes them.
 fn taken(alloc: Global, words: &[&str]) -> Result<StudyWords, Fail> {
-    match study_words(alloc, words) {
-        Ok(words) => Ok(words),
-        Err(_) => Err(Fail::from("clap refuses the words")),
+    match job(alloc, words) {
+        Ok(Command::Simulate(words)) => Ok(words),
+        _ => Err(Fail::from("clap refuses the words")),
     }
 }
 
@@ -248,16 +254,16 @@ fn tables_written(rt: HostRuntime) -> Result<(), Fail> {
 
 /// Words that ask for one run, and as what it is shown, or why it is not.
 static SHOWN: [(&[&str], &str); 4] = [
-    (&["--as", "trace"], "trace"),
+    (&["simulate", "--as", "trace"], "trace"),
     (
-        &["--as", "trace", "--to", "1ms"],
+        &["simulate", "--as", "trace", "--to", "1ms"],
         "--as trace writes the whole run: --from, --to, --cpus, --tasks and --width choose nothing of it",
     ),
     (
-        &["--as", "trace", "--cpus", "nonsense"],
+        &["simulate", "--as", "trace", "--cpus", "nonsense"],
         "--as trace writes the whole run: --from, --to, --cpus, --tasks and --width choose nothing of it",
     ),
-    (&["--as", "map", "--width", "100"], "timeline"),
+    (&["simulate", "--as", "map", "--width", "100"], "timeline"),
 ];
 
 /// As what a run is shown with these words, or why it is not.

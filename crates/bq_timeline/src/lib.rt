@@ -1,11 +1,10 @@
 //! The command `timeline`: a trace, read as `replay` reads it, shown as a schedule in a form that people read.
 //! Promises that the schedule shown is that of the events and answers of the trace, that no refused or bad line is
-//! passed over, and that what is shown, and how, is just what the words of the options ask for.
+//! passed over, and that what is shown, and how, is what the words of the options ask for.
 //! Stands on bq_trace's sinks, on bq_schedule and its forms, and on bq_why.
 #![tactic(auto)]
 
 pub mod bounds_table;
-pub mod command;
 pub mod form_names;
 pub mod numbers;
 pub mod screen;
@@ -14,6 +13,5 @@ pub mod showing;
 pub mod shown;
 pub mod viewer;
 
-pub use command::{SHOWN_OPTIONS, shown_words, words};
 pub use settings::{Settings, SettingsFault, Words};
 pub use showing::{Outcome, show};

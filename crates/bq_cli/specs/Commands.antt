@@ -1,0 +1,38 @@
+-- The command that words ask for.
+use Rattle.std.specs.Prelude.{◌≡◌, List, Option, Some, codes}
+use Rattle.clap.specs.Words.{Row, Text, subcommand_of}
+use Rattle.bq_cli.specs.BqsimApp.{bqsim_app}
+use Rattle.bq_cli.specs.Words.{AreAsmWords, AreCheckWords, AreListWords, ArePolicyWords, AreReplayWords, AreRunWords, AreSimulateWords, AreTimelineWords, IsParallel}
+use Rattle.bq_cli.specs.declared.command.Command.{Command}
+use Rattle.bq_cli.specs.declared.command.Command.TheVariants.{Asm, Check, Dis, Import, Par, Replay, Run, Simulate, Timeline}
+
+abbrev pub name_of : Command → Text
+name_of (Asm w) = codes "asm"
+name_of (Check w) = codes "check"
+name_of (Dis w) = codes "dis"
+name_of (Run w) = codes "run"
+name_of (Import w) = codes "import"
+name_of (Par p) = codes "par"
+name_of (Replay w) = codes "replay"
+name_of (Timeline w) = codes "timeline"
+name_of (Simulate w) = codes "simulate"
+
+-- the command's values are those that were found for its options
+abbrev pub HasValues : List Row → Command → Type 0
+HasValues rows (Asm w) = AreAsmWords rows w
+HasValues rows (Check w) = AreCheckWords rows w
+HasValues rows (Dis w) = AreListWords rows w
+HasValues rows (Run w) = AreRunWords rows w
+HasValues rows (Import w) = ArePolicyWords rows w
+HasValues rows (Par p) = IsParallel rows p
+HasValues rows (Replay w) = AreReplayWords rows w
+HasValues rows (Timeline w) = AreTimelineWords rows w
+HasValues rows (Simulate w) = AreSimulateWords rows w
+
+-- the command and its values are those that were found
+abbrev pub IsCommandIn : Option (Text × List Row) → Command → Type 0
+IsCommandIn found c = (rows : List Row) × (found ≡ Some (name_of c, rows)) × HasValues rows c
+
+-- the command and its values are those that clap finds in the words
+abbrev pub IsCommand : List Text → Command → Type 0
+IsCommand words c = IsCommandIn (subcommand_of bqsim_app words) c

@@ -1,0 +1,77 @@
+-- What a filter reads and writes.
+use Rattle.std.specs.Prelude.{◌≡◌, ℕ, Bool, false, List, Option, ◌⊎◌}
+use Rattle.std.specs.Io.KnownBytes.{Appends, Keeps}
+use Rattle.bq_streams.specs.Reading.{GivesAll, GivesSome}
+use Rattle.bq_streams.specs.Writing.{AppendsPart}
+use Rattle.bq_program.specs.Asm.{AsmWrites}
+use Rattle.bq_program.specs.Check.{CheckWrites}
+use Rattle.bq_program.specs.Dis.{DisWrites}
+use Rattle.bq_program.specs.Forms.{AsksFor, RefusesOptions}
+use Rattle.bq_program.specs.declared.form.ProgramForm.{ProgramForm}
+use Rattle.bq_program.specs.declared.options.Options.{Options}
+use Rattle.bq_cli.specs.declared.filter.Filter.{Filter}
+use Rattle.bq_cli.specs.declared.filter.Filter.TheVariants.{Asm, Check, Dis}
+
+-- What a filter may write for an input, and whether it accepts it then.
+abbrev pub FilterWrites : Filter → List ℕ → Bool → List ℕ → Type 0
+FilterWrites (Asm form) = AsmWrites form
+FilterWrites Check = CheckWrites
+FilterWrites Dis = DisWrites
+
+-- The reader gave these bytes and has no more, and the writer got their answer.
+pub record AnswersAll (Writes : List ℕ → Bool → List ℕ → Type 0) (from to old new : Option (List ℕ)) (accepted : Bool) : Type 0 where
+  pub input : List ℕ
+  pub output : List ℕ
+  pub gave : GivesAll from to input
+  pub added : Appends old new output
+  pub answers : Writes input accepted output
+
+-- The reader gave these bytes and has no more, and the writer got a beginning of their answer.
+pub record AnswersPart (Writes : List ℕ → Bool → List ℕ → Type 0) (from to old new : Option (List ℕ)) : Type 0 where
+  pub input : List ℕ
+  pub output : List ℕ
+  pub accepted : Bool
+  pub gave : GivesAll from to input
+  pub added : AppendsPart old new output
+  pub answers : Writes input accepted output
+
+-- The writer got nothing so far, or a beginning of the answer to all that the reader had.
+abbrev pub BreaksOff : (List ℕ → Bool → List ℕ → Type 0) → Option (List ℕ) → Option (List ℕ) → Option (List ℕ) → Option (List ℕ) → Type 0
+BreaksOff Writes from to old new = (GivesSome from to × Keeps old new) ⊎ AnswersPart Writes from to old new
+
+-- The options ask for a form, and the writer got the answer in it to all that the reader had.
+pub record AnswersInForm (o : Options) (from to old new : Option (List ℕ)) (accepted : Bool) : Type 0 where
+  pub form : ProgramForm
+  pub asks : AsksFor o form
+  pub answers : AnswersAll (AsmWrites form) from to old new accepted
+
+-- Nothing was read, and the writer got the line that refuses the options.
+pub record RefusesUnread (o : Options) (from to old new : Option (List ℕ)) (accepted : Bool) : Type 0 where
+  pub line : List ℕ
+  pub refuses : RefusesOptions o line
+  pub refused : accepted ≡ false
+  pub unread : to ≡ from
+  pub added : Appends old new line
+
+-- The options ask for a form, and the writer got nothing so far, or a beginning of the answer in it.
+pub record BreaksOffInForm (o : Options) (from to old new : Option (List ℕ)) : Type 0 where
+  pub form : ProgramForm
+  pub asks : AsksFor o form
+  pub breaks : BreaksOff (AsmWrites form) from to old new
+
+-- Nothing was read, and the writer got a beginning of the line that refuses the options.
+pub record RefusesInPart (o : Options) (from to old new : Option (List ℕ)) : Type 0 where
+  pub line : List ℕ
+  pub refuses : RefusesOptions o line
+  pub unread : to ≡ from
+  pub added : AppendsPart old new line
+
+-- Nothing was read, and nothing written.
+abbrev pub DoesNothing : Option (List ℕ) → Option (List ℕ) → Option (List ℕ) → Option (List ℕ) → Type 0
+DoesNothing from to old new = (to ≡ from) × Keeps old new
+
+abbrev pub AsmFilters : Options → Option (List ℕ) → Option (List ℕ) → Option (List ℕ) → Option (List ℕ) → Bool → Type 0
+AsmFilters o from to old new accepted = AnswersInForm o from to old new accepted ⊎ RefusesUnread o from to old new accepted
+
+abbrev pub AsmFiltersInPart : Options → Option (List ℕ) → Option (List ℕ) → Option (List ℕ) → Option (List ℕ) → Type 0
+AsmFiltersInPart o from to old new = BreaksOffInForm o from to old new ⊎ (RefusesInPart o from to old new ⊎ DoesNothing from to old new)

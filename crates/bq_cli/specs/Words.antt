@@ -1,0 +1,139 @@
+-- The words of each command: the values that clap found for its options.
+use Rattle.std.specs.Prelude.{◌≡◌, ◌↔◌, ◌&&◌, ℕ, Bool, IsTrue, List, [], Option, Some, String, codes, is_some, map, not, option_and_then, string_bytes, unwrap_or}
+use Rattle.std.specs.declared.alloc.Global.{Global}
+use Rattle.clap.specs.Words.{Row, Text, all_of, first_of}
+use Rattle.bq_bpf.specs.Hooks.{hook_of, version_of}
+use Rattle.bq_console.specs.Words.{SaysWord}
+use Rattle.bq_lines.specs.Lines.{size_of}
+use Rattle.bq_lines.specs.Numbers.{decimal_of}
+use Rattle.bq_policy_commands.specs.Saying.{option_bytes}
+use Rattle.bq_policy_commands.specs.declared.words.CheckWords.{CheckWords}
+use Rattle.bq_policy_commands.specs.declared.words.ListWords.{ListWords}
+use Rattle.bq_policy_commands.specs.declared.words.PolicyWords.{PolicyWords}
+use Rattle.bq_policy_commands.specs.declared.words.RunWords.{RunWords}
+use Rattle.bq_policy_commands.specs.declared.words.TellingWords.{TellingWords}
+use Rattle.bq_program.specs.Forms.{maps_text}
+use Rattle.bq_study.specs.declared.words.HookWords.{HookWords}
+use Rattle.bq_study.specs.declared.words.MachineWords.{MachineWords}
+use Rattle.bq_study.specs.declared.words.StudyWords.{StudyWords}
+use Rattle.bq_timeline.specs.declared.settings.Words.{Words}
+use Rattle.bq_words.specs.Numbers.{below}
+use Rattle.bq_words.specs.Sizes.{rule_of}
+use Rattle.bq_cli.specs.declared.asm.AsmWords.{AsmWords}
+use Rattle.bq_cli.specs.declared.par.Parallel.{Parallel}
+use Rattle.bq_cli.specs.declared.par.TheConstants.{MOST_TICKS}
+use Rattle.bq_cli.specs.declared.replay.ReplayWords.{ReplayWords}
+
+-- the word is the first that was found for the option
+abbrev pub IsFirst : Text → List Row → Option (String Global) → Type 0
+IsFirst option rows word = option_bytes word ≡ first_of option rows
+
+-- the flag was found
+abbrev pub IsSet : Text → List Row → Bool → Type 0
+IsSet flag rows set = IsTrue set ↔ (first_of flag rows ≡ Some (codes "true"))
+
+-- the words are all that were found for the option, in their order
+abbrev pub AreAll : Text → List Row → List (String Global) → Type 0
+AreAll option rows words = map (λ w. string_bytes w) words ≡ unwrap_or (all_of option rows) []
+
+-- the values of `asm`: the hook and the version that the words name, and the text of the maps as it is
+pub record AreAsmWords (rows : List Row) (w : AsmWords) : Type 0 where
+  pub file : IsFirst (codes "file") rows w.file
+  pub hook : SaysWord (λ word hook. hook_of word ≡ Some hook) (first_of (codes "hook") rows) w.options.hook
+  pub maps : maps_text w.options ≡ first_of (codes "maps") rows
+  pub format : SaysWord (λ word version. version_of word ≡ Some version) (first_of (codes "format") rows) w.options.format
+
+-- a policy's file, and what is said beside it; also the values of `import`
+pub record ArePolicyWords (rows : List Row) (w : PolicyWords) : Type 0 where
+  pub file : IsFirst (codes "file") rows w.file
+  pub hook : IsFirst (codes "hook") rows w.hook
+  pub maps : IsFirst (codes "maps") rows w.maps
+  pub format : IsFirst (codes "format") rows w.format
+
+-- the values of `check`
+pub record AreCheckWords (rows : List Row) (w : CheckWords) : Type 0 where
+  pub policy : ArePolicyWords rows w.policy
+  pub explained : IsSet (codes "explain") rows w.is_explained
+  pub json : IsSet (codes "json") rows w.is_json
+  pub steps : IsFirst (codes "max-steps") rows w.max_steps
+  pub helpers : IsFirst (codes "helpers") rows w.helpers
+
+-- the values of `dis`
+pub record AreListWords (rows : List Row) (w : ListWords) : Type 0 where
+  pub policy : ArePolicyWords rows w.policy
+  pub slots : IsSet (codes "slots") rows w.has_slots
+
+-- how a run is reported
+pub record AreTellingWords (rows : List Row) (w : TellingWords) : Type 0 where
+  pub traced : IsSet (codes "trace") rows w.is_traced
+  pub repeat : IsFirst (codes "repeat") rows w.repeat
+
+-- the values of `run`
+pub record AreRunWords (rows : List Row) (w : RunWords) : Type 0 where
+  pub policy : ArePolicyWords rows w.policy
+  pub telling : AreTellingWords rows w.telling
+  pub context : IsFirst (codes "ctx") rows w.context
+  pub fields : AreAll (codes "set") rows w.fields.items
+  pub entries : AreAll (codes "map") rows w.entries.items
+  pub counters : AreAll (codes "counter") rows w.counters.items
+  pub time : IsFirst (codes "time") rows w.time
+  pub processor : IsFirst (codes "processor") rows w.processor
+
+-- a number of ticks
+abbrev pub ticks_of : List ℕ → Option ℕ
+ticks_of word = below (MOST_TICKS + 1) (decimal_of word)
+
+-- the values of `par`
+pub record IsParallel (rows : List Row) (p : Parallel) : Type 0 where
+  pub rule : option_and_then rule_of (first_of (codes "rule") rows) ≡ Some p.rule
+  pub size : option_and_then size_of (first_of (codes "processors") rows) ≡ Some p.size
+  pub ticks : option_and_then ticks_of (first_of (codes "ticks") rows) ≡ Some p.ticks
+
+-- the values of `replay`
+pub record AreReplayWords (rows : List Row) (w : ReplayWords) : Type 0 where
+  pub file : IsFirst (codes "file") rows w.file
+
+-- the values of `timeline`: a file, and how it is shown
+pub record AreTimelineWords (rows : List Row) (w : Words) : Type 0 where
+  pub file : IsFirst (codes "file") rows w.file
+  pub form : IsFirst (codes "as") rows w.form
+  pub from : IsFirst (codes "from") rows w.from
+  pub to : IsFirst (codes "to") rows w.to
+  pub cpus : IsFirst (codes "cpus") rows w.cpus
+  pub tasks : IsFirst (codes "tasks") rows w.tasks
+  pub width : IsFirst (codes "width") rows w.width
+  pub theme : IsFirst (codes "theme") rows w.theme
+  pub title : IsFirst (codes "title") rows w.title
+
+-- what stands in the place of a workload's own machine
+pub record AreMachineWords (rows : List Row) (w : MachineWords) : Type 0 where
+  pub discipline : IsFirst (codes "discipline") rows w.discipline
+  pub processors : IsFirst (codes "processors") rows w.processors
+  pub duration : IsFirst (codes "duration") rows w.duration
+  pub seed : IsFirst (codes "seed") rows w.seed
+
+-- the policies at the hooks
+pub record AreHookWords (rows : List Row) (w : HookWords) : Type 0 where
+  pub place : IsFirst (codes "place") rows w.place
+  pub preempt : IsFirst (codes "preempt") rows w.preempt
+  pub pull : IsFirst (codes "pull") rows w.pull
+
+-- the values of `simulate`
+pub record AreSimulateWords (rows : List Row) (w : StudyWords) : Type 0 where
+  pub machine : AreMachineWords rows w.machine
+  pub seeds : IsFirst (codes "seeds") rows w.seeds
+  pub hooks : AreHookWords rows w.hooks
+  pub against : AreAll (codes "against") rows w.against.items
+  pub shown : AreTimelineWords rows w.shown
+
+-- no word names a file, a hook, maps or a format
+abbrev pub name_nothing : PolicyWords → Bool
+name_nothing w = not (is_some w.file) && (not (is_some w.hook) && (not (is_some w.maps) && not (is_some w.format)))
+
+-- `check` without file and options
+abbrev pub is_plain_check : CheckWords → Bool
+is_plain_check w = name_nothing w.policy && (not w.is_explained && (not w.is_json && (not (is_some w.max_steps) && not (is_some w.helpers))))
+
+-- `dis` without file and options
+abbrev pub is_plain_dis : ListWords → Bool
+is_plain_dis w = name_nothing w.policy && not w.has_slots

@@ -1,0 +1,102 @@
+//! `asm`: an assembler text, assembled to the hex of its program or of an image.
+ghost use Rattle.std.specs.Prelude.{◌≡◌, IfOk, IfErr};
+ghost use Rattle.clap.specs.Words.{found_of, rows_of};
+ghost use Rattle.bq_cli.specs.Words.{AreAsmWords};
+ghost use Rattle.bq_cli.specs.declared.asm.AsmWords.{AsmWords as Words};
+
+use crate::command::Command;
+use crate::execute::perform_from;
+use crate::policy_words::{format_in, hook_in, policy_words};
+use bq_console::status::BAD_INPUT;
+use bq_console::{WordsFault, say_out_of_memory, whole_input, written};
+use bq_explain::complaint;
+use bq_policy_commands::{AsmRefusal, PolicyWords, asm_note, asm_refusal, options_complaint};
+use bq_program::Options;
+use clap::ArgMatches;
+use std::alloc::Global;
+use std::process::ExitCode;
+use std::sync::Wait;
+use std::thread::Threads;
+
+/// The words after `asm`.
+#[derive(Drop)]
+pub struct AsmWords {
+    /// The text; standard input without it, or as `-`.
+    pub file: Option<String>,
+    /// What it is assembled to.
+    pub options: Options,
+}
+
+/// The words that were found. One that names no hook or no format is refused; the text of the maps is judged with the file.
+pub(crate) fn asm_words(alloc: Global, matches: &ArgMatches<'_>) -> Result<AsmWords, WordsFault>
+    ensures ok { IfOk result (AreAsmWords (rows_of (found_of matches.now))) }
+    ensures taken { IfErr result (λ e. (words : Words) → AreAsmWords (rows_of (found_of matches.now)) words → e ≡ WordsFault.OutOfMemory) }
+{
+    let words = policy_words(alloc, matches)?;
+    let hook = hook_in(alloc, &words.hook)?;
+    let format = format_in(alloc, &words.format)?;
+    let PolicyWords { file, maps, .. } = words;
+    Ok(AsmWords {
+        file,
+        options: Options { hook, maps, format },
+    })
+}
+
+/// Assembles the file that is named, or standard input. Options that ask for no form are refused before anything is read.
+pub(crate) fn do_asm<T: Threads + Wait + Sync>(
+    rt: &HostRuntime,
+    threads: &T,
+    command: &Command,
+    words: &AsmWords,
+) -> ExitCode {
+    match options_complaint(rt.alloc(), &words.options) {
+        Ok(None) => assemble_input(rt, threads, command, words),
+        Ok(Some(why)) => {
+            let code = perform_from(rt, threads, command, None, rt.stdin());
+            let _ = eprintln!(rt; "bqsim: {why}");
+            code
+        }
+        Err(_) => say_out_of_memory(rt),
+    }
+}
+
+/// Assembles what is read, unless its marks contradict the options.
+fn assemble_input<T: Threads + Wait + Sync>(
+    rt: &HostRuntime,
+    threads: &T,
+    command: &Command,
+    words: &AsmWords,
+) -> ExitCode {
+    let text = match whole_input(rt, &words.file) {
+        Ok(text) => text,
+        Err(code) => return code,
+    };
+    match asm_refusal(rt.alloc(), &words.options, text.as_slice()) {
+        Ok(None) => {
+            let code = perform_from(rt, threads, command, None, text.as_slice());
+            say_beside(rt, &words.options, text.as_slice());
+            code
+        }
+        Ok(Some(refusal)) => refuse(rt, &refusal),
+        Err(_) => say_out_of_memory(rt),
+    }
+}
+
+/// Refuses options that the marks of the text contradict.
+fn refuse(rt: &HostRuntime, refusal: &AsmRefusal) -> ExitCode {
+    let reason = &refusal.reason;
+    let _ = eprintln!(rt; "bqsim: {reason}");
+    written(rt, refusal.line.as_str(), ExitCode::from(BAD_INPUT))
+}
+
+/// Says on standard error what is wrong with a text, and which of its marks the answer leaves out.
+fn say_beside(rt: &HostRuntime, options: &Options, text: &[u8]) {
+    if let Ok(Some(why)) = complaint(rt.alloc(), text) {
+        let _ = eprint!(rt; "bqsim: {why}");
+    }
+    if let Ok(note) = asm_note(rt.alloc(), options, text) {
+        for line in note.lines() {
+            let _ = eprintln!(rt; "bqsim: {line}");
+        }
+    }
+}

@@ -1,0 +1,72 @@
+//! Any command, on the files that its words name, to the exit status.
+
+use crate::asm::do_asm;
+use crate::check::{do_check, is_plain_check};
+use crate::command::Command;
+use crate::dis::{do_dis, is_plain_dis};
+use crate::import::do_import;
+use crate::perform::perform;
+use crate::replay::do_replay;
+use crate::run::do_run;
+use crate::simulate::do_simulate;
+use crate::tables::VERSION;
+use crate::timeline::do_timeline;
+use bq_console::{WordsFault, ended, say_out_of_memory, waiting_input, written};
+use bq_lines::with_first_line;
+use bq_streams::{Counted, Kept};
+use std::io::Read;
+use std::process::ExitCode;
+use std::sync::Wait;
+use std::thread::Threads;
+
+/// What is said of an empty trace.
+const EMPTY: &str = with_first_line!("bqsim: the trace is empty: ", "");
+
+/// Does a command: reads the files that its words name, or standard input, and writes to standard output. A fault says that a value
+/// among the words is none of its kind, and then nothing was read.
+pub fn execute<T: Threads + Wait + Sync>(
+    rt: &HostRuntime,
+    threads: &T,
+    command: &Command,
+) -> Result<ExitCode, WordsFault> {
+    match command {
+        Command::Asm(words) => Ok(do_asm(rt, threads, command, words)),
+        Command::Check(words) if !is_plain_check(words) => Ok(do_check(rt, words)),
+        Command::Dis(words) if !is_plain_dis(words) => Ok(do_dis(rt, words)),
+        Command::Check(_) | Command::Dis(_) => {
+            Ok(perform_from(rt, threads, command, None, waiting_input(rt)))
+        }
+        Command::Run(words) => Ok(do_run(rt, words)),
+        Command::Import(words) => do_import(rt, words),
+        Command::Par(_) => Ok(perform_from(rt, threads, command, None, rt.stdin())),
+        Command::Replay(words) => Ok(do_replay(rt, threads, command, words)),
+        Command::Timeline(words) => do_timeline(rt, words),
+        Command::Simulate(words) => do_simulate(rt, threads, words),
+    }
+}
+
+/// Performs a command on what is read from the file of that name, or from standard input.
+pub(crate) fn perform_from<T: Threads + Wait + Sync, R: Read + Drop>(
+    rt: &HostRuntime,
+    threads: &T,
+    command: &Command,
+    name: Option<&str>,
+    reader: R,
+) -> ExitCode {
+    let mut input = Counted::new(Kept::new(reader));
+    let mut output = Counted::new(Kept::new(rt.stdout()));
+    let outcome = perform(threads, rt.alloc(), command, &mut input, &mut output);
+    // A trace that ends at the first read is empty.
+    if matches!((command, &outcome), (Command::Replay(_), Ok(true))) && input.calls() == 1 {
+        let _ = rt.eprintln(EMPTY);
+    }
+    ended(rt, name, &outcome, input, output)
+}
+
+/// Writes the version of the program.
+pub fn write_version(rt: &HostRuntime) -> ExitCode {
+    match format!(in rt.alloc(); "bqsim {VERSION}\n") {
+        Ok(line) => written(rt, line.as_str(), ExitCode::SUCCESS),
+        Err(_) => say_out_of_memory(rt),
+    }
+}

@@ -1,0 +1,156 @@
+//! `par`: processors by threads of their own, and how long their one history is.
+ghost use Rattle.std.specs.Prelude.{◌≡◌, ℕ, List, Option, Some, true, IfOk, IfErr, OnOk, OnErr, option_map, option_and_then};
+ghost use Rattle.std.specs.Borrow.{Bor};
+ghost use Rattle.clap.specs.Words.{found_of, rows_of};
+ghost use Rattle.bq_words.specs.Sizes.{rule_of};
+ghost use Rattle.bq_words.specs.declared.rule.Rule.{Rule as Way};
+ghost use Rattle.bq_words.specs.declared.processor_count.ProcessorCount.{ProcessorCount as Many};
+ghost use Rattle.bq_lines.specs.Lines.{size_of};
+ghost use Rattle.bq_par.specs.Summaries.{IsSummary};
+ghost use Rattle.bq_streams.specs.Counts.{inner_of, failures_of};
+ghost use Rattle.bq_streams.specs.Faults.{IsWriteFault};
+ghost use Rattle.bq_trace.specs.Machines.{discipline_of};
+ghost use Rattle.bq_words.specs.Sizes.{processors_in};
+ghost use Rattle.bq_cli.specs.declared.par.Parallel.{Parallel as Asked};
+ghost use Rattle.bq_cli.specs.Performing.{WritesPar, WritesParInPart};
+ghost use Rattle.bq_cli.specs.Words.{IsParallel, ticks_of};
+
+use crate::with_ticks;
+use bq_cfs::CfsQueue;
+use bq_console::{WordsFault, refused_value, value};
+use bq_eevdf::EevdfQueue;
+use bq_lines::numbers;
+use bq_par::{HistorySummary, run};
+use bq_streams::{Counted, StreamFault};
+use bq_words::{ProcessorCount, Rule, with_rules, with_sizes};
+use clap::ArgMatches;
+use std::alloc::{AllocError, Global};
+use std::io::Write;
+use std::sync::Wait;
+use std::thread::Threads;
+
+/// How often a processor may tick.
+pub const MOST_TICKS: u32 = 1_000_000;
+
+/// A text with the numbers of ticks in it that may be asked for.
+#[macro_export]
+macro_rules! with_ticks {
+    ($before:literal) => {
+        with_ticks!($before, "")
+    };
+    ($before:literal, $behind:literal) => {
+        concat!($before, "0 to 1000000", $behind)
+    };
+}
+
+/// What `par` is to run: under which rule, how many processors, and how often each of them ticks, at most `MOST_TICKS` times.
+#[derive(Clone, Copy)]
+pub struct Parallel {
+    pub rule: Rule,
+    pub size: ProcessorCount,
+    pub ticks: u32,
+}
+
+/// The values of `--rule`, as its refusal lists them.
+const RULES: &str = with_rules!("");
+/// The values of `--processors`, as its refusal lists them.
+const SIZES: &str = with_sizes!("");
+/// The values of `--ticks`, as its refusal lists them.
+const TICKS: &str = with_ticks!("");
+
+/// The words that were found. A value that names nothing is refused.
+pub(crate) fn par_words(alloc: Global, matches: &ArgMatches<'_>) -> Result<Parallel, WordsFault>
+    ensures ok { IfOk result (IsParallel (rows_of (found_of matches.now))) }
+    ensures taken { IfErr result (λ e. (p : Asked) → IsParallel (rows_of (found_of matches.now)) p → e ≡ WordsFault.OutOfMemory) }
+{
+    let rule = rule_in(alloc, value(matches, "rule"))?;
+    let size = size_in(alloc, value(matches, "processors"))?;
+    let ticks = ticks_in(alloc, value(matches, "ticks"))?;
+    Ok(Parallel { rule, size, ticks })
+}
+
+/// The rule that a word names.
+fn rule_in(alloc: Global, word: Option<&str>) -> Result<Rule, WordsFault>
+    ensures ok { IfOk result (λ r. option_and_then rule_of (option_map (λ (w : Bor (List ℕ)). w.now) word.entry) ≡ Some r) }
+    ensures taken { IfErr result (λ e. (r : Way) → option_and_then rule_of (option_map (λ (w : Bor (List ℕ)). w.now) word.entry) ≡ Some r → e ≡ WordsFault.OutOfMemory) }
+{
+    let Some(word) = word else {
+        return Err(refused_value(alloc, "rule", "", RULES));
+    };
+    match Rule::of_word(word.as_bytes()) {
+        Some(rule) => Ok(rule),
+        None => Err(refused_value(alloc, "rule", word, RULES)),
+    }
+}
+
+/// The number of processors that a word names.
+fn size_in(alloc: Global, word: Option<&str>) -> Result<ProcessorCount, WordsFault>
+    ensures ok { IfOk result (λ s. option_and_then size_of (option_map (λ (w : Bor (List ℕ)). w.now) word.entry) ≡ Some s) }
+    ensures taken { IfErr result (λ e. (s : Many) → option_and_then size_of (option_map (λ (w : Bor (List ℕ)). w.now) word.entry) ≡ Some s → e ≡ WordsFault.OutOfMemory) }
+{
+    let Some(word) = word else {
+        return Err(refused_value(alloc, "processors", "", SIZES));
+    };
+    match numbers::size(word.as_bytes()) {
+        Some(size) => Ok(size),
+        None => Err(refused_value(alloc, "processors", word, SIZES)),
+    }
+}
+
+/// The number of ticks that a word names.
+fn ticks_in(alloc: Global, word: Option<&str>) -> Result<u32, WordsFault>
+    ensures ok { IfOk result (λ n. option_and_then ticks_of (option_map (λ (w : Bor (List ℕ)). w.now) word.entry) ≡ Some n) }
+    ensures taken { IfErr result (λ e. (n : ℕ) → option_and_then ticks_of (option_map (λ (w : Bor (List ℕ)). w.now) word.entry) ≡ Some n → e ≡ WordsFault.OutOfMemory) }
+{
+    let Some(word) = word else {
+        return Err(refused_value(alloc, "ticks", "", TICKS));
+    };
+    match ticks_named(word.as_bytes()) {
+        Some(ticks) => Ok(ticks),
+        None => Err(refused_value(alloc, "ticks", word, TICKS)),
+    }
+}
+
+/// A number of ticks, in decimal.
+fn ticks_named(word: &[u8]) -> Option<u32>
+    ensures { result ≡ ticks_of word.now }
+{
+    let ticks = numbers::decimal(word)?;
+    if ticks > u64::from(MOST_TICKS) {
+        return None;
+    }
+    Some(ticks as u32)
+}
+
+/// Runs processors by threads of their own, and writes how long their history is.
+pub(crate) fn perform_par<T: Threads + Wait + Sync, W: Write>(
+    rt: &T,
+    alloc: Global,
+    parallel: &Parallel,
+    output: &mut Counted<W>,
+) -> Result<bool, StreamFault>
+    ensures ok { IfOk result (λ done. (done ≡ true) × WritesPar parallel.now (W.contents (inner_of output.old)) (W.contents (inner_of output.new))) }
+    ensures kept { OnOk result (failures_of output.new ≡ failures_of output.old) }
+    ensures part { OnErr result (WritesParInPart parallel.now (W.contents (inner_of output.old)) (W.contents (inner_of output.new))) }
+    ensures fault { IfErr result (λ e. IsWriteFault e (failures_of output.old) (failures_of output.new)) }
+{
+    let summary = run_as_asked(rt, alloc, parallel)?;
+    let line = summary.line(alloc)?;
+    output.write_text(line.as_bytes())?;
+    Ok(true)
+}
+
+/// Runs processors under the rule that is asked for.
+fn run_as_asked<T: Threads + Wait + Sync>(
+    rt: &T,
+    alloc: Global,
+    parallel: &Parallel,
+) -> Result<HistorySummary, AllocError>
+    ensures { IfOk result (IsSummary (discipline_of parallel.now.rule) (processors_in parallel.now.size) parallel.now.ticks) }
+{
+    let Parallel { rule, size, ticks } = *parallel;
+    match rule {
+        Rule::Cfs => run::<CfsQueue, T>(rt, alloc, size, ticks),
+        Rule::Eevdf => run::<EevdfQueue, T>(rt, alloc, size, ticks),
+    }
+}

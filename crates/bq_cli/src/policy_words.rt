@@ -1,0 +1,74 @@
+//! A policy among the words of a command: its file, its hook, its maps and its format.
+ghost use Rattle.std.specs.Prelude.{◌≡◌, Option, Some, IfOk, IfErr};
+ghost use Rattle.clap.specs.Words.{found_of, rows_of};
+ghost use Rattle.bq_bpf.specs.Hooks.{hook_of, version_of};
+ghost use Rattle.bq_bpf.specs.declared.hook.Hook.{Hook as Place};
+ghost use Rattle.bq_bpf.specs.declared.hook.Version.{Version as Number};
+ghost use Rattle.bq_console.specs.Words.{SaysWord};
+ghost use Rattle.bq_policy_commands.specs.Saying.{option_bytes};
+ghost use Rattle.bq_cli.specs.Words.{ArePolicyWords, name_nothing};
+
+use bq_bpf::{Hook, Version, with_hooks, with_versions};
+use bq_console::{WordsFault, refused_value, word};
+use bq_policy_commands::PolicyWords;
+use clap::ArgMatches;
+use std::alloc::{AllocError, Global};
+
+/// The words that were found for a policy.
+pub(crate) fn policy_words(
+    alloc: Global,
+    matches: &ArgMatches<'_>,
+) -> Result<PolicyWords, AllocError>
+    ensures { IfOk result (ArePolicyWords (rows_of (found_of matches.now))) }
+{
+    let file = word(alloc, matches, "file")?;
+    let hook = word(alloc, matches, "hook")?;
+    let maps = word(alloc, matches, "maps")?;
+    let format = word(alloc, matches, "format")?;
+    Ok(PolicyWords {
+        file,
+        hook,
+        maps,
+        format,
+    })
+}
+
+/// Whether no word names a file, a hook, maps or a format.
+pub(crate) fn name_nothing(words: &PolicyWords) -> bool
+    ensures { result ≡ name_nothing words.now }
+{
+    words.file.is_none() && words.hook.is_none() && words.maps.is_none() && words.format.is_none()
+}
+
+/// The values of `--hook`, as its refusal lists them.
+const HOOKS: &str = with_hooks!("");
+/// The values of `--format`, as its refusal lists them.
+const FORMATS: &str = with_versions!("");
+
+/// The hook that a word names, if there is a word.
+pub(crate) fn hook_in(alloc: Global, word: &Option<String>) -> Result<Option<Hook>, WordsFault>
+    ensures ok { IfOk result (SaysWord (λ bytes hook. hook_of bytes ≡ Some hook) (option_bytes word.now)) }
+    ensures taken { IfErr result (λ e. (named : Option Place) → SaysWord (λ bytes hook. hook_of bytes ≡ Some hook) (option_bytes word.now) named → e ≡ WordsFault.OutOfMemory) }
+{
+    let Some(word) = word else {
+        return Ok(None);
+    };
+    match Hook::of_word(word.as_bytes()) {
+        Some(hook) => Ok(Some(hook)),
+        None => Err(refused_value(alloc, "hook", word, HOOKS)),
+    }
+}
+
+/// The version that a word names, if there is a word.
+pub(crate) fn format_in(alloc: Global, word: &Option<String>) -> Result<Option<Version>, WordsFault>
+    ensures ok { IfOk result (SaysWord (λ bytes version. version_of bytes ≡ Some version) (option_bytes word.now)) }
+    ensures taken { IfErr result (λ e. (named : Option Number) → SaysWord (λ bytes version. version_of bytes ≡ Some version) (option_bytes word.now) named → e ≡ WordsFault.OutOfMemory) }
+{
+    let Some(word) = word else {
+        return Ok(None);
+    };
+    match Version::of_word(word.as_bytes()) {
+        Some(version) => Ok(Some(version)),
+        None => Err(refused_value(alloc, "format", word, FORMATS)),
+    }
+}

@@ -1,0 +1,81 @@
+//! `run`: one run of a policy, or several.
+ghost use Rattle.std.specs.Prelude.{◌≡◌, IfOk, codes};
+ghost use Rattle.clap.specs.Words.{first_of, found_of, rows_of};
+ghost use Rattle.bq_policy_commands.specs.Saying.{option_bytes};
+ghost use Rattle.bq_cli.specs.Words.{AreAll, AreRunWords, AreTellingWords};
+
+use crate::answer::written_answer;
+use crate::policy_words::policy_words;
+use bq_console::{all_words, is_set, whole_input, word};
+use bq_policy_commands::{RunWords, TellingWords};
+use bq_policy_runs::run;
+use clap::ArgMatches;
+use std::alloc::{AllocError, Global};
+use std::process::ExitCode;
+
+/// The words that were found.
+pub(crate) fn run_words(alloc: Global, matches: &ArgMatches<'_>) -> Result<RunWords, AllocError>
+    ensures { IfOk result (AreRunWords (rows_of (found_of matches.now))) }
+{
+    let policy = policy_words(alloc, matches)?;
+    let telling = telling_words(alloc, matches)?;
+    let context = word(alloc, matches, "ctx")?;
+    let (time, processor) = moment_words(alloc, matches)?;
+    let (fields, entries, counters) = begun_with(alloc, matches)?;
+    Ok(RunWords {
+        policy,
+        telling,
+        context,
+        fields,
+        entries,
+        counters,
+        time,
+        processor,
+    })
+}
+
+/// The time and the processor of a run.
+fn moment_words(
+    alloc: Global,
+    matches: &ArgMatches<'_>,
+) -> Result<(Option<String>, Option<String>), AllocError>
+    ensures { IfOk result (λ w. (option_bytes w.0 ≡ first_of (codes "time") (rows_of (found_of matches.now))) × (option_bytes w.1 ≡ first_of (codes "processor") (rows_of (found_of matches.now)))) }
+{
+    let time = word(alloc, matches, "time")?;
+    let processor = word(alloc, matches, "processor")?;
+    Ok((time, processor))
+}
+
+/// The fields, entries and counters that a run begins with.
+fn begun_with(
+    alloc: Global,
+    matches: &ArgMatches<'_>,
+) -> Result<(Vec<String>, Vec<String>, Vec<String>), AllocError>
+    ensures fields { IfOk result (λ w. AreAll (codes "set") (rows_of (found_of matches.now)) w.0.items) }
+    ensures entries { IfOk result (λ w. AreAll (codes "map") (rows_of (found_of matches.now)) w.1.items) }
+    ensures counters { IfOk result (λ w. AreAll (codes "counter") (rows_of (found_of matches.now)) w.2.items) }
+{
+    let fields = all_words(alloc, matches, "set")?;
+    let entries = all_words(alloc, matches, "map")?;
+    let counters = all_words(alloc, matches, "counter")?;
+    Ok((fields, entries, counters))
+}
+
+/// How a run is reported.
+fn telling_words(alloc: Global, matches: &ArgMatches<'_>) -> Result<TellingWords, AllocError>
+    ensures { IfOk result (AreTellingWords (rows_of (found_of matches.now))) }
+{
+    let repeat = word(alloc, matches, "repeat")?;
+    Ok(TellingWords {
+        is_traced: is_set(matches, "trace"),
+        repeat,
+    })
+}
+
+/// Runs the policy in the file that is named, or on standard input. The clock measures how long runs take.
+pub(crate) fn do_run(rt: &HostRuntime, words: &RunWords) -> ExitCode {
+    match whole_input(rt, &words.policy.file) {
+        Ok(bytes) => written_answer(rt, &run(rt.alloc(), rt, words, bytes.as_slice())),
+        Err(code) => code,
+    }
+}

@@ -1,0 +1,223 @@
+//! The commands and all their options: what clap takes, and what the help pages, the man page and the completion say.
+ghost use Rattle.std.specs.Prelude.{◌≡◌, IfOk};
+ghost use Rattle.clap.specs.Words.{app_of};
+ghost use Rattle.bq_console.specs.Tables.{with_commands};
+ghost use Rattle.bq_cli.specs.BqsimApp.{bqsim_app, machine_commands, policy_commands, program_commands};
+
+use crate::with_ticks;
+use bq_bpf::{with_helper, with_hooks, with_versions};
+use bq_console::tables::Given::{Alone, Flag, Needed, Often, Once};
+use bq_console::{CommandText, OptionText, with_commands};
+use bq_pictures::with_themes;
+use bq_timeline::{with_columns, with_forms};
+use bq_words::{with_rules, with_sizes};
+use clap::Command;
+use std::alloc::{AllocError, Global};
+
+/// The version of the program, which `--version` writes.
+pub const VERSION: &str = "0.2.0";
+
+/// A table of options: of each its name, how it is given, and what its help page says.
+macro_rules! options {
+    ($(($name:literal, $given:expr, $help:expr)),*) => {
+        &[$(OptionText {
+            name: $name,
+            given: $given,
+            help: $help,
+        }),*]
+    };
+}
+
+/// The text of `asm`, and the image that it is assembled to.
+const ASM_OPTIONS: &[OptionText] = options! {
+    ("file", Alone("FILE"), "The assembler text; standard input without it, or as -"),
+    ("hook", Once("HOOK"), with_hooks!("Writes an image for this hook: ")),
+    ("maps", Once("MAPS"), "The value size and the entries of each map, as in 8:2,16:4"),
+    ("format", Once("FORMAT"), with_versions!("The version of the image: ", "; 1 without this"))
+};
+
+/// A policy, and what its file leaves unsaid.
+const POLICY_OPTIONS: &[OptionText] = options! {
+    ("file", Alone("FILE"), "The policy: an image, its hex, or assembler text with ;@ lines that describe it; standard input without it, or as -"),
+    ("hook", Once("HOOK"), with_hooks!("The choice that the program makes, if the file does not say it: ")),
+    ("maps", Once("MAPS"), "The value size and the entries of each map, if the file does not say them, as in 8:2,16:4"),
+    ("format", Once("FORMAT"), with_versions!("The version of the image, if the file does not say it: ", "; 1 if neither says it"))
+};
+
+/// What `check` answers, and what it refuses.
+const CHECK_OPTIONS: &[OptionText] = options! {
+    ("explain", Flag, "Explains the verdict: for a refused policy its line, what is missing, what is known there and what helps"),
+    ("json", Flag, "Writes the answer and its explanation as one line of JSON"),
+    ("max-steps", Once("N"), "Refuses a policy whose runs may take more than N instructions"),
+    ("helpers", Once("LIST"), "Refuses a policy that calls a helper other than these, as in 1,2,5,8")
+};
+
+/// What `dis` writes.
+const DIS_OPTIONS: &[OptionText] = options! {
+    ("slots", Flag, "Writes beside each instruction its slot and its bytes, as a comment")
+};
+
+/// What a run begins with.
+const INPUT_OPTIONS: &[OptionText] = options! {
+    ("ctx", Once("HEX"), "The bytes of the context; all 0 without it"),
+    ("set", Often("FIELDS"), "Fields of the context by their names, as in task=3,mask=0x6,previous=none; other fields keep their bytes"),
+    ("map", Often("ENTRY"), "An entry of a map by the map's number and its own, as in 0:0=0a00; bytes that are left out are 0"),
+    ("time", Once("T"), with_helper!(NOW, "The time, which helper ", " answers: in nanoseconds, or with a unit, as in 5ms; 0 without it")),
+    ("processor", Once("P"), with_helper!(PROCESSOR, "The processor, which helper ", " answers; 0 without it")),
+    ("counter", Often("COUNTER"), "A counter before the run, as in 3=10; others are 0")
+};
+
+/// How a run is reported.
+const RUN_OPTIONS: &[OptionText] = options! {
+    ("trace", Flag, "Writes each instruction that the run executes, with its place and the registers that it changes"),
+    ("repeat", Once("N"), "Runs the policy N times, each time on the maps and counters that the run before left. Writes the last run with its calls of counters, the entries of maps that the runs changed, and the mean time of a run")
+};
+
+/// The section of `import`, and the image that it is for.
+const IMPORT_OPTIONS: &[OptionText] = options! {
+    ("file", Alone("FILE"), "The text section; standard input without it, or as -"),
+    ("hook", Needed("HOOK"), with_hooks!("The choice that the program makes: ")),
+    ("maps", Once("MAPS"), "The value size and the entries of each map, as in 8:2,16:4"),
+    ("format", Once("FORMAT"), with_versions!("The version of the image: ", "; 1 without this"))
+};
+
+/// What `par` runs.
+const PAR_OPTIONS: &[OptionText] = options! {
+    ("rule", Needed("RULE"), with_rules!("How processors choose: ")),
+    ("processors", Needed("PROCESSORS"), with_sizes!("How many processors there are: ", " (a mask has a bit for each, 64 in all)")),
+    ("ticks", Needed("TICKS"), with_ticks!("How often each of them ticks: ", " (the history keeps each tick)"))
+};
+
+/// The trace of `replay`.
+const REPLAY_OPTIONS: &[OptionText] = options! {
+    ("file", Alone("FILE"), "The trace; standard input without it, or as -")
+};
+
+/// The trace of `timeline`, and its form.
+const TIMELINE_OPTIONS: &[OptionText] = options! {
+    ("file", Alone("FILE"), "The trace; standard input without it, or as -"),
+    ("as", Once("FORM"), with_forms!("report (without it), "))
+};
+
+/// The part of a schedule that is shown.
+const PART_OPTIONS: &[OptionText] = options! {
+    ("from", Once("TIME"), "Shows only what happens from then on: 1500, 1.5ms, 2s; the figures of report and json stay those of the whole"),
+    ("to", Once("TIME"), "Shows only what happens up to then; the figures of report and json stay those of the whole"),
+    ("cpus", Once("LIST"), "Shows only these processors, as in 0-3,8"),
+    ("tasks", Once("LIST"), "Shows only these tasks, as in 1-3,9"),
+    ("width", Once("COLUMNS"), with_columns!("How wide a map is, ", " without it")),
+    ("theme", Once("THEME"), with_themes!("How an svg looks: light (without it), ")),
+    ("title", Once("TEXT"), "The title above an svg")
+};
+
+/// The workload of `simulate`, its machine and its seeds.
+const WORKLOAD_OPTIONS: &[OptionText] = options! {
+    ("file", Alone("FILE"), "The workload; standard input without it, or as -"),
+    ("discipline", Once("RULE"), with_rules!("How processors choose, in place of the workload's own: ")),
+    ("processors", Once("P"), with_sizes!("How many processors, in place of the workload's own: ")),
+    ("duration", Once("TIME"), "How long it runs, in place of the workload's own, as 500us or 2s"),
+    ("seed", Once("N"), "The seed of the lengths that are drawn, in place of the workload's own"),
+    ("seeds", Once("N"), "Runs it with this many seeds, from its own on, and shows means and deviations")
+};
+
+/// What help says of the policy at a hook.
+const HOOK_HELP: &str =
+    "The file of the policy at this hook of every processor (an image, its hex, or assembler text with its ;@ lines), or none, as without this";
+
+/// The policies of `simulate`, and its form.
+const SIMULATE_OPTIONS: &[OptionText] = options! {
+    ("place", Once("POLICY"), HOOK_HELP),
+    ("preempt", Once("POLICY"), HOOK_HELP),
+    ("pull", Once("POLICY"), HOOK_HELP),
+    ("against", Often("POLICY"), "Runs the same seeds again with these policies instead, or with none, and shows both side by side; given once for each policy"),
+    ("as", Once("FORM"), with_forms!("report (without it), trace, "))
+};
+
+/// The commands on programs.
+static PROGRAM_COMMANDS: [CommandText<'static>; 2] = [
+    CommandText {
+        name: "asm",
+        about: "Reads an assembler text and writes the hex of its program",
+        options: &[ASM_OPTIONS],
+    },
+    CommandText {
+        name: "import",
+        about: "Reads the text section of a compiled program, as bytes or as hex, and writes it as an assembler text",
+        options: &[IMPORT_OPTIONS],
+    },
+];
+
+/// The commands on policies.
+static POLICY_COMMANDS: [CommandText<'static>; 3] = [
+    CommandText {
+        name: "check",
+        about: "Says whether a policy is accepted, and if not, why; without file and options it reads the hex of an image from standard input and writes its hook and its budget",
+        options: &[POLICY_OPTIONS, CHECK_OPTIONS],
+    },
+    CommandText {
+        name: "dis",
+        about: "Lists a policy under the marks that describe it; without file and options it reads the hex of a program from standard input and writes its listing",
+        options: &[POLICY_OPTIONS, DIS_OPTIONS],
+    },
+    CommandText {
+        name: "run",
+        about: "Runs an accepted policy once, and says what it answered, whether that is permitted, how many instructions it took, and which maps and counters changed",
+        options: &[POLICY_OPTIONS, INPUT_OPTIONS, RUN_OPTIONS],
+    },
+];
+
+/// The commands on machines and their traces.
+static MACHINE_COMMANDS: [CommandText<'static>; 4] = [
+    CommandText {
+        name: "par",
+        about: "Runs processors by threads of their own, and says how long their one history is",
+        options: &[PAR_OPTIONS],
+    },
+    CommandText {
+        name: "replay",
+        about: "Reads a trace and writes the reply to each line",
+        options: &[REPLAY_OPTIONS],
+    },
+    CommandText {
+        name: "timeline",
+        about: "Reads a trace and shows its schedule in a form that people read",
+        options: &[TIMELINE_OPTIONS, PART_OPTIONS],
+    },
+    CommandText {
+        name: "simulate",
+        about: "Runs a workload and shows its schedule, or writes it as a trace",
+        options: &[WORKLOAD_OPTIONS, SIMULATE_OPTIONS, PART_OPTIONS],
+    },
+];
+
+/// The program with its commands. The words come without its name.
+pub fn program<'a>(alloc: Global) -> Result<Command<'a>, AllocError>
+    ensures { IfOk result (λ c. app_of c ≡ bqsim_app) }
+{
+    let program = bq_console::program(
+        alloc,
+        "Simulates processors that choose among their tasks as CFS and EEVDF do",
+        VERSION,
+    )?;
+    let program = with_program_commands(alloc, program)?;
+    let program = with_policy_commands(alloc, program)?;
+    with_machine_commands(alloc, program)
+}
+
+fn with_program_commands<'a>(alloc: Global, program: Command<'a>) -> Result<Command<'a>, AllocError>
+    ensures { IfOk result (λ c. app_of c ≡ with_commands (app_of program.entry) program_commands) }
+{
+    with_commands(alloc, program, &PROGRAM_COMMANDS)
+}
+
+fn with_policy_commands<'a>(alloc: Global, program: Command<'a>) -> Result<Command<'a>, AllocError>
+    ensures { IfOk result (λ c. app_of c ≡ with_commands (app_of program.entry) policy_commands) }
+{
+    with_commands(alloc, program, &POLICY_COMMANDS)
+}
+
+fn with_machine_commands<'a>(alloc: Global, program: Command<'a>) -> Result<Command<'a>, AllocError>
+    ensures { IfOk result (λ c. app_of c ≡ with_commands (app_of program.entry) machine_commands) }
+{
+    with_commands(alloc, program, &MACHINE_COMMANDS)
+}

@@ -1,0 +1,84 @@
+//! `timeline`: the schedule of a trace, in a form that people read.
+ghost use Rattle.std.specs.Prelude.{IfOk};
+ghost use Rattle.clap.specs.Words.{found_of, rows_of};
+ghost use Rattle.bq_cli.specs.Words.{AreTimelineWords};
+ghost use Rattle.bq_timeline.specs.Settings.{AsksFor};
+
+use bq_console::{WordsFault, ended, file_named, refused_words, say_unread, waiting_input, word};
+use bq_streams::{Counted, Kept};
+use bq_timeline::{Settings, SettingsFault, Words, show};
+use clap::ArgMatches;
+use std::alloc::{AllocError, Global};
+use std::fs;
+use std::io::Read;
+use std::process::ExitCode;
+
+/// The words that were found for a trace or a workload, and how it is shown.
+pub(crate) fn timeline_words(alloc: Global, matches: &ArgMatches<'_>) -> Result<Words, AllocError>
+    ensures { IfOk result (AreTimelineWords (rows_of (found_of matches.now))) }
+{
+    let file = word(alloc, matches, "file")?;
+    let form = word(alloc, matches, "as")?;
+    let from = word(alloc, matches, "from")?;
+    let to = word(alloc, matches, "to")?;
+    let cpus = word(alloc, matches, "cpus")?;
+    let tasks = word(alloc, matches, "tasks")?;
+    let width = word(alloc, matches, "width")?;
+    let theme = word(alloc, matches, "theme")?;
+    let title = word(alloc, matches, "title")?;
+    Ok(Words {
+        file,
+        form,
+        from,
+        to,
+        cpus,
+        tasks,
+        width,
+        theme,
+        title,
+    })
+}
+
+/// What the words ask for.
+fn settings(alloc: Global, words: &Words) -> Result<Settings, WordsFault>
+    ensures { IfOk result (AsksFor words.now) }
+{
+    match Settings::of(alloc, words) {
+        Ok(settings) => Ok(settings),
+        Err(SettingsFault::OutOfMemory) => Err(WordsFault::OutOfMemory),
+        Err(fault) => Err(refused_words(alloc, &fault)),
+    }
+}
+
+/// Shows the trace in the file that is named, or on standard input.
+pub(crate) fn do_timeline(rt: &HostRuntime, words: &Words) -> Result<ExitCode, WordsFault> {
+    let settings = settings(rt.alloc(), words)?;
+    let Some(path) = file_named(&words.file) else {
+        return Ok(show_from(rt, settings, None, waiting_input(rt)));
+    };
+    match fs::open(rt, path) {
+        Ok(trace) => Ok(show_from(rt, settings, Some(path), trace)),
+        Err(error) => Ok(say_unread(rt, Some(path), &error)),
+    }
+}
+
+/// Shows the trace that is read from the file of that name, or from standard input.
+fn show_from<R: Read + Drop>(
+    rt: &HostRuntime,
+    settings: Settings,
+    name: Option<&str>,
+    reader: R,
+) -> ExitCode {
+    let mut input = Counted::new(Kept::new(reader));
+    let mut output = Counted::new(Kept::new(rt.stdout()));
+    let mut errors = rt.stderr();
+    let outcome = match show(rt.alloc(), settings, &mut input, &mut output, &mut errors) {
+        Ok(outcome) => {
+            let notes = outcome.notes;
+            let _ = eprint!(rt; "{notes}");
+            Ok(outcome.clean)
+        }
+        Err(fault) => Err(fault),
+    };
+    ended(rt, name, &outcome, input, output)
+}

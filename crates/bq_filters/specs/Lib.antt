@@ -1,4 +1,0 @@
-pub mod AsmApp
-pub mod Asked
-pub mod FileWords
-pub mod Filtering

@@ -1,8 +1,0 @@
-use Rattle.std.proofs.Common.{◌≡◌, drop}
-use Rattle.clap.specs.Words.{app_of}
-use Rattle.bq_options.specs.Tables.{with_commands}
-use Rattle.bq_options.proofs.tables.with_commands.Given as goal
-
--- the commands that are left lead where all lead
-abbrev pub invariant-commands : goal.invariant-commands
-invariant-commands l = with_commands (app_of l.program) (drop l.text-index l.texts) ≡ with_commands (app_of l.initial.program) l.texts

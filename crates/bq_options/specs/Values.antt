@@ -1,6 +1,0 @@
--- Values of options.
-use Rattle.std.specs.Prelude.{ℕ, List, ◌++◌, codes}
-
--- the text that refuses the value of an option beside those that it takes
-abbrev pub refusal : List ℕ → List ℕ → List ℕ → List ℕ
-refusal option value taken = codes "error: invalid value '" ++ (value ++ (codes "' for '--" ++ (option ++ (codes "'\n  [possible values: " ++ (taken ++ codes "]\n\nFor more information, try '--help'.\n")))))

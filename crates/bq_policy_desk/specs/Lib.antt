@@ -1,5 +1,0 @@
-pub mod Asked
-pub mod Desk
-pub mod PolicyApp
-pub mod Requests
-pub mod Status

@@ -1,4 +1,0 @@
-pub mod ImportApp
-pub mod ImportAsked
-pub mod ImportText
-pub mod ImportWords
