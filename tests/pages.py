@@ -4,8 +4,8 @@
     tests/pages.py BQSIM            compares docs/bqsim.1 and docs/bqsim.bash with what the help of BQSIM makes
     tests/pages.py BQSIM --write    writes both
 
-BQSIM is the path of the program. Its commands are those that `bqsim --help` lists and those of MORE, and each command's words
-are those of `bqsim COMMAND --help`. Write both again where a help text changes.
+BQSIM is the path of the program. Its commands are those that `bqsim --help` lists, and each command's words are those of
+`bqsim COMMAND --help`. Write both again if a help text changes.
 """
 import re
 import subprocess
@@ -14,14 +14,13 @@ from pathlib import Path
 
 TOP = Path(__file__).resolve().parent.parent
 PAGE, COMPLETION = TOP / "docs" / "bqsim.1", TOP / "docs" / "bqsim.bash"
-MORE = ["run"]  # commands that take their words themselves, and that the list of the program may not have
 FILES = ["asm", "check", "dis", "import", "replay", "run", "simulate", "timeline"]  # commands that take a file
 STATUSES = [
-    ("0", "well"),
-    ("1", "a bad line in a trace, of timeline a refused one too; what asm, dis, check, run, import or simulate refuses"),
+    ("0", "all is well"),
+    ("1", "a bad line in a trace, for timeline also a refused one; what asm, dis, check, run, import or simulate refuses"),
     ("2", "the words are refused, or ask for help; the text is on standard error"),
-    ("3", "want of memory"),
-    ("4", "a read or a write failed, or a file can't be opened; standard error tells the reason"),
+    ("3", "memory ran out"),
+    ("4", "a read or a write failed, or a file can't be opened; standard error says why"),
 ]
 
 
@@ -113,7 +112,7 @@ def main():
         sys.exit(__doc__)
     bqsim = sys.argv[1]
     program = helped(bqsim)
-    names = {words for words, _ in program.lists["Commands"]} - {"help"} | set(MORE)
+    names = {words for words, _ in program.lists["Commands"]} - {"help"}
     commands = {name: helped(bqsim, name) for name in sorted(names)}
     made = {PAGE: page(program, commands), COMPLETION: completion(commands)}
     for path, text in made.items():

@@ -1,5 +1,5 @@
 -- The words of each command: the values that clap found for its options.
-use Rattle.std.specs.Prelude.{◌≡◌, ◌↔◌, ◌&&◌, ℕ, Bool, IsTrue, List, [], Option, Some, String, codes, is_some, map, not, option_and_then, string_bytes, unwrap_or}
+use Rattle.std.specs.Prelude.{◌≡◌, ◌↔◌, ◌+◌, ◌&&◌, ℕ, Bool, IsTrue, List, [], Option, Some, String, codes, is_some, map, not, option_and_then, string_bytes, unwrap_or}
 use Rattle.std.specs.declared.alloc.Global.{Global}
 use Rattle.clap.specs.Words.{Row, Text, all_of, first_of}
 use Rattle.bq_bpf.specs.Hooks.{hook_of, version_of}
