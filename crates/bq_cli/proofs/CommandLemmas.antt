@@ -4,15 +4,14 @@ use Rattle.std.specs.Prelude.{IfOk, option_map, codes, slice_index_or}
 use Rattle.std.proofs.lemmas.Option.{same_Some}
 use Rattle.clap.specs.Words.{Row, Text}
 use Rattle.bq_cli.specs.Commands.{HasValues, name_of}
-use Rattle.bq_cli.specs.Words.{AreAsmWords, IsParallel}
-use Rattle.bq_cli.specs.declared.asm.AsmWords.{AsmWords}
+use Rattle.bq_cli.specs.Words.{IsParallel}
 use Rattle.bq_cli.specs.declared.command.Command.{Command}
 use Rattle.bq_cli.specs.declared.command.Command.TheVariants.{Asm, Check, Dis, Import, Par, Replay, Run, Simulate, Timeline}
 use Rattle.bq_cli.specs.declared.par.Parallel.{Parallel}
 
--- a letter of a name
-abbrev letter : ℕ → Text → ℕ
-letter place text = slice_index_or text place 0
+-- the first letter of a name
+abbrev first : Text → ℕ
+first text = slice_index_or text 0 0
 
 -- a name and its rows, of an entry that is there
 pub name_and_rows_of_entry : {B : Type 0} (o : Option B) (f : B → Text) (g : B → List Row) (word name : Text) (rows rows' : List Row) → option_map f o ≡ Some word → option_map (λ (p : Text × List Row). p.1) (option_map {U = Text × List Row} (λ b. (f b, g b)) o) ≡ Some rows' → option_map {U = Text × List Row} (λ b. (f b, g b)) o ≡ Some (name, rows) → (name ≡ word) × (rows ≡ rows')
@@ -23,29 +22,17 @@ name_and_rows_of_entry (Some x) f g word name rows rows' a b e =
     let same : g x ≡ rows = ap (λ (p : Text × List Row). p.1) pair in
     (sym names ∙ same_Some (f x) word a, sym same ∙ same_Some (g x) rows' b)
 
--- only `asm` has its name
-pub only_asm_has_its_name : (rows rows' : List Row) (c : Command) (Out : Type 0) → name_of c ≡ codes "asm" → rows ≡ rows' → HasValues rows c → ((w : AsmWords) → AreAsmWords rows' w → Out) → Out
-only_asm_has_its_name rows rows' (Asm w) Out is same given k = k w (subst (λ r. AreAsmWords r w) same given)
-only_asm_has_its_name rows rows' (Check w) Out is same given k = let letters : 99 ≡ 97 = ap (letter 0) is in absurd (omega (arith, letters))
-only_asm_has_its_name rows rows' (Dis w) Out is same given k = let letters : 100 ≡ 97 = ap (letter 0) is in absurd (omega (arith, letters))
-only_asm_has_its_name rows rows' (Run w) Out is same given k = let letters : 114 ≡ 97 = ap (letter 0) is in absurd (omega (arith, letters))
-only_asm_has_its_name rows rows' (Import w) Out is same given k = let letters : 105 ≡ 97 = ap (letter 0) is in absurd (omega (arith, letters))
-only_asm_has_its_name rows rows' (Par p) Out is same given k = let letters : 112 ≡ 97 = ap (letter 0) is in absurd (omega (arith, letters))
-only_asm_has_its_name rows rows' (Replay w) Out is same given k = let letters : 114 ≡ 97 = ap (letter 0) is in absurd (omega (arith, letters))
-only_asm_has_its_name rows rows' (Timeline w) Out is same given k = let letters : 116 ≡ 97 = ap (letter 0) is in absurd (omega (arith, letters))
-only_asm_has_its_name rows rows' (Simulate w) Out is same given k = let letters : 115 ≡ 97 = ap (letter 0) is in absurd (omega (arith, letters))
-
 -- only `par` has its name
 pub only_par_has_its_name : (rows rows' : List Row) (c : Command) (Out : Type 0) → name_of c ≡ codes "par" → rows ≡ rows' → HasValues rows c → ((p : Parallel) → IsParallel rows' p → Out) → Out
-only_par_has_its_name rows rows' (Asm w) Out is same given k = let letters : 97 ≡ 112 = ap (letter 0) is in absurd (omega (arith, letters))
-only_par_has_its_name rows rows' (Check w) Out is same given k = let letters : 99 ≡ 112 = ap (letter 0) is in absurd (omega (arith, letters))
-only_par_has_its_name rows rows' (Dis w) Out is same given k = let letters : 100 ≡ 112 = ap (letter 0) is in absurd (omega (arith, letters))
-only_par_has_its_name rows rows' (Run w) Out is same given k = let letters : 114 ≡ 112 = ap (letter 0) is in absurd (omega (arith, letters))
-only_par_has_its_name rows rows' (Import w) Out is same given k = let letters : 105 ≡ 112 = ap (letter 0) is in absurd (omega (arith, letters))
+only_par_has_its_name rows rows' (Asm w) Out is same given k = let letters : 97 ≡ 112 = ap first is in absurd (omega (arith, letters))
+only_par_has_its_name rows rows' (Check w) Out is same given k = let letters : 99 ≡ 112 = ap first is in absurd (omega (arith, letters))
+only_par_has_its_name rows rows' (Dis w) Out is same given k = let letters : 100 ≡ 112 = ap first is in absurd (omega (arith, letters))
+only_par_has_its_name rows rows' (Run w) Out is same given k = let letters : 114 ≡ 112 = ap first is in absurd (omega (arith, letters))
+only_par_has_its_name rows rows' (Import w) Out is same given k = let letters : 105 ≡ 112 = ap first is in absurd (omega (arith, letters))
 only_par_has_its_name rows rows' (Par p) Out is same given k = k p (subst (λ r. IsParallel r p) same given)
-only_par_has_its_name rows rows' (Replay w) Out is same given k = let letters : 114 ≡ 112 = ap (letter 0) is in absurd (omega (arith, letters))
-only_par_has_its_name rows rows' (Timeline w) Out is same given k = let letters : 116 ≡ 112 = ap (letter 0) is in absurd (omega (arith, letters))
-only_par_has_its_name rows rows' (Simulate w) Out is same given k = let letters : 115 ≡ 112 = ap (letter 0) is in absurd (omega (arith, letters))
+only_par_has_its_name rows rows' (Replay w) Out is same given k = let letters : 114 ≡ 112 = ap first is in absurd (omega (arith, letters))
+only_par_has_its_name rows rows' (Timeline w) Out is same given k = let letters : 116 ≡ 112 = ap first is in absurd (omega (arith, letters))
+only_par_has_its_name rows rows' (Simulate w) Out is same given k = let letters : 115 ≡ 112 = ap first is in absurd (omega (arith, letters))
 
 -- what holds anyway holds of a value
 pub IfOk-anyhow : {T E P : Type 0} (r : Result T E) → P → IfOk r (λ _. P)

@@ -4,20 +4,22 @@
 use bq_cli::{execute, job, write_version};
 use bq_console::{WordsFault, as_texts, given_words, say_refused};
 use std::process::ExitCode;
+use std::sync::Wait;
+use std::thread::Threads;
 
 fn main(rt: HostRuntime) -> ExitCode {
-    match done(&rt) {
+    match done(&rt, &rt) {
         Ok(code) => code,
         Err(fault) => say_refused(&rt, &fault),
     }
 }
 
 /// Does what the words after the program's name ask. The version goes to standard output: it is no refusal and no help.
-fn done(rt: &HostRuntime) -> Result<ExitCode, WordsFault> {
+fn done<T: Threads + Wait + Sync>(rt: &HostRuntime, threads: &T) -> Result<ExitCode, WordsFault> {
     let given = given_words(rt)?;
     let words = as_texts(rt.alloc(), &given)?;
     match words.as_slice() {
         ["--version" | "-V"] => Ok(write_version(rt)),
-        words => execute(rt, rt, &job(rt.alloc(), words)?),
+        words => execute(rt, threads, &job(rt.alloc(), words)?),
     }
 }
