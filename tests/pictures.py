@@ -113,7 +113,7 @@ def check_palette(name, palette):
 def rules_of(palette):
     """The rules that tell the colours of a palette, without the name of the picture."""
     rules = {f".c{at}": f"fill:{task};stroke:{task}" for at, task in enumerate(palette["tasks"])}
-    rules |= {f".l{at}": f"fill:{letters}" for at, letters in enumerate(palette["letters"])}
+    rules |= {f".l{at}": f"fill:{pair[0]};stroke:{pair[1]}" for at, pair in enumerate(zip(palette["letters"], palette["tasks"]))}
     rules |= {"text": f"fill:{palette['ink'][0]}", ".small": f"fill:{palette['faint'][0]}"}
     return rules | {".page": f"fill:{palette['page'][0]}", ".band": f"fill:{palette['band'][0]}"}
 

@@ -1,4 +1,5 @@
 //! The styles of a picture, and the hatches of its waits. Each rule and each id begins with the name of the picture.
+ghost use Rattle.std.specs.Prelude.{◌<◌};
 
 use crate::colours::{COLOURS, DARK, LIGHT, Palette};
 use crate::picture_name::PictureName;
@@ -29,7 +30,7 @@ const SHAPES: [&str; 13] = [
     "text{font:16px system-ui,-apple-system,'Segoe UI',Roboto,Helvetica,Arial,sans-serif}",
     ".title{font-size:22px;font-weight:600}",
     ".cpu{font-weight:600}",
-    ".in{text-anchor:middle;font-weight:600;pointer-events:none}",
+    ".in{text-anchor:middle;font-weight:600;pointer-events:none;paint-order:stroke;stroke-width:5px;stroke-linejoin:round}",
     ".middle{text-anchor:middle}",
     ".grid{stroke-width:1}",
     ".run{stroke:none}",
@@ -55,7 +56,7 @@ fn write_colours(
     write_stroke(name, ".halo", palette.page, text)?;
     for place in 0..COLOURS {
         write_task(name, place, palette.tasks[place], text)?;
-        write_letters(name, place, palette.letters[place], text)?;
+        write_letters(name, place, palette, text)?;
     }
     Ok(())
 }
@@ -92,14 +93,18 @@ fn write_task(
     )
 }
 
-/// The colour of what is written on tasks of a colour.
+/// The colour of what is written on tasks of a colour, with an edge in that colour, so that no line runs through it.
 fn write_letters(
     name: PictureName,
     place: usize,
-    colour: &str,
+    palette: &Palette,
     text: &mut String,
-) -> Result<(), AllocError> {
-    write!(text, ".{name} .l{place}{{fill:{colour}}}\n")
+) -> Result<(), AllocError>
+    requires { place < 8 }
+{
+    let letters = palette.letters[place];
+    let task = palette.tasks[place];
+    write!(text, ".{name} .l{place}{{fill:{letters};stroke:{task}}}\n")
 }
 
 /// The hatches of the colours, and the page.
