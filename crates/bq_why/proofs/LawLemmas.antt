@@ -1,18 +1,17 @@
 -- What is said of a choice is so.
-use Rattle.std.proofs.Common.{◌≡◌, ℕ, ◌+◌, ◌*◌, ◌/◌, ◌%◌, ◌≤◌, ◌<◌, Bool, true, false, cond, List, [], ◌∷◌, length, reverse, filter, Option, Some, None, refl, ap, sym, ◌∙◌, nat_le, arith}
+use Rattle.std.proofs.Common.{◌≡◌, ℕ, ◌+◌, ◌*◌, ◌/◌, ◌≤◌, ◌<◌, Bool, true, false, cond, List, [], ◌∷◌, length, filter, Some, None, refl, nat_le, arith}
 use Rattle.std.specs.Prelude.{Contains, IfSome, is_some, find, ◌==◌, if◌then◌else◌}
 use Rattle.std.proofs.lemmas.Bool.Decides.{nat_tests}
 use Rattle.std.proofs.lemmas.List.{length-reverse}
 use Rattle.std.proofs.lemmas.Nat.{le-div, div-add-mod'}
 use Rattle.std.proofs.Math.Nat.{mul-le-mul_left}
-use Rattle.bq_words.specs.declared.rule.Rule.{Rule}
 use Rattle.bq_words.specs.declared.rule.Rule.TheVariants.{Cfs, Eevdf}
 use Rattle.bq_disc.specs.Tasks.{Task, first_by, runs_before}
 use Rattle.bq_disc.specs.Dues.{due_before}
 use Rattle.bq_disc.specs.Queues.{can_use}
 use Rattle.bq_disc.specs.Orders.{Contains-first, Contains-later}
-use Rattle.bq_disc.specs.Pulls.{pulled_before, movable, pull_of}
-use Rattle.bq_disc.specs.Totals.{total_weight, weighted_sum, is_at_most_mean, mean_of}
+use Rattle.bq_disc.specs.Pulls.{pulled_before, movable}
+use Rattle.bq_disc.specs.Totals.{total_weight, weighted_sum, is_at_most_mean}
 use Rattle.bq_disc.proofs.SetLemmas.{IfSome-weaker}
 use Rattle.bq_cfs.specs.Cfs.{cfs}
 use Rattle.bq_cfs.proofs.LeastLemmas.{choice_is_least}

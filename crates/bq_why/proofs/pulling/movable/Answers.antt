@@ -1,4 +1,4 @@
-use Rattle.std.proofs.Common.{◌<◌, ◌-◌, drop, length-drop, arith}
+use Rattle.std.proofs.Common.{drop, length-drop, arith}
 use Rattle.bq_disc.proofs.MovableLemmas.{few_movable}
 use Rattle.bq_why.proofs.pulling.movable.Goals as goal
 
