@@ -1,18 +1,17 @@
 -- What is said of a choice is so.
-use Rattle.std.proofs.Common.{◌≡◌, ℕ, ◌+◌, ◌*◌, ◌/◌, ◌%◌, ◌≤◌, ◌<◌, Bool, true, false, cond, List, [], ◌∷◌, length, reverse, filter, Option, Some, None, refl, ap, sym, ◌∙◌, nat_le, arith}
+use Rattle.std.proofs.Common.{◌≡◌, ℕ, ◌+◌, ◌*◌, ◌/◌, ◌≤◌, ◌<◌, Bool, true, false, cond, List, [], ◌∷◌, length, filter, Some, None, refl, nat_le, arith}
 use Rattle.std.specs.Prelude.{Contains, IfSome, is_some, find, ◌==◌, if◌then◌else◌}
 use Rattle.std.proofs.lemmas.Bool.Decides.{nat_tests}
 use Rattle.std.proofs.lemmas.List.{length-reverse}
 use Rattle.std.proofs.lemmas.Nat.{le-div, div-add-mod'}
 use Rattle.std.proofs.Math.Nat.{mul-le-mul_left}
-use Rattle.bq_words.specs.declared.rule.Rule.{Rule}
 use Rattle.bq_words.specs.declared.rule.Rule.TheVariants.{Cfs, Eevdf}
 use Rattle.bq_disc.specs.Tasks.{Task, first_by, runs_before}
 use Rattle.bq_disc.specs.Dues.{due_before}
 use Rattle.bq_disc.specs.Queues.{can_use}
 use Rattle.bq_disc.specs.Orders.{Contains-first, Contains-later}
-use Rattle.bq_disc.specs.Pulls.{pulled_before, movable, pull_of}
-use Rattle.bq_disc.specs.Totals.{total_weight, weighted_sum, is_at_most_mean, mean_of}
+use Rattle.bq_disc.specs.Pulls.{pulled_before, movable}
+use Rattle.bq_disc.specs.Totals.{total_weight, weighted_sum, is_at_most_mean}
 use Rattle.bq_disc.proofs.SetLemmas.{IfSome-weaker}
 use Rattle.bq_cfs.specs.Cfs.{cfs}
 use Rattle.bq_cfs.proofs.LeastLemmas.{choice_is_least}
@@ -30,6 +29,7 @@ quotient_tests w v s l =
     let down : v ≤ s / w → w * v ≤ s = λ h. (let k = mul-le-mul_left w h in omega (arith, k, whole)) in
     grind (arith, nat_tests, up, down)
 
+-- a task is eligible exactly where its v is at most the mean
 pub eligible_up_to_the_mean : EligibleUpToTheMean
 eligible_up_to_the_mean [] t mean l e = cc
 eligible_up_to_the_mean (x ∷ xs) t mean l e =
@@ -55,13 +55,14 @@ lower_under_eevdf w s t u h k = grind (arith, nat_tests)
 tied_is_eligible : (w s : ℕ) (t u : Task) → is_tied Eevdf w s t u ≡ true → is_at_most_mean w s u ≡ true
 tied_is_eligible w s t u h = grind (arith, nat_tests)
 
+-- the choice has a lower id than a task that only the id tells apart from it
 pub lower_id_wins : LowerIdWins
 lower_id_wins Cfs xs =
     let w = total_weight xs in
     let s = weighted_sum xs in
     IfSome-weaker (cfs.choice xs) (λ t. Contains xs t × ((u : Task) → Contains xs u → runs_before u t ≡ false)) (λ t. IfSome (tied_with Cfs t xs) (λ u. t.id < u.id))
     (λ t h. IfSome-weaker (find (is_tied Cfs w s t) xs) (λ u. Contains xs u × (is_tied Cfs w s t u ≡ true)) (λ u. t.id < u.id)
-        (λ u k. lower_under_cfs w s t u k.1 (h.1 u k.0)) (find_found (is_tied Cfs w s t) xs))
+    (λ u k. lower_under_cfs w s t u k.1 (h.1 u k.0)) (find_found (is_tied Cfs w s t) xs))
     (choice_is_least xs)
 lower_id_wins Eevdf xs =
     let w = total_weight xs in
@@ -69,13 +70,15 @@ lower_id_wins Eevdf xs =
     IfSome-weaker (eevdf.choice xs) (λ t. Contains xs t × (is_eligible xs t ≡ true) × ((u : Task) → Contains xs u → is_eligible xs u ≡ true → due_before u t ≡ false))
     (λ t. IfSome (tied_with Eevdf t xs) (λ u. t.id < u.id))
     (λ t h. IfSome-weaker (find (is_tied Eevdf w s t) xs) (λ u. Contains xs u × (is_tied Eevdf w s t u ≡ true)) (λ u. t.id < u.id)
-        (λ u k. lower_under_eevdf w s t u k.1 (h.2 u k.0 (tied_is_eligible w s t u k.1))) (find_found (is_tied Eevdf w s t) xs))
+    (λ u k. lower_under_eevdf w s t u k.1 (h.2 u k.0 (tied_is_eligible w s t u k.1))) (find_found (is_tied Eevdf w s t) xs))
     (choice_is_earliest xs)
 
+-- a task is taken where the sizes allow it and one may go
 taken_where_some : (b : Bool) (xs : List Task) (n : ℕ) → n ≡ length xs → is_taken (if b then (if n == 0 then NoneMayGo else Greatest) else TooFew) ≡ is_some (if b then first_by pulled_before xs else None)
 taken_where_some false xs n e = refl
 taken_where_some true [] n e = rw e refl
-taken_where_some true (x ∷ xs) n e = rw e refl
+taken_where_some true (x ∷ xs) n e = let some : (n == 0) ≡ false = grind (arith, nat_tests) in rw some refl
 
+-- the discipline takes a task exactly where that is said
 pub names_the_pull : NamesThePull
 names_the_pull puller size other queue = taken_where_some (nat_le (size + 2) other) (movable puller queue) _ (length-reverse (filter (can_use puller) queue))

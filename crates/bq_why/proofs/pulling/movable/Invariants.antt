@@ -1,4 +1,4 @@
-use Rattle.std.proofs.Common.{◌≡◌, ◌≤◌, drop, length}
+use Rattle.std.proofs.Common.{◌≤◌, drop, length}
 use Rattle.bq_disc.specs.Movable.{Adds}
 use Rattle.bq_why.proofs.pulling.movable.Given as goal
 
