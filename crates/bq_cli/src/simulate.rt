@@ -100,10 +100,10 @@ struct Simulation {
 }
 
 /// What the words ask for.
-fn simulation(alloc: Global, words: &StudyWords) -> Result<Simulation, WordsFault>
+fn simulation_of(alloc: Global, words: &StudyWords) -> Result<Simulation, WordsFault>
     ensures { IfOk result (AskToSimulate words.now) }
 {
-    let shown = shown(alloc, words)?;
+    let shown = shown_of(alloc, words)?;
     match asked_changes(words) {
         Ok(changes) => Ok(Simulation { shown, changes }),
         Err(fault) => Err(asked_fault(alloc, fault)),
@@ -111,7 +111,7 @@ fn simulation(alloc: Global, words: &StudyWords) -> Result<Simulation, WordsFaul
 }
 
 /// What the words ask to be shown.
-fn shown(alloc: Global, words: &StudyWords) -> Result<Shown, WordsFault>
+fn shown_of(alloc: Global, words: &StudyWords) -> Result<Shown, WordsFault>
     ensures { IfOk result (IsShown words.now) }
 {
     match asked_comparison(alloc, words) {
@@ -142,7 +142,7 @@ pub(crate) fn do_simulate<T: Threads + Sync>(
     threads: &T,
     words: &StudyWords,
 ) -> Result<ExitCode, WordsFault> {
-    let simulation = simulation(rt.alloc(), words)?;
+    let simulation = simulation_of(rt.alloc(), words)?;
     match simulated(rt, threads, words, simulation) {
         Ok(code) => Ok(code),
         Err(code) => Ok(code),
