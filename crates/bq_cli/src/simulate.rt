@@ -72,9 +72,9 @@ fn machine_words(alloc: Global, matches: &ArgMatches<'_>) -> Result<MachineWords
 fn hook_words(alloc: Global, matches: &ArgMatches<'_>) -> Result<HookWords, AllocError>
     ensures { IfOk result (AreHookWords (rows_of (found_of matches.now))) }
 {
-    let place = word(alloc, matches, "place")?;
-    let preempt = word(alloc, matches, "preempt")?;
-    let pull = word(alloc, matches, "pull")?;
+    let place = word(alloc, matches, Hook::Place.word())?;
+    let preempt = word(alloc, matches, Hook::Preempt.word())?;
+    let pull = word(alloc, matches, Hook::Pull.word())?;
     Ok(HookWords {
         place,
         preempt,
