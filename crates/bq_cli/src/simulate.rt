@@ -1,5 +1,5 @@
 //! `simulate`: a workload that is run and shown, or run with several seeds and beside other policies.
-ghost use Rattle.std.specs.Prelude.{◌≡◌, IfOk, codes};
+ghost use Rattle.std.specs.Prelude.{IfOk};
 ghost use Rattle.clap.specs.Words.{found_of, rows_of};
 ghost use Rattle.bq_cli.specs.Simulating.{AskToSimulate, IsShown};
 ghost use Rattle.bq_cli.specs.Words.{AreHookWords, AreMachineWords, AreSimulateWords};
