@@ -81,7 +81,7 @@ FACTS = [
     ('the three decimals of thousandths', r'/ 100 % 10\b', {'bq_forms/src/amounts.rt'}),
     ('which shapes maps have', r'8 to 256|\b1 to 256|\b(?:at most|more than|has) 8\b', {'bq_bpf/src/shape.rt'}),
     ('what a wrong hook or version is said to be', r'no such (?:hook|format)|is no hook|is no format|hooks are|formats are', {'bq_bpf/src/hook.rt'}),
-    ('how often a processor ticks in `par`', r'0 to 1000000\b', {'bq_cli/src/asked.rt'}),
+    ('how often a processor ticks in `par`', r'0 to 1000000\b', {'bq_cli/src/par.rt'}),
     ('how many seeds there may be', r'1 to 1000\b', set()),
     ('how many waits of a processor are drawn', r'LANES: usize', {'bq_pictures/src/lanes.rt'}),
 ]
@@ -109,6 +109,7 @@ ALLOWED = {
     'which helpers are of counters: bq_interp/src/counters.rt': 'asked at each call of a run, of the number alone, by a function that stands in its loop',
     'the word of a hook: bq_forms/src/summary.rt': 'keys of a form in JSON, which stay what they are whatever traces call a hook',
     'the word of a hook: bq_forms/src/tables.rt': 'the column of a report, which stays what it is whatever traces call a hook',
+    'the word of a hook: bq_cli/src/tables.rt': 'names of options in a table, which only literals can be; the words of `simulate` are read by `Hook::word`, and the contract holds the two together',
     'the word of a hook: bq_lines/src/keyword.rt': 'the keyword `pull` of a trace, an event, whose word only happens to be that of a hook too',
 }
 

@@ -22,7 +22,7 @@ use Rattle.bq_words.specs.Sizes.{rule_of}
 use Rattle.bq_cli.specs.declared.asm.AsmWords.{AsmWords}
 use Rattle.bq_cli.specs.declared.par.Parallel.{Parallel}
 use Rattle.bq_cli.specs.declared.par.TheConstants.{MOST_TICKS}
-use Rattle.bq_cli.specs.declared.replay.ReplayWords.{ReplayWords}
+use Rattle.bq_cli.specs.declared.replaying.ReplayWords.{ReplayWords}
 
 -- the word is the first that was found for the option
 abbrev pub IsFirst : Text → List Row → Option (String Global) → Type 0

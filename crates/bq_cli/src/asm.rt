@@ -5,7 +5,7 @@ ghost use Rattle.bq_cli.specs.Words.{AreAsmWords};
 ghost use Rattle.bq_cli.specs.declared.asm.AsmWords.{AsmWords as Words};
 
 use crate::command::Command;
-use crate::execute::perform_from;
+use crate::dispatch::perform_from;
 use crate::policy_words::{format_in, hook_in, policy_words};
 use bq_console::status::BAD_INPUT;
 use bq_console::{WordsFault, say_out_of_memory, whole_input, written};

@@ -10,7 +10,7 @@ use crate::check::check_words;
 use crate::dis::dis_words;
 use crate::import::import_words;
 use crate::par::{Parallel, par_words};
-use crate::replay::{ReplayWords, replay_words};
+use crate::replaying::{ReplayWords, replay_words};
 use crate::run::run_words;
 use crate::simulate::simulate_words;
 use crate::tables::program;

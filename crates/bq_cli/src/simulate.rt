@@ -1,5 +1,5 @@
 //! `simulate`: a workload that is run and shown, or run with several seeds and beside other policies.
-ghost use Rattle.std.specs.Prelude.{◌≡◌, IfOk, codes};
+ghost use Rattle.std.specs.Prelude.{IfOk};
 ghost use Rattle.clap.specs.Words.{found_of, rows_of};
 ghost use Rattle.bq_cli.specs.Simulating.{AskToSimulate, IsShown};
 ghost use Rattle.bq_cli.specs.Words.{AreHookWords, AreMachineWords, AreSimulateWords};
@@ -72,9 +72,9 @@ fn machine_words(alloc: Global, matches: &ArgMatches<'_>) -> Result<MachineWords
 fn hook_words(alloc: Global, matches: &ArgMatches<'_>) -> Result<HookWords, AllocError>
     ensures { IfOk result (AreHookWords (rows_of (found_of matches.now))) }
 {
-    let place = word(alloc, matches, "place")?;
-    let preempt = word(alloc, matches, "preempt")?;
-    let pull = word(alloc, matches, "pull")?;
+    let place = word(alloc, matches, Hook::Place.word())?;
+    let preempt = word(alloc, matches, Hook::Preempt.word())?;
+    let pull = word(alloc, matches, Hook::Pull.word())?;
     Ok(HookWords {
         place,
         preempt,
@@ -100,10 +100,10 @@ struct Simulation {
 }
 
 /// What the words ask for.
-fn simulation(alloc: Global, words: &StudyWords) -> Result<Simulation, WordsFault>
+fn simulation_of(alloc: Global, words: &StudyWords) -> Result<Simulation, WordsFault>
     ensures { IfOk result (AskToSimulate words.now) }
 {
-    let shown = shown(alloc, words)?;
+    let shown = shown_of(alloc, words)?;
     match asked_changes(words) {
         Ok(changes) => Ok(Simulation { shown, changes }),
         Err(fault) => Err(asked_fault(alloc, fault)),
@@ -111,7 +111,7 @@ fn simulation(alloc: Global, words: &StudyWords) -> Result<Simulation, WordsFaul
 }
 
 /// What the words ask to be shown.
-fn shown(alloc: Global, words: &StudyWords) -> Result<Shown, WordsFault>
+fn shown_of(alloc: Global, words: &StudyWords) -> Result<Shown, WordsFault>
     ensures { IfOk result (IsShown words.now) }
 {
     match asked_comparison(alloc, words) {
@@ -142,7 +142,7 @@ pub(crate) fn do_simulate<T: Threads + Sync>(
     threads: &T,
     words: &StudyWords,
 ) -> Result<ExitCode, WordsFault> {
-    let simulation = simulation(rt.alloc(), words)?;
+    let simulation = simulation_of(rt.alloc(), words)?;
     match simulated(rt, threads, words, simulation) {
         Ok(code) => Ok(code),
         Err(code) => Ok(code),

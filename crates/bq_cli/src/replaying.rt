@@ -4,7 +4,7 @@ ghost use Rattle.clap.specs.Words.{found_of, rows_of};
 ghost use Rattle.bq_cli.specs.Words.{AreReplayWords};
 
 use crate::command::Command;
-use crate::execute::perform_from;
+use crate::dispatch::perform_from;
 use bq_console::{file_named, say_unread, waiting_input, word};
 use clap::ArgMatches;
 use std::alloc::{AllocError, Global};
