@@ -1,5 +1,4 @@
 //! The styles of a picture, and the hatches of its waits. Each rule and each id begins with the name of the picture.
-ghost use Rattle.std.specs.Prelude.{◌<◌};
 
 use crate::colours::{COLOURS, DARK, LIGHT, Palette};
 use crate::picture_name::PictureName;
@@ -56,7 +55,13 @@ fn write_colours(
     write_stroke(name, ".halo", palette.page, text)?;
     for place in 0..COLOURS {
         write_task(name, place, palette.tasks[place], text)?;
-        write_letters(name, place, palette, text)?;
+        write_letters(
+            name,
+            place,
+            palette.letters[place],
+            palette.tasks[place],
+            text,
+        )?;
     }
     Ok(())
 }
@@ -97,14 +102,11 @@ fn write_task(
 fn write_letters(
     name: PictureName,
     place: usize,
-    palette: &Palette,
+    colour: &str,
+    edge: &str,
     text: &mut String,
-) -> Result<(), AllocError>
-    requires { place < 8 }
-{
-    let letters = palette.letters[place];
-    let task = palette.tasks[place];
-    write!(text, ".{name} .l{place}{{fill:{letters};stroke:{task}}}\n")
+) -> Result<(), AllocError> {
+    write!(text, ".{name} .l{place}{{fill:{colour};stroke:{edge}}}\n")
 }
 
 /// The hatches of the colours, and the page.
