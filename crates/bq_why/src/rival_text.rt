@@ -62,7 +62,7 @@ pub(crate) fn write_giving_way(
     ahead: u64,
 ) -> Result<(), AllocError> {
     let Some(was) = was else {
-        return Ok(());
+        return text.push_str("least virtual runtime");
     };
     let was = Who { names, task: was };
     let run = Who { names, task: run };

@@ -6,7 +6,7 @@ ghost use Rattle.bq_why.specs.Rivals.{passed_over, is_tied, tied_with};
 
 use crate::choices::due_first;
 use bq_bounds::totals::totals;
-use bq_disc::{Entity, Totals};
+use bq_disc::Entity;
 use bq_words::Rule;
 
 /// Under EEVDF the task that is due first of all, where it is not eligible: the choice passes it over.
