@@ -36,6 +36,7 @@ LEFT_OUT = {
     "compare_with_llvm.py": "needs LLVM 19",
     "policies_in_c.py": "needs clang 19",
     "native_policies.py": "needs clang 19",
+    "long_runs.py": "needs clang 19",
     "fail_each_call.py": "needs a C compiler, and takes minutes",
 }
 
