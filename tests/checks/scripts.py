@@ -24,13 +24,13 @@ SOURCES = [
     "tests/one_place.py",
     "tests/fairness.py 1000 1",
     "tests/long_functions.py",
+    "tests/lemmas.py",
     "tests/examples.py",
     "tests/pictures.py",
     "tests/more_edits.py --texts",
 ]
 
 LEFT_OUT = {
-    "lemmas.py": "one lemma of bq_comparison has no line in words yet",
     "quick.py": "is what runs the others",
     "workload_reports.py": "is run for each report",
     "check_perfetto.py": "is run as docs/TIMELINE.md shows it",
