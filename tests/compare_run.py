@@ -9,8 +9,8 @@ and, every other time, as assembler text with its marks. tests/model/machine.py 
 instructions and the budget, the entries that changed, and the calls of counters in their order; and of a run that is repeated one
 to three times and traced, that it says how long a run takes, the slot of each instruction, its text as `bqsim dis` lists it, and
 after it each register that is set.
-`bqsim dis` lists the image, and `bqsim asm` with the options that the listing's marks name has to give the image back. It is run
-by hand.
+`bqsim dis` lists the image, and `bqsim asm` with the options that the listing's marks name has to give the image back. `tests/quick.py`
+makes some of these runs.
 """
 import random
 import re

@@ -8,7 +8,7 @@ BQSIM is the path of the program. Of each trace `csv` must have the model's slic
 processors (times, waits, latencies, fair times and counts, to the nanosecond), and `report` its table of bounds. The second
 form draws ticks, wakes and blocks at processors where no policy stands, and says how much of the bounds was reached.
 
-All this is run by hand, and is no part of the gate. Last seen: 300 traces, 39,873 slices alike, the figures of `json` and the table of bounds too; of the second form 200 histories.
+`tests/quick.py` compares some of these. Last seen: 300 traces, 39,873 slices alike, the figures of `json` and the table of bounds too; of the second form 200 histories.
 """
 import json
 import random

@@ -10,8 +10,8 @@ changed a little; `asm` must assemble them to the model's bytes, and `check` mus
 is known. Where it is not known the program decides what is accepted, and then no run may trap in the model: the traces run
 these policies too.
 
-The first trace that is answered otherwise is left in differs.trace, without the lines that do not matter. All this is run
-by hand, and is no part of the gate. Last seen: 4,000 traces, 3,973,694 replies alike.
+The first trace that is answered otherwise is left in differs.trace, without the lines that do not matter. `tests/quick.py`
+compares some of these. Last seen: 4,000 traces, 3,973,694 replies alike.
 
 `tests/model/` is the model, a file for each page: `scheduler` (SCHEDULING.md), `contexts` (CONTEXTS.md), `machine`
 (BPF.md, INSTRUCTIONS.md), `assembler` (ASSEMBLER.md), `images` (IMAGE.md), `replies` (TRACE.md). `programs`, `changes`
@@ -22,6 +22,7 @@ import os
 import random
 import subprocess
 import sys
+import time
 
 sys.dont_write_bytecode = True
 
@@ -29,6 +30,9 @@ from model import contexts, draw, images, worked
 from model.changes import changed
 from model.machine import COUNTERS, Run, Trap
 from model.replies import replies
+
+
+SHORTENING = 20
 
 
 class Differs(Exception):
@@ -76,11 +80,13 @@ def differs(program, lines):
 
 
 def shortened(program, lines):
-    """Lines are left out, many at once and then fewer, while the answers still differ."""
-    length = len(lines) // 2
+    """Lines are left out, many at once and then fewer, while the answers still differ, for SHORTENING seconds at most."""
+    length, end = len(lines) // 2, time.monotonic() + SHORTENING
     while length:
         at = 0
         while at < len(lines):
+            if time.monotonic() > end:
+                return lines
             fewer = lines[:at] + lines[at + length :]
             if differs(program, fewer):
                 lines = fewer

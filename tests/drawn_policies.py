@@ -6,8 +6,8 @@
 BQSIM is the path of the program. A drawn program loads numbers from the context, copies, computes and compares them, keeps
 some on the stack, and then goes to a computed place of the context, of the stack or of an entry; look-ups are copied before
 they are tested. bqsim says which it accepts (`install`); each of these is run in tests/model/machine.py on contexts of
-small, great and negative numbers, and none may trap, read what is not set, or take more steps than its budget. This is run
-by hand, and is no part of the gate. Seen: of 250,000 drawn programs (50,000 each by the seeds 71 to 75), 48,728 were accepted,
+small, great and negative numbers, and none may trap, read what is not set, or take more steps than its budget. `tests/quick.py`
+runs some of these. Seen: of 250,000 drawn programs (50,000 each by the seeds 71 to 75), 48,728 were accepted,
 and none trapped.
 """
 import os

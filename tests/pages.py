@@ -5,7 +5,7 @@
     tests/pages.py BQSIM --write    writes both
 
 BQSIM is the path of the program. Its commands are those that `bqsim --help` lists, and each command's words are those of
-`bqsim COMMAND --help`. It is run by hand, and has to be run again if a help text changes.
+`bqsim COMMAND --help`. Write both again if a help text changes.
 """
 import re
 import subprocess

@@ -1,12 +1,12 @@
 #!/usr/bin/env python3
 """Compares what `bqsim simulate --seeds` and `--against` tell with the figures of single runs.
 
-    tests/seeds.py BQSIM [SEEDS]    with so many seeds (3 if left out)
+    tests/seeds.py BQSIM [SEEDS [FIRST]]    with this number of seeds (3 if left out), from FIRST on (5 if left out)
 
 BQSIM is the path of the program. Each workload of workloads/ is run for DURATION under both disciplines, with no policy against
 those of OTHERS, and again the other way round. The figures are those of single runs, one by one with `--seed`, as `--as json` has
 them. Their means, deviations and differences are computed here in fractions, as docs/SEEDS.md says, and each line of the report,
-the csv and the json has to be the same. This is run by hand, and is no part of the gate. Last seen: 10 workloads, 10,594 figures alike
+the csv and the json has to be the same. `tests/quick.py` takes two seeds. Last seen: 10 workloads, 10,594 figures alike
 in three forms.
 """
 import csv
@@ -121,8 +121,8 @@ def compare(program, words, against, theirs_words, seeds):
     return len(told)
 
 
-def main(program, count="3"):
-    workloads, compared, seeds = sorted((TOP / "workloads").glob("*.toml")), 0, range(5, 5 + int(count))
+def main(program, count="3", first="5"):
+    workloads, compared, seeds = sorted((TOP / "workloads").glob("*.toml")), 0, range(int(first), int(first) + int(count))
     installed = [word for hook, file in OTHERS.items() for word in (f"--{hook}", file)]
     against = [word for file in OTHERS.values() for word in ("--against", file)]
     for workload in workloads:

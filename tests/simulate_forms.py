@@ -1,11 +1,11 @@
 #!/usr/bin/env python3
 """Compares the forms of `bqsim simulate` with those that `bqsim timeline` gives of its trace.
 
-    tests/simulate_forms.py BQSIM
+    tests/simulate_forms.py BQSIM [DURATION]      of runs of that length, as 20ms; as the workloads have it if it is left out
 
 BQSIM is the path of the program. Each workload of workloads/ is run under both disciplines. Its trace has to be answered by
-`replay` with no line bad or refused, and each form of the run has to be that of `timeline` on the trace, byte for byte. This is
-run by hand, and is no part of the gate.
+`replay` with no line bad or refused, and each form of the run has to be that of `timeline` on the trace, byte for byte.
+`tests/quick.py` does it for short runs.
 """
 import pathlib
 import subprocess
@@ -21,12 +21,12 @@ def run(program, *words, text=None):
     return done.stdout
 
 
-def main(program):
+def main(program, *duration):
     workloads = sorted((pathlib.Path(__file__).parent.parent / "workloads").glob("*.toml"))
     alike = 0
     for workload in workloads:
         for rule in ("cfs", "eevdf"):
-            ours = ["simulate", "--discipline", rule, str(workload)]
+            ours = ["simulate", "--discipline", rule, str(workload), *(word for it in duration for word in ("--duration", it))]
             trace = run(program, *ours, "--as", "trace")
             answers = run(program, "replay", text=trace).splitlines()
             if bad := [line for line in answers if line.startswith(("bad", "refused"))]:
@@ -39,4 +39,4 @@ def main(program):
 
 
 if __name__ == "__main__":
-    main(*sys.argv[1:])
+    main(*sys.argv[1:]) if len(sys.argv) in (2, 3) else sys.exit(__doc__)

@@ -1,12 +1,13 @@
 #!/usr/bin/env python3
 """Compares the reports beside the workloads with what `bqsim simulate` prints today, or writes them anew.
 
-    tests/workload_reports.py BQSIM             says which reports differ; exit status 1 if one does
+    tests/workload_reports.py BQSIM [NAME..]    shows how reports differ; exit status 1 if one does
     tests/workload_reports.py BQSIM --renew     writes workloads/reports/NAME.txt for each workload
 
-BQSIM is the path of the program. A report's file has the run under both disciplines, each below the command that makes it. This
-is run by hand, and is no part of the gate.
+BQSIM is the path of the program, and a NAME that of a workload; all if none is given. A report's file has the run under both
+disciplines, each below the command that makes it. `tests/quick.py` compares them all.
 """
+import difflib
 import pathlib
 import subprocess
 import sys
@@ -26,19 +27,25 @@ def report(program, workload):
     return "\n".join(parts)
 
 
-def main(program, renew=None):
-    if renew not in (None, "--renew"):
-        sys.exit(__doc__)
-    program, differ = str(pathlib.Path(program).resolve()), []
-    workloads = sorted((TOP / "workloads").glob("*.toml"))
+def difference(file, now):
+    """A unified diff of a report and what is printed now; nothing where they are the same."""
+    kept = file.read_text().splitlines() if file.exists() else []
+    return list(difflib.unified_diff(kept, now.splitlines(), "expected", "came", lineterm="", n=2))
+
+
+def main(program, *names):
+    program, differ = str(pathlib.Path(program).resolve()), 0
+    renew, names = names == ("--renew",), [it for it in names if it != "--renew"]
+    workloads = [TOP / "workloads" / f"{it}.toml" for it in names] or sorted((TOP / "workloads").glob("*.toml"))
     for workload in workloads:
         file, now = TOP / "workloads/reports" / f"{workload.stem}.txt", report(program, workload)
         if renew:
             file.parent.mkdir(exist_ok=True)
             file.write_text(now)
         elif not file.exists() or file.read_text() != now:
-            differ.append(workload.name)
-    print(f"{len(workloads)} workloads, {len(differ)} reports differ{': ' if differ else ''}{' '.join(differ)}")
+            differ += 1
+            print(*difference(file, now), sep="\n")
+    print(f"workloads: {len(workloads)}, reports that differ: {differ}")
     return 1 if differ else 0
 
 

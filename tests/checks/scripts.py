@@ -1,0 +1,68 @@
+"""The scripts of tests/, each on a number of cases that fits the time, drawn by a fixed seed."""
+import os
+import sys
+import tempfile
+from pathlib import Path
+
+from .runs import TOP, Answer, Failed, cut
+
+# The words of each: the script, BQSIM for the program, how many cases, and the seed. Those that take longest come first.
+MODELS = [
+    "tests/simulate_forms.py BQSIM 20ms",
+    "tests/seeds.py BQSIM 2 5",
+    "tests/compare_with_model.py BQSIM 10 1",
+    "tests/compare_timeline.py BQSIM 20 1",
+    "tests/compare_timeline.py BQSIM --near 20 1",
+    "tests/compare_run.py BQSIM 100 1",
+    "tests/simulate_model.py BQSIM 30 1",
+    "tests/drawn_policies.py BQSIM 2000 1",
+    "tests/compare_with_model.py BQSIM tests/every_line.trace",
+    "tests/pages.py BQSIM",
+]
+SOURCES = [
+    "tests/one_place.py",
+    "tests/fairness.py 1000 1",
+    "tests/long_functions.py",
+    "tests/examples.py",
+    "tests/more_edits.py --texts",
+]
+
+LEFT_OUT = {
+    "lemmas.py": "one lemma of bq_comparison has no line in words yet",
+    "quick.py": "is what runs the others",
+    "workload_reports.py": "is run for each report",
+    "check_perfetto.py": "is run as docs/TIMELINE.md shows it",
+    "simulate_theory.py": "takes minutes",
+    "compare_with_llvm.py": "needs LLVM 19",
+    "policies_in_c.py": "needs clang 19",
+    "native_policies.py": "needs clang 19",
+    "long_runs.py": "needs clang 19",
+    "fail_each_call.py": "needs a C compiler, and takes minutes",
+}
+
+
+def words(program, line):
+    """What to run for a line of the tables, from any folder."""
+    return [program if word == "BQSIM" else os.path.join(TOP, word) if "/" in word else word for word in line.split()]
+
+
+def check_script(runner, program, line):
+    """A script passes if it ends with status 0 and says something."""
+    failure = ""
+    try:
+        status, written = runner.run([sys.executable, *words(program, line)], tempfile.mkdtemp())
+        if status or not written.strip():
+            failure = f"it ends with status {status}, and says:\n{cut(written.splitlines()[-20:])}"
+    except Failed as reason:
+        failure = str(reason)
+    yield Answer(line, failure, f"python3 {line.replace('BQSIM', program)}")
+
+
+COMPLETE = ["tests: each script is run, or stands in LEFT_OUT"]
+
+
+def check_complete(name):
+    there = {path.name for path in Path(TOP, "tests").glob("*.py")}
+    named = {os.path.basename(line.split()[0]) for line in (*MODELS, *SOURCES)} | set(LEFT_OUT)
+    wrong = [f"{it} is not run" for it in sorted(there - named)] + [f"there is no {it}" for it in sorted(named - there)]
+    yield Answer(name, cut(wrong))
