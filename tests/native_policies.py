@@ -83,9 +83,9 @@ class Both(machine.Run):
 
 
 def said(source, key):
-    """What the head comment says after the key."""
-    found = re.search(rf"^[ /*]*{key}: *(.*)$", source.read_text(), re.M)
-    return found.group(1).strip() if found else None
+    """The word after the key in the head comment, which may be one line."""
+    found = re.search(rf"^[ /*]*{key}: *([^\s*]+)", source.read_text(), re.M)
+    return found.group(1) if found else None
 
 
 def image(bqsim, source, room):

@@ -19,7 +19,7 @@ FILES = ["asm", "check", "dis", "import", "replay", "run", "simulate", "timeline
 STATUSES = [
     ("0", "well"),
     ("1", "a bad line in a trace, of timeline a refused one too; what asm, dis, check, run, import or simulate refuses"),
-    ("2", "the words are refused, or ask for help or the version; the text is on standard error"),
+    ("2", "the words are refused, or ask for help; the text is on standard error"),
     ("3", "want of memory"),
     ("4", "a read or a write failed, or a file can't be opened; standard error tells the reason"),
 ]

@@ -25,7 +25,7 @@ sys.dont_write_bytecode = True
 
 from checks import documents, kept, links, scripts
 from checks.board import Board
-from checks.runs import Answer, Failed, Runner
+from checks.runs import TOP, Answer, Failed, Runner
 from checks.work import Job, Work
 
 SIGNALS = [signal.SIGINT, signal.SIGTERM, signal.SIGHUP]
@@ -38,15 +38,20 @@ def all_jobs(runner, program):
         found = [Job(group, name, partial(check, *given, name), count(name)) for name in names]
         return found or [Job(group, f"no {group}", lambda: [Answer(f"no {group}", "nothing is there to be checked")])]
 
+    # a release has no sources, and what is checked of them is left out there
+    has_sources = os.path.isdir(os.path.join(TOP, "crates"))
+    sources = [
+        *each("sources", scripts.SOURCES, scripts.check_script, runner, program),
+        *each("sources", scripts.COMPLETE, scripts.check_complete),
+        *each("examples", kept.stored(), kept.check_stored),
+    ]
     return [
         *each("models", scripts.MODELS, scripts.check_script, runner, program),
         *each("pages", documents.with_commands(), documents.check_page, runner, program, count=documents.count),
         *each("reports", kept.reports(), kept.check_report, runner, program),
-        *each("sources", scripts.SOURCES, scripts.check_script, runner, program),
-        *each("sources", scripts.COMPLETE, scripts.check_complete),
+        *(sources if has_sources else []),
         *each("pictures", kept.pictures(), kept.check_picture, runner, program),
         *each("examples", kept.examples(), kept.check_example, runner, program),
-        *each("examples", kept.stored(), kept.check_stored),
         *each("blocks", documents.RULES, documents.check_rule),
         *each("links", links.linked(), links.check_links),
     ]

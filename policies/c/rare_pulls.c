@@ -1,12 +1,12 @@
 /* hook: pull
- * maps: 8:64
+ * maps: 8:1
  * A processor takes a task at most once in ten milliseconds of its clock. The loads stay uneven for longer, and tasks move
- * less. An entry for each processor has the time of its last pull. */
+ * less. The map, which each processor has for itself, has the time of its last pull. */
 #include "bqsim.h"
 
 u64 policy(const struct bq_pull *ask)
 {
-    u32 entry = ask->puller;
+    u32 entry = 0;
     u64 *last = bq_lookup(BQ_MAP(0), &entry);
 
     if (!last || ask->own == BQ_NONE)

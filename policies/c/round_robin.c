@@ -1,7 +1,7 @@
 /* hook: place
  * maps: 8:1
- * Each wake goes to the processor after the one of the wake before, whatever the loads are. Tasks wander; the loads
- * even out over time and not at once. */
+ * Each wake from a processor goes to the processor after the one of the wake before from there, whatever the loads are.
+ * Tasks wander; the loads even out over time and not at once. Each processor has a map, and so a turn, of its own. */
 #include "bqsim.h"
 
 u64 policy(const struct bq_place *ask)

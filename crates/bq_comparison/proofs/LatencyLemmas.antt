@@ -33,7 +33,6 @@ takes_start (Some start) old new h task = takes_latency start.task start.latency
 pub AreReordered-refl : (tasks : Tasks) → AreReordered tasks tasks
 AreReordered-refl tasks = λ task. IsPermutation-refl (latencies_of tasks task)
 
--- what is reordered twice is reordered
 pub AreReordered-trans : (old mid new : Tasks) → AreReordered old mid → AreReordered mid new → AreReordered old new
 AreReordered-trans old mid new a b = λ task. IsPermutation-trans (latencies_of old task) (latencies_of mid task) (latencies_of new task) (a task) (b task)
 
