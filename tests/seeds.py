@@ -6,7 +6,7 @@
 BQSIM is the path of the program. Each workload of workloads/ is run for DURATION under both disciplines, with no policy against
 those of OTHERS, and again the other way round. The figures are those of single runs, one by one with `--seed`, as `--as json` has
 them. Their means, deviations and differences are computed here in fractions, as docs/SEEDS.md says, and each line of the report,
-the csv and the json has to be the same. `tests/quick.py` takes two seeds. Last seen: 10 workloads, 10,594 figures alike
+the csv and the json has to be the same. `tests/quick.py` runs it. Last seen: 10 workloads, 10,594 figures alike
 in three forms.
 """
 import csv

@@ -5,7 +5,7 @@
 
 BQSIM is the path of the program. Each workload of workloads/ is run under both disciplines. Its trace has to be answered by
 `replay` with no line bad or refused, and each form of the run has to be that of `timeline` on the trace, byte for byte.
-`tests/quick.py` does it for short runs.
+`tests/quick.py` runs it.
 """
 import pathlib
 import subprocess

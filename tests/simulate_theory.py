@@ -13,7 +13,7 @@ BQSIM is the path of the program. Three laws, under both disciplines:
   knows no need beforehand. With many sources it comes near M/M/1. Four seeds have to come within 5 percent of it together.
 - While no task is pinned and more can run than there are processors, no processor idles.
 
-This is run by hand, and is no part of the gate. Last seen: shares within 5.5 ms of 10 s under CFS and 3.1 ms under EEVDF; mean
+`tests/quick.py` runs it. Last seen: shares within 5.5 ms of 10 s under CFS and 3.1 ms under EEVDF; mean
 responses of 3.062 and 3.090 ms over 167,000 visits each, by the formula 3.111; no processor idle.
 """
 import json

@@ -7,7 +7,7 @@ import threading
 from dataclasses import dataclass
 
 TOP = os.path.dirname(os.path.dirname(os.path.dirname(os.path.abspath(__file__))))
-SECONDS = 100  # a program that takes longer than this is ended, and has failed
+SECONDS = 300  # a program that takes longer than this is ended, and has failed
 SHOWN, WIDTH = 40, 300  # lines of a difference that are shown, and characters of a line
 
 

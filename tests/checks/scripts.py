@@ -6,23 +6,25 @@ from pathlib import Path
 
 from .runs import TOP, Answer, Failed, cut
 
-# The words of each: the script, BQSIM for the program, how many cases, and the seed. Those that take longest come first.
+# The words of each: the script, BQSIM for the program, how many cases, and the seed. Those that take longest come first; the longest takes
+# some twelve seconds of a processor, all together about a minute.
 MODELS = [
-    "tests/simulate_forms.py BQSIM 20ms",
-    "tests/seeds.py BQSIM 2 5",
-    "tests/compare_with_model.py BQSIM 10 1",
-    "tests/compare_timeline.py BQSIM 20 1",
-    "tests/compare_timeline.py BQSIM --near 20 1",
-    "tests/compare_why.py BQSIM 20 1",
-    "tests/compare_run.py BQSIM 100 1",
-    "tests/simulate_model.py BQSIM 30 1",
-    "tests/drawn_policies.py BQSIM 2000 1",
+    "tests/compare_with_model.py BQSIM 100 1",
+    "tests/drawn_policies.py BQSIM 20000 1",
+    "tests/compare_run.py BQSIM 1000 1",
+    "tests/compare_timeline.py BQSIM 100 1",
+    "tests/compare_timeline.py BQSIM --near 200 1",
+    "tests/compare_why.py BQSIM 60 1",
+    "tests/simulate_model.py BQSIM 500 1",
+    "tests/seeds.py BQSIM 3 5",
+    "tests/simulate_forms.py BQSIM",
+    "tests/simulate_theory.py BQSIM",
     "tests/compare_with_model.py BQSIM tests/every_line.trace",
     "tests/pages.py BQSIM",
 ]
 SOURCES = [
+    "tests/fairness.py 5000 1",
     "tests/one_place.py",
-    "tests/fairness.py 1000 1",
     "tests/long_functions.py",
     "tests/lemmas.py",
     "tests/examples.py",
@@ -30,11 +32,11 @@ SOURCES = [
     "tests/more_edits.py --texts",
 ]
 
+# The scripts that are not run here, and why.
 LEFT_OUT = {
     "quick.py": "is what runs the others",
     "workload_reports.py": "is run for each report",
     "check_perfetto.py": "is run as docs/TIMELINE.md shows it",
-    "simulate_theory.py": "takes minutes",
     "compare_with_llvm.py": "needs LLVM 19",
     "policies_in_c.py": "needs clang 19",
     "native_policies.py": "needs clang 19",
