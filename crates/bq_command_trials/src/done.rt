@@ -49,7 +49,7 @@ pub fn words_of<'a>(alloc: Global, line: &'a str) -> Result<Vec<&'a str>, AllocE
 }
 
 /// A command that is performed over this input.
-fn performed<R: Threads + Wait + Sync>(
+fn perform_over<R: Threads + Wait + Sync>(
     rt: &R,
     alloc: Global,
     command: &Command,
@@ -74,7 +74,7 @@ pub fn done<R: Threads + Wait + Sync>(
     input: &[u8],
 ) -> Result<Performed, Fail> {
     match job(alloc, words) {
-        Ok(command) => Ok(performed(rt, alloc, &command, input)),
+        Ok(command) => Ok(perform_over(rt, alloc, &command, input)),
         Err(_) => Err(Fail::from("the words were refused")),
     }
 }
