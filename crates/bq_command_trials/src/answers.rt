@@ -137,7 +137,7 @@ static CHECKED: [CheckRow; 12] = [
         "",
         "",
         "j",
-        "R {\"accepted\":false,\"answer\":\"refused L8 V9 0\",\"explanation\":[\"p.s line 2, slot 0:  exit\",",
+        "R {\"accepted\":false,\"advice\":\"set r0 on each way that leads here, as by mov64 before the first branch\",\"answer\":\"refused L8 V9 0\",\"cause\":\"answer\",\"code\":\"V9\",\"explanation\":[\"p.s line 2, slot 0:  exit\",",
     ),
     (
         ";@ hook preempt\nmov64 r0, 1\nldxw r0, [r1+56]\nexit\n",

@@ -1,34 +1,47 @@
 // The usual slips: the text of a policy, and what is said of it. The slots, lines and numbers were counted by hand.
 
 use crate::done::holds;
-use bq_explain::{Explained, Limits, complaint, explain};
+use bq_explain::{Limits, complaint, explain, explanation_text};
 use bq_program::{Head, read_policy};
 use std::alloc::Global;
 use std::process::Abort;
 use std::test::Fail;
 
+/// What is told of a policy, and whether it is accepted.
+#[derive(Drop)]
+struct Told {
+    text: String,
+    accepted: bool,
+}
+
 /// What is explained of the policy of this text.
-fn explained(alloc: Global, text: &str) -> Result<Explained, Fail> {
+fn explained(alloc: Global, text: &str) -> Result<Told, Fail> {
     match read_policy(alloc, text.as_bytes(), &Head::nothing()) {
-        Ok(policy) => Ok(explain(alloc, &policy, &Limits::none())?),
+        Ok(policy) => {
+            let said = explain(alloc, &policy, &Limits::none())?;
+            Ok(Told {
+                text: explanation_text(alloc, &policy, None, &said)?,
+                accepted: said.verdict.is_accepted(),
+            })
+        }
         Err(_) => Err(Fail::from("the text is no policy")),
     }
 }
 
 /// What a policy's text is, and what its explanation says: the first line, and words of the others.
-static REFUSED: [(&str, &str, &str, &str); 19] = [
+static REFUSED: [(&str, &str, &str, &str); 23] = [
     // r1 after a call
     (
         ";@ hook preempt\ncall 5\nldxw r0, [r1+48]\nexit\n",
         "refused L8 V4 1\n",
-        "line 3, slot 1:  ldxw r0, [r1+48]",
-        "keep what is needed later in r6 to r9",
+        "line 3, slot 1:  ldxw r0, [r1+48]\n  reads r1, of which nothing is known here\n",
+        "  made at line 2, slot 0:  call 5    r1 then is unset\n  helps: a call leaves r1 to r5 unset: keep what is needed later in r6 to r9, as by mov64 r6, r1 before it, or set r1 again\n",
     ),
     // a look-up without its test
     (
         ";@ hook preempt\n;@ maps 8:1\nstw [r10-4], 0\nldmap r1, 0\nmov64 r2, r10\nadd64 r2, -4\ncall 1\nldxdw r0, [r0+0]\nexit\n",
         "refused L8 V5 6\n",
-        "the answer of a look-up is 0 where there is no such entry",
+        "reads 8 bytes at r0, which may be null; test it first",
         "test it first: jeq64 r0, 0, label",
     ),
     // a mask too wide: 40 + 124 + 4 is above 104
@@ -42,29 +55,29 @@ static REFUSED: [(&str, &str, &str, &str); 19] = [
     (
         ";@ hook preempt\nldxw r2, [r1+48]\njeq64 r2, 0, end\nmov64 r0, 1\nend:\nexit\n",
         "refused L8 V9 3\n",
-        "r0, the answer, is not set on each way that leads here",
-        "set r0 to a number on each way",
+        "ends, and nothing is known of r0, the answer\n",
+        "  r0 is set by no instruction on some way from the start\n  helps: set r0 on each way",
     ),
     // a loop
     (
         ";@ hook preempt\nmov64 r0, 0\nagain:\nadd64 r0, 1\njlt64 r0, 4, again\nexit\n",
         "refused L8 V1 2\n",
-        "line 5, slot 2:  jlt64 r0, 4, -2",
+        "line 5, slot 2:  jlt64 r0, 4, -2\n  jumps to slot 1, which is not forward; there are no loops\n",
         "write a loop out as often as it may run",
     ),
     // an unknown helper
     (
         ";@ hook preempt\ncall 3\nexit\n",
         "refused L8 V7 0\n",
-        "calls a helper that there is not",
+        "calls helper 3, which there is not; there are 1, 2, 5, 8, 100 and 101",
         "call by number: 1 looks an entry up",
     ),
     // a wide instruction takes two slots, so slot 2 stands on line 3
     (
         ";@ hook preempt\nlddw r0, 1\nldxw r0, [r2+0]\nexit\n",
         "refused L8 V4 2\n",
-        "line 3, slot 2:  ldxw r0, [r2+0]",
-        "set it on each way",
+        "line 3, slot 2:  ldxw r0, [r2+0]\n  reads r2, of which nothing is known here\n",
+        "  r2 is set by no instruction on some way from the start\n  helps: set r2 on each way",
     ),
     // a pointer stored by halves
     (
@@ -120,14 +133,14 @@ static REFUSED: [(&str, &str, &str, &str); 19] = [
         ";@ hook place\nldxdw r0, [r1+292]\nexit\n",
         "refused L8 V5 0\n",
         "reads 8 bytes at context + 292; the context of place, version 1, has 104 bytes",
-        "  helps: a smaller mask or a test (jgt64) before the address is made; docs/CONTEXTS.md has the fields of each hook\n",
+        "  helps: a field that this context has; docs/CONTEXTS.md has the fields of each hook\n",
     ),
     // nor far beyond both contexts
     (
         ";@ hook place\nldxw r0, [r1+400]\nexit\n",
         "refused L8 V5 0\n",
         "reads 4 bytes at context + 400; the context of place, version 1, has 104 bytes",
-        "  helps: a smaller mask or a test (jgt64) before the address is made; docs/CONTEXTS.md has the fields of each hook\n",
+        "  helps: a field that this context has; docs/CONTEXTS.md has the fields of each hook\n",
     ),
     // nor where a mask is too wide for both: 40 + 508 + 4 is above 296
     (
@@ -135,6 +148,34 @@ static REFUSED: [(&str, &str, &str, &str); 19] = [
         "refused L8 V5 4\n",
         "reads 4 bytes at context + 40..548; the context of place, version 1, has 104 bytes",
         "  helps: a smaller mask or a test (jgt64) before the address is made; docs/CONTEXTS.md has the fields of each hook\n",
+    ),
+    // an access that begins below the context with some masks and within it with the greatest: -7 to 0, and the mask lets 0 to 7 through
+    (
+        ";@ hook place\nldxw r2, [r1+0]\nand64 r2, 7\nadd64 r1, r2\nldxb r0, [r1-7]\nexit\n",
+        "refused L8 V5 3\n",
+        "reads 1 bytes at context -7..0; the context of place, version 1, has 104 bytes",
+        "  helps: a smaller mask or a test (jgt64) before the address is made; docs/CONTEXTS.md has the fields of each hook\n",
+    ),
+    // numbers and distances below zero
+    (
+        ";@ hook place\nldxw r2, [r1+0]\nand64 r2, 15\nadd64 r2, -24\nmov64 r3, r10\nadd64 r3, r2\nldxb r0, [r3+0]\nexit\n",
+        "refused L8 V5 5\n",
+        "reads 1 bytes at stack end -24..-9; not all of these bytes were written before",
+        "r2 -24..-9   r3 stack end -24..-9",
+    ),
+    // the argument at fault is the amount
+    (
+        ";@ hook place\nmov64 r1, 3\nmov64 r2, r10\ncall 100\nmov64 r0, 0\nexit\n",
+        "refused L8 V8 2\n",
+        "calls helper 100, which wants a number in r2, the amount; here r2 is stack end\n",
+        "  helps: put a number into r2, as by mov64 r2, 1\n",
+    ),
+    // a copy of an earlier answer, beside one that was tested
+    (
+        ";@ hook place\n;@ maps 8:2\nstw [r10-4], 0\nmov64 r2, r10\nadd64 r2, -4\nldmap r1, 0\ncall 1\nmov64 r6, r0\nmov64 r2, r10\nadd64 r2, -4\nldmap r1, 0\ncall 1\njeq64 r0, 0, e\nldxdw r0, [r6+0]\nexit\ne:\nmov64 r0, 0\nexit\n",
+        "refused L8 V5 13\n",
+        "reads 8 bytes at r6, which may be null; test it first\n",
+        "test it first: jeq64 r6, 0, label",
     ),
     // a result that is a pointer
     (
@@ -266,11 +307,11 @@ fn complaints_name_what_is_wrong(rt: HostRuntime) -> Result<(), Fail> {
 const WHOLE: &str = "refused L8 V5 4
 line 6, slot 4:  ldxw r0, [r1+40]
   reads 4 bytes at context + 40..164; the context of place, version 1, has 104 bytes
-  r1 context + 0..124   r2 0..124   r10 stack end   r0 r3 r4 r5 r6 r7 r8 r9 unset   stack: nothing written
-  made at line 2, slot 0:  ldxw r2, [r1+0]    r2 then is 0..4294967295
-  made at line 3, slot 1:  and64 r2, 31    r2 then is 0..31
-  made at line 4, slot 2:  lsh64 r2, 2    r2 then is 0..124
+  r1 context + 0..124   r2 0..124   r10 stack end   r0 r3 r4 r5 r6 r7 r8 r9 unknown   stack: nothing written
   made at line 5, slot 3:  add64 r1, r2    r1 then is context + 0..124
+  made at line 4, slot 2:  lsh64 r2, 2    r2 then is 0..124
+  made at line 3, slot 1:  and64 r2, 31    r2 then is 0..31
+  made at line 2, slot 0:  ldxw r2, [r1+0]    r2 then is 0..4294967295
   helps: a smaller mask or a test (jgt64) before the address is made, or format 2, whose context has 296 bytes; docs/CONTEXTS.md has the fields
 ";
 
@@ -305,34 +346,88 @@ static KNOWN: [(&str, &str); 3] = [
     // the 8 bytes below the end, and 2 apart from them
     (
         ";@ hook preempt\nmov64 r6, 7\nstxdw [r10-8], r6\nsth [r10-16], 1\nldxdw r0, [r7+0]\nexit\n",
-        "  r1 context   r6 7   r10 stack end   r0 r2 r3 r4 r5 r7 r8 r9 unset   stack: -16..-15 -8..-1 written\n  the 8 bytes at stack end - 8: 7\n",
+        "  r1 context   r6 7   r10 stack end   r0 r2 r3 r4 r5 r7 r8 r9 unknown   stack: -16..-15 -8..-1 written\n  the 8 bytes at stack end - 8: 7\n",
     ),
     // one byte; a pointer 24 bytes below the end, and one beyond the context's begin; a word of which nothing is known
     (
         ";@ hook preempt\nstb [r10-1], 1\nmov64 r2, r10\nadd64 r2, -24\nmov64 r3, r1\nsub64 r3, 8\nldxdw r4, [r1+0]\nldxdw r0, [r7+0]\nexit\n",
-        "  r1 context   r2 stack end - 24   r3 context - 8   r4 any number   r10 stack end   r0 r5 r6 r7 r8 r9 unset   stack: -1 written\n",
+        "  r1 context   r2 stack end - 24   r3 context - 8   r4 any number   r10 stack end   r0 r5 r6 r7 r8 r9 unknown   stack: -1 written\n",
     ),
     // the answer of a look-up, before its test and after it; the call leaves registers 1 to 5 unset
     (
         ";@ hook preempt\n;@ maps 16:2\nstw [r10-4], 0\nldmap r1, 0\nmov64 r2, r10\nadd64 r2, -4\ncall 1\nmov64 r6, r0\nldxdw r0, [r7+0]\nexit\n",
-        "  r0 entry of map 0 or 0, not compared   r6 entry of map 0 or 0, not compared   r10 stack end   r1 r2 r3 r4 r5 r7 r8 r9 unset   stack: -4..-1 written\n",
+        "  r0 entry of map 0 or null, not tested   r6 entry of map 0 or null, not tested   r10 stack end   r1 r2 r3 r4 r5 r7 r8 r9 unknown   stack: -4..-1 written\n",
     ),
 ];
-
-/// The lines on the state that are told of a policy; nothing where there are none.
-fn known(said: &Explained) -> &str {
-    match &said.known {
-        Some(known) => known.as_str(),
-        None => "",
-    }
-}
 
 #[test]
 fn the_state_is_told(rt: HostRuntime) -> Result<(), Fail> {
     for (text, told) in &KNOWN {
         let said = explained(rt.alloc(), text)?;
-        holds(&rt, known(&said) == *told, known(&said), told);
         has(&rt, said.text.as_str(), told);
+    }
+    Ok(())
+}
+
+/// Policies that are refused, words that are told of where registers come from, and words that are not.
+static TRAILS: [(&str, &[&str], &[&str]); 5] = [
+    // the move stands on the other side of the branch, which ends before
+    (
+        ";@ hook place\nldxw r2, [r1+0]\nldxw r3, [r1+4]\njeq64 r2, 1, a\nmov64 r3, 1\nmov64 r0, r3\nexit\na:\nadd64 r1, r3\nldxb r0, [r1+0]\nexit\n",
+        &[
+            "made at line 9, slot 6:  add64 r1, r3    r1 then is context + 0..4294967295\n",
+            "made at line 3, slot 1:  ldxw r3, [r1+4]    r3 then is 0..4294967295\n",
+        ],
+        &["mov64 r3, 1"],
+    ),
+    // two ways that meet, with what each made, and both together
+    (
+        ";@ hook place\nldxw r2, [r1+0]\njeq64 r2, 7, o\nmov64 r3, 200\nja u\no:\nmov64 r3, 4\nu:\nadd64 r1, r3\nldxw r0, [r1+0]\nexit\n",
+        &[
+            "made at line 9, slot 5:  add64 r1, r3    r1 then is context + 4..200\n",
+            "made at line 7, slot 4:  mov64 r3, 4    r3 then is 4\n",
+            "made at line 4, slot 2:  mov64 r3, 200    r3 then is 200\n",
+            "r3 is 200 on the way over line 5, slot 3, and 4 on the way over line 7, slot 4; where they meet, at slot 5, it is 4..200\n",
+        ],
+        &[],
+    ),
+    (
+        ";@ hook place\nldxw r2, [r1+0]\nmov64 r3, 7\njeq64 r2, 0, there\nmov64 r3, 9\nmov64 r0, r3\nexit\nthere:\nldxb r0, [r3+0]\nexit\n",
+        &["made at line 3, slot 1:  mov64 r3, 7    r3 then is 7\n"],
+        &["slot 3"],
+    ),
+    // the reference of one map on one way, and of the other on the other: it is set on each
+    (
+        ";@ hook place\n;@ maps 8:1,8:1\nstw [r10-4], 0\nmov64 r2, r10\nadd64 r2, -4\nldxw r3, [r1+0]\njeq64 r3, 1, b\nldmap r1, 0\nja c\nb:\nldmap r1, 1\nc:\ncall 1\nmov64 r0, 0\nexit\n",
+        &[
+            "calls helper 1, which wants a map in r1, by ldmap; here nothing is known of r1\n",
+            "r1 is map 0 on the way over line 9, slot 7, and map 1 on the way over line 11, slot 8; where they meet, at slot 10, nothing is known of it\n",
+            "helps: use r1 on each way before the ways meet",
+        ],
+        &["unset", "is set by no instruction"],
+    ),
+    // a pointer on one way, a number on the other
+    (
+        ";@ hook place\nldxw r3, [r1+0]\njeq64 r3, 1, b\nmov64 r6, r1\nja c\nb:\nmov64 r6, 5\nc:\nmov64 r0, r6\nexit\n",
+        &[
+            "reads r6, of which nothing is known here\n",
+            "r6 is context on the way over line 5, slot 3, and 5 on the way over line 7, slot 4; where they meet, at slot 5, nothing is known of it\n",
+        ],
+        &["unset", "on each way that leads here"],
+    ),
+];
+
+#[test]
+fn trails_follow_the_ways(rt: HostRuntime) -> Result<(), Fail> {
+    for (text, told, not_told) in &TRAILS {
+        let said = explained(rt.alloc(), text)?;
+        let said = said.text.as_str();
+        for words in *told {
+            has(&rt, said, words);
+        }
+        for words in *not_told {
+            holds(&rt, !said.contains(*words), said, words);
+        }
     }
     Ok(())
 }

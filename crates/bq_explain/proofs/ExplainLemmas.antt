@@ -1,27 +1,99 @@
--- A refusal and what is said of it are an explanation.
-use Rattle.std.proofs.Common.{◌≡◌, ℕ, false, refl, Option, None, Some, IfSome, Result, Ok, Err, IfOk}
-use Rattle.std.specs.String.{string_bytes}
-use Rattle.bq_insn.specs.Appending.{StartsWith}
+-- What a verdict says of the program, and what follows of its place.
+use Rattle.std.proofs.Common.{◌≡◌, ℕ, Bool, List, [], Option, Result, Ok, Err, IfOk, arith, subst, sym}
+use Rattle.std.specs.Prelude.{Contains}
+use Rattle.bq_insn.specs.declared.Insn.{Insn}
+use Rattle.bq_insn.specs.Slots.{spread}
+use Rattle.bq_graph.specs.Edges.{IsStart}
+use Rattle.bq_graph.specs.Faults.{HasFault, IsFaultless}
+use Rattle.bq_graph.specs.declared.cause.GraphCause.{GraphCause}
+use Rattle.bq_graph.specs.declared.cause.GraphCause.TheVariants.{Jump, NoExit, Unreached, Helper, Frame, Counters}
+use Rattle.bq_verify.specs.Refusals.{IsRefusal}
 use Rattle.bq_verify.specs.declared.cause.Cause.{Cause}
+use Rattle.bq_verify.specs.declared.cause.Cause.TheVariants as cause
+use Rattle.bq_verify.specs.declared.refused.Refused.TheVariants as refused
 use Rattle.bq_program.specs.declared.policy_source.PolicySource.{PolicySource}
-use Rattle.bq_explain.specs.declared.explanation.Explained.{Explained}
+use Rattle.bq_bpf.specs.Hooks.{context_length_of}
+use Rattle.bq_verify.specs.KnownAt.{ContainsRuns, IsNotReached}
+use Rattle.bq_verify.specs.Straight.{IsStraightBefore}
+use Rattle.bq_states.specs.declared.abstract_state.AbstractState.{AbstractState}
+use Rattle.bq_needs.specs.Needs.{IsNeed}
+use Rattle.bq_needs.specs.declared.needs.Need.{Need}
+use Rattle.bq_explain.specs.Explained.{AreMade, IsFinding, IsOfState, IsOfVerifier, IsPlace, IsRefusalOf}
+use Rattle.bq_explain.specs.declared.place.Place.{Place}
+use Rattle.bq_explain.specs.declared.refusal.Finding.TheVariants as finding
+use Rattle.bq_explain.specs.declared.refusal.Refusal.{Refusal}
+use Rattle.bq_explain.specs.declared.trail.Made.{Made}
+use Rattle.bq_explain.specs.Verdicts.{IsVerdict}
 use Rattle.bq_explain.specs.declared.limits.Limits.{Limits}
-use Rattle.bq_explain.specs.declared.verdict.Verdict.TheVariants.{Refused}
-use Rattle.bq_explain.specs.Explained.{Explains, HasKnown, HasNeed}
-use Rattle.bq_explain.specs.Verdicts.{IsRefusedPolicy, verdict_line}
+use Rattle.bq_explain.specs.declared.verdict.Verdict.{Verdict}
+use Rattle.bq_explain.specs.declared.verdict.Verdict.TheVariants.{Accepted, OverSteps, Forbidden, Refused}
 
--- two facts of what is there give a third
-pub both_give_third : {X : Type 0} (o : Option X) {P Q R : X → Type 0} → IfSome o P → IfSome o Q → ((x : X) → P x → Q x → R x) → IfSome o R
-both_give_third None p q f = _
-both_give_third (Some x) p q f = f x p q
+-- a refusal is the verifier's
+pub of_verifier : (p : PolicySource) (l : Limits) (verdict : Verdict) → IsVerdict p l verdict → IsOfVerifier p verdict
+of_verifier p l (Accepted budget) is = tt
+of_verifier p l (OverSteps budget most) is = tt
+of_verifier p l (Forbidden helper) is = tt
+of_verifier p l (Refused slot named) is = is
 
--- the verdict is the refusal, and the lines on the state are those of its slot
-pub explains_refusal : {E : Type 0} (p : PolicySource) (l : Limits) (slot : ℕ) (cause : Cause) (r : Result Explained E) → IsRefusedPolicy p slot cause → IfOk r (λ e. e.accepted ≡ false) → IfOk r (λ e. StartsWith (verdict_line p.hook (Refused slot cause)) (string_bytes e.text)) → IfOk r (HasKnown p slot) → IfOk r (HasNeed p slot cause) → IfOk r (Explains p l)
-explains_refusal p l slot cause (Err e) refused accepted begins known need = _
-explains_refusal p l slot cause (Ok e) refused accepted begins known need = record {
-  verdict = Refused slot cause;
-  is_verdict = refused;
-  accepted = accepted;
-  begins = begins;
-  known_of = both_give_third e.known known need (λ told known_is need_is. record { slot = slot; cause = cause; refused = refl; known_is = known_is; need_is = need_is });
+-- an instruction with a fault begins at its slot
+fault_here : (slots : List (Option Insn)) (named : GraphCause) (slot : ℕ) → HasFault slots named slot → IsStart slots slot
+fault_here slots Jump slot fault = record { insn = fault.insn; here = fault.here }
+fault_here slots NoExit slot fault = record { insn = fault.insn; here = fault.here }
+fault_here slots Unreached slot fault = fault.start
+fault_here slots Frame slot fault = record { insn = fault.insn; here = fault.here }
+fault_here slots Helper slot fault = record { insn = _; here = fault.here }
+fault_here slots Counters slot fault = record { insn = fault.insn; here = fault.here }
+
+-- so does one that is refused
+pub refused_here : (slots : List (Option Insn)) (slot : ℕ) (named : Cause) → IsRefusal slots (refused.At slot named) → IsStart slots slot
+refused_here slots slot (cause.Graph named) is = fault_here slots named slot is.1.0
+refused_here slots slot (cause.State doubt) is = record { insn = is.1.insn; here = is.1.here }
+
+-- where it is refused for what is not shown of the states, the control graph has no fault
+pub refused_faultless : (slots : List (Option Insn)) (slot : ℕ) (named : Cause) → IsRefusal slots (refused.At slot named) → IsOfState named → IsFaultless slots
+refused_faultless slots slot (cause.Graph named) is of = absurd of
+refused_faultless slots slot (cause.State doubt) is of = is.0
+
+-- for a cause of the states what is known, and a need that it does not give, are what is found
+pub finds_state : (p : PolicySource) (slot : ℕ) (insn : Insn) (named : Cause) (need : Need) (known : AbstractState) → IsOfState named
+    → ContainsRuns (spread p.insns.items) p.shapes.items (context_length_of p.hook p.version) slot known → IsNeed p known insn named need → IsFinding p slot insn named (finding.State need known)
+finds_state p slot insn (cause.Graph named) need known of contains is = absurd of
+finds_state p slot insn (cause.State doubt) need known of contains is = (contains, is)
+
+-- and that nothing is known, where so no run comes there
+pub finds_none : (p : PolicySource) (slot : ℕ) (insn : Insn) (named : Cause) → IsOfState named
+    → (IsStraightBefore (spread p.insns.items) p.shapes.items (context_length_of p.hook p.version) slot → IsNotReached (spread p.insns.items) p.shapes.items (context_length_of p.hook p.version) slot)
+    → IsFinding p slot insn named finding.Unknown
+finds_none p slot insn (cause.Graph named) of none = absurd of
+finds_none p slot insn (cause.State doubt) of none = none
+
+nothing_made : (slots : List (Option Insn)) (slot : ℕ) (made : List Made) → made ≡ [] → AreMade slots slot [] made
+nothing_made slots slot made none one there = absurd (let less = (subst (λ (l : List Made). Contains l one) none there).1 in let no : ⊥ = omega arith in no)
+
+-- a refusal for a fault of the control graph
+pub refusal_of_graph : {E : Type 0} (p : PolicySource) (slot : ℕ) (named : GraphCause) (place : Place) (r : Result Refusal E) → IsPlace (spread p.insns.items) slot place
+    → IfOk r (λ refusal. refusal.place ≡ place) → IfOk r (λ refusal. refusal.cause ≡ cause.Graph named)
+    → IfOk r (λ refusal. (p : PolicySource) (slot : ℕ) → IsFinding p slot place.insn (cause.Graph named) refusal.finding)
+    → IfOk r (λ refusal. refusal.trail.made.items ≡ []) → IfOk r (IsRefusalOf p slot (cause.Graph named))
+refusal_of_graph p slot named place (Err e) at same is finds none = tt
+refusal_of_graph p slot named place (Ok refusal) at same is finds none = record {
+  place = subst (λ (q : Place). IsPlace (spread p.insns.items) slot q) (sym same) at;
+  cause_is = is;
+  finds = subst (λ (q : Place). IsFinding p slot q.insn (cause.Graph named) refusal.finding) (sym same) (finds p slot);
+  asked = [];
+  made = nothing_made (spread p.insns.items) slot refusal.trail.made.items none;
+}
+
+-- a refusal for what is not shown of the states
+pub refusal_of_state : {E : Type 0} (p : PolicySource) (slot : ℕ) (named : Cause) (slots : List (Option Insn)) → slots ≡ spread p.insns.items → (place : Place) (r : Result Refusal E) → IsPlace (spread p.insns.items) slot place
+    → IfOk r (λ refusal. refusal.place ≡ place) → IfOk r (λ refusal. refusal.cause ≡ named)
+    → IfOk r (λ refusal. IsFinding p place.slot place.insn named refusal.finding)
+    → IfOk r (λ refusal. (asked : List Bool) × AreMade slots place.slot asked refusal.trail.made.items) → IfOk r (IsRefusalOf p slot named)
+refusal_of_state p slot named slots laid place (Err e) at same is finds made = tt
+refusal_of_state p slot named slots laid place (Ok refusal) at same is finds made = record {
+  place = subst (λ (q : Place). IsPlace (spread p.insns.items) slot q) (sym same) at;
+  cause_is = is;
+  finds = subst (λ (q : Place). IsFinding p slot q.insn named refusal.finding) (sym same) (subst (λ (n : ℕ). IsFinding p n place.insn named refusal.finding) at.slot_is finds);
+  asked = made.0;
+  made = subst (λ (n : ℕ). AreMade (spread p.insns.items) n made.0 refusal.trail.made.items) at.slot_is (subst (λ (s : List (Option Insn)). AreMade s place.slot made.0 refusal.trail.made.items) laid made.1);
 }

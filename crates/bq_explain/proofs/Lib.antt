@@ -1,8 +1,8 @@
 pub mod BeginningLemmas
 pub mod ComplaintLemmas
 pub mod ExplainLemmas
-pub mod KnownLemmas
+pub mod MakerLemmas
 pub mod RunLemmas
 pub mod SlotLemmas
-pub mod UnsetLemmas
 pub mod StateTextLemmas
+pub mod UnknownLemmas

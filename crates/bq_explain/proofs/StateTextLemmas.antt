@@ -6,8 +6,8 @@ use Rattle.bq_states.specs.AbstractStates.{Contains, Holds, Keeps}
 use Rattle.bq_states.specs.declared.abstract_state.AbstractValue.{AbstractValue}
 use Rattle.bq_states.specs.declared.abstract_state.AbstractState.{AbstractState}
 use Rattle.bq_explain.specs.Telling.{TellsRegisters, no_register, one_register, TellsRuns, no_run_told, one_run_told, TellsStack, TellsKept, no_kept, one_kept, TellsState}
-use Rattle.bq_explain.specs.Texts.{register_text, registers_below, kept_text, kept_below, AreRuns, no_byte, unset_byte, one_run, IsStackText, IsStateText, stack_text, unset_text}
-use Rattle.bq_explain.proofs.UnsetLemmas.{names_unset}
+use Rattle.bq_explain.specs.Texts.{register_text, registers_below, kept_text, kept_below, AreRuns, no_byte, unset_byte, one_run, IsStackText, IsStateText, stack_text, unknown_text}
+use Rattle.bq_explain.proofs.UnknownLemmas.{names_unknown}
 use Rattle.bq_needs.specs.Texts.{known_text}
 use Rattle.bq_needs.proofs.SayingLemmas.{says_known}
 
@@ -51,7 +51,7 @@ tells_stack f s v text contains (runs, are, is) =
     tells_line s runs text is (tells_runs s (λ i set. let told = contains.set i set in (told.0, told.1)) are)
 
 -- the parts of the text make it whole
-pub is_state_text : (v : AbstractState) (registers unset stack kept text : List ℕ) → registers ≡ registers_below 11 v.registers → unset ≡ unset_text v.registers → IsStackText v.set stack → kept ≡ kept_below 64 v.kept → text ≡ codes " " ++ (registers ++ (unset ++ (stack ++ kept))) → IsStateText v text
+pub is_state_text : (v : AbstractState) (registers unset stack kept text : List ℕ) → registers ≡ registers_below 11 v.registers → unset ≡ unknown_text v.registers → IsStackText v.set stack → kept ≡ kept_below 64 v.kept → text ≡ codes " " ++ (registers ++ (unset ++ (stack ++ kept))) → IsStateText v text
 is_state_text v registers unset stack kept text registers_are unset_are is_stack kept_are is =
     record { stack = stack; text_is = rw registers_are at rw unset_are at rw kept_are at is; is_stack = is_stack }
 
@@ -60,12 +60,12 @@ pub tells_state : (v : AbstractState) (text : List ℕ) → IsStateText v text �
 tells_state v text is f s contains =
     record {
       registers = registers_below 11 v.registers;
-      unset = unset_text v.registers;
+      unknown = unknown_text v.registers;
       stack = is.stack;
       kept = kept_below 64 v.kept;
       text_is = is.text_is;
       registers_told = tells_registers f s v contains 11;
-      unset_named = names_unset v.registers;
+      unknown_named = names_unknown v.registers;
       stack_told = tells_stack f s v is.stack contains is.is_stack;
       kept_told = tells_kept f s v contains 64;
     }

@@ -1,77 +1,129 @@
--- What an explanation says of a policy.
-use Rattle.std.specs.Prelude.{◌≡◌, ℕ, List, ◌++◌, Some, IfSome, codes, string_bytes}
-use Rattle.bq_insn.specs.Appending.{StartsWith}
+-- What an explanation says of a policy, and how it is told.
+use Rattle.std.specs.Prelude.{◌≡◌, ℕ, List, ◌++◌, Bool, Option, Some, Contains, codes}
 use Rattle.bq_insn.specs.declared.Insn.{Insn}
 use Rattle.bq_insn.specs.Slots.{spread}
-use Rattle.bq_verify.specs.declared.cause.Cause.{Cause}
-use Rattle.bq_bpf.specs.Memory.{HaveShapes, Setting, State}
-use Rattle.bq_bpf.specs.Runs.{Steps, start}
-use Rattle.bq_bpf.specs.Safe.{IsSetting}
+use Rattle.bq_bpf.specs.Memory.{Setting, State}
 use Rattle.bq_bpf.specs.Steps.{instruction_at}
-use Rattle.bq_bpf.specs.declared.board.Call.{Call as Asked}
 use Rattle.bq_bpf.specs.Hooks.{context_length_of}
-use Rattle.bq_verify.specs.KnownAt.{ContainsRuns}
+use Rattle.bq_graph.specs.declared.cause.GraphCause.{GraphCause}
+use Rattle.bq_graph.specs.declared.cause.GraphCause.TheVariants.{Jump, NoExit, Unreached, Helper, Frame, Counters}
+use Rattle.bq_verify.specs.declared.cause.Cause.{Cause}
+use Rattle.bq_verify.specs.declared.cause.Cause.TheVariants as cause
+use Rattle.bq_verify.specs.KnownAt.{ContainsRuns, IsNotReached}
+use Rattle.bq_verify.specs.Straight.{IsStraightBefore}
+use Rattle.bq_states.specs.AbstractStates.{Contains as Allows}
 use Rattle.bq_states.specs.declared.abstract_state.AbstractState.{AbstractState}
 use Rattle.bq_program.specs.declared.policy_source.PolicySource.{PolicySource}
-use Rattle.bq_explain.specs.declared.explanation.Explained.{Explained}
-use Rattle.bq_explain.specs.declared.limits.Limits.{Limits}
-use Rattle.bq_explain.specs.declared.verdict.Verdict.{Verdict}
-use Rattle.bq_explain.specs.declared.verdict.Verdict.TheVariants.{Refused}
 use Rattle.bq_needs.specs.Needs.{IsNeed}
+use Rattle.bq_needs.specs.Words.{TellsNeed}
+use Rattle.bq_needs.specs.declared.needs.Need.{Need}
+use Rattle.bq_explain.specs.Makers.{IsOnTrail}
 use Rattle.bq_explain.specs.Telling.{TellsState}
-use Rattle.bq_explain.specs.Beginnings.{first_words}
 use Rattle.bq_explain.specs.Texts.{IsStateText}
-use Rattle.bq_explain.specs.Verdicts.{IsVerdict, is_accepted}
+use Rattle.bq_explain.specs.Verdicts.{IsRefusedPolicy, IsVerdict}
+use Rattle.bq_explain.specs.declared.explanation.Detail.{Detail}
+use Rattle.bq_explain.specs.declared.explanation.Detail.TheVariants as detail
+use Rattle.bq_explain.specs.declared.explanation.Explanation.{Explanation}
+use Rattle.bq_explain.specs.declared.graph_fault.GraphFault.{GraphFault}
+use Rattle.bq_explain.specs.declared.graph_fault.GraphFault.TheVariants as fault
+use Rattle.bq_explain.specs.declared.limits.Limits.{Limits}
+use Rattle.bq_explain.specs.declared.makers.Maker.{Maker}
+use Rattle.bq_explain.specs.declared.place.Place.{Place}
+use Rattle.bq_explain.specs.declared.refusal.Finding.{Finding}
+use Rattle.bq_explain.specs.declared.refusal.Finding.TheVariants as finding
+use Rattle.bq_explain.specs.declared.refusal.Refusal.{Refusal}
+use Rattle.bq_explain.specs.declared.trail.Made.{Made}
+use Rattle.bq_explain.specs.declared.verdict.Verdict.{Verdict}
+use Rattle.bq_explain.specs.declared.verdict.Verdict.TheVariants.{Accepted, Refused}
 
--- in every run of the policy's program that comes to the slot, whatever the context, the maps, the clock, the processor and the answers of the
--- counters are, what the text tells of registers and stack is so
-abbrev pub HoldsAt : PolicySource → ℕ → List ℕ → Type 0
-HoldsAt p slot text =
-    (f : Setting) (maps : List (List ℕ)) → IsSetting (spread p.insns.items) p.shapes.items (context_length_of p.hook p.version) f → HaveShapes p.shapes.items maps →
-    (n : ℕ) (calls : List Asked) (t : State) → Steps f (start maps) n calls t → t.slot ≡ slot → TellsState f t text
+-- it is the place of the instruction at the slot
+pub record IsPlace (slots : List (Option Insn)) (slot : ℕ) (place : Place) : Type 0 where
+  pub slot_is : place.slot ≡ slot
+  pub here : instruction_at slots slot ≡ Some place.insn
 
--- the lines on the state stand in the text, and hold
-pub record IsKnown (p : PolicySource) (slot : ℕ) (text known : List ℕ) : Type 0 where
+-- the cause that a fault has
+abbrev pub graph_cause_of : GraphFault → GraphCause
+graph_cause_of (fault.JumpsOut to) = Jump
+graph_cause_of (fault.JumpsBack to) = Jump
+graph_cause_of (fault.JumpsInside to) = Jump
+graph_cause_of fault.RunsOut = NoExit
+graph_cause_of fault.Unreached = Unreached
+graph_cause_of (fault.Helper helper) = Helper
+graph_cause_of fault.Frame = Frame
+graph_cause_of fault.Calls = Counters
+
+-- the cause is of the states
+abbrev pub IsOfState : Cause → Type 0
+IsOfState (cause.State doubt) = Unit {0}
+IsOfState (cause.Graph named) = ⊥
+
+-- what is found at an instruction: for a fault of the control graph, one of that cause; for what is not shown of the states, a need that what is known before
+-- it does not give, where that holds in every run that comes there; and that nothing is known, where each instruction before finds what it needs, only if
+-- no run comes there
+abbrev pub IsFinding : PolicySource → ℕ → Insn → Cause → Finding → Type 0
+IsFinding p slot insn (cause.Graph named) (finding.Graph wrong) = graph_cause_of wrong ≡ named
+IsFinding p slot insn (cause.State doubt) (finding.State need known) =
+    ContainsRuns (spread p.insns.items) p.shapes.items (context_length_of p.hook p.version) slot known × IsNeed p known insn (cause.State doubt) need
+IsFinding p slot insn (cause.State doubt) finding.Unknown =
+    IsStraightBefore (spread p.insns.items) p.shapes.items (context_length_of p.hook p.version) slot → IsNotReached (spread p.insns.items) p.shapes.items (context_length_of p.hook p.version) slot
+IsFinding p slot insn _ other = ⊥
+
+-- each of them is on the trail of these registers at the slot
+abbrev pub AreMade : List (Option Insn) → ℕ → List Bool → List Made → Type 0
+AreMade slots slot asked made = (one : Made) → Contains made one → IsOnTrail slots slot asked one.register one.place.slot
+
+-- it tells of that maker
+pub record IsOf (maker : Maker) (made : Made) : Type 0 where
+  pub register_is : made.register ≡ maker.register
+  pub slot_is : made.place.slot ≡ maker.slot
+
+-- each of them tells of one of the makers
+abbrev pub AreOf : List Maker → List Made → Type 0
+AreOf makers made = (one : Made) → Contains made one → (maker : Maker) × Contains makers maker × IsOf maker one
+
+-- the instruction at the slot, what is found there, and instructions on the trail of some registers
+pub record IsRefusalOf (p : PolicySource) (slot : ℕ) (named : Cause) (refusal : Refusal) : Type 0 where
+  pub place : IsPlace (spread p.insns.items) slot refusal.place
+  pub cause_is : refusal.cause ≡ named
+  pub finds : IsFinding p slot refusal.place.insn named refusal.finding
+  pub asked : List Bool
+  pub made : AreMade (spread p.insns.items) slot asked refusal.trail.made.items
+
+-- what explains a verdict
+abbrev pub IsDetail : PolicySource → Verdict → Detail → Type 0
+IsDetail p (Accepted budget) (detail.Accepted summary) = Unit {0}
+IsDetail p (Accepted budget) other = ⊥
+IsDetail p (Refused slot named) (detail.Refused refusal) = IsRefusalOf p slot named refusal
+IsDetail p (Refused slot named) other = ⊥
+IsDetail p limited (detail.Limited place) = Unit {0}
+IsDetail p limited other = ⊥
+
+-- where the verdict is a refusal, it is the verifier's
+abbrev pub IsOfVerifier : PolicySource → Verdict → Type 0
+IsOfVerifier p (Refused slot named) = IsRefusedPolicy p slot named
+IsOfVerifier p other = Unit {0}
+
+-- the verdict is that of the verifier and the limits, and the rest explains it
+pub record Explains (p : PolicySource) (l : Limits) (e : Explanation) : Type 0 where
+  pub is_verdict : IsVerdict p l e.verdict
+  pub is_detail : IsDetail p e.verdict e.detail
+
+-- a line tells the need, and behind it lines tell what is known: in each state that this allows they are so
+pub record TellsNeedAndState (p : PolicySource) (insn : Insn) (need : Need) (known : AbstractState) (text : List ℕ) : Type 0 where
+  pub told : List ℕ
+  pub tells_need : TellsNeed p known insn need told
+  pub lines : List ℕ
+  pub are_state : IsStateText known lines
+  pub hold : (f : Setting) (s : State) → Allows f known s → TellsState f s lines
   pub before : List ℕ
   pub after : List ℕ
-  pub text_is : text ≡ before ++ (known ++ after)
-  pub holds : HoldsAt p slot known
+  pub text_is : text ≡ before ++ (codes "\n  " ++ (told ++ (codes "\n" ++ (lines ++ after))))
 
--- where lines on the state are told, they hold
-abbrev pub HasKnown : PolicySource → ℕ → Explained → Type 0
-HasKnown p slot e = IfSome e.known (λ known. IsKnown p slot (string_bytes e.text) (string_bytes known))
+abbrev pub TellsFinding : PolicySource → Insn → Finding → List ℕ → Type 0
+TellsFinding p insn (finding.State need known) text = TellsNeedAndState p insn need known text
+TellsFinding p insn other text = Unit {0}
 
--- the lines on the state tell of an abstract state that every run which comes to the slot is within; the line before them tells, by the cause, a need of the
--- instruction there that this abstract state does not give
-pub record IsNeedAt (p : PolicySource) (slot : ℕ) (cause : Cause) (text known : List ℕ) : Type 0 where
-  pub state : AbstractState
-  pub contains : ContainsRuns (spread p.insns.items) p.shapes.items (context_length_of p.hook p.version) slot state
-  pub state_told : IsStateText state known
-  pub insn : Insn
-  pub here : instruction_at (spread p.insns.items) slot ≡ Some insn
-  pub need : List ℕ
-  pub is_need : IsNeed p state insn cause need
-  pub before : List ℕ
-  pub after : List ℕ
-  pub text_is : text ≡ before ++ (codes "\n  " ++ (need ++ (codes "\n" ++ (known ++ after))))
-
--- where lines on the state are told, the need stands before them
-abbrev pub HasNeed : PolicySource → ℕ → Cause → Explained → Type 0
-HasNeed p slot cause e = IfSome e.known (λ known. IsNeedAt p slot cause (string_bytes e.text) (string_bytes known))
-
--- the policy is refused at a slot, the lines on the state hold there, and a need that the state does not meet stands before them
-pub record IsKnownOf (p : PolicySource) (verdict : Verdict) (text known : List ℕ) : Type 0 where
-  pub slot : ℕ
-  pub cause : Cause
-  pub refused : verdict ≡ Refused slot cause
-  pub known_is : IsKnown p slot text known
-  pub need_is : IsNeedAt p slot cause text known
-
--- the verdict is that of the verifier and the limits, and the text begins with it; where lines on the state are told, they hold at the slot of the refusal, and the need before them is
--- one that what they tell does not give
-pub record Explains (p : PolicySource) (l : Limits) (e : Explained) : Type 0 where
-  pub verdict : Verdict
-  pub is_verdict : IsVerdict p l verdict
-  pub accepted : e.accepted ≡ is_accepted verdict
-  pub begins : StartsWith (first_words p verdict) (string_bytes e.text)
-  pub known_of : IfSome e.known (λ known. IsKnownOf p verdict (string_bytes e.text) (string_bytes known))
+-- of a refusal the text tells what is found
+abbrev pub TellsDetail : PolicySource → Detail → List ℕ → Type 0
+TellsDetail p (detail.Refused refusal) text = TellsFinding p refusal.place.insn refusal.finding text
+TellsDetail p other text = Unit {0}

@@ -1,6 +1,7 @@
 pub mod Beginnings
+pub mod Complaints
 pub mod Explained
+pub mod Makers
 pub mod Telling
 pub mod Texts
 pub mod Verdicts
-pub mod Complaints

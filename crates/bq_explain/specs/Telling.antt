@@ -16,9 +16,9 @@ pub data AreNames : List ℕ → Type 0 where
   no_name : AreNames []
   one_name : (before : List ℕ) (register : ℕ) → AreNames before → AreNames (before ++ (codes " r" ++ decimal register))
 
--- nothing, or registers by their names, and that they are unset: no word of any is told
-abbrev pub NamesUnset : List ℕ → Type 0
-NamesUnset text = (text ≡ []) ⊎ ((names : List ℕ) × (text ≡ names ++ codes " unset  ") × AreNames names)
+-- nothing, or registers by their names, and that they are unknown: no word of any is told
+abbrev pub NamesUnknown : List ℕ → Type 0
+NamesUnknown text = (text ≡ []) ⊎ ((names : List ℕ) × (text ≡ names ++ codes " unknown  ") × AreNames names)
 
 -- runs of bytes of the stack that are set in the state
 pub data TellsRuns : State → List ℕ → Type 0 where
@@ -38,11 +38,11 @@ pub data TellsKept : Setting → State → List ℕ → Type 0 where
 -- registers are only named
 pub record TellsState (f : Setting) (s : State) (text : List ℕ) : Type 0 where
   pub registers : List ℕ
-  pub unset : List ℕ
+  pub unknown : List ℕ
   pub stack : List ℕ
   pub kept : List ℕ
-  pub text_is : text ≡ codes " " ++ (registers ++ (unset ++ (stack ++ kept)))
+  pub text_is : text ≡ codes " " ++ (registers ++ (unknown ++ (stack ++ kept)))
   pub registers_told : TellsRegisters f s registers
-  pub unset_named : NamesUnset unset
+  pub unknown_named : NamesUnknown unknown
   pub stack_told : TellsStack s stack
   pub kept_told : TellsKept f s kept

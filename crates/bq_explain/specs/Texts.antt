@@ -18,23 +18,23 @@ registers_below zero registers = []
 registers_below (suc n) registers = registers_below n registers ++ register_text n (slice_index_or registers n None)
 
 -- of a register of which nothing is known the name is printed
-abbrev pub unset_name : ℕ → Option AbstractValue → List ℕ
-unset_name register None = codes " r" ++ decimal register
-unset_name register (Some k) = []
+abbrev pub unknown_name : ℕ → Option AbstractValue → List ℕ
+unknown_name register None = codes " r" ++ decimal register
+unknown_name register (Some k) = []
 
 -- those of the first registers, so many of them
-abbrev pub unset_below : ℕ → List (Option AbstractValue) → List ℕ
-unset_below zero registers = []
-unset_below (suc n) registers = unset_below n registers ++ unset_name n (slice_index_or registers n None)
+abbrev pub unknown_below : ℕ → List (Option AbstractValue) → List ℕ
+unknown_below zero registers = []
+unknown_below (suc n) registers = unknown_below n registers ++ unknown_name n (slice_index_or registers n None)
 
--- names of registers, and that they are unset; nothing where there is no name
-abbrev pub called_unset : List ℕ → List ℕ
-called_unset [] = []
-called_unset (first ∷ rest) = (first ∷ rest) ++ codes " unset  "
+-- names of registers, and that they are unknown; nothing where there is no name
+abbrev pub called_unknown : List ℕ → List ℕ
+called_unknown [] = []
+called_unknown (first ∷ rest) = (first ∷ rest) ++ codes " unknown  "
 
 -- the registers of which nothing is known
-abbrev pub unset_text : List (Option AbstractValue) → List ℕ
-unset_text registers = called_unset (unset_below 11 registers)
+abbrev pub unknown_text : List (Option AbstractValue) → List ℕ
+unknown_text registers = called_unknown (unknown_below 11 registers)
 
 -- a word that is kept whole on the stack, by how far its first byte is below the end
 abbrev pub kept_text : ℕ → Option AbstractValue → List ℕ
@@ -73,5 +73,5 @@ IsStackText set text = (runs : List ℕ) × AreRuns set stack_size runs × (text
 -- what is known: each register that is known, those that are not, the stack's bytes that are set, and the words that are kept there
 pub record IsStateText (v : AbstractState) (text : List ℕ) : Type 0 where
   pub stack : List ℕ
-  pub text_is : text ≡ codes " " ++ (registers_below 11 v.registers ++ (unset_text v.registers ++ (stack ++ kept_below 64 v.kept)))
+  pub text_is : text ≡ codes " " ++ (registers_below 11 v.registers ++ (unknown_text v.registers ++ (stack ++ kept_below 64 v.kept)))
   pub is_stack : IsStackText v.set stack

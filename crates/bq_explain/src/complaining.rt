@@ -42,6 +42,19 @@ fn line_complaint(
     format!(in alloc; "line {number}: {why}\n")
 }
 
+/// Why the assembler refuses the line of that number, for that cause; line 0 stands for a text without instruction.
+pub fn assembly_words(
+    alloc: Global,
+    text: &str,
+    number: usize,
+    cause: Cause,
+) -> Result<String, AllocError> {
+    if number == 0 {
+        return String::from_str(alloc, "the text has no instruction");
+    }
+    reason(alloc, line_numbered(text, number), cause)
+}
+
 /// The line of that number, counted from 1; empty where there is none.
 fn line_numbered(text: &str, number: usize) -> &str {
     let mut at: usize = 0;

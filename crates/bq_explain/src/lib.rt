@@ -1,28 +1,38 @@
-//! What the verifier knows and misses, in words: for a program that it accepts its numbers, for one that it refuses the line, the
-//! need that is not met, what is known there, where that came from, and what helps.
+//! What the verifier and the assembler say of a program, explained: as a value and, written from that, in words.
 //!
-//! Complaints are of assembler texts: the line, the word that is not known, and the nearest that is.
-//!
-//! What is printed of registers and stack is what `state_at` knows, which holds in every run that comes to the slot.
+//! Of a program that is accepted its numbers; of one that is refused the place, the need that is not met, what is known there, which
+//! instructions made that by the ways of the control graph, and what helps. What is told of registers and stack is what `state_at`
+//! knows, which holds in every run that comes to the slot. Complaints are of assembler texts.
 #![tactic(auto)]
 
 mod advice;
+mod after;
 mod complaining;
 mod explanation;
 mod forms;
+mod graph_fault;
 mod limits;
-mod pass_needs;
-mod program_words;
-mod registers;
+mod makers;
+mod meeting;
+mod place;
+mod refusal;
 mod state_words;
 mod summary;
+mod text;
 mod trail;
 mod verdict;
 mod vocabulary;
 
-pub use bq_needs::range_text;
-pub use complaining::complaint;
-pub use explanation::{Explained, explain};
+pub use advice::{Advice, Reach, advice_text};
+pub use bq_needs::{known_text, range_text};
+pub use complaining::{assembly_words, complaint};
+pub use explanation::{Detail, Explanation, explain};
+pub use graph_fault::GraphFault;
 pub use limits::Limits;
-pub use program_words::index_at;
+pub use meeting::{Coming, Meeting};
+pub use place::{Place, index_at};
+pub use refusal::{Finding, Refusal};
+pub use summary::{Summary, maps_text};
+pub use text::{explanation_text, need_words};
+pub use trail::{Made, Trail};
 pub use verdict::{Verdict, judge, verdict_line};

@@ -4,7 +4,7 @@ ghost use Rattle.bq_bpf.specs.Memory.{Setting, State, stack_size};
 ghost use Rattle.bq_states.specs.AbstractStates.{Contains};
 ghost use Rattle.bq_explain.specs.Telling.{TellsState};
 ghost use Rattle.bq_needs.specs.Accesses.{AreSet};
-ghost use Rattle.bq_explain.specs.Texts.{AreRuns, EndsAt, IsStackText, IsStateText, kept_below, kept_text, register_text, registers_below, run_text, unset_below, unset_name, unset_text};
+ghost use Rattle.bq_explain.specs.Texts.{AreRuns, EndsAt, IsStackText, IsStateText, kept_below, kept_text, register_text, registers_below, run_text, unknown_below, unknown_name, unknown_text};
 
 use bq_bpf::addresses::STACK_SIZE;
 use bq_needs::known_text;
@@ -31,10 +31,10 @@ fn lines_of(alloc: Global, state: &AbstractState) -> Result<String, AllocError>
     ensures { IfOk result (λ text. IsStateText state.now (string_bytes text)) }
 {
     let registers = registers_text(alloc, state)?;
-    let unset = unset_text(alloc, state)?;
+    let unknown = unknown_text(alloc, state)?;
     let stack = stack_line(alloc, state)?;
     let kept = kept_lines(alloc, state)?;
-    format!(in alloc; " {registers}{unset}{stack}{kept}")
+    format!(in alloc; " {registers}{unknown}{stack}{kept}")
 }
 
 /// The registers of which something is known.
@@ -66,37 +66,37 @@ fn register_text(
     }
 }
 
-/// The registers of which nothing is known, and that they are unset; nothing where each is known.
-#[tactic(auto, using(crate::proofs::UnsetLemmas::none_unset, crate::proofs::UnsetLemmas::some_unset))]
-fn unset_text(alloc: Global, state: &AbstractState) -> Result<String, AllocError>
-    ensures { IfOk result (λ text. string_bytes text ≡ unset_text state.now.registers) }
+/// The registers of which nothing is known, and that they are unknown; nothing where each is known.
+#[tactic(auto, using(crate::proofs::UnknownLemmas::none_unknown, crate::proofs::UnknownLemmas::some_unknown))]
+fn unknown_text(alloc: Global, state: &AbstractState) -> Result<String, AllocError>
+    ensures { IfOk result (λ text. string_bytes text ≡ unknown_text state.now.registers) }
 {
-    let names = unset_names(alloc, state)?;
+    let names = unknown_names(alloc, state)?;
     if names.is_empty() {
         return Ok(names);
     }
-    format!(in alloc; "{names} unset  ")
+    format!(in alloc; "{names} unknown  ")
 }
 
 /// The registers of which nothing is known, by their names.
-fn unset_names(alloc: Global, state: &AbstractState) -> Result<String, AllocError>
-    ensures { IfOk result (λ text. string_bytes text ≡ unset_below 11 state.now.registers) }
+fn unknown_names(alloc: Global, state: &AbstractState) -> Result<String, AllocError>
+    ensures { IfOk result (λ text. string_bytes text ≡ unknown_below 11 state.now.registers) }
 {
     let mut text = String::new(alloc);
     for number in 0..11usize {
-        let name = unset_name(alloc, number, &state.registers[number])?;
+        let name = unknown_name(alloc, number, &state.registers[number])?;
         text.push_str(name.as_str())?;
     }
     Ok(text)
 }
 
 /// The name of a register, if nothing is known of it.
-fn unset_name(
+fn unknown_name(
     alloc: Global,
     number: usize,
     known: &Option<AbstractValue>,
 ) -> Result<String, AllocError>
-    ensures { IfOk result (λ text. string_bytes text ≡ unset_name number known.now) }
+    ensures { IfOk result (λ text. string_bytes text ≡ unknown_name number known.now) }
 {
     match known {
         None => format!(in alloc; " r{number}"),

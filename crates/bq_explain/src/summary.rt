@@ -13,24 +13,49 @@ use std::alloc::{AllocError, Global};
 /// The helpers that there are, by their numbers.
 const HELPERS: [i32; 6] = [LOOKUP, UPDATE, NOW, PROCESSOR, ADD_COUNTER, READ_COUNTER];
 
+/// What a program uses.
+#[derive(Drop)]
+pub struct Summary {
+    /// The helpers that it calls, by their numbers.
+    pub helpers: Vec<i32>,
+    /// How many of its instructions call a counter.
+    pub counters: usize,
+    /// How many slots it takes.
+    pub slots: usize,
+}
+
+/// What the policy's program uses.
+pub(crate) fn summary_of(alloc: Global, policy: &PolicySource) -> Result<Summary, AllocError> {
+    let insns = policy.insns.as_slice();
+    Ok(Summary {
+        helpers: helpers_of(alloc, insns)?,
+        counters: counter_calls(insns),
+        slots: slot_count(insns),
+    })
+}
+
 /// The one line on an accepted program: its hook, budget, version, maps, helpers, calls of counters and slots.
-pub(crate) fn summary(
+pub(crate) fn summary_text(
     alloc: Global,
     policy: &PolicySource,
     budget: u32,
+    summary: &Summary,
 ) -> Result<String, AllocError>
     ensures { IfOk result (λ text. StartsWith (accepted_words policy.now budget) (string_bytes text)) }
 {
     let words = accepted_words(alloc, policy, budget)?;
-    let insns = policy.insns.as_slice();
-    let helpers = helpers_text(alloc, insns)?;
-    let counters = counter_calls(insns);
-    let slots = slot_count(insns);
+    let helpers = helpers_text(alloc, summary.helpers.as_slice())?;
+    let counters = summary.counters;
+    let slots = summary.slots;
     format!(in alloc; "{words}, helpers {helpers}, counters {counters}, slots {slots}\n")
 }
 
 /// Its hook, its budget, its version and its maps.
-fn accepted_words(alloc: Global, policy: &PolicySource, budget: u32) -> Result<String, AllocError>
+pub(crate) fn accepted_words(
+    alloc: Global,
+    policy: &PolicySource,
+    budget: u32,
+) -> Result<String, AllocError>
     ensures { IfOk result (λ text. string_bytes text ≡ accepted_words policy.now budget) }
 {
     let hook = policy.hook.word();
@@ -49,7 +74,7 @@ fn slot_count(insns: &[Insn]) -> usize {
 }
 
 /// The shapes of the maps, as `--maps` takes them, or `none`.
-fn maps_text(alloc: Global, shapes: &[MapShape]) -> Result<String, AllocError>
+pub fn maps_text(alloc: Global, shapes: &[MapShape]) -> Result<String, AllocError>
     ensures { IfOk result (λ text. string_bytes text ≡ maps_text shapes.now) }
 {
     match shapes {
@@ -63,20 +88,27 @@ fn maps_text(alloc: Global, shapes: &[MapShape]) -> Result<String, AllocError>
     }
 }
 
-/// The helpers that are called, by their numbers, or `none`.
-fn helpers_text(alloc: Global, insns: &[Insn]) -> Result<String, AllocError> {
-    let mut text = String::new(alloc);
-    let mut some = false;
+/// The helpers that are called, by their numbers.
+fn helpers_of(alloc: Global, insns: &[Insn]) -> Result<Vec<i32>, AllocError> {
+    let mut helpers = Vec::new(alloc);
     for number in HELPERS {
         if calls(insns, number) {
-            if some {
-                text.push_str(",")?;
-            }
-            write!(text, "{number}")?;
-            some = true;
+            helpers.push(number)?;
         }
     }
-    if !some {
+    Ok(helpers)
+}
+
+/// The numbers with commas between, or `none`.
+fn helpers_text(alloc: Global, helpers: &[i32]) -> Result<String, AllocError> {
+    let mut text = String::new(alloc);
+    for number in helpers {
+        if !text.is_empty() {
+            text.push_str(",")?;
+        }
+        write!(text, "{number}")?;
+    }
+    if text.is_empty() {
         text.push_str("none")?;
     }
     Ok(text)

@@ -1,105 +1,222 @@
-//! Where a register's value comes from: the instructions before that made it.
-ghost use Rattle.std.specs.Prelude.{◌≡◌, ◌≤◌, length, true};
-ghost use Rattle.bq_insn.specs.Spelling.{is_well_formed};
+//! Where the registers come from that matter to a need: what made them, and where their ways meet.
+ghost use Rattle.std.specs.Prelude.{◌≡◌, ◌<◌, ◌≤◌, [], IfOk, IfSome, length};
+ghost use Rattle.bq_graph.specs.Passes.{IsSound};
+ghost use Rattle.bq_explain.specs.Explained.{AreMade, AreOf, IsOf};
+ghost use Rattle.bq_explain.specs.Makers.{IsLaidOut};
 
-use crate::program_words::place_of;
-use crate::registers::{RegisterSet, bit, read, written};
+use crate::makers::{Maker, leading_to, makers, trail};
+use crate::meeting::{Meeting, known_behind, meeting_of};
+use crate::place::{Place, place_at};
 use bq_insn::Insn;
-use bq_needs::known_text;
-use bq_program::instruction_text;
-use bq_states::registers::known;
-use bq_verify::{Program, state_at};
+use bq_needs::{Registers, read_registers};
+use bq_program::PolicySource;
+use bq_states::abstract_state::AbstractValue;
+use bq_verify::Program;
 use std::alloc::{AllocError, Global};
 
-/// The most instructions that are listed.
-const STEPS: usize = 6;
+/// The most places where ways meet that are named.
+const MEETINGS: usize = 3;
 
-/// An instruction on the trail: its index, and its slot.
-#[derive(Clone, Copy)]
-struct Made {
-    index: usize,
-    slot: usize,
-    insn: Insn,
+/// Where registers come from.
+#[derive(Drop)]
+pub struct Trail {
+    /// The instructions that made them, the nearest first, and then those that made what these read; six at most.
+    pub made: Vec<Made>,
+    /// Those of them that no instruction sets on some way from the start.
+    pub unset: Registers,
+    /// Where ways meet that bring different words into one of them, or into what a maker reads; three at most.
+    pub meetings: Vec<Meeting>,
 }
 
-/// The instructions before that index which wrote the registers, or what these were made from; the last ones first.
-fn trail(
+/// An instruction that made a register.
+#[derive(Clone, Copy)]
+pub struct Made {
+    pub place: Place,
+    pub register: u8,
+    /// What is known of the register right behind it; None where a call leaves it unset.
+    pub known: Option<AbstractValue>,
+}
+
+impl Made {
+    /// Whether it is a call, which left the register unset.
+    pub fn is_unset(&self) -> bool {
+        matches!(self.place.insn, Insn::Call { .. }) && self.register != 0
+    }
+}
+
+/// Of nothing.
+pub(crate) fn no_trail(alloc: Global) -> Trail
+    ensures { result.made.items ≡ [] }
+{
+    Trail {
+        made: Vec::new(alloc),
+        unset: [false; 11],
+        meetings: Vec::new(alloc),
+    }
+}
+
+/// Where the registers come from that are asked at the slot.
+pub(crate) fn trail_of(
     alloc: Global,
-    insns: &[Insn],
-    until: usize,
-    registers: RegisterSet,
-) -> Result<Vec<Made>, AllocError> {
-    let before = placed(alloc, insns, until)?;
-    let mut wanted = registers;
-    let mut found = Vec::new(alloc);
-    for made in before.iter().rev() {
-        if let Some(register) = written(made.insn) {
-            if wanted & bit(register) != 0 && found.len() < STEPS {
-                found.push(*made)?;
-                wanted = (wanted & !bit(register)) | read(made.insn);
+    policy: &PolicySource,
+    program: &Program,
+    slots: &[Option<Insn>],
+    slot: usize,
+    asked: &Registers,
+) -> Result<Trail, AllocError>
+    requires laid { IsLaidOut program.now slots.now }
+    requires inside { slot < length slots.now }
+    ensures { IfOk result (λ trail. AreMade slots.now slot asked.now trail.made.items) }
+{
+    let makers = trail(alloc, slots, slot, asked)?;
+    let made = made_by(alloc, policy, program, slots, makers.as_slice())?;
+    let unset = unset_from_start(alloc, slots, slot, asked)?;
+    let asked = Asked {
+        slot,
+        registers: *asked,
+        makers: 0,
+    };
+    let meetings = meetings(alloc, policy, program, slots, asked, made.as_slice())?;
+    Ok(Trail {
+        made,
+        unset,
+        meetings,
+    })
+}
+
+/// Each maker with its place and what it made.
+fn made_by(
+    alloc: Global,
+    policy: &PolicySource,
+    program: &Program,
+    slots: &[Option<Insn>],
+    makers: &[Maker],
+) -> Result<Vec<Made>, AllocError>
+    requires { IsLaidOut program.now slots.now }
+    ensures { IfOk result (λ made. AreOf makers.now made.items) }
+{
+    let mut made = Vec::new(alloc);
+    for maker in makers {
+        if let Some(one) = made_of(alloc, policy, program, slots, *maker)? {
+            made.push(one)?;
+        }
+    }
+    Ok(made)
+}
+
+/// The maker with its place and what it made.
+fn made_of(
+    alloc: Global,
+    policy: &PolicySource,
+    program: &Program,
+    slots: &[Option<Insn>],
+    maker: Maker,
+) -> Result<Option<Made>, AllocError>
+    requires { IsLaidOut program.now slots.now }
+    ensures { IfOk result (λ made. IfSome made (IsOf maker)) }
+{
+    let Some(place) = place_at(policy, slots, maker.slot) else {
+        return Ok(None);
+    };
+    let next = maker.slot.saturating_add(place.insn.slots());
+    let known = known_behind(alloc, program, slots, maker.slot, next, maker.register)?;
+    Ok(Some(Made {
+        place,
+        register: maker.register,
+        known,
+    }))
+}
+
+/// Those of the registers that no instruction sets on some way from the start; r1 and r10 are set there.
+fn unset_from_start(
+    alloc: Global,
+    slots: &[Option<Insn>],
+    slot: usize,
+    asked: &Registers,
+) -> Result<Registers, AllocError>
+    requires inside { slot < length slots.now }
+    requires short { length slots.now ≤ 4096 }
+    requires sound { IsSound slots.now }
+{
+    let mut unset = [false; 11];
+    for register in 0..11u8 {
+        let at = usize::from(register);
+        if asked[at] && register != 1 && register != 10 {
+            let leading = leading_to(alloc, slots, register, slot)?;
+            unset[at] = leading.as_slice().first().copied() == Some(true);
+        }
+    }
+    Ok(unset)
+}
+
+/// Where ways meet that bring different words: into the registers that are asked at the slot, and into what the makers read.
+fn meetings(
+    alloc: Global,
+    policy: &PolicySource,
+    program: &Program,
+    slots: &[Option<Insn>],
+    asked: Asked,
+    made: &[Made],
+) -> Result<Vec<Meeting>, AllocError>
+    requires laid { IsLaidOut program.now slots.now }
+{
+    let mut meetings = Vec::new(alloc);
+    push_meetings(alloc, policy, program, slots, asked, &mut meetings)?;
+    for one in made {
+        let operands = Asked {
+            slot: one.place.slot,
+            registers: read_registers(one.place.insn),
+            makers: 2,
+        };
+        push_meetings(alloc, policy, program, slots, operands, &mut meetings)?;
+    }
+    Ok(meetings)
+}
+
+/// The registers that are asked of at a slot, if each has so many makers at least.
+#[derive(Clone, Copy)]
+struct Asked {
+    slot: usize,
+    registers: Registers,
+    makers: usize,
+}
+
+/// Where ways meet that bring different words into one of the registers, as long as there is room.
+fn push_meetings(
+    alloc: Global,
+    policy: &PolicySource,
+    program: &Program,
+    slots: &[Option<Insn>],
+    asked: Asked,
+    meetings: &mut Vec<Meeting>,
+) -> Result<(), AllocError>
+    requires laid { IsLaidOut program.now slots.now }
+{
+    if asked.slot >= slots.len() {
+        return Ok(());
+    }
+    for register in 0..11u8 {
+        if asked.registers[usize::from(register)] && meetings.len() < MEETINGS {
+            let made = makers(alloc, slots, register, asked.slot)?;
+            if made.len() >= asked.makers {
+                let met = meeting_of(alloc, policy, program, slots, register, asked.slot)?;
+                push_new(met, meetings)?;
             }
         }
     }
-    Ok(found)
+    Ok(())
 }
 
-/// The instructions before that index, each with its slot.
-fn placed(alloc: Global, insns: &[Insn], until: usize) -> Result<Vec<Made>, AllocError> {
-    let mut before = Vec::new(alloc);
-    let mut slot: usize = 0;
-    for (index, insn) in insns.iter().enumerate() {
-        if index < until {
-            before.push(Made {
-                index,
-                slot,
-                insn: *insn,
-            })?;
-        }
-        slot = slot.saturating_add(insn.slots());
-    }
-    Ok(before)
-}
-
-/// One line for each instruction that made the registers, in the program's order.
-pub(crate) fn trail_text(
-    alloc: Global,
-    program: &Program,
-    lines: &[usize],
-    until: usize,
-    registers: RegisterSet,
-) -> Result<String, AllocError>
-    requires whole { is_well_formed program.now.insns.items ≡ true }
-    requires few { length program.now.shapes.items ≤ 8 }
-{
-    let found = trail(alloc, program.insns.as_slice(), until, registers)?;
-    let mut text = String::new(alloc);
-    for made in found.iter().rev() {
-        let place = place_of(alloc, lines, made.index, made.slot)?;
-        let said = instruction_text(alloc, made.insn)?;
-        write!(text, "  made at {place}:  {said}")?;
-        write_outcome(alloc, program, made, &mut text)?;
-        text.push_str("\n")?;
-    }
-    Ok(text)
-}
-
-/// What the register is known to be at the next slot.
-fn write_outcome(
-    alloc: Global,
-    program: &Program,
-    made: &Made,
-    text: &mut String,
-) -> Result<(), AllocError>
-    requires whole { is_well_formed program.now.insns.items ≡ true }
-    requires few { length program.now.shapes.items ≤ 8 }
-{
-    let next = made.slot.saturating_add(made.insn.slots());
-    let (Some(register), Some(state)) = (written(made.insn), state_at(alloc, program, next)?) else {
+/// The meeting, if it is one, and none of these yet.
+fn push_new(met: Option<Meeting>, meetings: &mut Vec<Meeting>) -> Result<(), AllocError> {
+    let Some(met) = met else {
         return Ok(());
     };
-    if let Some(word) = known(&state, register) {
-        let told = known_text(alloc, &word)?;
-        write!(text, "    r{register} then is {told}")?;
+    for other in meetings.as_slice() {
+        if other.slot == met.slot && other.register == met.register {
+            return Ok(());
+        }
     }
+    meetings.push(met)?;
     Ok(())
 }

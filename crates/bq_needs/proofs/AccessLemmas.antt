@@ -1,5 +1,5 @@
 -- When an access is shown to be good, and when it is not.
-use Rattle.std.proofs.Common.{◌≡◌, ℕ, ℤ, ◌+◌, ◌-◌, ◌%◌, ◌^◌, ◌<◌, ◌≤◌, ◌⊎◌, true, false, List, Option, Some, None, inr, SFits, slice_get, sym, subst, refl, arith}
+use Rattle.std.proofs.Common.{◌≡◌, ℕ, ℤ, ◌+◌, ◌-◌, ◌%◌, ◌^◌, ◌<◌, ◌≤◌, ◌⊎◌, true, false, List, Option, Some, None, inl, inr, SFits, slice_get, sym, subst, refl, arith}
 use Rattle.std.specs.Prelude.{IfNone, MatchOption}
 use Rattle.std.specs.Int.{w16}
 use Rattle.std.proofs.lemmas.Int.{ints}
@@ -12,7 +12,7 @@ use Rattle.bq_states.specs.declared.abstract_state.ValueKind.TheVariants as kind
 use Rattle.bq_states.specs.declared.abstract_state.AbstractValue.{AbstractValue}
 use Rattle.bq_states.specs.declared.abstract_state.AbstractState.{AbstractState}
 use Rattle.bq_program.specs.declared.policy_source.PolicySource.{PolicySource}
-use Rattle.bq_needs.specs.Accesses.{AreSet, Follows, GoesBeyond, IsMoved, IsShown, ReachesLast, Stays, TellsBegin, Wraps, begin_of, context_of, counted, by_register, register_text}
+use Rattle.bq_needs.specs.Accesses.{AreSet, Follows, GoesBeyond, IsMoved, IsShown, ReachesLast, Stays, TellsBegin, Wraps, across, across_text, begin_of, context_of, counted, by_register, register_text}
 use Rattle.bq_needs.specs.Texts.{kind_text}
 use Rattle.bq_needs.specs.declared.operands.Access.{Access}
 
@@ -63,8 +63,13 @@ range_of_followed off offsets F follows (Some at) range wraps = (follows, range)
 pub tells_counted : (a : Access) (k : AbstractValue) (at : Range) (text : List ℕ) → Follows k.kind × IsMoved a.off k.offset at → text ≡ kind_text k.kind at → TellsBegin a k text
 tells_counted a k at text (follows, moved) is = subst (λ (t : List ℕ). TellsBegin a k t) (sym is) (counted at follows moved)
 
+-- or from below to above, where no range has it
+pub tells_across : (a : Access) (k : AbstractValue) (text : List ℕ) → Follows k.kind → (Follows k.kind → ⊥) ⊎ Wraps a.off k.offset → text ≡ across_text a k → TellsBegin a k text
+tells_across a k text follows (inl not) is = absurd (not follows)
+tells_across a k text follows (inr wraps) is = subst (λ (t : List ℕ). TellsBegin a k t) (sym is) (across follows wraps)
+
 -- or by the register
-pub tells_register : (a : Access) (k : AbstractValue) (text : List ℕ) → (Follows k.kind → ⊥) ⊎ Wraps a.off k.offset → text ≡ register_text a.register k → TellsBegin a k text
+pub tells_register : (a : Access) (k : AbstractValue) (text : List ℕ) → (Follows k.kind → ⊥) → text ≡ register_text a.register k → TellsBegin a k text
 tells_register a k text not is = subst (λ (t : List ℕ). TellsBegin a k t) (sym is) (by_register not)
 
 -- a read of the context within its length

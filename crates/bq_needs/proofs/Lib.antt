@@ -1,3 +1,4 @@
 pub mod AccessLemmas
+pub mod ArgumentLemmas
 pub mod NeedLemmas
 pub mod SayingLemmas

@@ -1,18 +1,16 @@
 -- What is told of a need is lacking, and where nothing is told nothing is.
 use Rattle.std.proofs.lemmas.Bool.{cases_lt}
-use Rattle.std.proofs.Common.{◌≡◌, ◌≢◌, ◌∷◌, ℕ, pos, zero, suc, ◌+◌, ◌<◌, ◌&&◌, true, false, is_none, if◌then◌else◌, List, [], ◌++◌, Option, Some, None, inl, inr, slice_get, slice_index_or, sym, ◌∙◌, ap, subst, refl, arith}
-use Rattle.std.specs.Prelude.{codes}
-use Rattle.std.specs.Fmt.{decimal}
+use Rattle.std.proofs.Common.{◌≡◌, ℕ, pos, ◌+◌, ◌<◌, ◌&&◌, Bool, true, false, is_none, List, Option, Some, None, inl, inr, slice_get, slice_index_or, sym, ◌∙◌, ap, subst, refl, arith}
 use Rattle.std.proofs.lemmas.Option.{same_Some}
 use Rattle.bq_insn.specs.declared.Insn.{Insn}
-use Rattle.bq_states.specs.Certainty.{Exact, Pointer, Stands, StandsAt}
+use Rattle.bq_states.specs.Certainty.{Pointer, Stands, StandsAt}
 use Rattle.bq_states.specs.declared.abstract_state.ValueKind.TheVariants as kind
 use Rattle.bq_states.specs.declared.abstract_state.AbstractValue.{AbstractValue}
 use Rattle.bq_states.specs.declared.abstract_state.AbstractState.{AbstractState}
 use Rattle.bq_program.specs.declared.policy_source.PolicySource.{PolicySource}
 use Rattle.bq_needs.specs.Accesses.{IsShown, Lacks, context_of}
-use Rattle.bq_needs.specs.Needs.{AreKnown, AreNumbers, GivesValue, IsFirstPointer, IsGoodAccess, NamesEntry, PointsTo, unset_below, unset_text}
-use Rattle.bq_needs.specs.declared.arguments.Wanted.TheVariants as wanted
+use Rattle.bq_needs.specs.Arguments.{PointsTo, PointsToValue}
+use Rattle.bq_needs.specs.Needs.{AreKnown, AreNumbers, AreUnknown, IsFirstPointer, IsGoodAccess, is_unknown}
 use Rattle.bq_bpf.specs.declared.shape.MapShape.{MapShape}
 use Rattle.bq_needs.specs.Operands.{access_of, known_in, reads, works_on}
 use Rattle.bq_needs.specs.declared.accesses.Lack.TheVariants as lack
@@ -53,48 +51,22 @@ lacking_not_pointing p state r bytes k why known lacks (other, is, shown) =
     let same : other ≡ k = same_Some _ _ (sym is ∙ known) in
     lacks_not_shown p state a k why lacks (subst (λ (x : AbstractValue). IsShown p state a x) same shown)
 
--- nothing is told of two texts together: nothing is told of either
-both_empty : (a b : List ℕ) → a ++ b ≡ [] → (a ≡ []) × (b ≡ [])
-both_empty [] b e = (refl, e)
-both_empty (x ∷ a) b e = absurd cc
+-- where none of the registers is one that is read and not known, each that is read is known
+pub all_known : (state : AbstractState) (insn : Insn) (registers : List Bool) → AreUnknown state insn registers → ((r : ℕ) → r < 11 → slice_index_or registers r false ≡ true → ⊥) → AreKnown state insn
+all_known state insn registers are none r below read unset =
+    let unknown : is_unknown state insn r ≡ true = rw (read, unset) refl in
+    none r below (are r below ∙ unknown)
 
-unset_told : (state : AbstractState) (insn : Insn) (r : ℕ) → reads insn r ≡ true → known_in state r ≡ None → unset_text state insn r ≢ []
-unset_told state insn r read unset = rw (read, unset) (λ e. cc)
+not_known : (b : Bool) (o : Option AbstractValue) → (b && is_none o) ≡ true → (b ≡ true) × (o ≡ None)
+not_known false o e = absurd cc
+not_known true None e = (refl, refl)
+not_known true (Some k) e = absurd cc
 
--- where no register is told, each that is read is known
-pub all_known : (state : AbstractState) (insn : Insn) (n : ℕ) → unset_below n state insn ≡ [] → (r : ℕ) → r < n → reads insn r ≡ true → known_in state r ≢ None
-all_known state insn zero none r below read unset = absurd (omega arith)
-all_known state insn (suc n) none r below read unset =
-    let parts = both_empty (unset_below n state insn) (unset_text state insn n) none in
-    elim (cases_lt r n) [
-      | inl lt ↦ all_known state insn n parts.0 r lt read unset
-      | inr ge ↦ let same : r ≡ n = omega arith in unset_told state insn n (rw same at read) (rw same at unset) parts.1
-    ]
-
--- where each that is read is known, none is told
-none_told : (state : AbstractState) (insn : Insn) (r : ℕ) → (reads insn r ≡ true → known_in state r ≢ None) → unset_text state insn r ≡ []
-none_told state insn r known =
-    elim (reads insn r) as (λ b. (b ≡ true → known_in state r ≢ None) → (if b && is_none (known_in state r) then codes " r" ++ decimal r else []) ≡ []) [
-      | false ↦ λ _. refl
-      | true ↦ λ is_known.
-          elim (known_in state r) as (λ o. (true ≡ true → o ≢ None) → (if true && is_none o then codes " r" ++ decimal r else []) ≡ []) [
-            | None ↦ λ some. absurd (some refl refl)
-            | Some k ↦ λ _. refl
-          ] is_known
-    ] known
-
-none_below : (state : AbstractState) (insn : Insn) (n : ℕ) → ((r : ℕ) → r < n → reads insn r ≡ true → known_in state r ≢ None) → unset_below n state insn ≡ []
-none_below state insn zero known = refl
-none_below state insn (suc n) known =
-    rw (none_below state insn n (λ r below. known r (omega arith))) (none_told state insn n (known n (omega arith)))
-
--- where a register is told, not each that is read is known
-pub told_not_known : (state : AbstractState) (insn : Insn) (told : List ℕ) → told ≡ unset_below 11 state insn → told ≢ [] → ¬ (AreKnown state insn)
-told_not_known state insn told is some known = some (is ∙ none_below state insn 11 known)
-
--- where no register is told, each that is read is known
-pub empty_known : (state : AbstractState) (insn : Insn) (told : List ℕ) → told ≡ unset_below 11 state insn → told ≡ [] → AreKnown state insn
-empty_known state insn told is none = all_known state insn 11 (sym is ∙ none)
+-- where one of them is, not each that is read is known
+pub one_unknown : (state : AbstractState) (insn : Insn) (registers : List Bool) → AreUnknown state insn registers → (r : ℕ) → r < 11 → slice_index_or registers r false ≡ true → ¬ (AreKnown state insn)
+one_unknown state insn registers are r below one known =
+    let both = not_known (reads insn r) (known_in state r) (sym (are r below) ∙ one) in
+    known r below both.0 both.1
 
 -- a pointer that is worked on is no number
 pub pointer_no_number : (state : AbstractState) (insn : Insn) (r : ℕ) (k : AbstractValue) → IsFirstPointer state insn r k → ¬ (AreNumbers state insn)
@@ -119,14 +91,13 @@ same_standing state m n (Some k) first second = same_map m n (sym first.0 ∙ se
 pub one_map : (state : AbstractState) (m n : ℕ) → StandsAt (Pointer (kind.Map m) 0) state 1 → StandsAt (Pointer (kind.Map n) 0) state 1 → m ≡ n
 one_map state m n first second = same_standing state m n (slice_index_or state.registers 1 None) first second
 
--- an entry and a value are given
-pub value_given : (p : PolicySource) (state : AbstractState) (map : ℕ) (shape : MapShape) (bytes : ℕ) → NamesEntry p state map → slice_get p.shapes.items map ≡ Some shape → bytes ≡ shape.value_size → PointsTo p state 3 bytes → StandsAt (Exact 0) state 4 → (m : ℕ) × GivesValue p state m
-value_given p state map shape bytes names is size points null =
-    (map, (names, shape, is, subst (λ (n : ℕ). PointsTo p state 3 n) size points, null))
+-- register 3 points to a value of the map that register 1 names
+pub value_pointed : (p : PolicySource) (state : AbstractState) (map : ℕ) (shape : MapShape) (bytes : ℕ) → StandsAt (Pointer (kind.Map map) 0) state 1 → slice_get p.shapes.items map ≡ Some shape → bytes ≡ shape.value_size → PointsTo p state 3 bytes → PointsToValue p state
+value_pointed p state map shape bytes names is size points = (map, shape, names, is, subst (λ (n : ℕ). PointsTo p state 3 n) size points)
 
--- register 3 points to no value
-pub value_not_given : (p : PolicySource) (state : AbstractState) (map : ℕ) (shape : MapShape) (bytes : ℕ) → NamesEntry p state map → slice_get p.shapes.items map ≡ Some shape → bytes ≡ shape.value_size → ¬ (PointsTo p state 3 bytes) → ¬ ((m : ℕ) × GivesValue p state m)
-value_not_given p state map shape bytes names is size not (m, (other, given, there, points, null)) =
-    let same : m ≡ map = one_map state m map other.0 names.0 in
+-- and where it points to one, it points to so many bytes
+pub value_points : (p : PolicySource) (state : AbstractState) (map : ℕ) (shape : MapShape) (bytes : ℕ) → StandsAt (Pointer (kind.Map map) 0) state 1 → slice_get p.shapes.items map ≡ Some shape → bytes ≡ shape.value_size → PointsToValue p state → PointsTo p state 3 bytes
+value_points p state map shape bytes names is size (m, given, named, there, points) =
+    let same : m ≡ map = one_map state m map named names in
     let one : given ≡ shape = same_Some given shape (sym there ∙ ap (λ (n : ℕ). slice_get p.shapes.items n) same ∙ is) in
-    not (subst (λ (n : ℕ). PointsTo p state 3 n) (ap (λ (s : MapShape). s.value_size) one ∙ sym size) points)
+    subst (λ (n : ℕ). PointsTo p state 3 n) (ap (λ (s : MapShape). s.value_size) one ∙ sym size) points

@@ -10,8 +10,8 @@ use Rattle.bq_states.specs.AbstractStates.{Describes, IsBase}
 use Rattle.bq_states.specs.declared.abstract_state.ValueKind.{ValueKind}
 use Rattle.bq_states.specs.declared.abstract_state.ValueKind.TheVariants.{Number, Context, Stack, Entry, EntryOrNull, Map}
 use Rattle.bq_states.specs.declared.abstract_state.AbstractValue.{AbstractValue}
-use Rattle.bq_needs.specs.Saying.{Says, any_number, number, context, stack_begin, stack_end, entry, entry_or_null, map_reference, TellsPlace, there, above, under}
-use Rattle.bq_needs.specs.Texts.{between, range_text, number_text, offset_text, stack_text, kind_text, known_text}
+use Rattle.bq_needs.specs.Saying.{Says, any_number, number, number_below, context, stack_begin, stack_end, entry, entry_or_null, map_reference, TellsPlace, there, above, under}
+use Rattle.bq_needs.specs.Texts.{below_text, minus_text, range_text, number_text, offset_text, stack_text, kind_text, known_text}
 
 -- with what made the sum wrap taken away, the address is the place itself
 pub wrap_taken_away : (place o n : ℕ) → o + n ≡ 2 ^ 64 → ((place + o) % 2 ^ 64 + n) % 2 ^ 64 ≡ place % 2 ^ 64
@@ -23,13 +23,13 @@ wrap_taken_away place o n whole =
 pub tells_offset : (r : Range) (o place word : ℕ) → Within r o → word ≡ (place + o) % 2 ^ 64 → TellsPlace (offset_text r) place word
 tells_offset r o place word within is =
     let fits = r.fits in
-    elim (r.hi == 0) as (λ b. (r.hi == 0) ≡ b → TellsPlace (if b then [] else if nat_lt r.lo (2 ^ 63) then codes " + " ++ range_text r else codes " - " ++ between (2 ^ 64 - r.lo) (2 ^ 64 - r.hi)) place word) [
+    elim (r.hi == 0) as (λ b. (r.hi == 0) ≡ b → TellsPlace (if b then [] else if nat_lt r.lo (2 ^ 63) then codes " + " ++ range_text r else below_text (2 ^ 64 - r.lo) (2 ^ 64 - r.hi)) place word) [
       | true ↦ λ none.
           let zero_hi : r.hi ≡ 0 = grind (arith, none) in
           let zero_offset : place + o ≡ place = omega (arith, zero_hi, within) in
           there place word (is ∙ ap (λ (m : ℕ). m % 2 ^ 64) zero_offset)
       | false ↦ λ some.
-          elim (nat_lt r.lo (2 ^ 63)) as (λ b. nat_lt r.lo (2 ^ 63) ≡ b → TellsPlace (if b then codes " + " ++ range_text r else codes " - " ++ between (2 ^ 64 - r.lo) (2 ^ 64 - r.hi)) place word) [
+          elim (nat_lt r.lo (2 ^ 63)) as (λ b. nat_lt r.lo (2 ^ 63) ≡ b → TellsPlace (if b then codes " + " ++ range_text r else below_text (2 ^ 64 - r.lo) (2 ^ 64 - r.hi)) place word) [
             | true ↦ λ near. above r.lo r.hi o place word within.0 within.1 is
             | false ↦ λ far.
                 let beyond : 2 ^ 63 ≤ r.lo = grind (arith, far) in
@@ -44,11 +44,11 @@ tells_offset r o place word within is =
 -- a pointer into the stack is told
 pub tells_stack : (shapes : List MapShape) (r : Range) (o word : ℕ) → Within r o → word ≡ (stack_base + o) % 2 ^ 64 → Says shapes (stack_text r) word
 tells_stack shapes r o word within is =
-    elim (nat_lt 512 r.hi) as (λ b. nat_lt 512 r.hi ≡ b → Says shapes (if b then codes "stack begin" ++ offset_text r else if r.lo == 512 then codes "stack end" else codes "stack end - " ++ between (512 - r.lo) (512 - r.hi)) word) [
+    elim (nat_lt 512 r.hi) as (λ b. nat_lt 512 r.hi ≡ b → Says shapes (if b then codes "stack begin" ++ offset_text r else if r.lo == 512 then codes "stack end" else codes "stack end" ++ below_text (512 - r.lo) (512 - r.hi)) word) [
       | true ↦ λ beyond. stack_begin shapes (offset_text r) word (tells_offset r o stack_base word within is)
       | false ↦ λ inside.
           let most : r.hi ≤ 512 = grind (arith, inside) in
-          elim (r.lo == 512) as (λ b. (r.lo == 512) ≡ b → Says shapes (if b then codes "stack end" else codes "stack end - " ++ between (512 - r.lo) (512 - r.hi)) word) [
+          elim (r.lo == 512) as (λ b. (r.lo == 512) ≡ b → Says shapes (if b then codes "stack end" else codes "stack end" ++ below_text (512 - r.lo) (512 - r.hi)) word) [
             | true ↦ λ at.
                 let lo_is : r.lo ≡ 512 = grind (arith, at) in
                 let end : stack_base + o ≡ stack_base + 512 = omega (arith, within, most, lo_is) in
@@ -57,7 +57,7 @@ tells_stack shapes r o word within is =
                 let least : 512 - r.hi ≤ 512 - o = omega (arith, within) in
                 let greatest : 512 - o ≤ 512 - r.lo = omega (arith, within) in
                 let joined : (stack_base + o) + (512 - o) ≡ stack_base + 512 = omega (arith, within, most) in
-                stack_end shapes (codes " - " ++ between (512 - r.lo) (512 - r.hi)) word
+                stack_end shapes (below_text (512 - r.lo) (512 - r.hi)) word
                 (under (512 - r.lo) (512 - r.hi) (512 - o) (stack_base + 512) word least greatest
                 (ap (λ (w : ℕ). (w + (512 - o)) % 2 ^ 64) is ∙ mod-add-mod (stack_base + o) (2 ^ 64) (512 - o) ∙ ap (λ (m : ℕ). m % 2 ^ 64) joined))
           ] refl
@@ -66,9 +66,18 @@ tells_stack shapes r o word within is =
 -- a number of the range is told
 pub tells_number : (shapes : List MapShape) (r : Range) (word : ℕ) → Within r word → Says shapes (number_text r) word
 tells_number shapes r word within =
-    elim ((r.lo == 0) && (r.hi == 2 ^ 64 - 1)) as (λ b. Says shapes (if b then codes "any number" else range_text r) word) [
+    let fits = r.fits in
+    elim ((r.lo == 0) && (r.hi == 2 ^ 64 - 1)) as (λ b. Says shapes (if b then codes "any number" else if nat_lt r.lo (2 ^ 63) then range_text r else minus_text (2 ^ 64 - r.lo) (2 ^ 64 - r.hi)) word) [
       | true ↦ any_number shapes word
-      | false ↦ number shapes r.lo r.hi word within.0 within.1
+      | false ↦
+          elim (nat_lt r.lo (2 ^ 63)) as (λ b. Says shapes (if b then range_text r else minus_text (2 ^ 64 - r.lo) (2 ^ 64 - r.hi)) word) [
+            | true ↦ number shapes r.lo r.hi word within.0 within.1
+            | false ↦
+                let least : 2 ^ 64 - r.hi ≤ 2 ^ 64 - word = omega (arith, within) in
+                let most : 2 ^ 64 - word ≤ 2 ^ 64 - r.lo = omega (arith, within) in
+                let whole : word + (2 ^ 64 - word) ≡ 2 ^ 64 = omega (arith, within, fits) in
+                number_below shapes (2 ^ 64 - r.lo) (2 ^ 64 - r.hi) (2 ^ 64 - word) word least most whole
+          ]
     ]
 
 -- a word of each kind is told

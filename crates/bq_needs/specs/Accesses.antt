@@ -1,5 +1,5 @@
 -- When the abstract state shows an access to be good, and what a text tells of one that it does not.
-use Rattle.std.specs.Prelude.{◌≡◌, ◌≢◌, ℕ, ℤ, ◌+◌, ◌-◌, ◌^◌, ◌<◌, ◌≤◌, ◌⊎◌, Bool, true, false, List, ◌++◌, Option, Some, None, codes, slice_get, slice_index_or}
+use Rattle.std.specs.Prelude.{◌≡◌, ◌≢◌, ℕ, ℤ, ◌+◌, ◌-◌, ◌%◌, ◌^◌, ◌<◌, ◌≤◌, Bool, true, false, List, ◌++◌, Some, None, codes, if◌then◌else◌, slice_get, slice_index_or}
 use Rattle.std.specs.Fmt.{decimal}
 use Rattle.bq_bpf.specs.Steps.{address_of}
 use Rattle.bq_ranges.specs.Within.{Within}
@@ -83,7 +83,7 @@ Lacks p state a k lack.InNoMap = (map : ℕ) × (k.kind ≡ kind.Entry map) × (
 
 abbrev pub lack_text : PolicySource → Lack → List ℕ
 lack_text p lack.Number = codes "a number is no address"
-lack_text p lack.Answer = codes "the answer of a look-up is 0 where there is no such entry"
+lack_text p lack.Answer = codes "test it first"
 lack_text p lack.Reference = codes "the reference of a map is no address of its values"
 lack_text p lack.WritesContext = codes "the context is only read"
 lack_text p lack.BeyondContext = codes "the context of " ++ (hook_word p.hook ++ (codes ", version " ++ (decimal (version_number p.version) ++ (codes ", has " ++ (decimal (context_of p) ++ codes " bytes")))))
@@ -92,23 +92,37 @@ lack_text p lack.ReadsUnset = codes "not all of these bytes were written before,
 lack_text p (lack.BeyondValue map size) = codes "a value of map " ++ (decimal map ++ (codes " has " ++ (decimal size ++ codes " bytes, and an access stays in one")))
 lack_text p lack.InNoMap = codes "an access stays in one value"
 
--- the register and what is known of it
-abbrev pub register_text : ℕ → AbstractValue → List ℕ
-register_text r k = codes "r" ++ (decimal r ++ (codes ", which is " ++ known_text k))
+-- the answer of a look-up, before its test
+abbrev pub may_be_null : ValueKind → Bool
+may_be_null (kind.EntryOrNull map) = true
+may_be_null _ = false
 
--- the text tells where it begins: of a pointer that may be followed, how far from what that counts from; where it may not, or where
--- no range has where it may begin, by which register and what is known of that
+-- the register and what is known of it; of the answer of a look-up that it may be null
+abbrev pub register_text : ℕ → AbstractValue → List ℕ
+register_text r k = if may_be_null k.kind then codes "r" ++ (decimal r ++ codes ", which may be null") else codes "r" ++ (decimal r ++ (codes ", which is " ++ known_text k))
+
+-- what a pointer that may be followed counts from
+abbrev pub place_text : ValueKind → List ℕ
+place_text (kind.Entry map) = codes "entry of map " ++ decimal map
+place_text kind.Stack = codes "stack begin"
+place_text _ = codes "context"
+
+-- from so far below that to so far above it
+abbrev pub across_text : Access → AbstractValue → List ℕ
+across_text a k =
+    place_text k.kind ++ (codes " -" ++ (decimal ((2 ^ 64 - address_of k.offset.lo a.off) % 2 ^ 64) ++ (codes ".." ++ decimal (address_of k.offset.hi a.off))))
+
+-- the text tells where it begins: of a pointer that may be followed, how far from what that counts from, as a range of words, or, where its words begin anew
+-- from 0 on the way, from so far below to so far above; of one that may not, by which register and what is known of that
 pub data TellsBegin (a : Access) (k : AbstractValue) : List ℕ → Type 0 where
   counted : (at : Range) → Follows k.kind → IsMoved a.off k.offset at → TellsBegin a k (kind_text k.kind at)
-  by_register : (Follows k.kind → ⊥) ⊎ Wraps a.off k.offset → TellsBegin a k (register_text a.register k)
+  across : Follows k.kind → Wraps a.off k.offset → TellsBegin a k (across_text a k)
+  by_register : (Follows k.kind → ⊥) → TellsBegin a k (register_text a.register k)
 
 abbrev pub verb : Bool → List ℕ
 verb true = codes "writes"
 verb false = codes "reads"
 
--- how many bytes are read or written, by an unset register, or from where and why they may not be
-abbrev pub TellsAccess : PolicySource → AbstractState → Access → Option AbstractValue → List ℕ → Type 0
-TellsAccess p state a None text =
-    text ≡ verb a.writes ++ (codes " " ++ (decimal a.bytes ++ (codes " bytes by r" ++ (decimal a.register ++ codes ", which is not set on each way that leads here"))))
-TellsAccess p state a (Some k) text =
-    (begin : List ℕ) × (why : Lack) × TellsBegin a k begin × Lacks p state a k why × (text ≡ verb a.writes ++ (codes " " ++ (decimal a.bytes ++ (codes " bytes at " ++ (begin ++ (codes "; " ++ lack_text p why))))))
+-- how many bytes are read or written, and from where
+abbrev pub access_text : Access → List ℕ → List ℕ
+access_text a begin = verb a.writes ++ (codes " " ++ (decimal a.bytes ++ (codes " bytes at " ++ begin)))

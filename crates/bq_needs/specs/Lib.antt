@@ -1,5 +1,7 @@
 pub mod Accesses
+pub mod Arguments
 pub mod Needs
 pub mod Operands
 pub mod Saying
 pub mod Texts
+pub mod Words

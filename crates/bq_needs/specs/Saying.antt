@@ -4,21 +4,22 @@ use Rattle.std.specs.Fmt.{decimal}
 use Rattle.bq_bpf.specs.declared.shape.MapShape.{MapShape}
 use Rattle.bq_bpf.specs.Memory.{reference, context_base, stack_base, stack_size}
 use Rattle.bq_states.specs.AbstractStates.{IsEntryBase}
-use Rattle.bq_needs.specs.Texts.{between}
+use Rattle.bq_needs.specs.Texts.{below_text, between, minus_text}
 
 -- the word is so far from a place: nothing is added, or a number of a range, or a number of a range is taken away
 pub data TellsPlace : List ℕ → ℕ → ℕ → Type 0 where
   there : (place word : ℕ) → word ≡ place % 2 ^ 64 → TellsPlace [] place word
   above : (lo hi n place word : ℕ) → lo ≤ n → n ≤ hi → word ≡ (place + n) % 2 ^ 64 → TellsPlace (codes " + " ++ between lo hi) place word
-  under : (far near n place word : ℕ) → near ≤ n → n ≤ far → (word + n) % 2 ^ 64 ≡ place % 2 ^ 64 → TellsPlace (codes " - " ++ between far near) place word
+  under : (far near n place word : ℕ) → near ≤ n → n ≤ far → (word + n) % 2 ^ 64 ≡ place % 2 ^ 64 → TellsPlace (below_text far near) place word
 
--- the word is as the text says
+-- the word is as the text says; a number below zero is the word that makes 2^64 with what is taken away
 pub data Says : List MapShape → List ℕ → ℕ → Type 0 where
   any_number : (shapes : List MapShape) (word : ℕ) → Says shapes (codes "any number") word
   number : (shapes : List MapShape) (lo hi word : ℕ) → lo ≤ word → word ≤ hi → Says shapes (between lo hi) word
+  number_below : (shapes : List MapShape) (far near n word : ℕ) → near ≤ n → n ≤ far → word + n ≡ 2 ^ 64 → Says shapes (minus_text far near) word
   context : (shapes : List MapShape) (text : List ℕ) (word : ℕ) → TellsPlace text context_base word → Says shapes (codes "context" ++ text) word
   stack_begin : (shapes : List MapShape) (text : List ℕ) (word : ℕ) → TellsPlace text stack_base word → Says shapes (codes "stack begin" ++ text) word
   stack_end : (shapes : List MapShape) (text : List ℕ) (word : ℕ) → TellsPlace text (stack_base + stack_size) word → Says shapes (codes "stack end" ++ text) word
   entry : (shapes : List MapShape) (text : List ℕ) (map base word : ℕ) → IsEntryBase shapes map base → TellsPlace text base word → Says shapes (codes "entry of map " ++ (decimal map ++ text)) word
-  entry_or_null : (shapes : List MapShape) (text : List ℕ) (map base word : ℕ) → (base ≡ 0) ⊎ IsEntryBase shapes map base → TellsPlace text base word → Says shapes (codes "entry of map " ++ (decimal map ++ (codes " or 0" ++ (text ++ codes ", not compared")))) word
+  entry_or_null : (shapes : List MapShape) (text : List ℕ) (map base word : ℕ) → (base ≡ 0) ⊎ IsEntryBase shapes map base → TellsPlace text base word → Says shapes (codes "entry of map " ++ (decimal map ++ (codes " or null" ++ (text ++ codes ", not tested")))) word
   map_reference : (shapes : List MapShape) (text : List ℕ) (map word : ℕ) → map < length shapes → TellsPlace text (reference map) word → Says shapes (codes "map " ++ (decimal map ++ text)) word

@@ -15,20 +15,31 @@ between a b = if a == b then decimal a else decimal a ++ (codes ".." ++ decimal 
 abbrev pub range_text : Range → List ℕ
 range_text r = between r.lo r.hi
 
--- a number; of one of which nothing else is known it says so
+-- numbers below zero, from so far below to so far below; no further is 0
+abbrev pub minus_text : ℕ → ℕ → List ℕ
+minus_text far near =
+    if far == near then codes "-" ++ decimal far
+    else if near == 0 then codes "-" ++ (decimal far ++ codes "..0") else codes "-" ++ (decimal far ++ (codes "..-" ++ decimal near))
+
+-- how far below what it counts from a pointer is: one number is taken away, or those are added
+abbrev pub below_text : ℕ → ℕ → List ℕ
+below_text far near = if far == near then codes " - " ++ decimal far else codes " " ++ minus_text far near
+
+-- a number; of one of which nothing else is known it says so, and a word of the upper half is a number below zero
 abbrev pub number_text : Range → List ℕ
-number_text r = if (r.lo == 0) && (r.hi == 2 ^ 64 - 1) then codes "any number" else range_text r
+number_text r =
+    if (r.lo == 0) && (r.hi == 2 ^ 64 - 1) then codes "any number" else if nat_lt r.lo (2 ^ 63) then range_text r else minus_text (2 ^ 64 - r.lo) (2 ^ 64 - r.hi)
 
 -- how far above what it counts from a pointer is, or how far below, where its offset is so great that the sum wraps
 abbrev pub offset_text : Range → List ℕ
 offset_text r =
-    if r.hi == 0 then [] else if nat_lt r.lo (2 ^ 63) then codes " + " ++ range_text r else codes " - " ++ between (2 ^ 64 - r.lo) (2 ^ 64 - r.hi)
+    if r.hi == 0 then [] else if nat_lt r.lo (2 ^ 63) then codes " + " ++ range_text r else below_text (2 ^ 64 - r.lo) (2 ^ 64 - r.hi)
 
 -- a pointer into the stack: how far below its end it is, unless it may be beyond
 abbrev pub stack_text : Range → List ℕ
 stack_text r =
     if nat_lt stack_size r.hi then codes "stack begin" ++ offset_text r
-    else if r.lo == stack_size then codes "stack end" else codes "stack end - " ++ between (stack_size - r.lo) (stack_size - r.hi)
+    else if r.lo == stack_size then codes "stack end" else codes "stack end" ++ below_text (stack_size - r.lo) (stack_size - r.hi)
 
 -- a word of a kind, by the range of its offset
 abbrev pub kind_text : ValueKind → Range → List ℕ
@@ -36,7 +47,7 @@ kind_text Number r = number_text r
 kind_text Context r = codes "context" ++ offset_text r
 kind_text Stack r = stack_text r
 kind_text (Entry map) r = codes "entry of map " ++ (decimal map ++ offset_text r)
-kind_text (EntryOrNull map) r = codes "entry of map " ++ (decimal map ++ (codes " or 0" ++ (offset_text r ++ codes ", not compared")))
+kind_text (EntryOrNull map) r = codes "entry of map " ++ (decimal map ++ (codes " or null" ++ (offset_text r ++ codes ", not tested")))
 kind_text (Map map) r = codes "map " ++ (decimal map ++ offset_text r)
 
 -- what is known of a word

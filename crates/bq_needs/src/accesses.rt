@@ -1,6 +1,6 @@
 //! Whether what is known of its pointer shows an access to be good, and if not why, in words.
 ghost use Rattle.std.specs.Prelude.{◌≡◌, ◌⊎◌, ◌↔◌, ◌<◌, ◌≤◌, ◌+◌, IfOk, IfNone, IsTrue, MatchBool, MatchOption, Some, false, true, string_bytes};
-ghost use Rattle.bq_needs.specs.Accesses.{AreSet, Follows, GoesBeyond, IsMoved, IsShown, Lacks, ReachesLast, Stays, TellsBegin, TouchesUnset, Wraps, begin_of, lack_text, register_text};
+ghost use Rattle.bq_needs.specs.Accesses.{AreSet, Follows, GoesBeyond, IsMoved, IsShown, Lacks, ReachesLast, Stays, TellsBegin, TouchesUnset, Wraps, across_text, begin_of, lack_text, may_be_null, place_text, register_text};
 
 use crate::known::{kind_text, known_text};
 use crate::operands::Access;
@@ -15,7 +15,7 @@ use std::alloc::{AllocError, Global};
 
 /// Why what is known of its pointer does not show an access to be good.
 #[derive(Clone, Copy)]
-pub(crate) enum Lack {
+pub enum Lack {
     /// The pointer is a number.
     Number,
     /// It is the answer of a look-up, which may be 0.
@@ -174,7 +174,7 @@ fn moved(offsets: Range, off: i16) -> Option<Range>
 }
 
 /// Where the access begins, by what is known of its pointer.
-#[tactic(auto, using(crate::proofs::AccessLemmas::tells_counted, crate::proofs::AccessLemmas::tells_register))]
+#[tactic(auto, using(crate::proofs::AccessLemmas::tells_counted, crate::proofs::AccessLemmas::tells_register, crate::proofs::AccessLemmas::tells_across))]
 pub(crate) fn begin_text(
     alloc: Global,
     access: Access,
@@ -182,9 +182,33 @@ pub(crate) fn begin_text(
 ) -> Result<String, AllocError>
     ensures { IfOk result (λ text. TellsBegin access pointer (string_bytes text)) }
 {
+    if !is_followed(pointer.kind) {
+        return register_text(alloc, access.register, pointer);
+    }
     match begin_range(access, pointer) {
         Some(at) => kind_text(alloc, pointer.kind, at),
-        None => register_text(alloc, access.register, pointer),
+        None => across_text(alloc, access, pointer),
+    }
+}
+
+/// Where an access begins that may begin below what its pointer counts from, and above: `context -7..0`.
+fn across_text(alloc: Global, access: Access, pointer: AbstractValue) -> Result<String, AllocError>
+    ensures { IfOk result (λ text. string_bytes text ≡ across_text access pointer) }
+{
+    let place = place_text(alloc, pointer.kind)?;
+    let below = address(pointer.offset.lo, access.off).wrapping_neg();
+    let above = address(pointer.offset.hi, access.off);
+    format!(in alloc; "{place} -{below}..{above}")
+}
+
+/// What a pointer that may be followed counts from.
+fn place_text(alloc: Global, kind: ValueKind) -> Result<String, AllocError>
+    ensures { IfOk result (λ text. string_bytes text ≡ place_text kind) }
+{
+    match kind {
+        ValueKind::Entry(map) => format!(in alloc; "entry of map {map}"),
+        ValueKind::Stack => String::from_str(alloc, "stack begin"),
+        _ => String::from_str(alloc, "context"),
     }
 }
 
@@ -199,12 +223,29 @@ fn begin_range(access: Access, pointer: AbstractValue) -> Option<Range>
     }
 }
 
-/// The register, and what is known of it.
-fn register_text(alloc: Global, register: u8, known: AbstractValue) -> Result<String, AllocError>
+/// The register, and what is known of it; of the answer of a look-up that it may be null.
+pub(crate) fn register_text(
+    alloc: Global,
+    register: u8,
+    known: AbstractValue,
+) -> Result<String, AllocError>
     ensures { IfOk result (λ text. string_bytes text ≡ register_text register known) }
 {
+    if may_be_null(known.kind) {
+        return format!(in alloc; "r{register}, which may be null");
+    }
     let told = known_text(alloc, &known)?;
     format!(in alloc; "r{register}, which is {told}")
+}
+
+/// Whether it is the answer of a look-up, before its test.
+pub(crate) fn may_be_null(kind: ValueKind) -> bool
+    ensures { result ≡ may_be_null kind }
+{
+    match kind {
+        ValueKind::EntryOrNull(_) => true,
+        _ => false,
+    }
 }
 
 /// Whether a pointer of the kind may be followed.
@@ -227,10 +268,7 @@ pub(crate) fn lack_text(
 {
     match lack {
         Lack::Number => String::from_str(alloc, "a number is no address"),
-        Lack::Answer => String::from_str(
-            alloc,
-            "the answer of a look-up is 0 where there is no such entry",
-        ),
+        Lack::Answer => String::from_str(alloc, "test it first"),
         Lack::Reference => String::from_str(
             alloc,
             "the reference of a map is no address of its values",

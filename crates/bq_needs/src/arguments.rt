@@ -1,181 +1,138 @@
-//! What is wrong with an argument of a helper or the number of a map, in words.
-ghost use Rattle.std.specs.Prelude.{◌≡◌, ◌↔◌, ◌≤◌, ℕ, IfOk, IsTrue, MatchOption, length, string_bytes};
+//! What the helpers want of their arguments, and which argument of a call is not shown to be that.
+ghost use Rattle.std.specs.Prelude.{◌≡◌, ◌↔◌, ◌≤◌, ℕ, IfOk, IsTrue, MatchBool, MatchOption, string_bytes};
 ghost use Rattle.bq_states.specs.Certainty.{Exact, Pointer, Scalar, StandsAt};
-ghost use Rattle.bq_needs.specs.Needs.{AreGiven, AreGoodArguments, GivesHelper, GivesValue, IsCounter, IsMap, NamesEntry, PointsTo, TellsArgument, TellsCall, argument_text, arguments_below, call_text, helper_of, map_text, wanted_text};
+ghost use Rattle.bq_needs.specs.Arguments.{GivesHelper, IsBad, IsCounter, IsGood, PointsTo, PointsToValue, Wants, register_of, wanted_text};
 ghost use Rattle.bq_needs.specs.Operands.{known_in};
-ghost use Rattle.bq_needs.specs.declared.arguments.Wanted.{Wanted as Asked};
 
 use crate::accesses::lack_of;
-use crate::known::known_text;
 use crate::operands::Access;
 use bq_bpf::board::COUNTERS;
-use bq_bpf::helper::{ADD_COUNTER, LOOKUP, READ_COUNTER, UPDATE};
+use bq_bpf::helper::{ADD_COUNTER, LOOKUP, UPDATE};
 use bq_bpf::with_counters;
+use bq_graph::single::is_counter_call;
 use bq_insn::Insn;
 use bq_program::PolicySource;
 use bq_states::abstract_state::{AbstractState, ValueKind};
 use bq_states::places::shape_of;
 use bq_states::registers::known;
-use std::alloc::{AllocError, Global};
 
-/// What a helper wants of its arguments; the other helpers take none.
+/// What a helper wants of one of its arguments.
 #[derive(Clone, Copy)]
-enum Wanted {
-    /// Of a look-up: a map, and the number of an entry.
-    LookUp,
-    /// Of an update: the same, and a value.
-    Update,
-    /// Of a counter's add: its number, and the amount.
-    Add,
-    /// Of a counter's read: its number.
-    Read,
+pub enum Argument {
+    /// Register 1 is the reference of a map.
+    Map,
+    /// Register 2 points to four written bytes, an entry's number.
+    Entry,
+    /// Register 3 points to as many written bytes as a value of the map has.
+    Value,
+    /// Register 4 is 0.
+    Zero,
+    /// Register 1 is the number of a counter.
+    Counter,
+    /// Register 2 is a number.
+    Amount,
 }
 
-/// The map that there is not, or what the helper wants and what is known of its arguments, if they are not shown to be that.
-pub(crate) fn argument_need(
-    alloc: Global,
-    policy: &PolicySource,
-    state: &AbstractState,
-    insn: Insn,
-) -> Result<Option<String>, AllocError>
-    ensures { IfOk result (λ told. MatchOption told (AreGoodArguments policy.now state.now insn) (λ text. TellsArgument policy.now state.now insn (string_bytes text) × ¬ (AreGoodArguments policy.now state.now insn))) }
-{
-    match insn {
-        Insn::MapRef { index, .. } => map_need(alloc, policy, index),
-        Insn::Call { helper } => call_need(alloc, policy, state, helper),
-        _ => Ok(None),
+impl Argument {
+    ghost use Rattle.bq_needs.specs.Arguments.{register_of};
+
+    /// Its register.
+    pub fn register(self) -> u8
+        ensures { result ≡ register_of self }
+    {
+        match self {
+            Argument::Map | Argument::Counter => 1,
+            Argument::Entry | Argument::Amount => 2,
+            Argument::Value => 3,
+            Argument::Zero => 4,
+        }
     }
 }
 
-/// The number, if it is no map's.
-fn map_need(alloc: Global, policy: &PolicySource, index: i32) -> Result<Option<String>, AllocError>
-    ensures { IfOk result (λ told. MatchOption told (IsMap policy.now index) (λ text. (string_bytes text ≡ map_text index (length policy.now.shapes.items)) × ¬ (IsMap policy.now index))) }
-{
-    if is_map(policy, index) {
-        return Ok(None);
-    }
-    let text = map_text(alloc, index, policy.shapes.len())?;
-    Ok(Some(text))
-}
-
-/// The words for it.
-fn map_text(alloc: Global, index: i32, count: usize) -> Result<String, AllocError>
-    ensures { IfOk result (λ text. string_bytes text ≡ map_text index count) }
-{
-    format!(in alloc; "names map {index}; the program has {count} maps, numbered from 0")
-}
-
-/// Whether there is a map of that number.
-fn is_map(policy: &PolicySource, index: i32) -> bool
-    ensures { IsTrue result ↔ IsMap policy.now index }
-{
-    index >= 0 && (index as usize) < policy.shapes.len()
-}
-
-/// What the helper wants and what is known of its arguments, if they are not shown to be that.
-fn call_need(
-    alloc: Global,
+/// The first argument of the helper that is not shown to be what it wants.
+#[tactic(auto, using(crate::proofs::ArgumentLemmas::all_given))]
+pub(crate) fn bad_argument(
     policy: &PolicySource,
     state: &AbstractState,
     helper: i32,
-) -> Result<Option<String>, AllocError>
-    ensures { IfOk result (λ told. MatchOption told (GivesHelper policy.now state.now helper) (λ text. TellsCall state.now helper (string_bytes text) × ¬ (GivesHelper policy.now state.now helper))) }
+) -> Option<Argument>
+    ensures { MatchOption result (GivesHelper policy.now state.now helper) (IsBad policy.now state.now helper) }
 {
-    let Some(wanted) = wanted_by(helper) else {
-        return Ok(None);
-    };
-    if are_given(policy, state, wanted) {
-        return Ok(None);
+    if is_bad(policy, state, helper, Argument::Map) {
+        return Some(Argument::Map);
     }
-    let text = call_text(alloc, state, helper, wanted)?;
-    Ok(Some(text))
-}
-
-/// The words for it.
-fn call_text(
-    alloc: Global,
-    state: &AbstractState,
-    helper: i32,
-    wanted: Wanted,
-) -> Result<String, AllocError>
-    ensures { IfOk result (λ text. string_bytes text ≡ call_text state.now helper wanted) }
-{
-    let words = wanted_text(wanted);
-    let here = arguments_text(alloc, state)?;
-    format!(in alloc; "helper {helper} {words}; here{here} and of the stack what stands below")
-}
-
-/// What the helper of that number wants.
-fn wanted_by(helper: i32) -> Option<Wanted>
-    ensures { MatchOption result ((w : Asked) → helper ≡ helper_of w → ⊥) (λ w. helper ≡ helper_of w) }
-{
-    if helper == LOOKUP {
-        return Some(Wanted::LookUp);
+    if is_bad(policy, state, helper, Argument::Entry) {
+        return Some(Argument::Entry);
     }
-    if helper == UPDATE {
-        return Some(Wanted::Update);
+    if is_bad(policy, state, helper, Argument::Value) {
+        return Some(Argument::Value);
     }
-    if helper == ADD_COUNTER {
-        return Some(Wanted::Add);
+    if is_bad(policy, state, helper, Argument::Zero) {
+        return Some(Argument::Zero);
     }
-    if helper == READ_COUNTER {
-        return Some(Wanted::Read);
+    if is_bad(policy, state, helper, Argument::Counter) {
+        return Some(Argument::Counter);
+    }
+    if is_bad(policy, state, helper, Argument::Amount) {
+        return Some(Argument::Amount);
     }
     None
 }
 
-/// Whether the arguments are that.
-fn are_given(policy: &PolicySource, state: &AbstractState, wanted: Wanted) -> bool
-    ensures { IsTrue result ↔ AreGiven policy.now state.now wanted }
+/// Whether the helper wants that, and it is not shown.
+fn is_bad(policy: &PolicySource, state: &AbstractState, helper: i32, argument: Argument) -> bool
+    ensures { MatchBool result (IsBad policy.now state.now helper argument) (Wants helper argument → IsGood policy.now state.now argument) }
 {
-    match wanted {
-        Wanted::LookUp => names_entry(policy, state),
-        Wanted::Update => gives_value(policy, state),
-        Wanted::Add => gives_amount(state),
-        Wanted::Read => names_counter(state),
+    wants(helper, argument) && !is_good(policy, state, argument)
+}
+
+/// Whether the helper of that number has that argument.
+fn wants(helper: i32, argument: Argument) -> bool
+    ensures { IsTrue result ↔ Wants helper argument }
+{
+    match argument {
+        Argument::Map | Argument::Entry => helper == LOOKUP || helper == UPDATE,
+        Argument::Value | Argument::Zero => helper == UPDATE,
+        Argument::Counter => is_counter_call(Insn::Call { helper }),
+        Argument::Amount => helper == ADD_COUNTER,
     }
 }
 
-/// What a helper does and wants, in words.
-fn wanted_text(wanted: Wanted) -> &'static str
-    ensures { result.now ≡ wanted_text wanted }
+/// Whether the argument is shown to be that.
+fn is_good(policy: &PolicySource, state: &AbstractState, argument: Argument) -> bool
+    ensures { IsTrue result ↔ IsGood policy.now state.now argument }
 {
-    match wanted {
-        Wanted::LookUp => {
-            "looks an entry up: r1 is a map by ldmap, r2 points to 4 written bytes with the entry's number"
-        }
-        Wanted::Update => {
-            "writes an entry: r1 is a map by ldmap, r2 points to 4 written bytes with the entry's number, r3 to as many written bytes as a value has, r4 is 0"
-        }
-        Wanted::Add => with_counters!(
-            "adds to a counter: r1 is its number, ",
-            ", and r2 the amount"
-        ),
-        Wanted::Read => with_counters!("reads a counter: r1 is its number, ", ""),
+    match argument {
+        Argument::Map => names_map(state),
+        Argument::Entry => points_to(policy, state, 2, 4),
+        Argument::Value => points_to_value(policy, state),
+        Argument::Zero => is_zero(state, 4),
+        Argument::Counter => names_counter(state),
+        Argument::Amount => is_number(state, 2),
     }
 }
 
-/// Whether register 1 names a map, and register 2 points to the number of an entry.
-fn names_entry(policy: &PolicySource, state: &AbstractState) -> bool
-    ensures { IsTrue result ↔ ((m : ℕ) × NamesEntry policy.now state.now m) }
+/// What is wanted, in words.
+pub(crate) fn wanted_text(argument: Argument) -> &'static str
+    ensures { result.now ≡ wanted_text argument }
 {
-    match named_entry(policy, state) {
+    match argument {
+        Argument::Map => "a map in r1, by ldmap",
+        Argument::Entry => "4 written bytes at r2, the entry's number",
+        Argument::Value => "as many written bytes at r3 as a value has",
+        Argument::Zero => "0 in r4",
+        Argument::Counter => with_counters!("a counter's number in r1, ", ""),
+        Argument::Amount => "a number in r2, the amount",
+    }
+}
+
+/// Whether register 1 names a map.
+fn names_map(state: &AbstractState) -> bool
+    ensures { IsTrue result ↔ ((m : ℕ) × StandsAt (Pointer (ValueKind.Map m) 0) state.now 1) }
+{
+    match named_map(state) {
         Some(_) => true,
         None => false,
-    }
-}
-
-/// The map that register 1 names, if it names one and register 2 points to an entry's number.
-fn named_entry(policy: &PolicySource, state: &AbstractState) -> Option<u8>
-    ensures { MatchOption result (¬ ((m : ℕ) × NamesEntry policy.now state.now m)) (NamesEntry policy.now state.now) }
-{
-    let Some(map) = named_map(state) else {
-        return None;
-    };
-    if points_to(policy, state, 2, 4) {
-        Some(map)
-    } else {
-        None
     }
 }
 
@@ -190,6 +147,19 @@ fn named_map(state: &AbstractState) -> Option<u8>
         ValueKind::Map(map) => { if word.offset.hi == 0 { Some(map) } else { None } }
         _ => None,
     }
+}
+
+/// Whether register 3 points to as many bytes that may be read as a value of that map has.
+fn points_to_value(policy: &PolicySource, state: &AbstractState) -> bool
+    ensures { IsTrue result ↔ PointsToValue policy.now state.now }
+{
+    let Some(map) = named_map(state) else {
+        return false;
+    };
+    let Some(shape) = shape_of(policy.shapes.as_slice(), map) else {
+        return false;
+    };
+    points_to(policy, state, 3, usize::from(shape.value_size))
 }
 
 /// Whether the register points to so many bytes that may be read.
@@ -213,22 +183,6 @@ fn points_to(policy: &PolicySource, state: &AbstractState, register: u8, bytes: 
     }
 }
 
-/// Whether an entry and its new value are named.
-fn gives_value(policy: &PolicySource, state: &AbstractState) -> bool
-    ensures { IsTrue result ↔ ((m : ℕ) × GivesValue policy.now state.now m) }
-{
-    let Some(map) = named_entry(policy, state) else {
-        return false;
-    };
-    let Some(shape) = shape_of(policy.shapes.as_slice(), map) else {
-        return false;
-    };
-    if !points_to(policy, state, 3, usize::from(shape.value_size)) {
-        return false;
-    }
-    is_zero(state, 4)
-}
-
 /// Whether the register is the number 0.
 fn is_zero(state: &AbstractState, register: u8) -> bool
     ensures { IsTrue result ↔ StandsAt (Exact 0) state.now register }
@@ -249,37 +203,12 @@ fn names_counter(state: &AbstractState) -> bool
     }
 }
 
-/// Whether it is, and register 2 a number.
-fn gives_amount(state: &AbstractState) -> bool
-    ensures { IsTrue result ↔ (IsCounter (known_in state.now 1) × StandsAt Scalar state.now 2) }
-{
-    match known(state, 2) {
-        Some(word) => names_counter(state) && matches!(word.kind, ValueKind::Number),
-        None => false,
-    }
-}
-
-/// What is known of the four arguments of a helper.
-fn arguments_text(alloc: Global, state: &AbstractState) -> Result<String, AllocError>
-    ensures { IfOk result (λ text. string_bytes text ≡ arguments_below 4 state.now) }
-{
-    let mut text = String::new(alloc);
-    for number in 0..4u8 {
-        let told = argument_text(alloc, state, number + 1)?;
-        text.push_str(told.as_str())?;
-    }
-    Ok(text)
-}
-
-/// What is known of an argument.
-fn argument_text(alloc: Global, state: &AbstractState, register: u8) -> Result<String, AllocError>
-    ensures { IfOk result (λ text. string_bytes text ≡ argument_text register (known_in state.now register)) }
+/// Whether the register is a number.
+fn is_number(state: &AbstractState, register: u8) -> bool
+    ensures { IsTrue result ↔ StandsAt Scalar state.now register }
 {
     match known(state, register) {
-        Some(word) => {
-            let told = known_text(alloc, &word)?;
-            format!(in alloc; " r{register} is {told},")
-        }
-        None => format!(in alloc; " r{register} is unset,"),
+        Some(word) => matches!(word.kind, ValueKind::Number),
+        None => false,
     }
 }

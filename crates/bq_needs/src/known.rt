@@ -4,14 +4,14 @@ ghost use Rattle.std.specs.String.{string_bytes};
 ghost use Rattle.bq_bpf.specs.declared.shape.MapShape.{MapShape};
 ghost use Rattle.bq_states.specs.AbstractStates.{Describes};
 ghost use Rattle.bq_needs.specs.Saying.{Says};
-ghost use Rattle.bq_needs.specs.Texts.{between, kind_text, known_text, number_text, offset_text, range_text, stack_text};
+ghost use Rattle.bq_needs.specs.Texts.{below_text, between, kind_text, known_text, minus_text, number_text, offset_text, range_text, stack_text};
 
 use bq_bpf::addresses::STACK_SIZE;
 use bq_ranges::Range;
 use bq_states::abstract_state::{AbstractValue, ValueKind};
 use std::alloc::{AllocError, Global};
 
-/// Words from here on are printed as what is taken away.
+/// Words from here on are printed as numbers below zero.
 const NEGATIVE: u64 = 1 << 63;
 
 /// One number by itself, else both.
@@ -31,8 +31,8 @@ pub fn range_text(alloc: Global, range: Range) -> Result<String, AllocError>
     between(alloc, range.lo, range.hi)
 }
 
-/// What is known of a word: a number, or a pointer by what it counts from and how far above that it is. Each word of which that is
-/// known is as the text says.
+/// What is known of a word: a number, or a pointer by what it counts from and how far above or below that it is. Each word of which
+/// that is known is as the text says.
 #[tactic(auto, using(crate::proofs::SayingLemmas::says_known))]
 pub fn known_text(alloc: Global, known: &AbstractValue) -> Result<String, AllocError>
     ensures text { IfOk result (λ text. string_bytes text ≡ known_text known.now) }
@@ -56,7 +56,7 @@ pub(crate) fn kind_text(alloc: Global, kind: ValueKind, range: Range) -> Result<
         }
         ValueKind::EntryOrNull(map) => {
             let offset = offset_text(alloc, range)?;
-            format!(in alloc; "entry of map {map} or 0{offset}, not compared")
+            format!(in alloc; "entry of map {map} or null{offset}, not tested")
         }
         ValueKind::Map(map) => {
             let offset = offset_text(alloc, range)?;
@@ -65,14 +65,41 @@ pub(crate) fn kind_text(alloc: Global, kind: ValueKind, range: Range) -> Result<
     }
 }
 
-/// A number; of one of which nothing else is known it says so.
+/// A number; of one of which nothing else is known it says so. A word of the upper half is below zero.
 fn number_text(alloc: Global, range: Range) -> Result<String, AllocError>
     ensures { IfOk result (λ text. string_bytes text ≡ number_text range) }
 {
     if range.lo == 0 && range.hi == u64::MAX {
         return String::from_str(alloc, "any number");
     }
-    range_text(alloc, range)
+    if range.lo < NEGATIVE {
+        return range_text(alloc, range);
+    }
+    minus_text(alloc, below(range.lo), below(range.hi))
+}
+
+/// Numbers below zero, from so far below to so far below; none further is 0.
+fn minus_text(alloc: Global, far: u64, near: u64) -> Result<String, AllocError>
+    ensures { IfOk result (λ text. string_bytes text ≡ minus_text far near) }
+{
+    if far == near {
+        return format!(in alloc; "-{far}");
+    }
+    if near == 0 {
+        return format!(in alloc; "-{far}..0");
+    }
+    format!(in alloc; "-{far}..-{near}")
+}
+
+/// How far below what it counts from a pointer is.
+fn below_text(alloc: Global, far: u64, near: u64) -> Result<String, AllocError>
+    ensures { IfOk result (λ text. string_bytes text ≡ below_text far near) }
+{
+    if far == near {
+        return format!(in alloc; " - {far}");
+    }
+    let numbers = minus_text(alloc, far, near)?;
+    format!(in alloc; " {numbers}")
 }
 
 /// A pointer, so far above its base; offsets beyond 2^63 are those below it.
@@ -94,8 +121,7 @@ fn offset_text(alloc: Global, range: Range) -> Result<String, AllocError>
         let offset = range_text(alloc, range)?;
         return format!(in alloc; " + {offset}");
     }
-    let distance = between(alloc, below(range.lo), below(range.hi))?;
-    format!(in alloc; " - {distance}")
+    below_text(alloc, below(range.lo), below(range.hi))
 }
 
 /// How far below the word is that is so far above by a sum that wraps.
@@ -116,6 +142,6 @@ fn stack_text(alloc: Global, range: Range) -> Result<String, AllocError>
     if range.lo == STACK_SIZE {
         return String::from_str(alloc, "stack end");
     }
-    let distance = between(alloc, STACK_SIZE - range.lo, STACK_SIZE - range.hi)?;
-    format!(in alloc; "stack end - {distance}")
+    let distance = below_text(alloc, STACK_SIZE - range.lo, STACK_SIZE - range.hi)?;
+    format!(in alloc; "stack end{distance}")
 }

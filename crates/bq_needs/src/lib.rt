@@ -1,6 +1,6 @@
-//! What an instruction needs of what is known before it, and lacks, in words; and what is known of a word, in words.
+//! What an instruction needs of what is known before it, and lacks, as a value and in words; and what is known of a word, in words.
 //!
-//! By contract a need that is told is one that the abstract state does not give. It stands on the abstract states of the verifier.
+//! By contract a need that is named is one that the abstract state does not give. It stands on the abstract states of the verifier.
 #![tactic(auto)]
 
 mod accesses;
@@ -8,7 +8,11 @@ mod arguments;
 mod known;
 mod needs;
 mod operands;
+mod words;
 
+pub use accesses::Lack;
+pub use arguments::Argument;
 pub use known::{known_text, range_text};
-pub use needs::need_text;
-pub use operands::reads;
+pub use needs::{Need, Pointer, need_of};
+pub use operands::{Access, Registers, read_registers, reads};
+pub use words::need_text;

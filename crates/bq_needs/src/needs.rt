@@ -1,164 +1,151 @@
-//! What an instruction needs and the abstract state before it does not give, in words, for causes of what is known of the states.
-ghost use Rattle.std.specs.Prelude.{◌≡◌, ◌↔◌, ◌<◌, Some, true, IfOk, IfSome, IsTrue, MatchOption, string_bytes};
+//! What an instruction needs and the abstract state before it does not give, for causes of what is known of the states.
+ghost use Rattle.std.specs.Prelude.{◌≡◌, ◌↔◌, ◌<◌, ℕ, Bool, List, Some, false, true, IfSome, IsTrue, MatchOption, slice_index_or};
 ghost use Rattle.bq_states.specs.Certainty.{Scalar, StandsAt};
-ghost use Rattle.bq_needs.specs.Accesses.{verb};
-ghost use Rattle.bq_needs.specs.Needs.{AreKnown, AreNumbers, IsFirstPointer, IsGoodAccess, IsMet, IsNeed, IsPointerWorkedOn, TellsAccessOf, TellsNeed, TellsPointer, answer_text, pointer_rule, unset_below, unset_need, unset_text};
-ghost use Rattle.bq_needs.specs.Operands.{known_in, reads, works_on};
+ghost use Rattle.bq_needs.specs.Arguments.{GivesHelper, IsBad};
+ghost use Rattle.bq_needs.specs.Needs.{AreGoodArguments, AreKnown, AreNumbers, AreUnknown, IsFirstPointer, IsGoodAccess, IsMap, IsMet, IsNeed, IsPointerWorkedOn, Lacking, is_unknown};
+ghost use Rattle.bq_needs.specs.Operands.{known_in, works_on};
 ghost use Rattle.bq_states.specs.declared.abstract_state.AbstractValue.{AbstractValue as Shown};
+ghost use Rattle.bq_needs.specs.declared.arguments.Argument.{Argument as Wanted};
+ghost use Rattle.bq_needs.specs.declared.needs.Pointer.{Pointer as Worked};
 
-use crate::accesses::{begin_text, lack_of, lack_text};
-use crate::arguments::argument_need;
-use crate::known::known_text;
-use crate::operands::{access_of, reads, works_on};
+use crate::accesses::{Lack, lack_of};
+use crate::arguments::{Argument, bad_argument};
+use crate::operands::{Access, Registers, access_of, reads, works_on};
 use bq_insn::Insn;
 use bq_program::PolicySource;
 use bq_states::abstract_state::{AbstractState, AbstractValue, ValueKind};
 use bq_states::registers::known;
 use bq_verify::{Cause, Doubt};
-use std::alloc::{AllocError, Global};
 
-/// The need that the abstract state does not give, by the cause.
-pub fn need_text(
-    alloc: Global,
-    policy: &PolicySource,
-    state: &AbstractState,
-    insn: Insn,
-    cause: Cause,
-) -> Result<String, AllocError>
-    ensures { IfOk result (λ text. IsNeed policy.now state.now insn cause (string_bytes text)) }
-{
-    match told(alloc, policy, state, insn, cause)? {
-        Some(text) => Ok(text),
-        None => String::from_str(alloc, "is not shown to be safe"),
-    }
-}
-
-/// The same, if the abstract state does not give what the cause says.
-fn told(
-    alloc: Global,
-    policy: &PolicySource,
-    state: &AbstractState,
-    insn: Insn,
-    cause: Cause,
-) -> Result<Option<String>, AllocError>
-    ensures { IfOk result (λ told. MatchOption told (IsMet policy.now state.now insn cause) (λ text. TellsNeed policy.now state.now insn cause (string_bytes text) × ¬ (IsMet policy.now state.now insn cause))) }
-{
-    match cause {
-        Cause::State(Doubt::Unset) => unset_need(alloc, state, insn),
-        Cause::State(Doubt::Access) => access_need(alloc, policy, state, insn),
-        Cause::State(Doubt::PointerUse) => pointer_need(alloc, state, insn),
-        Cause::State(Doubt::Argument) => argument_need(alloc, policy, state, insn),
-        Cause::State(Doubt::Answer) => answer_need(alloc, state),
-        Cause::Graph(_) => Ok(None),
-    }
-}
-
-/// The registers that the instruction reads and that may be unset, if there are any.
-fn unset_need(
-    alloc: Global,
-    state: &AbstractState,
-    insn: Insn,
-) -> Result<Option<String>, AllocError>
-    ensures { IfOk result (λ told. MatchOption told (AreKnown state.now insn) (λ text. (string_bytes text ≡ unset_need state.now insn) × ¬ (AreKnown state.now insn))) }
-{
-    let registers = unset_registers(alloc, state, insn)?;
-    if registers.is_empty() {
-        return Ok(None);
-    }
-    let text = format!(in alloc;
-        "reads{registers}, which is not set here, or not on each way that leads here"
-    )?;
-    Ok(Some(text))
-}
-
-/// Each register that the instruction reads and of which nothing is known.
-fn unset_registers(alloc: Global, state: &AbstractState, insn: Insn) -> Result<String, AllocError>
-    ensures { IfOk result (λ text. string_bytes text ≡ unset_below 11 state.now insn) }
-{
-    let mut text = String::new(alloc);
-    for register in 0..11u8 {
-        let told = unset_register(alloc, state, insn, register)?;
-        text.push_str(told.as_str())?;
-    }
-    Ok(text)
-}
-
-/// The register, if it is one of those.
-fn unset_register(
-    alloc: Global,
-    state: &AbstractState,
-    insn: Insn,
-    register: u8,
-) -> Result<String, AllocError>
-    ensures { IfOk result (λ text. string_bytes text ≡ unset_text state.now insn register) }
-{
-    if reads(insn, register) && known(state, register).is_none() {
-        format!(in alloc; " r{register}")
-    } else {
-        Ok(String::new(alloc))
-    }
-}
-
-/// The access of a load or a store, and why it is not shown to be good, if it is not.
-fn access_need(
-    alloc: Global,
-    policy: &PolicySource,
-    state: &AbstractState,
-    insn: Insn,
-) -> Result<Option<String>, AllocError>
-    ensures { IfOk result (λ told. MatchOption told (IsGoodAccess policy.now state.now insn) (λ text. TellsAccessOf policy.now state.now insn (string_bytes text) × ¬ (IsGoodAccess policy.now state.now insn))) }
-{
-    let Some(access) = access_of(insn) else {
-        return Ok(None);
-    };
-    let verb = verb(access.writes);
-    let bytes = access.bytes;
-    let Some(pointer) = known(state, access.register) else {
-        let register = access.register;
-        let text = format!(in alloc;
-            "{verb} {bytes} bytes by r{register}, which is not set on each way that leads here"
-        )?;
-        return Ok(Some(text));
-    };
-    let Some(lack) = lack_of(policy, state, access, pointer) else {
-        return Ok(None);
-    };
-    let begin = begin_text(alloc, access, pointer)?;
-    let why = lack_text(alloc, policy, lack)?;
-    let text = format!(in alloc; "{verb} {bytes} bytes at {begin}; {why}")?;
-    Ok(Some(text))
-}
-
-/// What an access does with the bytes.
-fn verb(writes: bool) -> &'static str
-    ensures { result.now ≡ verb writes }
-{
-    if writes { "writes" } else { "reads" }
-}
-
-/// A pointer that the instruction works on, and what may be done with it, if it works on one.
-fn pointer_need(
-    alloc: Global,
-    state: &AbstractState,
-    insn: Insn,
-) -> Result<Option<String>, AllocError>
-    ensures { IfOk result (λ told. MatchOption told (AreNumbers state.now insn) (λ text. TellsPointer state.now insn (string_bytes text) × ¬ (AreNumbers state.now insn))) }
-{
-    let Some(pointer) = pointer_worked_on(state, insn) else {
-        return Ok(None);
-    };
-    let register = pointer.register;
-    let told = known_text(alloc, &pointer.known)?;
-    let rule = pointer_rule(insn);
-    let text = format!(in alloc; "works on r{register}, which is {told}; {rule}")?;
-    Ok(Some(text))
+/// What an instruction needs and the abstract state before it does not give.
+#[derive(Clone, Copy)]
+pub enum Need {
+    /// It reads these registers, of which nothing is known.
+    Unknown(Registers),
+    /// It accesses memory by a register of which nothing is known.
+    Address(Access),
+    /// It accesses memory by a pointer of which that is known, and this is why the access is not shown to be good.
+    Access {
+        access: Access,
+        pointer: AbstractValue,
+        lack: Lack,
+    },
+    /// It works on a register that is known to be no number.
+    Number(Pointer),
+    /// It names a map that there is not.
+    Map(i32),
+    /// It calls a helper, and this argument is not shown to be what the helper wants.
+    Argument {
+        helper: i32,
+        argument: Argument,
+    },
+    /// It ends, and the answer, of which that is known, is not shown to be a number.
+    Answer(Option<AbstractValue>),
+    /// The abstract state gives what the cause says: the verifier wants more than is told here.
+    Unshown,
 }
 
 /// A register and what is known of it.
 #[derive(Clone, Copy)]
-struct Pointer {
-    register: u8,
-    known: AbstractValue,
+pub struct Pointer {
+    pub register: u8,
+    pub known: AbstractValue,
+}
+
+/// The need that the abstract state does not give, by the cause.
+pub fn need_of(policy: &PolicySource, state: &AbstractState, insn: Insn, cause: Cause) -> Need
+    ensures { IsNeed policy.now state.now insn cause result }
+{
+    match lacking(policy, state, insn, cause) {
+        Some(need) => need,
+        None => Need::Unshown,
+    }
+}
+
+/// The same, if the abstract state does not give what the cause says.
+fn lacking(policy: &PolicySource, state: &AbstractState, insn: Insn, cause: Cause) -> Option<Need>
+    ensures { MatchOption result (IsMet policy.now state.now insn cause) (Lacking policy.now state.now insn cause) }
+{
+    match cause {
+        Cause::State(Doubt::Unset) => unknown_need(state, insn),
+        Cause::State(Doubt::Access) => access_need(policy, state, insn),
+        Cause::State(Doubt::PointerUse) => pointer_need(state, insn),
+        Cause::State(Doubt::Argument) => argument_need(policy, state, insn),
+        Cause::State(Doubt::Answer) => answer_need(state),
+        Cause::Graph(_) => None,
+    }
+}
+
+/// The registers that the instruction reads and of which nothing is known, if there are any.
+fn unknown_need(state: &AbstractState, insn: Insn) -> Option<Need>
+    ensures { MatchOption result (AreKnown state.now insn) (λ need. ((registers : List Bool) × (need ≡ Need.Unknown registers) × AreUnknown state.now insn registers) × ¬ (AreKnown state.now insn)) }
+{
+    let registers = unknown_registers(state, insn);
+    if has_one(&registers) {
+        Some(Need::Unknown(registers))
+    } else {
+        None
+    }
+}
+
+/// Each register that the instruction reads and of which nothing is known.
+fn unknown_registers(state: &AbstractState, insn: Insn) -> Registers
+    ensures { AreUnknown state.now insn result }
+{
+    let mut registers = [false; 11];
+    for register in 0..11u8 {
+        registers[usize::from(register)] = is_unknown(state, insn, register);
+    }
+    registers
+}
+
+/// Whether the register is one of those.
+fn is_unknown(state: &AbstractState, insn: Insn, register: u8) -> bool
+    ensures { result ≡ is_unknown state.now insn register }
+{
+    reads(insn, register) && known(state, register).is_none()
+}
+
+/// Whether there is one.
+fn has_one(registers: &Registers) -> bool
+    ensures { IsTrue result ↔ ((r : ℕ) × (r < 11) × (slice_index_or registers.now r false ≡ true)) }
+{
+    for register in registers {
+        if *register {
+            return true;
+        }
+    }
+    false
+}
+
+/// The access of a load or a store, and why it is not shown to be good, if it is not.
+fn access_need(policy: &PolicySource, state: &AbstractState, insn: Insn) -> Option<Need>
+    ensures { MatchOption result (IsGoodAccess policy.now state.now insn) (Lacking policy.now state.now insn (Cause.State Doubt.Access)) }
+{
+    let Some(access) = access_of(insn) else {
+        return None;
+    };
+    let Some(pointer) = known(state, access.register) else {
+        return Some(Need::Address(access));
+    };
+    let Some(lack) = lack_of(policy, state, access, pointer) else {
+        return None;
+    };
+    Some(Need::Access {
+        access,
+        pointer,
+        lack,
+    })
+}
+
+/// A pointer that the instruction works on, if it works on one.
+fn pointer_need(state: &AbstractState, insn: Insn) -> Option<Need>
+    ensures { MatchOption result (AreNumbers state.now insn) (λ need. ((pointer : Worked) × (need ≡ Need.Number pointer) × IsFirstPointer state.now insn pointer.register pointer.known) × ¬ (AreNumbers state.now insn)) }
+{
+    let Some(pointer) = pointer_worked_on(state, insn) else {
+        return None;
+    };
+    Some(Need::Number(pointer))
 }
 
 /// The first of the registers that the instruction works on which is known to be no number.
@@ -199,38 +186,52 @@ fn is_number(kind: ValueKind) -> bool
     matches!(kind, ValueKind::Number)
 }
 
-/// What may be done with a pointer, where the instruction does another thing.
-fn pointer_rule(insn: Insn) -> &'static str
-    ensures { result.now ≡ pointer_rule insn }
+/// The map that there is not, or the argument of a helper that is not shown to be what it wants.
+fn argument_need(policy: &PolicySource, state: &AbstractState, insn: Insn) -> Option<Need>
+    ensures { MatchOption result (AreGoodArguments policy.now state.now insn) (Lacking policy.now state.now insn (Cause.State Doubt.Argument)) }
 {
     match insn {
-        Insn::StoreReg { .. } => {
-            "a pointer is stored whole by stxdw, on the stack, at a multiple of 8 below r10"
-        }
-        Insn::Branch { .. } => {
-            "of pointers only the answer of a look-up is compared, by jeq64 or jne64 with the number 0"
-        }
-        _ => {
-            "a pointer may be copied by mov64, and a number be added to it or taken from it by add64 and sub64"
-        }
+        Insn::MapRef { index, .. } => map_need(policy, index),
+        Insn::Call { helper } => call_need(policy, state, helper),
+        _ => None,
     }
 }
 
-/// What the answer is, if it is not shown to be a number.
-fn answer_need(alloc: Global, state: &AbstractState) -> Result<Option<String>, AllocError>
-    ensures { IfOk result (λ told. MatchOption told (StandsAt Scalar state.now 0) (λ text. (string_bytes text ≡ answer_text (known_in state.now 0)) × ¬ (StandsAt Scalar state.now 0))) }
+/// The number, if it is no map's.
+fn map_need(policy: &PolicySource, index: i32) -> Option<Need>
+    ensures { MatchOption result (IsMap policy.now index) (λ need. (need ≡ Need.Map index) × ¬ (IsMap policy.now index)) }
 {
-    let Some(answer) = known(state, 0) else {
-        let text = String::from_str(
-            alloc,
-            "ends, and r0, the answer, is not set on each way that leads here",
-        )?;
-        return Ok(Some(text));
-    };
-    if is_number(answer.kind) {
-        return Ok(None);
+    if is_map(policy, index) {
+        None
+    } else {
+        Some(Need::Map(index))
     }
-    let told = known_text(alloc, &answer)?;
-    let text = format!(in alloc; "ends, and r0, the answer, is {told}; an answer is a number")?;
-    Ok(Some(text))
+}
+
+/// Whether there is a map of that number.
+fn is_map(policy: &PolicySource, index: i32) -> bool
+    ensures { IsTrue result ↔ IsMap policy.now index }
+{
+    index >= 0 && (index as usize) < policy.shapes.len()
+}
+
+/// The argument of the helper that is not shown to be what it wants, if there is one.
+fn call_need(policy: &PolicySource, state: &AbstractState, helper: i32) -> Option<Need>
+    ensures { MatchOption result (GivesHelper policy.now state.now helper) (λ need. (argument : Wanted) × (need ≡ Need.Argument helper argument) × IsBad policy.now state.now helper argument) }
+{
+    let Some(argument) = bad_argument(policy, state, helper) else {
+        return None;
+    };
+    Some(Need::Argument { helper, argument })
+}
+
+/// What the answer is, if it is not shown to be a number.
+fn answer_need(state: &AbstractState) -> Option<Need>
+    ensures { MatchOption result (StandsAt Scalar state.now 0) (λ need. (need ≡ Need.Answer (known_in state.now 0)) × ¬ (StandsAt Scalar state.now 0)) }
+{
+    let answer = known(state, 0);
+    match answer {
+        Some(word) if is_number(word.kind) => None,
+        _ => Some(Need::Answer(answer)),
+    }
 }

@@ -1,13 +1,16 @@
 //! Which registers an instruction reads, and the memory that it accesses.
-ghost use Rattle.std.specs.Prelude.{◌≡◌, ◌≤◌, IfSome, IsTrue};
+ghost use Rattle.std.specs.Prelude.{◌≡◌, ◌≤◌, ℕ, IfSome, IsTrue, false, slice_index_or, true};
 ghost use Rattle.bq_insn.specs.Slots.{byte_count};
 ghost use Rattle.bq_needs.specs.Operands.{NeedsSet, access_of, is_register, reads, reads_left, works_on};
 
 use bq_insn::{Insn, Operation, Size, Source};
 
+/// Registers by their numbers: whether each is one of them.
+pub type Registers = [bool; 11];
+
 /// The access of a load or a store.
 #[derive(Clone, Copy)]
-pub(crate) struct Access {
+pub struct Access {
     /// Whether it writes; else it reads.
     pub writes: bool,
     /// How many bytes.
@@ -35,6 +38,17 @@ pub fn reads(insn: Insn, register: u8) -> bool
         Insn::Branch { dst, src, .. } => dst == register || is_register(src, register),
         _ => false,
     }
+}
+
+/// The registers that the instruction reads as operands.
+pub fn read_registers(insn: Insn) -> Registers
+    ensures { (r : ℕ) → slice_index_or result r false ≡ true → reads insn r ≡ true }
+{
+    let mut registers = [false; 11];
+    for register in 0..11u8 {
+        registers[usize::from(register)] = reads(insn, register);
+    }
+    registers
 }
 
 /// Whether the instruction works on the register: a store of a register on that one, and each other instruction on those that it reads.

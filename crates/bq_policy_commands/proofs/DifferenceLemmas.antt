@@ -1,6 +1,7 @@
 -- The mark from which words differ, of a fault.
-use Rattle.std.proofs.Common.{◌≡◌, ℕ, List, Option, Some, None, inr, is_some, subst, sym, true}
+use Rattle.std.proofs.Common.{◌≡◌, ◌≢◌, ℕ, List, Option, Some, None, inr, is_some, subst, sym, true}
 use Rattle.bq_program.specs.declared.fault.PolicyFault.{PolicyFault}
+use Rattle.bq_program.specs.declared.fault.PolicyFault.TheVariants.{OutOfMemory}
 use Rattle.bq_program.specs.declared.head.Head.{Head}
 use Rattle.bq_program.specs.declared.mark.Key.{Key}
 use Rattle.bq_program.specs.Files.{IsPolicyFault}
@@ -13,9 +14,9 @@ use Rattle.bq_console.proofs.SayingLemmas.{no_value}
 use Rattle.bq_policy_commands.specs.Disagreeing.{IsDifference, SaysImage, differing}
 
 -- the mark that a fault of the file names is the one from which the words differ
-pub IsDifference-of_fault : (bytes : List ℕ) (h : Head) (named : PolicyFault) (told : Option Key) → IsPolicyFault bytes h named → told ≡ differing named → IsDifference bytes h told
-IsDifference-of_fault bytes h named None is e = inr (inr (named, is, sym e))
-IsDifference-of_fault bytes h named (Some key) is e = (named, is, sym e)
+pub IsDifference-of_fault : (bytes : List ℕ) (h : Head) (named : PolicyFault) (told : Option Key) → IsPolicyFault bytes h named → named ≢ OutOfMemory → told ≡ differing named → IsDifference bytes h told
+IsDifference-of_fault bytes h named None is other e = inr (inr (named, is, other, sym e))
+IsDifference-of_fault bytes h named (Some key) is other e = (named, is, sym e)
 
 -- options without a hook ask for no image
 pub no_image : (o : Options) → o.hook ≡ None → (h : Head) → ¬ SaysImage o h

@@ -2,7 +2,7 @@
 use Rattle.std.specs.Prelude.{◌≡◌, ◌≢◌, ℕ, List, ◌⊎◌, Option, Some, None, IsSome, string_bytes}
 use Rattle.bq_console.specs.Words.{SaysWord}
 use Rattle.bq_program.specs.declared.fault.PolicyFault.{PolicyFault}
-use Rattle.bq_program.specs.declared.fault.PolicyFault.TheVariants.{Disagrees}
+use Rattle.bq_program.specs.declared.fault.PolicyFault.TheVariants.{Disagrees, OutOfMemory}
 use Rattle.bq_program.specs.declared.head.Head.{Head}
 use Rattle.bq_program.specs.declared.kind.FileKind.TheVariants.{Text}
 use Rattle.bq_program.specs.declared.mark.Key.{Key}
@@ -21,7 +21,7 @@ differing other = None
 
 -- the text is a policy with these words, or another thing is wrong with it
 abbrev pub NoneDiffers : List ℕ → Head → Type 0
-NoneDiffers bytes h = ((p : PolicySource) × IsPolicy bytes h p) ⊎ ((named : PolicyFault) × IsPolicyFault bytes h named × (differing named ≡ None))
+NoneDiffers bytes h = ((p : PolicySource) × IsPolicy bytes h p) ⊎ ((named : PolicyFault) × IsPolicyFault bytes h named × (named ≢ OutOfMemory) × (differing named ≡ None))
 
 -- of a text, the words differ from its marks in that; other bytes have no marks
 abbrev pub IsDifference : List ℕ → Head → Option Key → Type 0

@@ -38,7 +38,7 @@ TellsHead other note = note ≡ []
 abbrev pub IsNoteBeside : List ℕ → Head → List ℕ → Type 0
 IsNoteBeside bytes h note =
     ((kind_of bytes ≢ Text) × (note ≡ []))
-    ⊎ (((p : PolicySource) × IsPolicy bytes h p × (note ≡ left_text h p)) ⊎ ((named : PolicyFault) × IsPolicyFault bytes h named × TellsHead named note))
+    ⊎ (((p : PolicySource) × IsPolicy bytes h p × (note ≡ left_text h p)) ⊎ ((named : PolicyFault) × IsPolicyFault bytes h named × (named ≢ fault.OutOfMemory) × TellsHead named note))
 
 -- options that ask for no image, or name no maps, leave nothing
 abbrev pub IsAsmNote : Options → List ℕ → List ℕ → Type 0

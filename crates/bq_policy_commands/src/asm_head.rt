@@ -3,7 +3,7 @@ ghost use Rattle.std.specs.Prelude.{◌≡◌, IfOk, MatchOption};
 ghost use Rattle.bq_program.specs.declared.head.Head.{Head as Said};
 ghost use Rattle.bq_policy_commands.specs.Disagreeing.{IsAsmRefusal, IsDifference, IsRefusalBeside, SaysImage, differing};
 
-use crate::fault_words::{fault_line, fault_reason};
+use crate::reasons::{fault_line, fault_reason};
 use bq_program::{FileKind, Head, Key, Options, PolicyFault, kind_of, read_policy, shapes_of};
 use std::alloc::{AllocError, Global};
 

@@ -3,7 +3,7 @@ ghost use Rattle.std.specs.Prelude.{◌≡◌, IfOk, string_bytes};
 ghost use Rattle.bq_policy_commands.specs.Noting.{IsAsmNote, IsNoteBeside, TellsHead, left_text, leaves_format, leaves_maps};
 
 use crate::asm_head::head_of;
-use crate::fault_words::fault_reason;
+use crate::reasons::fault_reason;
 use bq_program::{
     FileKind, Head, Options, PolicyFault, PolicySource, Version, kind_of, read_policy,
 };

@@ -1,22 +1,22 @@
 //! `check` of a policy's file.
-ghost use Rattle.std.specs.Prelude.{◌≡◌, ◌≢◌, IfErr, IfOk, OnOk, string_bytes};
+ghost use Rattle.std.specs.Prelude.{◌≡◌, ◌≢◌, IfErr, IfOk, OnOk, false, string_bytes};
+ghost use Rattle.bq_explain.specs.Verdicts.{is_accepted};
 ghost use Rattle.bq_program.specs.declared.fault.PolicyFault.TheVariants.{OutOfMemory};
-ghost use Rattle.bq_policy_commands.specs.Checking.{ChecksFile, ChecksTo, IsTold, SaysTerms, TellsVerdict, answered};
+ghost use Rattle.bq_policy_commands.specs.Checking.{ChecksFile, ChecksTo, IsShown, IsTold, SaysTerms, TellsVerdict, answered};
 ghost use Rattle.bq_policy_commands.specs.Limiting.{HasLimits};
 ghost use Rattle.bq_policy_commands.specs.Refusing.{fault_line};
 ghost use Rattle.bq_console.specs.Words.{SaysNone};
 ghost use Rattle.bq_policy_commands.specs.Saying.{SaysHead};
 
 use crate::answered::Answered;
-use crate::fault_words::fault_line;
 use crate::given::said_by;
-use crate::json_text::json_text;
+use crate::json_text::{explanation_json, reason_json};
 use crate::limits::limits_of;
 use crate::listing::reasoned;
-use crate::named::with_name;
+use crate::reasons::{fault_line, reason_of};
 use crate::words::CheckWords;
-use bq_console::WordsFault;
-use bq_explain::{Limits, explain, judge, verdict_line};
+use bq_console::{WordsFault, file_named};
+use bq_explain::{Explanation, Limits, explain, explanation_text, judge, verdict_line};
 use bq_program::{Head, PolicyFault, PolicySource, read_policy};
 use std::alloc::{AllocError, Global};
 
@@ -75,10 +75,9 @@ fn check_policy(
     ensures { IfOk result (TellsVerdict words.now policy.now limits.now) }
 {
     if words.is_explained || words.is_json {
-        let explained = explain(alloc, policy, limits)?;
-        let text = with_name(alloc, &words.policy.file, explained.text)?;
-        let text = shown(alloc, words, explained.accepted, text)?;
-        return Ok(answered(explained.accepted, text));
+        let explanation = explain(alloc, policy, limits)?;
+        let text = shown(alloc, words, policy, &explanation)?;
+        return Ok(answered(explanation.verdict.is_accepted(), text));
     }
     judge_policy(alloc, words, policy, limits)
 }
@@ -90,6 +89,7 @@ fn judge_policy(
     policy: &PolicySource,
     limits: &Limits,
 ) -> Result<Answered, AllocError>
+    requires { words.now.is_json ≡ false }
     ensures { IfOk result (TellsVerdict words.now policy.now limits.now) }
 {
     let verdict = judge(alloc, policy, limits)?;
@@ -105,12 +105,12 @@ fn refusal(
     fault: PolicyFault,
 ) -> Result<String, AllocError>
     ensures told { IfOk result (λ text. IsTold words.now (fault_line fault) (string_bytes text)) }
+    ensures shown { IfOk result (λ text. IsShown words.now false (string_bytes text)) }
     ensures other { OnOk result (fault ≢ OutOfMemory) }
 {
     let line = fault_line(alloc, fault)?;
     if words.is_explained || words.is_json {
-        let text = reasoned(alloc, &words.policy.file, bytes, fault, &line)?;
-        return shown(alloc, words, false, text);
+        return reasoned_refusal(alloc, words, bytes, fault, &line);
     }
     Ok(line)
 }
@@ -126,15 +126,37 @@ fn answered(accepted: bool, text: String) -> Answered
     }
 }
 
-/// The text of an answer, as it is or as JSON.
+/// Why the file of these bytes is no policy, with the reason, in words or as JSON.
+fn reasoned_refusal(
+    alloc: Global,
+    words: &CheckWords,
+    bytes: &[u8],
+    fault: PolicyFault,
+    line: &String,
+) -> Result<String, AllocError>
+    ensures { IfOk result (λ text. IsShown words.now false (string_bytes text)) }
+{
+    let file = &words.policy.file;
+    let reason = reason_of(alloc, bytes, fault)?;
+    let text = reasoned(alloc, file, &reason, line)?;
+    if words.is_json {
+        return reason_json(alloc, file, fault, &reason, text.as_str());
+    }
+    Ok(text)
+}
+
+/// An explanation, in words or as JSON.
 fn shown(
     alloc: Global,
     words: &CheckWords,
-    accepted: bool,
-    text: String,
-) -> Result<String, AllocError> {
+    policy: &PolicySource,
+    explanation: &Explanation,
+) -> Result<String, AllocError>
+    ensures { IfOk result (λ text. IsShown words.now (is_accepted explanation.now.verdict) (string_bytes text)) }
+{
+    let file = &words.policy.file;
     if words.is_json {
-        return json_text(alloc, &words.policy.file, accepted, text.as_str());
+        return explanation_json(alloc, file, policy, explanation);
     }
-    Ok(text)
+    explanation_text(alloc, policy, file_named(file), explanation)
 }

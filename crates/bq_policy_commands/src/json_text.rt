@@ -1,53 +1,107 @@
-//! An answer of `check` as JSON.
+//! An answer of `check` as JSON: one line, by the schema of docs/JSON.md.
+ghost use Rattle.std.specs.Prelude.{◌≡◌, Bool, IfOk, Some, codes, false, string_bytes};
+ghost use Rattle.serde_json.specs.Data.{boolean};
+ghost use Rattle.serde_json.specs.Find.{get};
+ghost use Rattle.serde_json.specs.View.{view};
+ghost use Rattle.bq_explain.specs.Verdicts.{is_accepted};
+ghost use Rattle.bq_policy_commands.specs.Checking.{IsJson, IsLineOf};
+
+use crate::json_parts::{
+    fields_of_limit, fields_of_refusal, fields_of_summary, file_value, lines_value,
+};
+use crate::reasons::{Reason, fields_of_reason};
 use bq_console::file_named;
-use serde_json::{Value, json};
+use bq_explain::{Detail, Explanation, Verdict, explanation_text};
+use bq_program::{PolicyFault, PolicySource};
+use serde_json::{Map, Value, put};
 use std::alloc::{AllocError, Global};
-use std::str::Lines;
 
-/// The answer as one line of JSON: the file, whether it is accepted, the answer's first line, and the lines that explain it.
-pub(crate) fn json_text(
+/// The version of the schema.
+const SCHEMA: u64 = 1;
+
+/// The explanation of a policy as one line of JSON.
+pub(crate) fn explanation_json(
+    alloc: Global,
+    file: &Option<String>,
+    policy: &PolicySource,
+    explanation: &Explanation,
+) -> Result<String, AllocError>
+    ensures { IfOk result (λ text. IsJson (is_accepted explanation.now.verdict) (string_bytes text)) }
+{
+    let prose = explanation_text(alloc, policy, file_named(file), explanation)?;
+    let fields = fields_of(alloc, policy, explanation)?;
+    let accepted = explanation.verdict.is_accepted();
+    answer_json(alloc, file, accepted, fields, prose.as_str())
+}
+
+/// Why a file is no policy, as one line of JSON.
+pub(crate) fn reason_json(
+    alloc: Global,
+    file: &Option<String>,
+    fault: PolicyFault,
+    reason: &Reason,
+    prose: &str,
+) -> Result<String, AllocError>
+    ensures { IfOk result (λ text. IsJson false (string_bytes text)) }
+{
+    let fields = fields_of_reason(alloc, fault, reason)?;
+    answer_json(alloc, file, false, fields, prose)
+}
+
+/// What is told of an explanation beside its prose.
+fn fields_of(
+    alloc: Global,
+    policy: &PolicySource,
+    explanation: &Explanation,
+) -> Result<Map<String, Value>, AllocError> {
+    match (explanation.verdict, &explanation.detail) {
+        (Verdict::Accepted { budget }, Detail::Accepted(summary)) => {
+            fields_of_summary(alloc, policy, budget, summary)
+        }
+        (_, Detail::Refused(refusal)) => fields_of_refusal(alloc, policy, refusal),
+        (verdict, Detail::Limited(place)) => fields_of_limit(alloc, verdict, place),
+        (_, Detail::Accepted(_)) => Ok(Map::new(alloc)),
+    }
+}
+
+/// The fields with those that each answer has, on a line of their own.
+fn answer_json(
     alloc: Global,
     file: &Option<String>,
     accepted: bool,
-    text: &str,
-) -> Result<String, AllocError> {
-    let mut lines = text.lines();
+    mut fields: Map<String, Value>,
+    prose: &str,
+) -> Result<String, AllocError>
+    ensures { IfOk result (λ text. IsJson accepted (string_bytes text)) }
+{
+    let mut lines = prose.lines();
     let answer = lines.next().unwrap_or("");
-    let value = answer_value(alloc, file, accepted, answer, lines)?;
-    let mut line = value.to_string(alloc)?;
-    line.push_str("\n")?;
-    Ok(line)
+    let answer = Value::try_from_str(alloc, answer)?;
+    let explanation = lines_value(alloc, lines)?;
+    put(&mut fields, alloc, "schema", Value::from(SCHEMA))?;
+    put(&mut fields, alloc, "file", file_value(alloc, file)?)?;
+    put(&mut fields, alloc, "answer", answer)?;
+    put(&mut fields, alloc, "explanation", explanation)?;
+    let value = with_verdict(alloc, fields, accepted)?;
+    line_of(alloc, &value)
 }
 
-/// The file, whether it is accepted, the answer's first line, and the lines that explain it.
-fn answer_value(
+/// The fields, and whether the policy is accepted.
+fn with_verdict(
     alloc: Global,
-    file: &Option<String>,
+    mut fields: Map<String, Value>,
     accepted: bool,
-    answer: &str,
-    explanation: Lines<'_>,
-) -> Result<Value, AllocError> {
-    json!(in alloc; {
-        "file": (file_value(alloc, file)?),
-        "accepted": accepted,
-        "answer": answer,
-        "explanation": (lines_value(alloc, explanation)?)
-    })
+) -> Result<Value, AllocError>
+    ensures { IfOk result (λ v. get (codes "accepted") (view v) ≡ Some (boolean accepted)) }
+{
+    put(&mut fields, alloc, "accepted", Value::Bool(accepted))?;
+    Ok(Value::Object(fields))
 }
 
-/// The name of the file, or null of standard input.
-fn file_value(alloc: Global, file: &Option<String>) -> Result<Value, AllocError> {
-    match file_named(file) {
-        Some(name) => Value::try_from_str(alloc, name),
-        None => Ok(Value::Null),
-    }
-}
-
-/// A list of lines.
-fn lines_value(alloc: Global, lines: Lines<'_>) -> Result<Value, AllocError> {
-    let mut values = Vec::new(alloc);
-    for line in lines {
-        values.push(Value::try_from_str(alloc, line)?)?;
-    }
-    Ok(Value::Array(values))
+/// The value on a line of its own.
+fn line_of(alloc: Global, value: &Value) -> Result<String, AllocError>
+    ensures { IfOk result (λ text. IsLineOf (view value.now) (string_bytes text)) }
+{
+    let line = value.to_string(alloc)?;
+    format!(in alloc; "{line}\n")
 }

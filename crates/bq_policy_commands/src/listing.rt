@@ -5,11 +5,10 @@ ghost use Rattle.bq_policy_commands.specs.Listing.{ListsFile, ListsTo};
 ghost use Rattle.bq_policy_commands.specs.Refusing.{Refuses};
 
 use crate::answered::Answered;
-use crate::fault_words::{fault_line, fault_reason};
 use crate::given::said_by;
-use crate::named::placed;
+use crate::reasons::{Reason, fault_line, reason_of, reason_text};
 use crate::words::ListWords;
-use bq_console::WordsFault;
+use bq_console::{WordsFault, file_named};
 use bq_program::{Head, PolicyFault, policy_text, read_policy};
 use std::alloc::{AllocError, Global};
 
@@ -56,20 +55,19 @@ pub fn refused_file(
     ensures other { OnOk result (fault ≢ OutOfMemory) }
 {
     let line = fault_line(alloc, fault)?;
-    reasoned(alloc, file, bytes, fault, &line)
+    let reason = reason_of(alloc, bytes, fault)?;
+    reasoned(alloc, file, &reason, &line)
 }
 
-/// A line that refuses a file, and what is wrong with it.
+/// A line that refuses a file, and the reason behind it.
 pub(crate) fn reasoned(
     alloc: Global,
     file: &Option<String>,
-    bytes: &[u8],
-    fault: PolicyFault,
+    reason: &Reason,
     line: &String,
 ) -> Result<String, AllocError>
     ensures { IfOk result (λ text. (reason : List ℕ) × (string_bytes text ≡ string_bytes line.now ++ reason)) }
 {
-    let reason = fault_reason(alloc, bytes, fault)?;
-    let reason = placed(alloc, file, reason)?;
+    let reason = reason_text(alloc, file_named(file), reason)?;
     format!(in alloc; "{line}{reason}\n")
 }

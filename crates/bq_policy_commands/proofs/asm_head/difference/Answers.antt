@@ -1,6 +1,7 @@
-use Rattle.std.proofs.Common.{IfOk, Result, inl, inr, sym, subst}
+use Rattle.std.proofs.Common.{◌≢◌, rules, IfOk, Result, inl, inr, sym, subst}
 use Rattle.std.specs.declared.alloc.AllocError.{AllocError}
 use Rattle.std.specs.Prelude.{Option}
+use Rattle.bq_program.specs.declared.fault.PolicyFault.TheVariants.{OutOfMemory}
 use Rattle.bq_program.specs.declared.mark.Key.{Key}
 use Rattle.bq_policy_commands.specs.Disagreeing.{IsDifference}
 use Rattle.bq_policy_commands.proofs.DifferenceLemmas.{IsDifference-of_fault}
@@ -13,5 +14,7 @@ returns c =
     elim c.match-read_policy.branch [
       | in-Ok w ↦ subst P (sym w.result-is) (inr (inl (w.in-Ok.field-0, w.in-Ok.ensures.policy)))
       | in-Err-OutOfMemory w ↦ subst P (sym w.result-is) tt
-      | in-Err w ↦ subst P (sym w.result-is) (IsDifference-of_fault c.args.text.now c.args.given.now w.in-Err.fault w.differing.result w.in-Err.ensures.fault w.differing.ensures)
+      | in-Err w ↦
+          let other : w.in-Err.fault ≢ OutOfMemory = search rules in
+          subst P (sym w.result-is) (IsDifference-of_fault c.args.text.now c.args.given.now w.in-Err.fault w.differing.result w.in-Err.ensures.fault other w.differing.ensures)
     ]

@@ -17,4 +17,5 @@ returns-in_ok-refusal-in-Err c = inl record {
   text = c.in_ok-refusal-in-Err.field-0;
   is = refl;
   told = c.in_ok-refusal-in-Err.ensures.told;
+  shown = c.in_ok-refusal-in-Err.ensures.shown;
 }

@@ -1,7 +1,0 @@
-use Rattle.std.proofs.Common.{◌≡◌}
-use Rattle.std.specs.String.{string_bytes}
-use Rattle.bq_explain.specs.Texts.{unset_below}
-use Rattle.bq_explain.proofs.state_words.unset_names.Given as goal
-
-abbrev pub invariant-loop-number : goal.invariant-loop-number
-invariant-loop-number l = string_bytes l.text ≡ unset_below l.number l.state.registers

@@ -1,0 +1,154 @@
+//! What is known of registers and stack after an instruction, on the way to one of the slots behind it.
+ghost use Rattle.std.specs.Prelude.{◌≡◌, ◌<◌, ◌≤◌, ◌^◌, IsTrue, length};
+ghost use Rattle.bq_bpf.specs.Steps.{IsCounterCall};
+ghost use Rattle.bq_transfer.specs.Ready.{IsTransferred, WritesBelowFrame};
+ghost use Rattle.bq_explain.specs.Makers.{IsLaidOut};
+
+use bq_bpf::{MapShape, context_length};
+use bq_graph::single::{destination, is_counter_call};
+use bq_insn::{Condition, Insn, Source, Width};
+use bq_states::abstract_state::AbstractState;
+use bq_states::registers::{known, operand};
+use bq_states::told::tell;
+use bq_transfer::counters::ask;
+use bq_transfer::sides::{right_side, side};
+use bq_transfer::transfer::transfer;
+use bq_verify::{Program, state_at};
+use std::alloc::{AllocError, Global};
+
+/// What is known on the step from one slot to another; None where no run takes it.
+pub(crate) fn known_after(
+    alloc: Global,
+    program: &Program,
+    slots: &[Option<Insn>],
+    from: usize,
+    to: usize,
+) -> Result<Option<AbstractState>, AllocError>
+    requires { IsLaidOut program.now slots.now }
+{
+    if from >= slots.len() {
+        return Ok(None);
+    }
+    let Some(insn) = slots[from] else {
+        return Ok(None);
+    };
+    let Some(mut state) = state_at(alloc, program, from)? else {
+        return Ok(None);
+    };
+    let context = context_length(program.hook, program.version);
+    let is_next = to == from.saturating_add(insn.slots());
+    if comes(
+        &mut state,
+        program.shapes.as_slice(),
+        context,
+        insn,
+        is_next,
+    ) {
+        return Ok(Some(state));
+    }
+    Ok(None)
+}
+
+/// Whether a run may go on by the instruction, to the next one or by its jump; if so, the state is the one after it.
+fn comes(
+    state: &mut AbstractState,
+    shapes: &[MapShape],
+    context: usize,
+    insn: Insn,
+    is_next: bool,
+) -> bool
+    requires context { context < 2 ^ 16 }
+    requires few { length shapes.now ≤ 8 }
+{
+    match insn {
+        Insn::Exit => false,
+        Insn::Goto { .. } | Insn::Goto32 { .. } => true,
+        Insn::Branch {
+            width,
+            cond,
+            dst,
+            src,
+            ..
+        } => {
+            let test = Test {
+                width,
+                cond,
+                dst,
+                src,
+            };
+            passes(state, test, !is_next)
+        }
+        _ => goes_on(state, shapes, context, insn),
+    }
+}
+
+/// What a branch asks.
+#[derive(Clone, Copy)]
+struct Test {
+    width: Width,
+    cond: Condition,
+    dst: u8,
+    src: Source,
+}
+
+/// Whether a run may pass the test that way; if so, the state is the one behind it.
+fn passes(state: &mut AbstractState, test: Test, is_taken: bool) -> bool {
+    if test.dst >= 10 {
+        return false;
+    }
+    let Some(right) = operand(state, test.src) else {
+        return false;
+    };
+    let Some(left) = known(state, test.dst) else {
+        return false;
+    };
+    let Ok(Some(there)) = side(test.width, test.cond, left, test.src, right, is_taken) else {
+        return false;
+    };
+    let right = right_side(test.width, test.cond, left, right, is_taken);
+    tell(state, test.dst, test.src, there, right);
+    true
+}
+
+/// The same, of an instruction behind which only the next one runs.
+fn goes_on(state: &mut AbstractState, shapes: &[MapShape], context: usize, insn: Insn) -> bool
+    requires context { context < 2 ^ 16 }
+    requires few { length shapes.now ≤ 8 }
+{
+    if is_counter_call(insn) {
+        return ask(state, insn).is_ok();
+    }
+    if is_transferred(insn) && spares_frame(insn) {
+        return transfer(state, shapes, context, insn).is_ok();
+    }
+    false
+}
+
+/// Whether it is neither a jump nor an EXIT.
+fn is_transferred(insn: Insn) -> bool
+    ensures { IsTrue result → IsTransferred insn }
+{
+    match insn {
+        Insn::Goto { .. } | Insn::Goto32 { .. } | Insn::Branch { .. } | Insn::Exit => false,
+        Insn::Alu { .. }
+        | Insn::MovSx { .. }
+        | Insn::Neg { .. }
+        | Insn::End { .. }
+        | Insn::Load { .. }
+        | Insn::StoreImm { .. }
+        | Insn::StoreReg { .. }
+        | Insn::Imm64 { .. }
+        | Insn::MapRef { .. }
+        | Insn::Call { .. } => true,
+    }
+}
+
+/// Whether it does not write register 10.
+fn spares_frame(insn: Insn) -> bool
+    ensures { IsTrue result → WritesBelowFrame insn }
+{
+    match destination(insn) {
+        Some(register) => register < 10,
+        None => true,
+    }
+}

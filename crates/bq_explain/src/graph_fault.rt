@@ -1,0 +1,104 @@
+//! What is wrong with an instruction by the control graph or by itself.
+ghost use Rattle.std.specs.Prelude.{◌≡◌};
+ghost use Rattle.bq_explain.specs.Explained.{graph_cause_of};
+
+use bq_bpf::{with_helper_numbers, with_most_calls};
+use bq_graph::edges::distance;
+use bq_insn::Insn;
+use bq_verify::GraphCause;
+use std::alloc::{AllocError, Global};
+
+/// What is wrong with an instruction by the control graph or by itself.
+#[derive(Clone, Copy)]
+pub enum GraphFault {
+    /// It jumps to that slot, which is none of the program's.
+    JumpsOut(i64),
+    /// It jumps back to that slot, or to itself.
+    JumpsBack(i64),
+    /// It jumps to that slot, the second one of a wide instruction.
+    JumpsInside(i64),
+    /// Control goes on from it past the end.
+    RunsOut,
+    /// No path leads to it.
+    Unreached,
+    /// It calls a helper that there is not.
+    Helper(i32),
+    /// It writes register 10.
+    Frame,
+    /// It is a call of a counter before which there may be too many.
+    Calls,
+}
+
+/// The fault of that cause, of an instruction in a program of so many slots.
+pub(crate) fn graph_fault(count: usize, slot: usize, insn: Insn, cause: GraphCause) -> GraphFault
+    ensures { graph_cause_of result ≡ cause }
+{
+    match cause {
+        GraphCause::Jump => jump_fault(count, slot, distance(insn).unwrap_or(0)),
+        GraphCause::NoExit => GraphFault::RunsOut,
+        GraphCause::Unreached => GraphFault::Unreached,
+        GraphCause::Helper => GraphFault::Helper(called(insn)),
+        GraphCause::Frame => GraphFault::Frame,
+        GraphCause::Counters => GraphFault::Calls,
+    }
+}
+
+/// What is wrong with a jump over that distance, which leads to no later instruction.
+fn jump_fault(count: usize, slot: usize, distance: i64) -> GraphFault
+    ensures { graph_cause_of result ≡ GraphCause.Jump }
+{
+    let here = i64::try_from(slot).unwrap_or(i64::MAX);
+    let to = here.saturating_add(1).saturating_add(distance);
+    let end = i64::try_from(count).unwrap_or(i64::MAX);
+    if to < 0 || to >= end {
+        return GraphFault::JumpsOut(to);
+    }
+    if to <= here {
+        return GraphFault::JumpsBack(to);
+    }
+    GraphFault::JumpsInside(to)
+}
+
+/// The helper that the instruction calls.
+fn called(insn: Insn) -> i32 {
+    match insn {
+        Insn::Call { helper } => helper,
+        _ => 0,
+    }
+}
+
+/// The fault in words.
+pub(crate) fn graph_text(alloc: Global, fault: GraphFault) -> Result<String, AllocError> {
+    match fault {
+        GraphFault::JumpsOut(to) => { format!(in alloc; "jumps to slot {to}, out of the program") }
+        GraphFault::JumpsBack(to) => {
+            format!(in alloc; "jumps to slot {to}, which is not forward; there are no loops")
+        }
+        GraphFault::JumpsInside(to) => {
+            format!(in alloc; "jumps to slot {to}, into a wide instruction")
+        }
+        GraphFault::Helper(helper) => called_text(alloc, helper),
+        other => String::from_str(alloc, plain_text(other)),
+    }
+}
+
+/// A helper that there is not.
+fn called_text(alloc: Global, helper: i32) -> Result<String, AllocError> {
+    let numbers = with_helper_numbers!("there are ");
+    format!(in alloc; "calls helper {helper}, which there is not; {numbers}")
+}
+
+/// A fault that names no number.
+fn plain_text(fault: GraphFault) -> &'static str {
+    match fault {
+        GraphFault::RunsOut => "goes on past the end of the program, where an exit is needed",
+        GraphFault::Unreached => "is on no way from the first instruction",
+        GraphFault::Frame => "writes r10, which is only read",
+        GraphFault::Calls => with_most_calls!(
+            "is at least the ",
+            " call of a counter on some way; ",
+            " are allowed"
+        ),
+        _ => "is not shown to be safe",
+    }
+}

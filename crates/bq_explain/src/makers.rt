@@ -1,0 +1,243 @@
+//! Where a register's value comes from: the instructions that made it, by the ways of the control graph.
+ghost use Rattle.std.specs.Prelude.{◌+◌, ◌⊎◌, Bool, List, ◌≡◌, ◌<◌, ◌≤◌, ◌↔◌, ℕ, All, Contains, IfOk, IfSome, IsTrue, MatchBool, OnOk, false, length, slice_index_or, Some, true};
+ghost use Rattle.bq_graph.specs.Passes.{IsOf, IsSound};
+ghost use Rattle.bq_explain.specs.Makers.{AreLeading, AreOnTrail, IsMaker, IsOnTrail, IsPart, MakesAsked};
+ghost use Rattle.bq_explain.specs.declared.makers.Maker.{Maker as Named};
+ghost use Rattle.bq_verify.specs.Straight.{spares};
+
+use bq_graph::edges::{Targets, instruction};
+use bq_graph::passes::targets;
+use bq_graph::single::destination;
+use bq_insn::Insn;
+use bq_needs::{Registers, read_registers};
+use std::alloc::{AllocError, Global};
+
+/// What an instruction is to the ways to a slot on which no later one writes a register.
+#[derive(Clone, Copy)]
+enum Part {
+    /// It is on none.
+    Off,
+    /// It begins one, for it writes the register.
+    Makes,
+    /// It is on one, and does not write the register.
+    Leads,
+}
+
+/// Whether the instruction writes the register; a call answers in r0 and ends what r1 to r5 held.
+fn writes(insn: Insn, register: u8) -> bool
+    ensures { MatchBool result (spares register (Some insn) ≡ false) (spares register (Some insn) ≡ true) }
+{
+    match insn {
+        Insn::Call { .. } => register < 6,
+        _ => names(destination(insn), register),
+    }
+}
+
+/// Whether that is the register.
+fn names(written: Option<u8>, register: u8) -> bool
+    ensures { IsTrue result ↔ (written ≡ Some register) }
+{
+    match written {
+        Some(number) => number == register,
+        None => false,
+    }
+}
+
+/// Whether a way that spares the register leads on from the target, if there is one.
+fn leads(leading: &[bool], to: Option<usize>) -> bool
+    requires { (k : ℕ) → to ≡ Some k → k < length leading.now }
+    ensures { IsTrue result ↔ ((k : ℕ) × (to ≡ Some k) × (slice_index_or leading.now k false ≡ true)) }
+{
+    match to {
+        Some(to) => leading[to],
+        None => false,
+    }
+}
+
+/// Whether a way that spares the register leads on from one of the targets.
+fn lead_on(leading: &[bool], targets: Targets) -> bool
+    requires { (k : ℕ) → IsOf targets k → k < length leading.now }
+    ensures { IsTrue result ↔ ((k : ℕ) × IsOf targets k × (slice_index_or leading.now k false ≡ true)) }
+{
+    leads(leading, targets.next) || leads(leading, targets.jump)
+}
+
+/// The instructions that made the register for the slot, the nearest first.
+pub(crate) fn makers(
+    alloc: Global,
+    slots: &[Option<Insn>],
+    register: u8,
+    slot: usize,
+) -> Result<Vec<usize>, AllocError>
+    requires inside { slot < length slots.now }
+    requires short { length slots.now ≤ 4096 }
+    requires sound { IsSound slots.now }
+    ensures { IfOk result (λ makers. (made : ℕ) → Contains makers.items made ↔ IsMaker slots.now register slot made) }
+{
+    let mut leading = vec![in alloc; false; slots.len()]?;
+    swept(alloc, slots, register, slot, leading.as_mut_slice())
+}
+
+/// For each slot, whether a way leads from it to that one on which no instruction writes the register.
+pub(crate) fn leading_to(
+    alloc: Global,
+    slots: &[Option<Insn>],
+    register: u8,
+    slot: usize,
+) -> Result<Vec<bool>, AllocError>
+    requires inside { slot < length slots.now }
+    requires short { length slots.now ≤ 4096 }
+    requires sound { IsSound slots.now }
+{
+    let mut leading = vec![in alloc; false; slots.len()]?;
+    swept(alloc, slots, register, slot, leading.as_mut_slice())?;
+    Ok(leading)
+}
+
+/// The same, over a list of the slots from which a way that spares the register leads to the slot; none is found yet.
+fn swept(
+    alloc: Global,
+    slots: &[Option<Insn>],
+    register: u8,
+    slot: usize,
+    leading: &mut [bool],
+) -> Result<Vec<usize>, AllocError>
+    requires inside { slot < length slots.now }
+    requires short { length slots.now ≤ 4096 }
+    requires sound { IsSound slots.now }
+    requires room { length leading.old ≡ length slots.now }
+    requires blank { (k : ℕ) → slice_index_or leading.old k false ≡ false }
+    ensures { IfOk result (λ makers. (made : ℕ) → Contains makers.items made ↔ IsMaker slots.now register slot made) }
+{
+    leading[slot] = true;
+    let mut makers = Vec::new(alloc);
+    for done in 0..slot {
+        let here = slot - 1 - done;
+        match part_of(slots, register, here, leading) {
+            Part::Off => {}
+            Part::Makes => makers.push(here)?,
+            Part::Leads => leading[here] = true,
+        }
+    }
+    Ok(makers)
+}
+
+/// What the instruction of a slot is, by the slots behind it from which a way leads on.
+fn part_of(slots: &[Option<Insn>], register: u8, here: usize, leading: &[bool]) -> Part
+    requires inside { here < length slots.now }
+    requires short { length slots.now ≤ 4096 }
+    requires sound { IsSound slots.now }
+    requires room { length leading.now ≡ length slots.now }
+    ensures { (slot : ℕ) → here < slot → AreLeading slots.now register slot (here + 1) leading.now → IsPart slots.now register slot here result }
+{
+    let Some(insn) = instruction(slots, here) else {
+        return Part::Off;
+    };
+    let targets = targets(slots, here, insn);
+    if !lead_on(leading, targets) {
+        return Part::Off;
+    }
+    if writes(insn, register) {
+        Part::Makes
+    } else {
+        Part::Leads
+    }
+}
+
+/// An instruction that made a register.
+#[derive(Clone, Copy)]
+pub struct Maker {
+    /// Its slot.
+    pub slot: usize,
+    /// The register.
+    pub register: u8,
+}
+
+/// The most makers that a trail names.
+const MOST: usize = 6;
+
+/// The instructions that made the registers for the slot, the nearest first, and then those that made what these read.
+pub(crate) fn trail(
+    alloc: Global,
+    slots: &[Option<Insn>],
+    slot: usize,
+    asked: &Registers,
+) -> Result<Vec<Maker>, AllocError>
+    requires inside { slot < length slots.now }
+    requires short { length slots.now ≤ 4096 }
+    requires sound { IsSound slots.now }
+    ensures { IfOk result (λ trail. AreOnTrail slots.now slot asked.now trail.items) }
+{
+    let mut trail = Vec::new(alloc);
+    push_makers(alloc, slots, slot, asked, &mut trail)?;
+    for at in 0..MOST {
+        if at < trail.len() {
+            let maker = trail[at];
+            push_operands(alloc, slots, maker, &mut trail)?;
+        }
+    }
+    Ok(trail)
+}
+
+/// The instructions that made what the maker reads.
+fn push_operands(
+    alloc: Global,
+    slots: &[Option<Insn>],
+    maker: Maker,
+    trail: &mut Vec<Maker>,
+) -> Result<(), AllocError>
+    requires short { length slots.now ≤ 4096 }
+    requires sound { IsSound slots.now }
+    ensures { OnOk result ((slot : ℕ) (asked : List Bool) → IsOnTrail slots.now slot asked maker.register maker.slot → AreOnTrail slots.now slot asked trail.old.items → AreOnTrail slots.now slot asked trail.new.items) }
+{
+    if maker.slot >= slots.len() {
+        return Ok(());
+    }
+    let Some(insn) = instruction(slots, maker.slot) else {
+        return Ok(());
+    };
+    push_makers(alloc, slots, maker.slot, &read_registers(insn), trail)
+}
+
+/// The instructions that made the registers for the slot, as long as there is room.
+fn push_makers(
+    alloc: Global,
+    slots: &[Option<Insn>],
+    slot: usize,
+    asked: &Registers,
+    trail: &mut Vec<Maker>,
+) -> Result<(), AllocError>
+    requires inside { slot < length slots.now }
+    requires short { length slots.now ≤ 4096 }
+    requires sound { IsSound slots.now }
+    ensures { OnOk result ((maker : Named) → Contains trail.new.items maker → Contains trail.old.items maker ⊎ MakesAsked slots.now slot asked.now maker) }
+{
+    for register in 0..11u8 {
+        if asked[usize::from(register)] {
+            let made = makers(alloc, slots, register, slot)?;
+            push_named(register, made.as_slice(), trail)?;
+        }
+    }
+    Ok(())
+}
+
+/// These makers of the register, those that are on the trail already aside, as long as there is room.
+fn push_named(register: u8, made: &[usize], trail: &mut Vec<Maker>) -> Result<(), AllocError>
+    ensures { OnOk result ((maker : Named) → Contains trail.new.items maker → Contains trail.old.items maker ⊎ ((maker.register ≡ register) × Contains made.now maker.slot)) }
+{
+    for slot in made {
+        let maker = Maker {
+            slot: *slot,
+            register,
+        };
+        if trail.len() < MOST && !is_named(trail.as_slice(), maker) {
+            trail.push(maker)?;
+        }
+    }
+    Ok(())
+}
+
+/// Whether the maker is one of these.
+fn is_named(trail: &[Maker], maker: Maker) -> bool {
+    trail.iter().any(|named| named.slot == maker.slot && named.register == maker.register)
+}

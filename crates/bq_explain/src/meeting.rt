@@ -1,0 +1,211 @@
+//! Where ways meet on which a register holds different words.
+ghost use Rattle.std.specs.Prelude.{◌≡◌, ◌<◌, ◌≤◌, length, true};
+ghost use Rattle.bq_insn.specs.Spelling.{is_well_formed};
+ghost use Rattle.bq_graph.specs.Passes.{IsSound};
+ghost use Rattle.bq_explain.specs.Makers.{IsLaidOut};
+
+use crate::after::known_after;
+use crate::makers::leading_to;
+use crate::place::{Place, place_at};
+use bq_graph::edges::instruction;
+use bq_graph::passes::targets;
+use bq_insn::Insn;
+use bq_program::PolicySource;
+use bq_states::abstract_state::AbstractValue;
+use bq_states::registers::known;
+use bq_verify::{Program, state_at};
+use std::alloc::{AllocError, Global};
+
+/// The most slots at which the ways that meet are compared.
+const TRIED: usize = 4;
+
+/// Two ways that meet, on which a register holds different words.
+#[derive(Clone, Copy)]
+pub struct Meeting {
+    pub register: u8,
+    /// Where they meet.
+    pub slot: usize,
+    /// What is known of the register there.
+    pub known: Option<AbstractValue>,
+    /// The one way.
+    pub first: Coming,
+    /// The other.
+    pub second: Coming,
+}
+
+/// A way into a slot: the instruction that it comes from, and what a register is known to be behind that.
+#[derive(Clone, Copy)]
+pub struct Coming {
+    pub place: Place,
+    pub known: AbstractValue,
+}
+
+/// The last slot on the ways to that one, on which no instruction behind writes the register, where it comes with different words.
+pub(crate) fn meeting_of(
+    alloc: Global,
+    policy: &PolicySource,
+    program: &Program,
+    slots: &[Option<Insn>],
+    register: u8,
+    slot: usize,
+) -> Result<Option<Meeting>, AllocError>
+    requires laid { IsLaidOut program.now slots.now }
+    requires inside { slot < length slots.now }
+{
+    let leading = leading_to(alloc, slots, register, slot)?;
+    let mut tried: usize = 0;
+    for back in 0..slot {
+        let here = slot - back;
+        if tried < TRIED && leading.as_slice().get(here).copied() == Some(true) {
+            let from = before(alloc, slots, here)?;
+            if from.len() > 1 {
+                tried = tried.saturating_add(1);
+                let comings = comings(
+                    alloc,
+                    policy,
+                    program,
+                    slots,
+                    from.as_slice(),
+                    here,
+                    register,
+                )?;
+                if let Some(both) = differing(comings.as_slice()) {
+                    let known = known_at(alloc, program, here, register)?;
+                    return Ok(Some(both.meet(register, here, known)));
+                }
+            }
+        }
+    }
+    Ok(None)
+}
+
+/// The slots from which control may go to that slot.
+fn before(alloc: Global, slots: &[Option<Insn>], to: usize) -> Result<Vec<usize>, AllocError>
+    requires short { length slots.now ≤ 4096 }
+    requires sound { IsSound slots.now }
+{
+    let mut from = Vec::new(alloc);
+    for slot in 0..slots.len() {
+        if leads(slots, slot, to) {
+            from.push(slot)?;
+        }
+    }
+    Ok(from)
+}
+
+/// Whether control may go from the one slot to the other.
+fn leads(slots: &[Option<Insn>], from: usize, to: usize) -> bool
+    requires inside { from < length slots.now }
+    requires short { length slots.now ≤ 4096 }
+    requires sound { IsSound slots.now }
+{
+    let Some(insn) = instruction(slots, from) else {
+        return false;
+    };
+    let targets = targets(slots, from, insn);
+    is_to(targets.next, to) || is_to(targets.jump, to)
+}
+
+/// Whether that is the slot.
+fn is_to(target: Option<usize>, to: usize) -> bool {
+    match target {
+        Some(slot) => slot == to,
+        None => false,
+    }
+}
+
+/// What is known of the register on each way into the slot that a run may take, if something is.
+fn comings(
+    alloc: Global,
+    policy: &PolicySource,
+    program: &Program,
+    slots: &[Option<Insn>],
+    from: &[usize],
+    to: usize,
+    register: u8,
+) -> Result<Vec<Coming>, AllocError>
+    requires { IsLaidOut program.now slots.now }
+{
+    let mut comings = Vec::new(alloc);
+    for slot in from {
+        let known = known_behind(alloc, program, slots, *slot, to, register)?;
+        if let (Some(place), Some(known)) = (place_at(policy, slots, *slot), known) {
+            comings.push(Coming { place, known })?;
+        }
+    }
+    Ok(comings)
+}
+
+/// What is known of the register on the step from the one slot to the other.
+pub(crate) fn known_behind(
+    alloc: Global,
+    program: &Program,
+    slots: &[Option<Insn>],
+    from: usize,
+    to: usize,
+    register: u8,
+) -> Result<Option<AbstractValue>, AllocError>
+    requires { IsLaidOut program.now slots.now }
+{
+    match known_after(alloc, program, slots, from, to)? {
+        Some(state) => Ok(known(&state, register)),
+        None => Ok(None),
+    }
+}
+
+/// What is known of the register at the slot.
+fn known_at(
+    alloc: Global,
+    program: &Program,
+    slot: usize,
+    register: u8,
+) -> Result<Option<AbstractValue>, AllocError>
+    requires whole { is_well_formed program.now.insns.items ≡ true }
+    requires few { length program.now.shapes.items ≤ 8 }
+{
+    match state_at(alloc, program, slot)? {
+        Some(state) => Ok(known(&state, register)),
+        None => Ok(None),
+    }
+}
+
+/// The first of the ways, and another on which the register is another word.
+fn differing(comings: &[Coming]) -> Option<Both> {
+    let [first, rest @ ..] = comings else {
+        return None;
+    };
+    for second in rest {
+        if differ(first.known, second.known) {
+            return Some(Both {
+                first: *first,
+                second: *second,
+            });
+        }
+    }
+    None
+}
+
+/// Two ways.
+#[derive(Clone, Copy)]
+struct Both {
+    first: Coming,
+    second: Coming,
+}
+
+impl Both {
+    /// They meet at the slot, where that is known of the register.
+    fn meet(self, register: u8, slot: usize, known: Option<AbstractValue>) -> Meeting {
+        Meeting {
+            register,
+            slot,
+            known,
+            first: self.first,
+            second: self.second,
+        }
+    }
+}
+
+/// Whether not the same is known of two words.
+fn differ(one: AbstractValue, other: AbstractValue) -> bool {
+    one.kind != other.kind || one.offset.lo != other.offset.lo || one.offset.hi != other.offset.hi
+}

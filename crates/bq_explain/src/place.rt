@@ -1,0 +1,103 @@
+//! Where an instruction of a policy stands.
+ghost use Rattle.std.specs.Prelude.{◌≡◌, IfNone, IfOk, IfSome, Some, slice_get, string_bytes};
+ghost use Rattle.bq_insn.specs.Slots.{spread};
+ghost use Rattle.bq_insn.specs.declared.Insn.{Insn as Told};
+ghost use Rattle.bq_bpf.specs.Steps.{instruction_at};
+ghost use Rattle.bq_graph.specs.Edges.{IsStart};
+ghost use Rattle.bq_explain.specs.Explained.{IsPlace};
+
+use bq_insn::Insn;
+use bq_program::{PolicySource, instruction_text};
+use std::alloc::{AllocError, Global};
+
+/// Where an instruction stands, and what it is.
+#[derive(Clone, Copy)]
+pub struct Place {
+    /// Its line, if the policy came as a text.
+    pub line: Option<usize>,
+    pub slot: usize,
+    pub insn: Insn,
+}
+
+/// The place of the instruction that begins at the slot, if one does.
+pub(crate) fn place_at(policy: &PolicySource, slots: &[Option<Insn>], slot: usize) -> Option<Place>
+    ensures place { IfSome result (IsPlace slots.now slot) }
+    ensures none { IfNone result (¬ IsStart slots.now slot) }
+{
+    if slot >= slots.len() {
+        return None;
+    }
+    let Some(insn) = slots[slot] else {
+        return None;
+    };
+    let line = line_at(policy, slot);
+    Some(Place { line, slot, insn })
+}
+
+/// The line of the text on which the instruction at the slot stands.
+fn line_at(policy: &PolicySource, slot: usize) -> Option<usize> {
+    let index = index_at(policy.insns.as_slice(), slot)?;
+    policy.lines.as_slice().get(index).copied()
+}
+
+/// The first call of the helper.
+pub(crate) fn call_of(policy: &PolicySource, helper: i32) -> Option<Place> {
+    let mut slot: usize = 0;
+    for insn in policy.insns.as_slice() {
+        if calls(*insn, helper) {
+            let line = line_at(policy, slot);
+            return Some(Place {
+                line,
+                slot,
+                insn: *insn,
+            });
+        }
+        slot = slot.saturating_add(insn.slots());
+    }
+    None
+}
+
+/// Whether the instruction calls the helper.
+fn calls(insn: Insn, helper: i32) -> bool {
+    match insn {
+        Insn::Call { helper: called } => called == helper,
+        _ => false,
+    }
+}
+
+/// The line of the text where the instruction stands, if there is a text, and its slot.
+pub(crate) fn place_text(alloc: Global, place: &Place) -> Result<String, AllocError> {
+    let slot = place.slot;
+    match place.line {
+        Some(line) => format!(in alloc; "line {line}, slot {slot}"),
+        None => format!(in alloc; "slot {slot}"),
+    }
+}
+
+/// The same, behind the file's name if there is one, with the instruction.
+pub(crate) fn instruction_line(
+    alloc: Global,
+    name: Option<&str>,
+    place: &Place,
+) -> Result<String, AllocError> {
+    let at = place_text(alloc, place)?;
+    let insn = instruction_text(alloc, place.insn)?;
+    match name {
+        Some(name) => format!(in alloc; "{name} {at}:  {insn}"),
+        None => format!(in alloc; "{at}:  {insn}"),
+    }
+}
+
+/// The index of the instruction that begins at the slot.
+pub fn index_at(insns: &[Insn], slot: usize) -> Option<usize>
+    ensures { IfSome result (λ index. (insn : Told) → slice_get insns.now index ≡ Some insn → instruction_at (spread insns.now) slot ≡ Some insn) }
+{
+    let mut at: usize = 0;
+    for (index, insn) in insns.iter().enumerate() {
+        if at == slot {
+            return Some(index);
+        }
+        at = at.checked_add(insn.slots())?;
+    }
+    None
+}

@@ -1,0 +1,173 @@
+//! Where the verifier refuses a policy, why, and what is known there.
+ghost use Rattle.std.specs.Prelude.{◌≡◌, ◌<◌, ℕ, Bool, List, [], IfOk, length};
+ghost use Rattle.bq_insn.specs.Slots.{spread};
+ghost use Rattle.bq_graph.specs.Faults.{IsFaultless};
+ghost use Rattle.bq_program.specs.declared.policy_source.PolicySource.{PolicySource as Named};
+ghost use Rattle.bq_explain.specs.Explained.{AreMade, IsFinding, IsOfState, IsRefusalOf};
+ghost use Rattle.bq_explain.specs.Verdicts.{IsRefusedPolicy};
+
+use crate::advice::{Advice, graph_advice, state_advice};
+use crate::graph_fault::{GraphFault, graph_fault};
+use crate::place::{Place, place_at};
+use crate::trail::{Trail, no_trail, trail_of};
+use crate::verdict::program_of;
+use bq_graph::layout::lay_out;
+use bq_insn::Insn;
+use bq_needs::{Argument, Need, Registers, need_of};
+use bq_program::PolicySource;
+use bq_states::abstract_state::AbstractState;
+use bq_verify::{Cause, GraphCause, Program, state_at};
+use std::alloc::{AllocError, Global};
+
+/// Why the verifier refuses a policy.
+#[derive(Drop)]
+pub struct Refusal {
+    /// The instruction at which it does.
+    pub place: Place,
+    pub cause: Cause,
+    /// What is wrong there.
+    pub finding: Finding,
+    /// Where the registers come from that matter to it.
+    pub trail: Trail,
+    /// What helps.
+    pub advice: Advice,
+}
+
+/// What is wrong with an instruction.
+#[derive(Clone, Copy)]
+pub enum Finding {
+    /// It has a fault by the control graph or by itself.
+    Graph(GraphFault),
+    /// It needs what is not shown, and this is known of registers and stack before it.
+    State { need: Need, known: AbstractState },
+    /// Nothing is known before it.
+    Unknown,
+}
+
+/// Why the verifier refuses the policy at that slot for that cause.
+pub(crate) fn refusal_of(
+    alloc: Global,
+    policy: &PolicySource,
+    slot: usize,
+    cause: Cause,
+) -> Result<Refusal, AllocError>
+    requires { IsRefusedPolicy policy.now slot cause }
+    ensures { IfOk result (IsRefusalOf policy.now slot cause) }
+{
+    let slots = lay_out(alloc, policy.insns.as_slice())?;
+    let Some(place) = place_at(policy, slots.as_slice(), slot) else {
+        unreachable!()
+    };
+    match cause {
+        Cause::Graph(named) => graph_refusal(alloc, slots.as_slice(), place, named),
+        Cause::State(_) => state_refusal(alloc, policy, slots.as_slice(), place, cause),
+    }
+}
+
+/// The same, for a fault of the control graph.
+fn graph_refusal(
+    alloc: Global,
+    slots: &[Option<Insn>],
+    place: Place,
+    named: GraphCause,
+) -> Result<Refusal, AllocError>
+    ensures place { IfOk result (λ refusal. refusal.place ≡ place) }
+    ensures cause { IfOk result (λ refusal. refusal.cause ≡ Cause.Graph named) }
+    ensures finds { IfOk result (λ refusal. (p : Named) (slot : ℕ) → IsFinding p slot place.insn (Cause.Graph named) refusal.finding) }
+    ensures made { IfOk result (λ refusal. refusal.trail.made.items ≡ []) }
+{
+    let fault = graph_fault(slots.len(), place.slot, place.insn, named);
+    Ok(Refusal {
+        place,
+        cause: Cause::Graph(named),
+        finding: Finding::Graph(fault),
+        trail: no_trail(alloc),
+        advice: graph_advice(fault),
+    })
+}
+
+/// The same, for what is not shown of the states.
+fn state_refusal(
+    alloc: Global,
+    policy: &PolicySource,
+    slots: &[Option<Insn>],
+    place: Place,
+    cause: Cause,
+) -> Result<Refusal, AllocError>
+    requires slots { slots.now ≡ spread policy.now.insns.items }
+    requires faultless { IsFaultless (spread policy.now.insns.items) }
+    requires inside { place.slot < length slots.now }
+    requires of_state { IsOfState cause }
+    ensures place { IfOk result (λ refusal. refusal.place ≡ place) }
+    ensures cause { IfOk result (λ refusal. refusal.cause ≡ cause) }
+    ensures finds { IfOk result (λ refusal. IsFinding policy.now place.slot place.insn cause refusal.finding) }
+    ensures made { IfOk result (λ refusal. (asked : List Bool) × AreMade slots.now place.slot asked refusal.trail.made.items) }
+{
+    let program = program_of(alloc, policy)?;
+    let finding = finding_of(alloc, policy, &program, place, cause)?;
+    let asked = asked_in(finding);
+    let trail = trail_of(alloc, policy, &program, slots, place.slot, &asked)?;
+    let advice = state_advice(policy, place.insn, finding, &trail);
+    Ok(Refusal {
+        place,
+        cause,
+        finding,
+        trail,
+        advice,
+    })
+}
+
+/// What is known before the instruction, and the need that it does not give.
+#[tactic(auto, using(crate::proofs::ExplainLemmas::finds_state, crate::proofs::ExplainLemmas::finds_none))]
+fn finding_of(
+    alloc: Global,
+    policy: &PolicySource,
+    program: &Program,
+    place: Place,
+    cause: Cause,
+) -> Result<Finding, AllocError>
+    requires insns { program.now.insns.items ≡ policy.now.insns.items }
+    requires shapes { program.now.shapes.items ≡ policy.now.shapes.items }
+    requires hook { program.now.hook ≡ policy.now.hook }
+    requires version { program.now.version ≡ policy.now.version }
+    requires inside { place.slot < length (spread policy.now.insns.items) }
+    requires of_state { IsOfState cause }
+    ensures { IfOk result (IsFinding policy.now place.slot place.insn cause) }
+{
+    match state_at(alloc, program, place.slot)? {
+        Some(known) => Ok(Finding::State {
+            need: need_of(policy, &known, place.insn, cause),
+            known,
+        }),
+        None => Ok(Finding::Unknown),
+    }
+}
+
+/// The registers that matter to what is wrong.
+fn asked_in(finding: Finding) -> Registers {
+    match finding {
+        Finding::State { need, .. } => asked_by(need),
+        Finding::Graph(_) | Finding::Unknown => [false; 11],
+    }
+}
+
+/// The registers of which the need speaks.
+fn asked_by(need: Need) -> Registers {
+    match need {
+        Need::Unknown(registers) => registers,
+        Need::Address(access) | Need::Access { access, .. } => only(access.register),
+        Need::Number(pointer) => only(pointer.register),
+        Need::Argument { argument, .. } => only(argument.register()),
+        Need::Answer(_) => only(0),
+        Need::Map(_) | Need::Unshown => [false; 11],
+    }
+}
+
+/// That register.
+fn only(register: u8) -> Registers {
+    let mut registers = [false; 11];
+    if register < 11 {
+        registers[usize::from(register)] = true;
+    }
+    registers
+}

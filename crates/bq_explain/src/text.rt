@@ -1,0 +1,221 @@
+//! An explanation in words.
+ghost use Rattle.std.specs.Prelude.{◌≡◌, ◌++◌, ℕ, List, IfOk, codes, false, string_bytes};
+ghost use Rattle.bq_insn.specs.Appending.{StartsWith};
+ghost use Rattle.bq_explain.specs.Beginnings.{accepted_words, first_words};
+ghost use Rattle.bq_explain.specs.Explained.{TellsDetail, TellsFinding};
+ghost use Rattle.bq_explain.specs.Verdicts.{is_accepted};
+
+use crate::advice::advice_text;
+use crate::explanation::{Detail, Explanation};
+use crate::graph_fault::graph_text;
+use crate::meeting::{Coming, Meeting};
+use crate::place::{Place, instruction_line, place_text};
+use crate::refusal::{Finding, Refusal};
+use crate::state_words::state_text;
+use crate::summary::{accepted_words, summary_text};
+use crate::trail::{Made, Trail};
+use crate::verdict::{Verdict, verdict_line};
+use bq_needs::{Need, known_text, need_text};
+use bq_program::{PolicySource, instruction_text};
+use bq_states::abstract_state::{AbstractState, AbstractValue};
+use std::alloc::{AllocError, Global};
+
+/// The explanation, line by line; the first line is `accepted` or `refused` and why. The file's name, if there is one, stands before the
+/// place of the instruction that is at fault.
+pub fn explanation_text(
+    alloc: Global,
+    policy: &PolicySource,
+    name: Option<&str>,
+    explanation: &Explanation,
+) -> Result<String, AllocError>
+    ensures begins { IfOk result (λ text. StartsWith (first_words policy.now explanation.now.verdict) (string_bytes text)) }
+    ensures tells { IfOk result (λ text. is_accepted explanation.now.verdict ≡ false → TellsDetail policy.now explanation.now.detail (string_bytes text)) }
+{
+    match explanation.verdict {
+        Verdict::Accepted { budget } => accepted_text(alloc, policy, budget, &explanation.detail),
+        verdict => {
+            let line = verdict_line(alloc, policy.hook, verdict)?;
+            refused_text(alloc, policy, line, name, verdict, &explanation.detail)
+        }
+    }
+}
+
+/// What is told of an accepted policy.
+fn accepted_text(
+    alloc: Global,
+    policy: &PolicySource,
+    budget: u32,
+    detail: &Detail,
+) -> Result<String, AllocError>
+    ensures { IfOk result (λ text. StartsWith (accepted_words policy.now budget) (string_bytes text)) }
+{
+    match detail {
+        Detail::Accepted(summary) => summary_text(alloc, policy, budget, summary),
+        Detail::Limited(_) | Detail::Refused(_) => accepted_words(alloc, policy, budget),
+    }
+}
+
+/// What is told of a policy that is not, behind the line of its verdict.
+fn refused_text(
+    alloc: Global,
+    policy: &PolicySource,
+    line: String,
+    name: Option<&str>,
+    verdict: Verdict,
+    detail: &Detail,
+) -> Result<String, AllocError>
+    ensures begins { IfOk result (λ text. StartsWith (string_bytes line) (string_bytes text)) }
+    ensures tells { IfOk result (λ text. TellsDetail policy.now detail.now (string_bytes text)) }
+{
+    match detail {
+        Detail::Accepted(_) => Ok(line),
+        Detail::Limited(place) => {
+            let why = limit_text(alloc, name, verdict, place)?;
+            format!(in alloc; "{line}{why}")
+        }
+        Detail::Refused(refusal) => refusal_text(alloc, policy, line, name, refusal),
+    }
+}
+
+/// What is told of a policy beyond a limit.
+fn limit_text(
+    alloc: Global,
+    name: Option<&str>,
+    verdict: Verdict,
+    place: &Option<Place>,
+) -> Result<String, AllocError> {
+    match (verdict, place) {
+        (Verdict::OverSteps { budget, most }, _) => format!(in alloc;
+            "  a run takes up to {budget} instructions, and the limit of --max-steps is {most}\n"
+        ),
+        (Verdict::Forbidden { helper }, Some(place)) => {
+            let at = instruction_line(alloc, name, place)?;
+            format!(in alloc;
+                "{at}\n  calls helper {helper}, which is none of those that the limit of --helpers allows\n"
+            )
+        }
+        _ => Ok(String::new(alloc)),
+    }
+}
+
+/// What is told of a policy that the verifier refuses, behind the line of that.
+fn refusal_text(
+    alloc: Global,
+    policy: &PolicySource,
+    line: String,
+    name: Option<&str>,
+    refusal: &Refusal,
+) -> Result<String, AllocError>
+    ensures begins { IfOk result (λ text. StartsWith (string_bytes line) (string_bytes text)) }
+    ensures tells { IfOk result (λ text. TellsFinding policy.now refusal.now.place.insn refusal.now.finding (string_bytes text)) }
+{
+    let at = instruction_line(alloc, name, &refusal.place)?;
+    let after = after_text(alloc, refusal)?;
+    match refusal.finding {
+        Finding::Graph(fault) => {
+            let need = graph_text(alloc, fault)?;
+            format!(in alloc; "{line}{at}\n  {need}\n{after}")
+        }
+        Finding::Unknown => format!(in alloc; "{line}{at}\n  is not shown to be safe\n{after}"),
+        Finding::State { need, known } => {
+            let told = need_text(alloc, policy, &known, refusal.place.insn, need)?;
+            let state = state_text(alloc, &known)?;
+            format!(in alloc; "{line}{at}\n  {told}\n{state}{after}")
+        }
+    }
+}
+
+/// The need of a refusal in words, without what is known.
+pub fn need_words(
+    alloc: Global,
+    policy: &PolicySource,
+    refusal: &Refusal,
+) -> Result<String, AllocError> {
+    match refusal.finding {
+        Finding::Graph(fault) => graph_text(alloc, fault),
+        Finding::Unknown => String::from_str(alloc, "is not shown to be safe"),
+        Finding::State { need, known } => {
+            need_text(alloc, policy, &known, refusal.place.insn, need)
+        }
+    }
+}
+
+/// Where the registers come from, and what helps.
+fn after_text(alloc: Global, refusal: &Refusal) -> Result<String, AllocError> {
+    let trail = trail_text(alloc, &refusal.trail)?;
+    let help = advice_text(alloc, refusal.advice)?;
+    format!(in alloc; "{trail}  helps: {help}\n")
+}
+
+/// A line for each instruction that made a register, for each register that is unset on some way, and for each place where ways meet.
+fn trail_text(alloc: Global, trail: &Trail) -> Result<String, AllocError> {
+    let mut text = String::new(alloc);
+    for made in trail.made.as_slice() {
+        let line = made_text(alloc, made)?;
+        text.push_str(line.as_str())?;
+    }
+    for register in 0..11usize {
+        if trail.unset[register] {
+            write!(
+                text,
+                "  r{register} is set by no instruction on some way from the start\n"
+            )?;
+        }
+    }
+    for meeting in trail.meetings.as_slice() {
+        let line = meeting_text(alloc, meeting)?;
+        text.push_str(line.as_str())?;
+    }
+    Ok(text)
+}
+
+/// An instruction that made a register, and what it made of it.
+fn made_text(alloc: Global, made: &Made) -> Result<String, AllocError> {
+    let place = place_text(alloc, &made.place)?;
+    let insn = instruction_text(alloc, made.place.insn)?;
+    let outcome = outcome_text(alloc, made)?;
+    format!(in alloc; "  made at {place}:  {insn}{outcome}\n")
+}
+
+/// What the register is right behind it.
+fn outcome_text(alloc: Global, made: &Made) -> Result<String, AllocError> {
+    let register = made.register;
+    match made.known {
+        Some(known) => {
+            let told = known_text(alloc, &known)?;
+            format!(in alloc; "    r{register} then is {told}")
+        }
+        None if made.is_unset() => format!(in alloc; "    r{register} then is unset"),
+        None => Ok(String::new(alloc)),
+    }
+}
+
+/// Two ways that meet, with what the register is on each and where they meet.
+fn meeting_text(alloc: Global, meeting: &Meeting) -> Result<String, AllocError> {
+    let register = meeting.register;
+    let slot = meeting.slot;
+    let first = coming_text(alloc, &meeting.first)?;
+    let second = coming_text(alloc, &meeting.second)?;
+    let met = met_text(alloc, meeting.known)?;
+    format!(in alloc;
+        "  r{register} is {first}, and {second}; where they meet, at slot {slot}, {met}\n"
+    )
+}
+
+/// What the register is on a way.
+fn coming_text(alloc: Global, coming: &Coming) -> Result<String, AllocError> {
+    let known = known_text(alloc, &coming.known)?;
+    let place = place_text(alloc, &coming.place)?;
+    format!(in alloc; "{known} on the way over {place}")
+}
+
+/// What is known of it where the ways meet.
+fn met_text(alloc: Global, known: Option<AbstractValue>) -> Result<String, AllocError> {
+    match known {
+        Some(known) => {
+            let told = known_text(alloc, &known)?;
+            format!(in alloc; "it is {told}")
+        }
+        None => String::from_str(alloc, "nothing is known of it"),
+    }
+}

@@ -1,0 +1,82 @@
+-- A need in words.
+use Rattle.std.specs.Prelude.{◌≡◌, ℕ, zero, suc, ℤ, Bool, false, List, [], ◌++◌, Option, Some, None, codes, if◌then◌else◌, length, slice_index_or}
+use Rattle.std.specs.Fmt.{decimal, signed_decimal}
+use Rattle.bq_insn.specs.declared.Insn.{Insn}
+use Rattle.bq_insn.specs.declared.Insn.TheVariants.{StoreReg, Branch}
+use Rattle.bq_states.specs.declared.abstract_state.AbstractValue.{AbstractValue}
+use Rattle.bq_states.specs.declared.abstract_state.AbstractState.{AbstractState}
+use Rattle.bq_program.specs.declared.policy_source.PolicySource.{PolicySource}
+use Rattle.bq_needs.specs.declared.arguments.Argument.{Argument as Wanted}
+use Rattle.bq_needs.specs.declared.needs.Need.{Need}
+use Rattle.bq_needs.specs.declared.needs.Need.TheVariants.{Unknown, Address, Access, Number, Map, Argument, Answer, Unshown}
+use Rattle.bq_needs.specs.declared.needs.Pointer.{Pointer}
+use Rattle.bq_needs.specs.declared.operands.Access.{Access as Accessed}
+use Rattle.bq_needs.specs.Accesses.{TellsBegin, access_text, lack_text, may_be_null, register_text, verb}
+use Rattle.bq_needs.specs.Arguments.{register_of, wanted_text}
+use Rattle.bq_needs.specs.Operands.{known_in}
+use Rattle.bq_needs.specs.Texts.{known_text}
+
+-- the names of those of the first registers, so many, that are marked
+abbrev pub name_text : ℕ → Bool → List ℕ
+name_text r named = if named then codes " r" ++ decimal r else []
+
+abbrev pub names_below : ℕ → List Bool → List ℕ
+names_below zero registers = []
+names_below (suc n) registers = names_below n registers ++ name_text n (slice_index_or registers n false)
+
+-- the registers that are read and of which nothing is known
+abbrev pub unknown_text : List Bool → List ℕ
+unknown_text registers = codes "reads" ++ (names_below 11 registers ++ codes ", of which nothing is known here")
+
+-- an access by a register of which nothing is known
+abbrev pub address_text : Accessed → List ℕ
+address_text a = verb a.writes ++ (codes " " ++ (decimal a.bytes ++ (codes " bytes at r" ++ (decimal a.register ++ codes ", of which nothing is known here"))))
+
+-- an access and where it begins
+abbrev pub TellsAccess : Accessed → AbstractValue → List ℕ → Type 0
+TellsAccess a k text = (begin : List ℕ) × TellsBegin a k begin × (text ≡ access_text a begin)
+
+-- what may be done with a pointer, where the instruction does another thing
+abbrev pub other_rule : AbstractValue → List ℕ
+other_rule k =
+    if may_be_null k.kind then codes "test it first"
+    else codes "a pointer may be copied by mov64, and a number be added to it or taken from it by add64 and sub64"
+
+abbrev pub pointer_rule : Insn → AbstractValue → List ℕ
+pointer_rule (StoreReg size dst off src) k = codes "a pointer is stored whole by stxdw, on the stack, at a multiple of 8 below r10"
+pointer_rule (Branch w c dst src off) k = codes "of pointers only the answer of a look-up is compared, by jeq64 or jne64 with the number 0"
+pointer_rule insn k = other_rule k
+
+-- a pointer that is worked on
+abbrev pub pointer_text : Pointer → Insn → List ℕ
+pointer_text pointer insn = codes "works on " ++ (register_text pointer.register pointer.known ++ (codes "; " ++ pointer_rule insn pointer.known))
+
+-- a number that is no map's, and how many maps there are
+abbrev pub map_text : ℤ → ℕ → List ℕ
+map_text index count = codes "names map " ++ (signed_decimal index ++ (codes "; the program has " ++ (decimal count ++ codes " maps, numbered from 0")))
+
+-- what is known of an argument
+abbrev pub here_text : ℕ → Option AbstractValue → List ℕ
+here_text r None = codes "nothing is known of r" ++ decimal r
+here_text r (Some k) = codes "r" ++ (decimal r ++ (codes " is " ++ known_text k))
+
+-- what a helper wants of an argument, and what is known of that
+abbrev pub argument_text : AbstractState → ℤ → Wanted → List ℕ
+argument_text state helper a =
+    codes "calls helper " ++ (signed_decimal helper ++ (codes ", which wants " ++ (wanted_text a ++ (codes "; here " ++ here_text (register_of a) (known_in state (register_of a))))))
+
+-- what is known of register 0 at an EXIT
+abbrev pub answer_text : Option AbstractValue → List ℕ
+answer_text None = codes "ends, and nothing is known of r0, the answer"
+answer_text (Some k) = codes "ends, and r0, the answer, is " ++ (known_text k ++ codes "; an answer is a number")
+
+-- the text tells the need of the instruction
+abbrev pub TellsNeed : PolicySource → AbstractState → Insn → Need → List ℕ → Type 0
+TellsNeed p state insn (Unknown registers) text = text ≡ unknown_text registers
+TellsNeed p state insn (Address a) text = text ≡ address_text a
+TellsNeed p state insn (Access a k lack) text = (told : List ℕ) × TellsAccess a k told × (text ≡ told ++ (codes "; " ++ lack_text p lack))
+TellsNeed p state insn (Number pointer) text = text ≡ pointer_text pointer insn
+TellsNeed p state insn (Map index) text = text ≡ map_text index (length p.shapes.items)
+TellsNeed p state insn (Argument helper a) text = text ≡ argument_text state helper a
+TellsNeed p state insn (Answer known) text = text ≡ answer_text known
+TellsNeed p state insn Unshown text = text ≡ codes "is not shown to be safe"

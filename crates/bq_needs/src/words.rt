@@ -1,0 +1,186 @@
+//! A need in words.
+ghost use Rattle.std.specs.Prelude.{◌≡◌, IfOk, string_bytes};
+ghost use Rattle.bq_needs.specs.Accesses.{verb};
+ghost use Rattle.bq_needs.specs.Operands.{known_in};
+ghost use Rattle.bq_needs.specs.Words.{TellsAccess, TellsNeed, address_text, answer_text, argument_text, here_text, map_text, name_text, names_below, other_rule, pointer_rule, pointer_text, unknown_text};
+
+use crate::accesses::{begin_text, lack_text, may_be_null, register_text};
+use crate::arguments::{Argument, wanted_text};
+use crate::known::known_text;
+use crate::needs::{Need, Pointer};
+use crate::operands::{Access, Registers};
+use bq_insn::Insn;
+use bq_program::PolicySource;
+use bq_states::abstract_state::{AbstractState, AbstractValue};
+use bq_states::registers::known;
+use std::alloc::{AllocError, Global};
+
+/// The need of the instruction, in words.
+pub fn need_text(
+    alloc: Global,
+    policy: &PolicySource,
+    state: &AbstractState,
+    insn: Insn,
+    need: Need,
+) -> Result<String, AllocError>
+    ensures { IfOk result (λ text. TellsNeed policy.now state.now insn need (string_bytes text)) }
+{
+    match need {
+        Need::Unknown(registers) => unknown_text(alloc, &registers),
+        Need::Address(access) => address_text(alloc, access),
+        Need::Access {
+            access,
+            pointer,
+            lack,
+        } => {
+            let told = access_text(alloc, access, pointer)?;
+            let why = lack_text(alloc, policy, lack)?;
+            format!(in alloc; "{told}; {why}")
+        }
+        Need::Number(pointer) => pointer_text(alloc, pointer, insn),
+        Need::Map(index) => map_text(alloc, index, policy.shapes.len()),
+        Need::Argument { helper, argument } => argument_text(alloc, state, helper, argument),
+        Need::Answer(known) => answer_text(alloc, known),
+        Need::Unshown => String::from_str(alloc, "is not shown to be safe"),
+    }
+}
+
+/// The registers that are read and of which nothing is known.
+fn unknown_text(alloc: Global, registers: &Registers) -> Result<String, AllocError>
+    ensures { IfOk result (λ text. string_bytes text ≡ unknown_text registers.now) }
+{
+    let names = names(alloc, registers)?;
+    format!(in alloc; "reads{names}, of which nothing is known here")
+}
+
+/// The names of the registers.
+fn names(alloc: Global, registers: &Registers) -> Result<String, AllocError>
+    ensures { IfOk result (λ text. string_bytes text ≡ names_below 11 registers.now) }
+{
+    let mut text = String::new(alloc);
+    for register in 0..11usize {
+        let name = name_text(alloc, register, registers[register])?;
+        text.push_str(name.as_str())?;
+    }
+    Ok(text)
+}
+
+/// The name of a register, if it is one of them.
+fn name_text(alloc: Global, register: usize, is_named: bool) -> Result<String, AllocError>
+    ensures { IfOk result (λ text. string_bytes text ≡ name_text register is_named) }
+{
+    if is_named {
+        format!(in alloc; " r{register}")
+    } else {
+        Ok(String::new(alloc))
+    }
+}
+
+/// An access by a register of which nothing is known.
+fn address_text(alloc: Global, access: Access) -> Result<String, AllocError>
+    ensures { IfOk result (λ text. string_bytes text ≡ address_text access) }
+{
+    let verb = verb(access.writes);
+    let bytes = access.bytes;
+    let register = access.register;
+    format!(in alloc; "{verb} {bytes} bytes at r{register}, of which nothing is known here")
+}
+
+/// How many bytes an access reads or writes, and from where.
+fn access_text(alloc: Global, access: Access, pointer: AbstractValue) -> Result<String, AllocError>
+    ensures { IfOk result (λ text. TellsAccess access pointer (string_bytes text)) }
+{
+    let verb = verb(access.writes);
+    let bytes = access.bytes;
+    let begin = begin_text(alloc, access, pointer)?;
+    format!(in alloc; "{verb} {bytes} bytes at {begin}")
+}
+
+/// What an access does with the bytes.
+fn verb(writes: bool) -> &'static str
+    ensures { result.now ≡ verb writes }
+{
+    if writes { "writes" } else { "reads" }
+}
+
+/// A pointer that is worked on, and what may be done with it.
+fn pointer_text(alloc: Global, pointer: Pointer, insn: Insn) -> Result<String, AllocError>
+    ensures { IfOk result (λ text. string_bytes text ≡ pointer_text pointer insn) }
+{
+    let told = register_text(alloc, pointer.register, pointer.known)?;
+    let rule = pointer_rule(insn, pointer.known);
+    format!(in alloc; "works on {told}; {rule}")
+}
+
+/// What may be done with a pointer, where the instruction does another thing.
+fn pointer_rule(insn: Insn, known: AbstractValue) -> &'static str
+    ensures { result.now ≡ pointer_rule insn known }
+{
+    match insn {
+        Insn::StoreReg { .. } => {
+            "a pointer is stored whole by stxdw, on the stack, at a multiple of 8 below r10"
+        }
+        Insn::Branch { .. } => {
+            "of pointers only the answer of a look-up is compared, by jeq64 or jne64 with the number 0"
+        }
+        _ => other_rule(known),
+    }
+}
+
+/// The same, of what neither stores nor compares.
+fn other_rule(known: AbstractValue) -> &'static str
+    ensures { result.now ≡ other_rule known }
+{
+    if may_be_null(known.kind) {
+        "test it first"
+    } else {
+        "a pointer may be copied by mov64, and a number be added to it or taken from it by add64 and sub64"
+    }
+}
+
+/// A number that is no map's.
+fn map_text(alloc: Global, index: i32, count: usize) -> Result<String, AllocError>
+    ensures { IfOk result (λ text. string_bytes text ≡ map_text index count) }
+{
+    format!(in alloc; "names map {index}; the program has {count} maps, numbered from 0")
+}
+
+/// What a helper wants of an argument, and what is known of that.
+fn argument_text(
+    alloc: Global,
+    state: &AbstractState,
+    helper: i32,
+    argument: Argument,
+) -> Result<String, AllocError>
+    ensures { IfOk result (λ text. string_bytes text ≡ argument_text state.now helper argument) }
+{
+    let wanted = wanted_text(argument);
+    let here = here_text(alloc, state, argument.register())?;
+    format!(in alloc; "calls helper {helper}, which wants {wanted}; here {here}")
+}
+
+/// What is known of the register.
+fn here_text(alloc: Global, state: &AbstractState, register: u8) -> Result<String, AllocError>
+    ensures { IfOk result (λ text. string_bytes text ≡ here_text register (known_in state.now register)) }
+{
+    match known(state, register) {
+        Some(word) => {
+            let told = known_text(alloc, &word)?;
+            format!(in alloc; "r{register} is {told}")
+        }
+        None => format!(in alloc; "nothing is known of r{register}"),
+    }
+}
+
+/// What is known of the answer, which is not shown to be a number.
+fn answer_text(alloc: Global, known: Option<AbstractValue>) -> Result<String, AllocError>
+    ensures { IfOk result (λ text. string_bytes text ≡ answer_text known) }
+{
+    match known {
+        Some(word) => {
+            let told = known_text(alloc, &word)?;
+            format!(in alloc; "ends, and r0, the answer, is {told}; an answer is a number")
+        }
+        None => String::from_str(alloc, "ends, and nothing is known of r0, the answer"),
+    }
+}

@@ -1,0 +1,244 @@
+//! The fields of an answer of `check` as JSON.
+
+use bq_bpf::MapShape;
+use bq_console::file_named;
+use bq_explain::{
+    Finding, Made, Place, Refusal, Summary, Verdict, advice_text, known_text, need_words,
+};
+use bq_program::{PolicySource, instruction_text};
+use bq_states::abstract_state::{AbstractState, AbstractValue};
+use bq_verify::{Cause, Doubt, GraphCause};
+use serde_json::{Map, Value, put};
+use std::alloc::{AllocError, Global};
+use std::str::Lines;
+
+/// Of an accepted policy: its hook, version, budget and maps, and what it uses.
+pub(crate) fn fields_of_summary(
+    alloc: Global,
+    policy: &PolicySource,
+    budget: u32,
+    summary: &Summary,
+) -> Result<Map<String, Value>, AllocError> {
+    let mut fields = Map::new(alloc);
+    let hook = Value::try_from_str(alloc, policy.hook.word())?;
+    put(&mut fields, alloc, "hook", hook)?;
+    let version = Value::from(u64::from(policy.version.number()));
+    put(&mut fields, alloc, "version", version)?;
+    put(&mut fields, alloc, "budget", Value::from(u64::from(budget)))?;
+    let maps = maps_value(alloc, policy.shapes.as_slice())?;
+    put(&mut fields, alloc, "maps", maps)?;
+    let helpers = helpers_value(alloc, summary.helpers.as_slice())?;
+    put(&mut fields, alloc, "helpers", helpers)?;
+    put(
+        &mut fields,
+        alloc,
+        "counters",
+        Value::from(summary.counters as u64),
+    )?;
+    put(
+        &mut fields,
+        alloc,
+        "slots",
+        Value::from(summary.slots as u64),
+    )?;
+    Ok(fields)
+}
+
+/// Of a policy that the verifier refuses: the stage, code and cause, the place, the need, what is known, where that comes from, and
+/// what helps.
+pub(crate) fn fields_of_refusal(
+    alloc: Global,
+    policy: &PolicySource,
+    refusal: &Refusal,
+) -> Result<Map<String, Value>, AllocError> {
+    let mut fields = Map::new(alloc);
+    let number = refusal.cause.number();
+    let code = format!(in alloc; "V{number}")?;
+    put_text(&mut fields, alloc, "stage", "verifier")?;
+    put_text(&mut fields, alloc, "code", code.as_str())?;
+    put_text(&mut fields, alloc, "cause", cause_word(refusal.cause))?;
+    put_place(&mut fields, alloc, &refusal.place)?;
+    let need = need_words(alloc, policy, refusal)?;
+    put_text(&mut fields, alloc, "need", need.as_str())?;
+    let registers = registers_value(alloc, refusal.finding)?;
+    put(&mut fields, alloc, "registers", registers)?;
+    let trail = trail_value(alloc, refusal.trail.made.as_slice())?;
+    put(&mut fields, alloc, "trail", trail)?;
+    let advice = advice_text(alloc, refusal.advice)?;
+    put_text(&mut fields, alloc, "advice", advice.as_str())?;
+    Ok(fields)
+}
+
+/// Of a policy beyond a limit: the stage, the cause, and the place of a call that is not allowed.
+pub(crate) fn fields_of_limit(
+    alloc: Global,
+    verdict: Verdict,
+    place: &Option<Place>,
+) -> Result<Map<String, Value>, AllocError> {
+    let mut fields = Map::new(alloc);
+    put_text(&mut fields, alloc, "stage", "limit")?;
+    match verdict {
+        Verdict::OverSteps { budget, most } => {
+            put_text(&mut fields, alloc, "cause", "steps")?;
+            put(&mut fields, alloc, "budget", Value::from(u64::from(budget)))?;
+            put(&mut fields, alloc, "limit", Value::from(u64::from(most)))?;
+        }
+        Verdict::Forbidden { helper } => {
+            put_text(&mut fields, alloc, "cause", "helper")?;
+            put(&mut fields, alloc, "helper", Value::from(i64::from(helper)))?;
+        }
+        Verdict::Accepted { .. } | Verdict::Refused { .. } => {}
+    }
+    if let Some(place) = place {
+        put_place(&mut fields, alloc, place)?;
+    }
+    Ok(fields)
+}
+
+/// A text under a key.
+pub(crate) fn put_text(
+    fields: &mut Map<String, Value>,
+    alloc: Global,
+    key: &str,
+    text: &str,
+) -> Result<(), AllocError> {
+    put(fields, alloc, key, Value::try_from_str(alloc, text)?)
+}
+
+/// The slot, the line and the text of an instruction.
+fn put_place(
+    fields: &mut Map<String, Value>,
+    alloc: Global,
+    place: &Place,
+) -> Result<(), AllocError> {
+    put(fields, alloc, "slot", Value::from(place.slot as u64))?;
+    put(fields, alloc, "line", number_value(place.line))?;
+    let insn = instruction_text(alloc, place.insn)?;
+    put_text(fields, alloc, "instruction", insn.as_str())
+}
+
+/// The number, or null.
+pub(crate) fn number_value(number: Option<usize>) -> Value {
+    match number {
+        Some(number) => Value::from(number as u64),
+        None => Value::Null,
+    }
+}
+
+/// What is known of each register, by its name; null where nothing is known before the instruction.
+fn registers_value(alloc: Global, finding: Finding) -> Result<Value, AllocError> {
+    match finding {
+        Finding::State { known, .. } => known_value(alloc, &known),
+        Finding::Graph(_) | Finding::Unknown => Ok(Value::Null),
+    }
+}
+
+/// What is known of each register of which something is.
+fn known_value(alloc: Global, state: &AbstractState) -> Result<Value, AllocError> {
+    let mut registers = Map::new(alloc);
+    for register in 0..11usize {
+        if let Some(known) = state.registers[register] {
+            let name = format!(in alloc; "r{register}")?;
+            let text = known_text(alloc, &known)?;
+            put_text(&mut registers, alloc, name.as_str(), text.as_str())?;
+        }
+    }
+    Ok(Value::Object(registers))
+}
+
+/// The instructions that made registers, the nearest first.
+fn trail_value(alloc: Global, trail: &[Made]) -> Result<Value, AllocError> {
+    let mut values = Vec::new(alloc);
+    for made in trail {
+        values.push(made_value(alloc, made)?)?;
+    }
+    Ok(Value::Array(values))
+}
+
+/// An instruction that made a register, and what that is known to be right behind it.
+fn made_value(alloc: Global, made: &Made) -> Result<Value, AllocError> {
+    let mut fields = Map::new(alloc);
+    put_place(&mut fields, alloc, &made.place)?;
+    let register = made.register;
+    let name = format!(in alloc; "r{register}")?;
+    put_text(&mut fields, alloc, "register", name.as_str())?;
+    put(
+        &mut fields,
+        alloc,
+        "known",
+        known_or_null(alloc, made.known)?,
+    )?;
+    Ok(Value::Object(fields))
+}
+
+/// What is known of a word, or null.
+fn known_or_null(alloc: Global, known: Option<AbstractValue>) -> Result<Value, AllocError> {
+    match known {
+        Some(known) => {
+            let text = known_text(alloc, &known)?;
+            Value::try_from_str(alloc, text.as_str())
+        }
+        None => Ok(Value::Null),
+    }
+}
+
+/// The name of the file, or null of standard input.
+pub(crate) fn file_value(alloc: Global, file: &Option<String>) -> Result<Value, AllocError> {
+    match file_named(file) {
+        Some(name) => Value::try_from_str(alloc, name),
+        None => Ok(Value::Null),
+    }
+}
+
+/// A list of lines.
+pub(crate) fn lines_value(alloc: Global, lines: Lines<'_>) -> Result<Value, AllocError> {
+    let mut values = Vec::new(alloc);
+    for line in lines {
+        values.push(Value::try_from_str(alloc, line)?)?;
+    }
+    Ok(Value::Array(values))
+}
+
+/// Maps: of each the size of a value and the number of entries.
+fn maps_value(alloc: Global, shapes: &[MapShape]) -> Result<Value, AllocError> {
+    let mut values = Vec::new(alloc);
+    for shape in shapes {
+        values.push(map_value(alloc, shape)?)?;
+    }
+    Ok(Value::Array(values))
+}
+
+fn map_value(alloc: Global, shape: &MapShape) -> Result<Value, AllocError> {
+    let mut fields = Map::new(alloc);
+    let size = Value::from(u64::from(shape.value_size));
+    put(&mut fields, alloc, "value_size", size)?;
+    let entries = Value::from(u64::from(shape.entries));
+    put(&mut fields, alloc, "entries", entries)?;
+    Ok(Value::Object(fields))
+}
+
+/// Helpers by their numbers.
+fn helpers_value(alloc: Global, helpers: &[i32]) -> Result<Value, AllocError> {
+    let mut values = Vec::new(alloc);
+    for helper in helpers {
+        values.push(Value::from(i64::from(*helper)))?;
+    }
+    Ok(Value::Array(values))
+}
+
+/// The cause in a word.
+fn cause_word(cause: Cause) -> &'static str {
+    match cause {
+        Cause::Graph(GraphCause::Jump) => "jump",
+        Cause::Graph(GraphCause::NoExit) => "no exit",
+        Cause::Graph(GraphCause::Unreached) => "unreached",
+        Cause::Graph(GraphCause::Helper) => "helper",
+        Cause::Graph(GraphCause::Frame) => "frame",
+        Cause::Graph(GraphCause::Counters) => "counters",
+        Cause::State(Doubt::Unset) => "unset",
+        Cause::State(Doubt::Access) => "access",
+        Cause::State(Doubt::PointerUse) => "pointer use",
+        Cause::State(Doubt::Argument) => "argument",
+        Cause::State(Doubt::Answer) => "answer",
+    }
+}
