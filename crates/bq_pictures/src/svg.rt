@@ -17,9 +17,6 @@ use bq_words::Rule;
 use std::alloc::{AllocError, Global};
 use std::collections::BTreeMap;
 
-/// What a picture is called that has no title.
-const UNTITLED: &str = "Schedule";
-
 /// A picture: a row a processor, the runs in the colours of their tasks, below them the waits, hatched, above them the wakes, and
 /// between rows the pulls and the migrations, over an axis of time. It is a file of its own, for a browser or a slide, and changes
 /// nothing else on a page that it is put into. It holds the runs, since the scale depends on where the trace ends.
@@ -182,43 +179,44 @@ impl Svg {
         names: &Names,
         text: &mut String,
     ) -> Result<(), AllocError> {
-        let title = match &self.look.title {
-            Some(title) => title.as_str(),
-            None => UNTITLED,
-        };
         let heading = Heading {
-            title,
+            title: self.look.title(),
             rule: self.rule,
         };
         let drawn = self
             .drawing
             .write(&self.window, extent, &heading, &self.roster, names)?;
-        write_picture(title, self.look.theme, &drawn, text)
+        write_picture(&self.look, &drawn, text)
     }
 }
 
 /// The picture: its root with its name, its styles, its hatches, and what is drawn.
-fn write_picture(
-    title: &str,
-    theme: Theme,
-    drawn: &Written,
-    text: &mut String,
-) -> Result<(), AllocError> {
-    let name = PictureName::of(theme, drawn.text.as_str());
-    let height = drawn.height;
+fn write_picture(look: &Look, drawn: &Written, text: &mut String) -> Result<(), AllocError> {
+    let name = PictureName::of(look.theme, drawn.text.as_str());
+    write_root(name, drawn.height, text)?;
+    write_root_title(look.title(), text)?;
+    write_styles(name, look.theme, text)?;
+    write_hatches(name, text)?;
+    text.push_str(drawn.text.as_str())?;
+    text.push_str("</svg>\n")
+}
+
+/// The beginning of the root.
+fn write_root(name: PictureName, height: usize, text: &mut String) -> Result<(), AllocError> {
+    write!(
+        text,
+        "<svg xmlns=\"http://www.w3.org/2000/svg\" class=\"{name}\" width=\"{PAGE}\" height=\"{height}\""
+    )?;
+    write!(text, " viewBox=\"0 0 {PAGE} {height}\" role=\"img\">\n")
+}
+
+/// The name of the picture for a reader that does not see it.
+fn write_root_title(title: &str, text: &mut String) -> Result<(), AllocError> {
     let title = Escaped {
         text: title,
         most: usize::MAX,
     };
-    write!(
-        text,
-        "<svg xmlns=\"http://www.w3.org/2000/svg\" class=\"{name}\" width=\"{PAGE}\" height=\"{height}\" viewBox=\"0 0 {PAGE} {height}\" role=\"img\">\n"
-    )?;
-    write!(text, "<title>{title}</title>\n")?;
-    write_styles(name, theme, text)?;
-    write_hatches(name, text)?;
-    text.push_str(drawn.text.as_str())?;
-    text.push_str("</svg>\n")
+    write!(text, "<title>{title}</title>\n")
 }
 
 fn runs(running: Option<Start>, task: u16) -> bool {
