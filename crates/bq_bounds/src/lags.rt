@@ -11,7 +11,8 @@ use crate::glance::Glance;
 use crate::stretch::Stretch;
 use crate::watch::greater;
 use bq_disc::Entity;
-use bq_parts::{By, Event, Reply};
+use bq_hooks::By;
+use bq_parts::{Event, Reply};
 
 /// What an event does to the tasks that are there.
 #[derive(Clone, Copy)]

@@ -4,7 +4,8 @@ ghost use Rattle.bq_bounds.specs.Watches.{unwatched, risen, measured, decided, d
 
 use crate::charge::Charge;
 use crate::running_task::RunningTask;
-use bq_parts::{By, Event, Reply};
+use bq_hooks::By;
+use bq_parts::{Event, Reply};
 use bq_words::Rule;
 
 /// A processor as its charges come. Counts stop at their type's greatest number.

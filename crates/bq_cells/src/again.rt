@@ -2,7 +2,8 @@
 ghost use Rattle.std.specs.Prelude.{◌≡◌, IfOk, OnErr, IsTrue, is_some};
 ghost use Rattle.bq_cells.specs.Events.{CarriesPolicy};
 
-use bq_parts::{Event, Policy};
+use bq_parts::Event;
+use bq_policies::Policy;
 use std::alloc::AllocError;
 
 /// The same event once more. There is an error only where its policy would then stand in more places than can be

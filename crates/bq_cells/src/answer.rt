@@ -4,7 +4,8 @@ ghost use Rattle.bq_parts.specs.declared.reply.Reply.TheVariants as reply;
 ghost use Rattle.bq_cells.specs.Brief.{has_loads};
 
 use crate::same::is_same_answer;
-use bq_parts::{By, Loads, Refusal, Reply};
+use bq_hooks::{By, Loads};
+use bq_parts::{Refusal, Reply};
 use std::marker::Model;
 
 /// A reply or a refusal. Loads stand apart, so that the other answers take no room for them.

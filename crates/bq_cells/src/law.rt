@@ -6,7 +6,8 @@ ghost use Rattle.bq_cells.specs.Parts.{kept_by_block, kept_by_pull, one_less, on
 use crate::record::Record;
 use bq_disc::RunQueue;
 use bq_history::{History, World};
-use bq_parts::{Inbox, Loads, Lobby, Refusal, Reply};
+use bq_hooks::Loads;
+use bq_parts::{Inbox, Lobby, Refusal, Reply};
 use std::marker::{Model, PhantomData};
 
 /// A processor as the world sees it. No value of it is made.

@@ -14,7 +14,6 @@ pub mod same;
 
 pub use again::{event_again, policy_again};
 pub use answer::PackedAnswer;
-pub use bq_seats::{CallRooms, Calls, hold_calls};
 pub use cells::{NumberedCpu, NumberedInbox, OneLobby, UnderLock};
 pub use law::{CpuState, JournalState, Sched, Shared, WorldPart, WorldState};
 pub use record::{Record, call_rooms, loads_room, record_room};

@@ -4,7 +4,8 @@ ghost use Rattle.bq_parts.specs.declared.refusal.Refusal.TheVariants as no;
 
 use crate::{PackedAnswer, is_same_event};
 use bq_history::{Compared, Room};
-use bq_parts::{Event, Loads, Refusal};
+use bq_hooks::Loads;
+use bq_parts::{Event, Refusal};
 use bq_seats::{CallRooms, Calls, TellsCalls};
 use std::alloc::Global;
 

@@ -2,7 +2,8 @@
 
 use crate::done::{LongRow, Row, all_give, all_give_long, gives, holds, repeated};
 use bq_asm::{AsmFault, assemble};
-use bq_program::{Options, OptionsFault, Version};
+use bq_bpf::Version;
+use bq_program::{Options, OptionsFault};
 use std::alloc::Global;
 use std::test::Fail;
 

@@ -2,8 +2,9 @@
 
 use crate::answers::{KEEP_HOME, check_words};
 use crate::done::holds;
+use bq_bpf::{Hook, Version};
 use bq_policy_commands::{Answered, CheckWords, asm_note, check, options_complaint};
-use bq_program::{Hook, Options, Version};
+use bq_program::Options;
 use std::alloc::{AllocError, Global};
 use std::test::Fail;
 

@@ -6,8 +6,8 @@ ghost use Rattle.bq_parts.specs.Choices.{policies};
 ghost use Rattle.bq_parts.specs.Steps.{WorldStep};
 
 use crate::parts::Parts;
-use crate::{Event, Refusal, Reply, new_task};
 use bq_disc::RunQueue;
+use bq_parts::{Event, Refusal, Reply, new_task};
 use std::alloc::Global;
 
 impl<Q: RunQueue> Parts<Q> {

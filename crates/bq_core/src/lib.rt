@@ -14,10 +14,5 @@ mod sized_core;
 mod waking;
 mod world;
 
-pub use bq_parts::{
-    Board, By, Carried, Cpu, Decision, Event, Hook, Hooks, Inbox, Installed, Loads, Lobby,
-    LobbyEntry, Placement, Plain, Policy, Refusal, Reply, Scratch, Unlinked, argument_refusal,
-    new_task,
-};
 pub use sized_core::Core;
 pub use world::DynamicCore;

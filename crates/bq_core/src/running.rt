@@ -7,9 +7,10 @@ ghost use Rattle.bq_parts.specs.Steps.{WorldStep};
 ghost use Rattle.bq_parts.specs.StandsOnce.{IsOrderly};
 
 use crate::parts::Parts;
-use crate::{Event, Refusal, Reply, Scratch};
 use bq_bpf::Board;
 use bq_disc::RunQueue;
+use bq_parts::{Event, Refusal, Reply};
+use bq_policies::Scratch;
 
 impl<Q: RunQueue> Parts<Q> {
     /// The clock of a processor ticks.

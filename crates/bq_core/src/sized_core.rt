@@ -10,9 +10,9 @@ ghost use Rattle.bq_parts.specs.declared.refusal.Refusal.TheVariants as no;
 ghost use Rattle.bq_core.specs.Laws.{StaysOrderly};
 
 use crate::world::DynamicCore;
-use crate::{Cpu, Event, Inbox, Lobby, Refusal, Reply};
 use bq_bpf::Board;
 use bq_disc::RunQueue;
+use bq_parts::{Cpu, Event, Inbox, Lobby, Refusal, Reply};
 use std::alloc::{AllocError, Global};
 use std::marker::Model;
 

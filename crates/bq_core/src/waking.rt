@@ -8,9 +8,11 @@ ghost use Rattle.bq_parts.specs.Steps.{WorldStep};
 ghost use Rattle.bq_parts.specs.StandsOnce.{IsOrderly};
 
 use crate::parts::Parts;
-use crate::{Cpu, Event, Inbox, Loads, Placement, Refusal, Reply, Scratch};
 use bq_bpf::Board;
 use bq_disc::RunQueue;
+use bq_hooks::Loads;
+use bq_parts::{Cpu, Event, Inbox, Placement, Refusal, Reply};
+use bq_policies::Scratch;
 
 impl<Q: RunQueue> Parts<Q> {
     /// A sleeping task comes into the hand of a processor, with the loads of that moment.

@@ -10,9 +10,10 @@ ghost use Rattle.bq_parts.specs.declared.refusal.Refusal.TheVariants as no;
 ghost use Rattle.bq_core.specs.Laws.{StaysOrderly};
 
 use crate::parts::Parts;
-use crate::{Cpu, Event, Inbox, Lobby, Refusal, Reply, Scratch, argument_refusal};
 use bq_bpf::Board;
 use bq_disc::RunQueue;
+use bq_parts::{Cpu, Event, Inbox, Lobby, Refusal, Reply, argument_refusal};
+use bq_policies::Scratch;
 use std::alloc::{AllocError, Global};
 use std::marker::Model;
 

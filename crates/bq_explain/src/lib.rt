@@ -24,7 +24,6 @@ mod verdict;
 mod vocabulary;
 
 pub use advice::{Advice, Reach, advice_text};
-pub use bq_needs::{known_text, range_text};
 pub use complaining::{assembly_words, complaint};
 pub use explanation::{Detail, Explanation, explain};
 pub use graph_fault::GraphFault;

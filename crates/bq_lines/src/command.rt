@@ -1,7 +1,8 @@
 //! What the lines of a trace may ask.
 
 use crate::image::HexWord;
-use bq_core::{Event, Hook};
+use bq_bpf::Hook;
+use bq_parts::Event;
 use bq_words::{ProcessorCount, Rule};
 
 /// What a line may ask. An image stays where the line has it.

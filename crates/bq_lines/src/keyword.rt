@@ -3,7 +3,7 @@ ghost use Rattle.std.specs.Prelude.{◌≡◌};
 ghost use Rattle.std.specs.Str.{bytes_eq};
 ghost use Rattle.bq_lines.specs.Keywords.{keyword_of, setting_keyword_of, keyword_of_event, keyword_word};
 
-use bq_core::Event;
+use bq_parts::Event;
 
 /// What a line asks for, by its first word.
 #[derive(Clone, Copy)]

@@ -15,7 +15,6 @@ pub mod reader;
 mod words;
 pub mod writing;
 
-pub use bq_bpf::{Hook, Version};
 pub use fault::LoadFault;
 pub use image::{Image, read_image};
 pub use loading::load;

@@ -15,11 +15,6 @@ mod pulling_calls;
 mod running_calls;
 pub mod waking_calls;
 
-pub use bq_cells::{Calls, CpuState, JournalState, Record, Sched, Shared, WorldPart, WorldState};
-pub use bq_history::Receipt;
-pub use bq_recording::{Admission, Closed, Prepared, Seat, prepare};
-pub use bq_seats::{Counting, UnnamedCounters};
-pub use bq_tie::Naming;
 pub use clock::Clock;
 pub use loading_calls::{LoadReceipts, LoadRefused};
 pub use locks::Machine;

@@ -6,11 +6,11 @@ ghost use Rattle.bq_machine.specs.Calls.{IsCallRefused};
 
 use crate::clock::Clock;
 use crate::locks::Machine;
-use bq_cells::{CallRooms, Record, call_rooms, record_room};
+use bq_cells::{Record, call_rooms, record_room};
 use bq_disc::RunQueue;
 use bq_history::Room;
 use bq_parts::{Event, Refusal};
-use bq_seats::Counting;
+use bq_seats::{CallRooms, Counting};
 use bq_tie::Naming;
 use std::alloc::Global;
 

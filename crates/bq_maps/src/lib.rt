@@ -6,4 +6,4 @@
 pub mod arrays;
 
 pub use arrays::Maps;
-pub use bq_bpf::{Board, Call, Helper, MapShape, Plain};
+pub use bq_bpf::{Board, MapShape};

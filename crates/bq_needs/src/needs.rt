@@ -15,7 +15,8 @@ use bq_insn::Insn;
 use bq_program::PolicySource;
 use bq_states::abstract_state::{AbstractState, AbstractValue, ValueKind};
 use bq_states::registers::known;
-use bq_verify::{Cause, Doubt};
+use bq_transfer::doubt::Doubt;
+use bq_verify::Cause;
 
 /// What an instruction needs and the abstract state before it does not give.
 #[derive(Clone, Copy)]

@@ -12,7 +12,6 @@ mod one_run;
 mod permitted;
 mod settings;
 
-pub use bq_interp::Snapshot;
 pub use changes::{copied, write_calls, write_changes};
 pub use fields::{Field, FieldWidth};
 pub use inputs::{Inputs, inputs_of};

@@ -2,9 +2,11 @@
 ghost use Rattle.std.specs.Prelude.{◌≡◌, ◌<◌, ◌≤◌, Some, None};
 ghost use Rattle.bq_parts.specs.Refusals.{argument_refusal};
 
-use crate::{Event, Hook, Policy, Refusal};
+use crate::{Event, Refusal};
+use bq_bpf::Hook;
 use bq_disc::limits::{GREATEST_SLICE, LEAST_SLICE, TASKS};
 use bq_hooks::low_bits;
+use bq_policies::Policy;
 use bq_weights::is_nice;
 
 /// The refusal that an event's arguments have in any world of so many processors; the first by number, where there are

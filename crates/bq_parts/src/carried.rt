@@ -1,6 +1,7 @@
 //! A woken task on its way to a processor.
 
-use crate::{Loads, Unlinked};
+use crate::Unlinked;
+use bq_hooks::Loads;
 
 /// A woken task, with the loads of the moment when its wake began.
 #[derive(Drop)]

@@ -13,11 +13,13 @@ ghost use Rattle.bq_policies.specs.Standing.{WasAnswered};
 ghost use Rattle.bq_parts.specs.Processors.{opening, load_of, size_of, count_of, HasEachOnce};
 ghost use Rattle.bq_parts.specs.Moves.{taken_from, without_task, with_pulled, started_if_idle};
 
-use crate::{Carried, Hook, Hooks, Inbox, Installed, Unlinked};
+use crate::{Carried, Inbox, Unlinked};
+use bq_bpf::Hook;
 use bq_disc::clock::LATEST;
 use bq_disc::node::{self, Link};
 use bq_disc::{Entry, Node, RunQueue};
-use bq_policies::Done;
+use bq_interp::Done;
+use bq_policies::{Hooks, Installed};
 use std::marker::Model;
 
 /// A processor. Each of its calls is its share of an event's step.

@@ -1,6 +1,6 @@
 //! What comes of a choice.
 
-use crate::By;
+use bq_hooks::By;
 use std::alloc::AllocError;
 
 /// What was chosen, by whom, and in how many steps of a policy; 0 where none was asked.

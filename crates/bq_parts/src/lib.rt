@@ -22,9 +22,6 @@ pub mod unlinked;
 pub mod wakes;
 
 pub use arguments::argument_refusal;
-pub use bq_bpf::{Board, Plain};
-pub use bq_hooks::{By, Loads};
-pub use bq_policies::{Hook, Hooks, Installed, Policy, Scratch};
 pub use carried::Carried;
 pub use cpu::Cpu;
 pub use decision::Decision;

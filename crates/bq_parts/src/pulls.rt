@@ -8,9 +8,10 @@ ghost use Rattle.bq_parts.specs.Choices.{policies};
 ghost use Rattle.bq_parts.specs.Moves.{taken_from, without_task, with_pulled, started_if_idle};
 ghost use Rattle.bq_parts.specs.Shares.{Pulls};
 
-use crate::{Cpu, Reply, Scratch};
+use crate::{Cpu, Reply};
 use bq_bpf::Board;
 use bq_disc::RunQueue;
+use bq_policies::Scratch;
 
 impl<Q: RunQueue> Cpu<Q> {
     /// The processor takes a task from the queue of another: the one that its policy names, where that is permitted, and else

@@ -1,6 +1,6 @@
 //! What an event that is not refused is answered.
 
-use crate::{By, Loads};
+use bq_hooks::{By, Loads};
 
 /// The reply to an event. `run` is the task that runs afterwards; `steps` is the number of instructions that the policy
 /// took, 0 where none was asked.

@@ -8,10 +8,11 @@ ghost use Rattle.bq_parts.specs.Choices.{policies};
 ghost use Rattle.bq_parts.specs.Moves.{admitted};
 ghost use Rattle.bq_parts.specs.Shares.{Admits, Blocks, Drains, Retires, Ticks};
 
-use crate::{Cpu, Event, Inbox, Lobby, Refusal, Reply, Scratch, Unlinked};
+use crate::{Cpu, Event, Inbox, Lobby, Refusal, Reply, Unlinked};
 use bq_bpf::Board;
 use bq_disc::{Node, RunQueue};
 use bq_hooks::low_bits;
+use bq_policies::Scratch;
 use std::alloc::{AllocError, Global};
 
 /// A task as it is admitted among so many processors. It takes memory for the task.

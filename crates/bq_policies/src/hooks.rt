@@ -8,8 +8,8 @@ ghost use Rattle.bq_policies.specs.Answers.{Answers, IsWithin};
 ghost use Rattle.bq_policies.specs.Standing.{WasAnswered};
 ghost use Rattle.bq_policies.specs.Attachments.{none_attached, at_hook, with_attached, IsFor};
 
-use crate::{Hook, Installed, Scratch, Version};
-use bq_bpf::Board;
+use crate::{Installed, Scratch};
+use bq_bpf::{Board, Hook, Version};
 use bq_interp::{Done, Env};
 use std::marker::Model;
 

@@ -10,9 +10,6 @@ pub mod policy;
 mod same;
 pub mod scratch;
 
-pub use bq_bpf::{Hook, Version};
-pub use bq_interp::{Done, Env};
-pub use bq_verify::Verified;
 pub use hooks::Hooks;
 pub use installed::Installed;
 pub use policy::Policy;

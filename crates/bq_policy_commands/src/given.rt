@@ -7,10 +7,9 @@ ghost use Rattle.bq_bpf.specs.Hooks.{hook_of, version_of};
 
 use crate::asm_options::maps_option_words;
 use crate::words::PolicyWords;
-use bq_bpf::MapShape;
 use bq_bpf::hook::{NO_HOOK, NO_VERSION};
+use bq_bpf::{Hook, MapShape, Version};
 use bq_console::{WordsFault, words_fault};
-use bq_load::{Hook, Version};
 use bq_program::{Head, shapes_of};
 use std::alloc::{AllocError, Global};
 

@@ -5,7 +5,7 @@ ghost use Rattle.bq_policy_runs.specs.Tracing.{AreSteps, TellsSteps, changes_bel
 use bq_asm::listing;
 use bq_explain::index_at;
 use bq_insn::Insn;
-use bq_one_run::Snapshot;
+use bq_interp::Snapshot;
 use bq_program::PolicySource;
 use bq_verify::Verified;
 use std::alloc::{AllocError, Global};

@@ -7,7 +7,8 @@ ghost use Rattle.bq_program.specs.Check.{CheckWrites, accepted_line};
 
 use crate::Answer;
 use crate::hex_text::bytes_of;
-use bq_load::{Hook, LoadFault, load};
+use bq_bpf::Hook;
+use bq_load::{LoadFault, load};
 use std::alloc::{AllocError, Global};
 
 /// The hook and the budget of the image whose bytes the hex text spells; else why it is refused. The budget is the

@@ -6,8 +6,7 @@ ghost use Rattle.bq_program.specs.Combining.{IsUncombinable};
 use crate::fault::PolicyFault;
 use crate::head::Head;
 use crate::mark::Key;
-use bq_bpf::{MapShape, same_shapes};
-use bq_load::{Hook, Version};
+use bq_bpf::{Hook, MapShape, Version, same_shapes};
 use std::alloc::Global;
 
 /// The hook, the shapes of the maps and the version.

@@ -3,8 +3,8 @@ ghost use Rattle.std.specs.Prelude.{◌≡◌, ◌≤◌, length, true, IfOk};
 ghost use Rattle.bq_insn.specs.Faults.{is_length};
 ghost use Rattle.bq_load.specs.Layout.{IsImage};
 
-use bq_bpf::MapShape;
-use bq_load::{Hook, Image, Version, write_image};
+use bq_bpf::{Hook, MapShape, Version};
+use bq_load::{Image, write_image};
 use std::alloc::{AllocError, Global};
 
 /// What an image says beside its program.

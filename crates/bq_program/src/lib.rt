@@ -28,7 +28,6 @@ mod shapes_text;
 
 pub use answer::Answer;
 pub use assembling::assembled;
-pub use bq_load::{Hook, Version};
 pub use checking::{accepted_line, checked, fault_text};
 pub use fault::{HeadCause, HeadFault, PolicyFault};
 pub use form::ProgramForm;

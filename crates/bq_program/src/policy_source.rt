@@ -3,10 +3,9 @@ ghost use Rattle.std.specs.Prelude.{◌≡◌, ◌≤◌, length, true};
 ghost use Rattle.bq_insn.specs.Spelling.{is_well_formed};
 
 use crate::image_form::image_bytes;
-use bq_bpf::MapShape;
+use bq_bpf::{Hook, MapShape, Version};
 use bq_insn::Insn;
 use bq_insn::encode::encode;
-use bq_load::{Hook, Version};
 use std::alloc::{AllocError, Global};
 
 /// A policy that nothing is known of yet: a program with the choice that it makes, its version, the shapes of its maps, and the lines of its text.

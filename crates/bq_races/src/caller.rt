@@ -4,8 +4,14 @@ use crate::asking::{Request, ask};
 use crate::counting_clock::CountingClock;
 use crate::held_queue::HeldQueue;
 use crate::play::{Held, Play};
-use bq_machine::{Admission, Counting, Machine, Naming, Receipt, Record, Seat};
-use bq_parts::{Hook, Refusal};
+use bq_bpf::Hook;
+use bq_cells::Record;
+use bq_history::Receipt;
+use bq_machine::Machine;
+use bq_parts::Refusal;
+use bq_recording::{Admission, Seat};
+use bq_seats::Counting;
+use bq_tie::Naming;
 use std::alloc::Global;
 use std::sync::Wait;
 

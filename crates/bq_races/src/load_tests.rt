@@ -3,7 +3,8 @@
 use crate::images::{ADDS, ZERO};
 use crate::play::{Play, Script};
 use crate::script::{AllPlayed, run_script};
-use bq_parts::{Event, Hook, Refusal, Reply};
+use bq_bpf::Hook;
+use bq_parts::{Event, Refusal, Reply};
 use std::process::Abort;
 
 /// How many events are draws, installs of the first number, and of the second. An install of the first may be refused as older; there

@@ -2,14 +2,17 @@
 ghost use Rattle.std.specs.Prelude.{◌≡◌};
 
 use crate::asking::{Request, ask};
-use bq_cells::PackedAnswer;
+use bq_bpf::Hook;
+use bq_cells::{PackedAnswer, Record};
 use bq_cfs::CfsQueue;
+use bq_history::Receipt;
+use bq_hooks::By;
 use bq_load::LoadFault;
-use bq_machine::{
-    Clock, Closed, Counting, LoadRefused, Machine, Naming, Prepared, Receipt, Record, Seat,
-    UnnamedCounters, prepare,
-};
-use bq_parts::{By, Hook, Refusal, Reply};
+use bq_machine::{Clock, LoadRefused, Machine};
+use bq_parts::{Refusal, Reply};
+use bq_recording::{Closed, Prepared, Seat, prepare};
+use bq_seats::{Counting, UnnamedCounters};
+use bq_tie::Naming;
 use std::alloc::Global;
 use std::marker::Brand;
 use std::process::Abort;

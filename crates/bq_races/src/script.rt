@@ -6,10 +6,12 @@ use crate::counting_clock::CountingClock;
 use crate::gate::Gate;
 use crate::held_queue::HeldQueue;
 use crate::play::{Play, Script};
-use bq_machine::{
-    Closed, Counting, Naming, Prepared, Receipt, Record, Seat, UnnamedCounters, prepare,
-};
+use bq_cells::Record;
+use bq_history::Receipt;
 use bq_parts::Refusal;
+use bq_recording::{Closed, Prepared, Seat, prepare};
+use bq_seats::{Counting, UnnamedCounters};
+use bq_tie::Naming;
 use std::alloc::{AllocError, Global};
 use std::marker::Brand;
 use std::process::Abort;

@@ -9,7 +9,8 @@ use bq_cells::{
 };
 use bq_disc::RunQueue;
 use bq_history::{Item, Locked};
-use bq_parts::{Cpu, Inbox, Lobby, Scratch};
+use bq_parts::{Cpu, Inbox, Lobby};
+use bq_policies::Scratch;
 use bq_tie::{Holder, Naming};
 use std::alloc::{AllocError, Global};
 use std::sync::Mutex;

@@ -11,7 +11,7 @@ use crate::{ClosingRoom, Recorder, Seat};
 use bq_cells::{JournalState, NumberedCpu, NumberedInbox, OneLobby, Record, UnderLock, WorldPart};
 use bq_disc::RunQueue;
 use bq_history::{Item, Journal};
-use bq_parts::Loads;
+use bq_hooks::Loads;
 use bq_seats::{CounterTally, Counting, UnnamedCounters, seats};
 use bq_tie::{Holder, Naming};
 use std::alloc::{AllocError, Global};

@@ -6,11 +6,11 @@ ghost use Rattle.bq_cells.specs.Parts.{told_calls};
 use crate::recorder::{Recorder, WorkingSeat};
 use crate::rooms::EventRooms;
 use crate::told::told_twice;
-use bq_cells::{NumberedCpu, Record, UnderLock, hold_calls};
+use bq_cells::{NumberedCpu, Record, UnderLock};
 use bq_disc::RunQueue;
 use bq_history::{CommitDraft, Receipt, look_at_both};
 use bq_parts::Event;
-use bq_seats::Counting;
+use bq_seats::{Counting, hold_calls};
 use bq_tie::Naming;
 use std::sync::Wait;
 

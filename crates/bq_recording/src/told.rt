@@ -3,8 +3,9 @@ ghost use Rattle.std.specs.Prelude.{◌≡◌, [], false};
 ghost use Rattle.bq_cells.specs.Brief.{has_loads};
 ghost use Rattle.bq_cells.specs.Events.{CarriesPolicy};
 
-use bq_cells::{Calls, PackedAnswer, Record, event_again};
+use bq_cells::{PackedAnswer, Record, event_again};
 use bq_parts::{Event, Refusal, Reply};
+use bq_seats::Calls;
 
 /// Both records of an event, from what each of them tells.
 #[inline(always)]

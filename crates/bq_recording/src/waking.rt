@@ -14,11 +14,11 @@ ghost use Rattle.bq_recording.specs.Placing.{IsPlaced};
 use crate::recorder::{CpuCell, Recorder, WorkingSeat, need_own};
 use crate::rooms::{BeginRooms, EventRooms};
 use crate::told::{both_records, event_twice, no_calls, told_twice};
-use bq_cells::{NumberedCpu, NumberedInbox, OneLobby, PackedAnswer, Record, UnderLock, hold_calls};
+use bq_cells::{NumberedCpu, NumberedInbox, OneLobby, PackedAnswer, Record, UnderLock};
 use bq_disc::RunQueue;
 use bq_history::{CommitDraft, Receipt};
 use bq_parts::{Event, Placement, Reply};
-use bq_seats::Counting;
+use bq_seats::{Counting, hold_calls};
 use bq_tie::Naming;
 use std::sync::{Mutex, MutexGuard, Wait};
 

@@ -3,7 +3,8 @@
 ghost use Rattle.std.specs.Prelude.{◌≡◌};
 
 use crate::slice::Slice;
-use bq_parts::{By, Hook};
+use bq_bpf::Hook;
+use bq_hooks::By;
 
 /// What one answer changes. An event that is refused changes nothing, nor does one whose answer is not of its kind, or that
 /// names a processor that is not there. Times are nanoseconds of the clock of the event's processor.

@@ -6,7 +6,8 @@ ghost use Rattle.bq_schedule.specs.Runnable.{leaves};
 
 use crate::change::{Change, Decision, Left, PulledTask, Wake};
 use crate::schedule::Schedule;
-use bq_parts::{Event, Hook, Reply};
+use bq_bpf::Hook;
+use bq_parts::{Event, Reply};
 use bq_weights::{is_nice, weight};
 
 impl Schedule {

@@ -2,7 +2,7 @@
 ghost use Rattle.std.specs.Prelude.{◌≡◌};
 ghost use Rattle.bq_simulate.specs.declared.drive_fault.DriveFault.TheVariants.{OutOfMemory};
 
-use bq_core::Refusal;
+use bq_parts::Refusal;
 use std::alloc::AllocError;
 use thiserror::Error;
 

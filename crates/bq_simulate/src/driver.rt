@@ -5,8 +5,8 @@ ghost use Rattle.bq_simulate.specs.declared.drive_fault.DriveFault.TheVariants.{
 ghost use Rattle.bq_trace.specs.News.{Gets};
 
 use crate::drive_fault::DriveFault;
-use bq_core::{Event, Refusal, Reply};
 use bq_disc::clock::LATEST;
+use bq_parts::{Event, Refusal, Reply};
 use bq_trace::bare::bare;
 use bq_trace::{AnyCore, Sink};
 use bq_words::{ProcessorCount, Rule};

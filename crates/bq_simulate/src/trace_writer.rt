@@ -6,8 +6,8 @@ ghost use Rattle.bq_simulate.specs.Texts.{Writes, brought, image_at};
 
 use crate::images::Images;
 use crate::{write_event, write_machine};
-use bq_core::{Event, Refusal, Reply};
 use bq_load::LoadFault;
+use bq_parts::{Event, Refusal, Reply};
 use bq_trace::{AnyCore, Sink};
 use bq_words::{ProcessorCount, Rule};
 use std::alloc::{AllocError, Global};

@@ -8,8 +8,9 @@ ghost use Rattle.bq_lines.specs.Keywords.{keyword_word};
 ghost use Rattle.bq_lines.specs.declared.keyword.Keyword.TheVariants as keywords;
 ghost use Rattle.bq_simulate.specs.Spelling.{HasFittingNumbers, asking_line, image_word, machine_line, spaced_words};
 
-use bq_core::{Event, Hook};
+use bq_bpf::Hook;
 use bq_lines::Keyword;
+use bq_parts::Event;
 use bq_words::{ProcessorCount, Rule};
 use std::alloc::{AllocError, Global};
 use std::fmt::Write;

@@ -2,8 +2,8 @@
 ghost use Rattle.std.specs.Prelude.{◌≡◌};
 ghost use Rattle.bq_timeline.specs.Timelines.{Keeps};
 
-use bq_core::{Event, Refusal, Reply};
 use bq_load::LoadFault;
+use bq_parts::{Event, Refusal, Reply};
 use bq_timeline::viewer::Viewer;
 use bq_trace::{AnyCore, Sink};
 use bq_words::{ProcessorCount, Rule};

@@ -1,7 +1,8 @@
 //! What traces are answered, whole and in pieces.
 ghost use Rattle.std.specs.Prelude.{◌≤◌};
 
-use bq_trace::{Counted, Session, replay};
+use bq_streams::Counted;
+use bq_trace::{Session, replay};
 use std::alloc::Global;
 use std::process::Abort;
 use std::str::from_utf8;

@@ -2,8 +2,9 @@
 
 use crate::cases::{Answered, Case, answered, holds, is_answered, replays};
 use crate::timelines::{settings_of, text_of};
+use bq_streams::Counted;
 use bq_timeline::show;
-use bq_trace::{Counted, ReplayFault, replay};
+use bq_trace::{ReplayFault, replay};
 use std::alloc::Global;
 use std::io;
 use std::io::{Error, ErrorKind, Read, Write};

@@ -2,7 +2,7 @@
 
 use crate::cases::holds;
 use bq_actions::{Action, Length, Setup, TaskKind, Unsound, Workload};
-use bq_core::Event;
+use bq_parts::Event;
 use bq_simulate::{SimulateFault, Tally, simulate, write_event};
 use bq_words::{ProcessorCount, Rule};
 use std::alloc::Global;

@@ -2,7 +2,8 @@
 
 use crate::cases::holds;
 use bq_forms::{Names, ScheduleForm};
-use bq_parts::{By, Event, Refusal, Reply};
+use bq_hooks::By;
+use bq_parts::{Event, Refusal, Reply};
 use bq_schedule::{Change, Schedule};
 use std::alloc::{AllocError, Global};
 use std::process::Abort;

@@ -1,9 +1,9 @@
 //! A choice shown, lines that are bad or refused, and the words of options. The values are worked by hand.
 
 use crate::cases::holds;
+use bq_streams::Counted;
 use bq_timeline::numbers::{tasks, time, width};
 use bq_timeline::{Settings, Words, show};
-use bq_trace::Counted;
 use bq_why::faults::why_bad;
 use std::alloc::{AllocError, Global};
 use std::process::Abort;

@@ -1,13 +1,12 @@
 //! How near each processor came to the bounds of its rule: a table below the report.
 
 use bq_bounds::{Bounds, Charge, Glance, RunningTask, how_it_stands};
-use bq_core::{Event, Reply};
 use bq_disc::RunQueue;
 use bq_disc::limits::PROCESSORS;
 use bq_disc::mask::allows;
 use bq_forms::percent::Percent;
 use bq_forms::tables::write_millis;
-use bq_parts::Cpu;
+use bq_parts::{Cpu, Event, Reply};
 use bq_schedule::Change;
 use bq_trace::{AnyCore, Seen};
 use bq_why::{place_of, present};

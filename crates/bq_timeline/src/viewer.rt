@@ -6,8 +6,8 @@ ghost use Rattle.std.specs.Prelude.{◌≡◌, ◌++◌, OnOk, string_bytes};
 
 use crate::screen::Screen;
 use crate::settings::Settings;
-use bq_core::{Event, Refusal, Reply};
 use bq_load::LoadFault;
+use bq_parts::{Event, Refusal, Reply};
 use bq_schedule::Schedule;
 use bq_trace::{AnyCore, Sink};
 use bq_words::{ProcessorCount, Rule};

@@ -7,10 +7,12 @@ ghost use Rattle.bq_trace.specs.Machines.{opening_machine};
 ghost use Rattle.bq_trace.specs.Cores.{processor_in};
 ghost use Rattle.bq_trace.specs.Seeing.{seen_of};
 
+use bq_bpf::Plain;
 use bq_cfs::CfsQueue;
-use bq_core::{Cpu, DynamicCore, Event, Plain, Refusal, Reply};
+use bq_core::DynamicCore;
 use bq_disc::RunQueue;
 use bq_eevdf::EevdfQueue;
+use bq_parts::{Cpu, Event, Refusal, Reply};
 use bq_words::{ProcessorCount, Rule};
 use std::alloc::{AllocError, Global};
 use std::marker::Model;

@@ -2,7 +2,7 @@
 ghost use Rattle.std.specs.Prelude.{◌≡◌};
 ghost use Rattle.bq_trace.specs.Bare.{bare};
 
-use bq_core::Event;
+use bq_parts::Event;
 
 /// The event without the policy that it brings: it can be told when the event itself has been done.
 #[inline]

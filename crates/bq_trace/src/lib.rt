@@ -18,7 +18,7 @@ pub mod texts;
 mod trace_position;
 
 pub use any_core::{AnyCore, Seen};
-pub use bq_streams::{Counted, StreamFault as ReplayFault};
+pub use bq_streams::StreamFault as ReplayFault;
 pub use pieces::replay;
 pub use session::Session;
 pub use sink::Sink;

@@ -15,8 +15,8 @@ use crate::loading::Installation;
 use crate::sink::Sink;
 use crate::telling;
 use bq_bpf::board::COUNTERS;
-use bq_core::{Event, Refusal, Reply};
 use bq_lines::{Command, LineReading, read_heard};
+use bq_parts::{Event, Refusal, Reply};
 use std::alloc::{AllocError, Global};
 
 /// Whether memory was wanted for an event.

@@ -4,8 +4,8 @@ ghost use Rattle.bq_trace.specs.Texts.{entity_text, current_text, spaced_entitie
 
 use crate::any_core::{AnyCore, Seen};
 use crate::texts::write_refusal;
-use bq_core::{Cpu, Refusal};
 use bq_disc::{Entity, RunQueue};
+use bq_parts::{Cpu, Refusal};
 use std::alloc::AllocError;
 
 /// Adds what stands before a task, and the task by its id, v and deadline.

@@ -9,8 +9,8 @@ use crate::any_core::AnyCore;
 use crate::loading::write_fault;
 use crate::shows::write_shown;
 use crate::texts::{write_answer, write_bad, write_counter};
-use bq_core::{Event, Refusal, Reply};
 use bq_load::LoadFault;
+use bq_parts::{Event, Refusal, Reply};
 use bq_words::{ProcessorCount, Rule};
 use std::alloc::AllocError;
 

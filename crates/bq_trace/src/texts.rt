@@ -4,7 +4,8 @@ ghost use Rattle.std.specs.Fmt.{decimal};
 ghost use Rattle.bq_parts.specs.declared.reply.Reply.TheVariants.{Begun, Placed, Blocked};
 ghost use Rattle.bq_trace.specs.Texts.{task_text, who_text, run_text, spaced, reply_text, event_line, bad_line, counter_line};
 
-use bq_core::{By, Refusal, Reply};
+use bq_hooks::By;
+use bq_parts::{Refusal, Reply};
 use std::alloc::AllocError;
 
 /// Adds one digit.

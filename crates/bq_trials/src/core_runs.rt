@@ -5,11 +5,14 @@ ghost use Rattle.std.specs.Prelude.{◌≤◌};
 
 use crate::asserting::{is_number, is_text};
 use crate::hex_text::bytes_of;
+use bq_bpf::{Board, Hook, Plain};
 use bq_cfs::CfsQueue;
-use bq_core::{Board, Core, Event, Hook, Plain, Policy, Refusal, Reply};
+use bq_core::Core;
 use bq_disc::RunQueue;
 use bq_eevdf::EevdfQueue;
 use bq_load::load;
+use bq_parts::{Event, Refusal, Reply};
+use bq_policies::Policy;
 use bq_trace::texts::write_answer;
 use std::alloc::Global;
 use std::process::Abort;

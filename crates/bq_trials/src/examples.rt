@@ -2,15 +2,17 @@
 // `tests/examples.py` compares them.
 
 use bq_asm::assemble;
-use bq_bpf::{Hook, Version, context_length};
+use bq_bpf::{Hook, Plain, Version, context_length};
 use bq_cfs::CfsQueue;
-use bq_core::{Core, DynamicCore, Event, Plain, Reply};
+use bq_core::{Core, DynamicCore};
 use bq_interp::env::Env;
 use bq_interp::runs::run;
 use bq_interp::stack::Stack;
 use bq_load::load;
 use bq_maps::Maps;
-use bq_trace::{Counted, Session};
+use bq_parts::{Event, Reply};
+use bq_streams::Counted;
+use bq_trace::Session;
 use bq_verify::{Program, Verified, verify};
 use std::alloc::Global;
 use std::test::Fail;

@@ -2,8 +2,9 @@
 
 use crate::asserting::{is_number, is_true};
 use bq_asm::assemble;
-use bq_bpf::{Call, MapShape, Plain, context_length};
-use bq_policies::{Env, Hook, Hooks, Installed, Policy, Scratch, Version};
+use bq_bpf::{Call, Hook, MapShape, Plain, Version, context_length};
+use bq_interp::Env;
+use bq_policies::{Hooks, Installed, Policy, Scratch};
 use bq_verify::{Program, verify};
 use std::alloc::Global;
 use std::process::Abort;

@@ -16,9 +16,7 @@ mod subject;
 pub mod verified;
 mod waiting;
 
-pub use bq_bpf::{Hook, Version};
 pub use bq_graph::cause::GraphCause;
-pub use bq_transfer::doubt::Doubt;
 pub use cause::Cause;
 pub use known_at::state_at;
 pub use program::{Program, verify};

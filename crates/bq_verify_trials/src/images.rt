@@ -2,9 +2,11 @@
 // The images and their answers are worked by hand from the format and the rules of the verifier.
 
 use crate::asserting::{are_bytes, is_number, is_true};
+use bq_bpf::{Hook, Version};
 use bq_insn::fault::Cause as Code;
-use bq_load::{Hook, Image, LoadFault, Version, load, read_image, write_image};
-use bq_verify::{Cause, Doubt, GraphCause};
+use bq_load::{Image, LoadFault, load, read_image, write_image};
+use bq_transfer::doubt::Doubt;
+use bq_verify::{Cause, GraphCause};
 use std::alloc::{AllocError, Global};
 use std::process::Abort;
 

@@ -1,8 +1,8 @@
 //! Events and refusals in words.
 
-use bq_core::{Event, Refusal};
 use bq_disc::with_slices;
 use bq_lines::Keyword;
+use bq_parts::{Event, Refusal};
 use bq_weights::with_nice_values;
 use std::fmt;
 

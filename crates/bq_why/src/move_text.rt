@@ -3,8 +3,9 @@
 use crate::asked::Asked;
 use crate::pulling::{OwnPull, PullSight};
 use crate::words_of::Who;
-use bq_core::{By, Hook};
+use bq_bpf::Hook;
 use bq_forms::Names;
+use bq_hooks::By;
 use std::alloc::AllocError;
 
 /// Adds where a woken task is placed, and why.

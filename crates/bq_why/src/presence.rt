@@ -2,9 +2,9 @@
 ghost use Rattle.std.specs.Prelude.{◌≡◌, ◌≤◌, ◌++◌, length, IfOk, OnOk};
 ghost use Rattle.bq_disc.specs.OneProcessor.{present_at};
 
-use bq_core::Cpu;
 use bq_disc::limits::TASKS;
 use bq_disc::{Entity, RunQueue};
+use bq_parts::Cpu;
 use std::alloc::{AllocError, Global};
 
 /// The tasks that run or wait at a processor, the running one first, then by rising (v, id). Were there more than 1,024, some

@@ -4,9 +4,9 @@ ghost use Rattle.bq_disc.specs.Movable.{movable_to, ids};
 ghost use Rattle.bq_why.specs.Pulls.{Sees, own_pull_of};
 
 use crate::presence::{present, waiting};
-use bq_core::Cpu;
 use bq_disc::limits::PROCESSORS;
 use bq_disc::{Entity, Movable, RunQueue};
+use bq_parts::Cpu;
 use bq_trace::{AnyCore, Seen};
 use std::alloc::{AllocError, Global};
 
