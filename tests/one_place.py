@@ -16,9 +16,9 @@ TOP = Path(__file__).resolve().parent.parent / 'crates'
 
 # What each fact looks like, and the only files that may say it.
 FACTS = [
-    ('the word of a hook', r'"(?:place|preempt|pull)"', {'bq_bpf/src/hook.rt'}),
+    ('the word of a hook', r'"(?:place|preempt|pull)"', {'bq_hooks/src/hook.rt'}),
     ('the keyword of a line of a trace', r'b?"(?:admit|retire|draw|install|begin|end|drain|block|show)"|"(?:machine|admit|retire|install|begin|end|wake|drain|tick|block|pull) \{', {'bq_lines/src/keyword.rt'}),
-    ('the words of hooks as a list', r'place, preempt', {'bq_bpf/src/hook.rt'}),
+    ('the words of hooks as a list', r'place, preempt', {'bq_hooks/src/hook.rt'}),
     ('an address of the machine', r'0x2_0000_0\d\d\d|0x10_0000_0000|0x4000_0000_0000', {'bq_bpf/src/addresses.rt'}),
     ('the number of a helper', r'helper\s*(?:==|=>)\s*\d', {'bq_bpf/src/helper.rt'}),
     ('the list of the helpers', r'\bUPDATE\W+(?:helper\W+)?NOW\b', {'bq_bpf/src/helper.rt'}),
@@ -27,7 +27,7 @@ FACTS = [
     ('the number of a fault or a cause', r'(?:Cause|Doubt)::\w+ => \d', {'bq_insn/src/fault.rt', 'bq_asm/src/fault.rt', 'bq_graph/src/cause.rt', 'bq_transfer/src/doubt.rt'}),
     ('the number of processors of a machine', r'ProcessorCount::\w+ => \d', {'bq_words/src/processor_count.rt'}),
     ('the word of a rule', r'b?"(?:cfs|eevdf)"', {'bq_words/src/rule.rt'}),
-    ('the word of a version', r'Version::\w+ => \d', {'bq_bpf/src/hook.rt'}),
+    ('the word of a version', r'Version::\w+ => \d', {'bq_hooks/src/hook.rt'}),
     ('how far ahead a task may be under CFS', r'GRANULARITY: u64', {'bq_cfs/src/discipline.rt'}),
     ('the latest reading of a clock', r'1 << 48', {'bq_disc/src/clock.rt'}),
     ('the text of a refused event', r'"(?:refused )?C\d+ ', {'bq_parts/src/refusal.rt'}),
@@ -51,7 +51,7 @@ FACTS = [
     ('the numbers of processors as a list', r'32(?: or|,) 64"', {'bq_words/src/processor_count.rt'}),
     ('the names of forms as a list', r'map, timehist', {'bq_timeline/src/form_names.rt'}),
     ('the weight of nice value 0', r'\* 1_?024 /|/ 1_?024;|1_?024 \* u128', {'bq_weights/src/lib.rt'}),
-    ('how long a context is', r'; (?:104|296|56|160)\]|=> (?:104|296|56|160),|: usize = (?:104|296|160)\b|LENGTH: usize = 56\b|< 160\b', {'bq_bpf/src/hook.rt', 'bq_hooks/src/place.rt', 'bq_hooks/src/preempt.rt', 'bq_hooks/src/pull.rt'}),
+    ('how long a context is', r'; (?:104|296|56|160)\]|=> (?:104|296|56|160),|: usize = (?:104|296|160)\b|LENGTH: usize = 56\b|< 160\b', {'bq_hooks/src/place.rt', 'bq_hooks/src/preempt.rt', 'bq_hooks/src/pull.rt'}),
     ('what stands where there is no task', r'NOBODY: u(?:32|64) = 0x', {'bq_hooks/src/fields.rt'}),
     ('what a task is called that may run under EEVDF', r'"(?:not )?eligible"', {'bq_why/src/words_of.rt'}),
     ('the word of a key of marks', r'(?:=>|==) b?"(?:hook|maps|format)"', {'bq_program/src/mark.rt'}),
@@ -80,7 +80,7 @@ FACTS = [
     ('the size of the stack, in words', r'\b512 bytes\b', {'bq_bpf/src/addresses.rt'}),
     ('the three decimals of thousandths', r'/ 100 % 10\b', {'bq_forms/src/amounts.rt'}),
     ('which shapes maps have', r'8 to 256|\b1 to 256|\b(?:at most|more than|has) 8\b', {'bq_bpf/src/shape.rt'}),
-    ('what a wrong hook or version is said to be', r'no such (?:hook|format)|is no hook|is no format|hooks are|formats are', {'bq_bpf/src/hook.rt'}),
+    ('what a wrong hook or version is said to be', r'no such (?:hook|format)|is no hook|is no format|hooks are|formats are', {'bq_hooks/src/hook.rt'}),
     ('how often a processor ticks in `par`', r'0 to 1000000\b', {'bq_cli/src/par.rt'}),
     ('how many seeds there may be', r'1 to 1000\b', set()),
     ('how many waits of a processor are drawn', r'LANES: usize', {'bq_pictures/src/lanes.rt'}),

@@ -1,4 +1,3 @@
-pub mod Hooks
 pub mod Limits
 pub mod Memory
 pub mod Helpers

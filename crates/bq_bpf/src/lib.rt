@@ -1,15 +1,14 @@
-//! The machine that runs a policy: its hooks, its memory, its helpers, its counters, and its meaning.
+//! The machine that runs a policy: its memory, its helpers, its counters, and its meaning.
 //!
 //! `specs/` defines what arithmetic, byte orders and tests give on words (RFC 9669, sections 4.1 to 4.3), what each
 //! instruction does, what a run is, and when a program is safe; the intervals, the verifier and the interpreter rest on
-//! that. The code computes on words, names hooks and helpers, tells shapes of maps, and asks counters.
+//! that. The code computes on words, names helpers, tells shapes of maps, and asks counters.
 #![tactic(auto)]
 
 pub mod addresses;
 pub mod board;
 pub mod code;
 pub mod helper;
-pub mod hook;
 pub mod list;
 pub mod pack;
 pub mod shape;
@@ -19,7 +18,6 @@ pub mod words;
 pub use board::{Board, Call, Plain};
 pub use code::{Code, IMMEDIATE, Packed};
 pub use helper::Helper;
-pub use hook::{Hook, Version, context_length};
 pub use list::pack_all;
 pub use shape::{MapShape, same_shapes};
 pub use words::{alu, extended, negated, reordered, test};

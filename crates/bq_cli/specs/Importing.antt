@@ -2,7 +2,7 @@
 use Rattle.std.specs.Prelude.{◌≡◌, List, [], Option, Some, None, unwrap_or}
 use Rattle.std.specs.declared.alloc.Global.{Global}
 use Rattle.std.specs.declared.vec.Vec.{Vec}
-use Rattle.bq_bpf.specs.declared.hook.Version.TheVariants.{First}
+use Rattle.bq_hooks.specs.declared.hook.Version.TheVariants.{First}
 use Rattle.bq_bpf.specs.declared.shape.MapShape.{MapShape}
 use Rattle.bq_import.specs.declared.text.ImportSettings.{ImportSettings}
 use Rattle.bq_policy_commands.specs.Saying.{SaysHead, option_bytes}

@@ -2,7 +2,7 @@
 use Rattle.std.specs.Prelude.{◌≡◌, ◌↔◌, ◌+◌, ◌&&◌, ℕ, Bool, IsTrue, List, [], Option, Some, String, codes, is_some, map, not, option_and_then, string_bytes, unwrap_or}
 use Rattle.std.specs.declared.alloc.Global.{Global}
 use Rattle.clap.specs.Words.{Row, Text, all_of, first_of}
-use Rattle.bq_bpf.specs.Hooks.{hook_of, version_of}
+use Rattle.bq_hooks.specs.Hooks.{hook_of, version_of}
 use Rattle.bq_console.specs.Words.{SaysWord}
 use Rattle.bq_lines.specs.Lines.{size_of}
 use Rattle.bq_lines.specs.Numbers.{decimal_of}

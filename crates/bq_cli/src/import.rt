@@ -6,9 +6,9 @@ ghost use Rattle.bq_cli.specs.Words.{ArePolicyWords};
 ghost use Rattle.bq_cli.specs.Importing.{AskFor};
 
 use crate::policy_words::policy_words;
-use bq_bpf::Version;
 use bq_console::status::BAD_INPUT;
 use bq_console::{WordsFault, name_of, refused_words, say_out_of_memory, whole_input, written};
+use bq_hooks::Version;
 use bq_import::{ImportRefusal, ImportSettings, imported};
 use bq_policy_commands::{PolicyWords, said_by};
 use bq_program::{Head, ImageForm};

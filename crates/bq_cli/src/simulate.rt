@@ -6,7 +6,6 @@ ghost use Rattle.bq_cli.specs.Words.{AreHookWords, AreMachineWords, AreSimulateW
 
 use crate::timeline::timeline_words;
 use bq_actions::Workload;
-use bq_bpf::Hook;
 use bq_comparison::{
     Comparing, ComparingFault, MachineSize, SeedsFault, asked_comparison, compare, comparison_text,
     size_of_machine,
@@ -16,6 +15,7 @@ use bq_console::{
     WordsFault, all_words, name_of, refused_words, say_out_of_memory, whole_file, whole_input,
     word, written,
 };
+use bq_hooks::Hook;
 use bq_load::LoadFault;
 use bq_program::fault_text;
 use bq_simulate::SimulateFault;

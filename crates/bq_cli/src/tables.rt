@@ -5,9 +5,10 @@ ghost use Rattle.bq_console.specs.Tables.{with_commands};
 ghost use Rattle.bq_cli.specs.BqsimApp.{bqsim_app, machine_commands, policy_commands, program_commands};
 
 use crate::with_ticks;
-use bq_bpf::{with_helper, with_hooks, with_versions};
+use bq_bpf::with_helper;
 use bq_console::tables::Given::{Alone, Flag, Needed, Often, Once};
 use bq_console::{CommandText, OptionText, with_commands};
+use bq_hooks::{with_hooks, with_versions};
 use bq_pictures::with_themes;
 use bq_timeline::{with_columns, with_forms};
 use bq_words::{with_rules, with_sizes};

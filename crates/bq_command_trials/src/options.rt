@@ -2,7 +2,7 @@
 
 use crate::answers::{KEEP_HOME, check_words};
 use crate::done::holds;
-use bq_bpf::{Hook, Version};
+use bq_hooks::{Hook, Version};
 use bq_policy_commands::{Answered, CheckWords, asm_note, check, options_complaint};
 use bq_program::Options;
 use std::alloc::{AllocError, Global};

@@ -3,7 +3,7 @@ ghost use Rattle.std.specs.Prelude.{◌≡◌, IfOk};
 ghost use Rattle.bq_comparison.specs.Report.{figures_of_processor, figures_of_report, figures_of_task};
 
 use crate::naming::{Figure, HookFigure, LatencyFigure, ProcessorFigure, TaskFigure};
-use bq_bpf::Hook;
+use bq_hooks::Hook;
 use std::alloc::{AllocError, Global};
 
 /// How many tasks and processors there are.

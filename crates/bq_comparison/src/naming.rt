@@ -1,6 +1,6 @@
 //! The figures of a report by their names.
 
-use bq_bpf::Hook;
+use bq_hooks::Hook;
 
 /// A figure of a task. Times are nanoseconds.
 #[derive(Clone, Copy)]

@@ -7,9 +7,9 @@ use Rattle.bq_disc.specs.Discipline.{Discipline, woken, pulled, next_of}
 use Rattle.bq_disc.specs.OneProcessor.{Running, run_id, start, exchanged, switched, decided, entered}
 use Rattle.bq_disc.proofs.RisingLemmas.{IsRising-place, IsRising-without}
 use Rattle.bq_bpf.specs.declared.board.Call.{Call as Asked}
-use Rattle.bq_bpf.specs.declared.hook.Hook.{Hook}
-use Rattle.bq_bpf.specs.declared.hook.Hook.TheVariants.{Place, Preempt, Pull}
-use Rattle.bq_bpf.specs.declared.hook.Version.{Version}
+use Rattle.bq_hooks.specs.declared.hook.Hook.{Hook}
+use Rattle.bq_hooks.specs.declared.hook.Hook.TheVariants.{Place, Preempt, Pull}
+use Rattle.bq_hooks.specs.declared.hook.Version.{Version}
 use Rattle.bq_verify.specs.Accepted.{Accepted}
 use Rattle.bq_policies.specs.Attachments.{Attached, Attachments, none_attached, with_attached}
 use Rattle.bq_hooks.specs.Permitted.{task_numbered}

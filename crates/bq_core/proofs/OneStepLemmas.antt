@@ -10,8 +10,8 @@ use Rattle.bq_bpf.specs.Runs.{start}
 use Rattle.bq_interp.specs.Laws.{AnswerAlike}
 use Rattle.bq_interp.specs.Progress.{setting_of}
 use Rattle.bq_interp.proofs.OneRunLemmas.{one_run}
-use Rattle.bq_bpf.specs.declared.hook.Version.{Version}
-use Rattle.bq_bpf.specs.declared.hook.Version.TheVariants.{First, Second}
+use Rattle.bq_hooks.specs.declared.hook.Version.{Version}
+use Rattle.bq_hooks.specs.declared.hook.Version.TheVariants.{First, Second}
 use Rattle.bq_verify.specs.Accepted.{Accepted}
 use Rattle.bq_policies.specs.Attachments.{Attached}
 use Rattle.bq_hooks.specs.Contexts.{PlaceFacts, PreemptFacts, PullFacts, preempt_bytes, pull_bytes, as_number, or_nobody}

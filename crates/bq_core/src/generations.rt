@@ -6,8 +6,8 @@ ghost use Rattle.bq_parts.specs.Refusals.{argument_refusal};
 ghost use Rattle.bq_parts.specs.Steps.{WorldStep};
 
 use crate::parts::Parts;
-use bq_bpf::Hook;
 use bq_disc::RunQueue;
+use bq_hooks::Hook;
 use bq_parts::{Event, Refusal, Reply};
 use bq_policies::{Installed, Policy};
 use std::alloc::Global;

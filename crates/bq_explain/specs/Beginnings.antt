@@ -3,7 +3,7 @@ use Rattle.std.specs.Prelude.{ℕ, List, [], ◌∷◌, ◌++◌, codes}
 use Rattle.std.specs.Fmt.{decimal}
 use Rattle.bq_insn.specs.declared.TheConstants.{SLOTS}
 use Rattle.bq_bpf.specs.declared.shape.MapShape.{MapShape}
-use Rattle.bq_bpf.specs.Hooks.{hook_word, version_number}
+use Rattle.bq_hooks.specs.Hooks.{hook_word, version_number}
 use Rattle.bq_program.specs.declared.policy_source.PolicySource.{PolicySource}
 use Rattle.bq_program.specs.MarkLines.{more_maps}
 use Rattle.bq_explain.specs.declared.verdict.Verdict.{Verdict}

@@ -9,10 +9,10 @@ use Rattle.bq_graph.specs.Paths.{IsGreatest, PathOut}
 use Rattle.bq_bpf.specs.Safe.{Safe}
 use Rattle.bq_load.specs.declared.fault.LoadFault.TheVariants as load
 use Rattle.bq_load.specs.Naming.{fault_text}
-use Rattle.bq_bpf.specs.Hooks.{context_length_of}
+use Rattle.bq_hooks.specs.Hooks.{context_length_of}
 use Rattle.bq_verify.specs.Refusals.{IsRefusal}
 use Rattle.bq_verify.specs.Straight.{IsStraightProgram}
-use Rattle.bq_bpf.specs.declared.hook.Hook.{Hook}
+use Rattle.bq_hooks.specs.declared.hook.Hook.{Hook}
 use Rattle.bq_verify.specs.declared.cause.Cause.{Cause}
 use Rattle.bq_verify.specs.declared.refused.Refused.TheVariants as refused
 use Rattle.bq_words.specs.Refused.{refused_line}

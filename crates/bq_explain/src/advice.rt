@@ -2,10 +2,8 @@
 use crate::graph_fault::GraphFault;
 use crate::refusal::Finding;
 use crate::trail::Trail;
-use bq_bpf::{
-    Hook, Version, context_length, with_counters, with_helper, with_helpers, with_longer_context,
-    with_stack_size,
-};
+use bq_bpf::{with_counters, with_helper, with_helpers, with_stack_size};
+use bq_hooks::{Hook, Version, context_length, with_longer_context};
 use bq_insn::{Insn, Size};
 use bq_needs::{Access, Argument, Lack, Need, Pointer, Registers};
 use bq_program::PolicySource;

@@ -4,7 +4,7 @@ ghost use Rattle.std.specs.String.{string_bytes};
 ghost use Rattle.bq_explain.specs.Verdicts.{IsSafePolicy, IsVerdict, is_accepted, verdict_line};
 
 use crate::limits::Limits;
-use bq_bpf::Hook;
+use bq_hooks::Hook;
 use bq_load::LoadFault;
 use bq_program::{PolicySource, accepted_line, fault_text};
 use bq_verify::{Cause, Program, Refused, verify};

@@ -13,3 +13,4 @@ pub mod ShownLemmas
 pub mod PermittedLemmas
 pub mod WorkedLemmas
 pub mod LeastPlaceLemmas
+pub mod HookLemmas

@@ -4,3 +4,4 @@ pub mod Permitted
 pub mod Settled
 pub mod Laws
 pub mod PlaceLaw
+pub mod Hooks

@@ -1,9 +1,10 @@
-//! What a policy is shown, which of its answers are permitted, and what is chosen where none is.
+//! The hooks: what a policy is shown at each, which of its answers are permitted, and what is chosen where none is.
 //! Promises the exact bytes of each hook's context, and that each choice is the policy's where permitted, else the
-//! discipline's own. Stands on the tasks and queues of bq_disc.
+//! discipline's own. Stands on the tasks and queues of bq_disc; the verifier and images take the names of hooks from here.
 #![tactic(auto)]
 
 mod fields;
+pub mod hook;
 pub mod laws;
 pub mod loads;
 pub mod own_choice;
@@ -13,6 +14,7 @@ pub mod pull;
 pub mod settled;
 
 pub use fields::NOBODY;
+pub use hook::{Hook, Version, context_length};
 pub use loads::Loads;
 pub use own_choice::own_place;
 pub use place::{PLACE_LENGTH, Place, WIDE_PLACE_LENGTH, low_bits, place_ctx, wide_place_ctx};

@@ -4,8 +4,8 @@ use Rattle.std.specs.List.{list_all, starts_with}
 use Rattle.std.specs.Str.{bytes_eq}
 use Rattle.bq_words.specs.Words.{words}
 use Rattle.bq_parts.specs.declared.event.Event.TheVariants.{Admit, Retire, Draw, Install, BeginWake, EndWake, Drain, Tick, Block, Pull}
-use Rattle.bq_bpf.specs.Hooks.{hook_of}
-use Rattle.bq_bpf.specs.declared.hook.Hook.{Hook}
+use Rattle.bq_hooks.specs.Hooks.{hook_of}
+use Rattle.bq_hooks.specs.declared.hook.Hook.{Hook}
 use Rattle.bq_lines.specs.Bytes.{is_allowed}
 use Rattle.bq_lines.specs.Numbers.{decimal_of, processor_of, task_of, mask_of, nice_of}
 use Rattle.bq_words.specs.declared.processor_count.ProcessorCount.{ProcessorCount}

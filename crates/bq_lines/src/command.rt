@@ -1,7 +1,7 @@
 //! What the lines of a trace may ask.
 
 use crate::image::HexWord;
-use bq_bpf::Hook;
+use bq_hooks::Hook;
 use bq_parts::Event;
 use bq_words::{ProcessorCount, Rule};
 

@@ -10,7 +10,7 @@ use crate::image::HexWord;
 use crate::keyword::Keyword;
 use crate::numbers;
 use crate::words::{end_of_words, four_words, is_allowed_line, only_word, three_words, two_words};
-use bq_bpf::Hook;
+use bq_hooks::Hook;
 use bq_parts::Event;
 use bq_words::{ProcessorCount, Rule, next_word};
 

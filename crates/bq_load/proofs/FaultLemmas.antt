@@ -10,11 +10,11 @@ use Rattle.std.proofs.lemmas.Slice.Eq.{bytes_eq-Decides}
 use Rattle.byteorder.specs.Endian.{little_number}
 use Rattle.bq_insn.specs.declared.fault.Cause.TheVariants.{Length, Opcode, Register, Field, Offset, Imm, WideCut}
 use Rattle.bq_bpf.specs.declared.shape.MapShape.{MapShape}
-use Rattle.bq_bpf.specs.declared.hook.Hook.{Hook}
-use Rattle.bq_bpf.specs.declared.hook.Hook.TheVariants.{Place, Preempt, Pull}
-use Rattle.bq_bpf.specs.declared.hook.Version.{Version}
-use Rattle.bq_bpf.specs.declared.hook.Version.TheVariants.{First, Second}
-use Rattle.bq_bpf.specs.Hooks.{version_number}
+use Rattle.bq_hooks.specs.declared.hook.Hook.{Hook}
+use Rattle.bq_hooks.specs.declared.hook.Hook.TheVariants.{Place, Preempt, Pull}
+use Rattle.bq_hooks.specs.declared.hook.Version.{Version}
+use Rattle.bq_hooks.specs.declared.hook.Version.TheVariants.{First, Second}
+use Rattle.bq_hooks.specs.Hooks.{version_number}
 use Rattle.bq_load.specs.declared.fault.LoadFault.{LoadFault}
 use Rattle.bq_load.specs.declared.fault.LoadFault.TheVariants as fault
 use Rattle.bq_load.specs.Layout.{magic, hook_byte, shape_bytes, shapes_bytes, opening, Header, header_bytes, IsHeader}

@@ -13,7 +13,7 @@ use Rattle.bq_insn.proofs.UniqueLemmas as insn
 use Rattle.bq_insn.proofs.LengthLemmas as lengths
 use Rattle.bq_bpf.specs.declared.shape.MapShape.{MapShape}
 use Rattle.bq_verify.specs.Accepted.{Accepted}
-use Rattle.bq_bpf.specs.Hooks.{context_length_of}
+use Rattle.bq_hooks.specs.Hooks.{context_length_of}
 use Rattle.bq_graph.specs.Faults.{IsFaultless}
 use Rattle.bq_graph.specs.Paths.{IsGreatest, PathOut}
 use Rattle.bq_bpf.specs.Safe.{Safe}

@@ -29,8 +29,8 @@ use Rattle.bq_load.specs.Reading.{frame_at}
 use Rattle.bq_load.proofs.FaultLemmas.{fault_again}
 use Rattle.bq_load.proofs.LawLemmas.{framed_does_not_fail, one_image}
 use Rattle.bq_load.proofs.UniqueLemmas.{one_frame}
-use Rattle.bq_bpf.specs.declared.hook.Hook.{Hook}
-use Rattle.bq_bpf.specs.declared.hook.Version.{Version}
+use Rattle.bq_hooks.specs.declared.hook.Hook.{Hook}
+use Rattle.bq_hooks.specs.declared.hook.Version.{Version}
 use Rattle.bq_bpf.specs.declared.shape.MapShape.{MapShape}
 
 -- the fault is one of header and length: reading stops there

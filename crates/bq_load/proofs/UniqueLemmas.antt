@@ -6,8 +6,8 @@ use Rattle.std.proofs.lemmas.Bool.{le-ltb}
 use Rattle.std.proofs.lemmas.List.Concat.{flat_map-cons}
 use Rattle.bq_bpf.specs.declared.shape.MapShape.{MapShape}
 use Rattle.bq_bpf.specs.Limits.{IsShape}
-use Rattle.bq_bpf.specs.declared.hook.Hook.{Hook}
-use Rattle.bq_bpf.specs.declared.hook.Version.{Version}
+use Rattle.bq_hooks.specs.declared.hook.Hook.{Hook}
+use Rattle.bq_hooks.specs.declared.hook.Version.{Version}
 use Rattle.bq_load.specs.declared.fault.LoadFault.{LoadFault}
 use Rattle.bq_load.specs.Layout.{shape_bytes, shapes_bytes, Header, IsFramed}
 use Rattle.bq_load.specs.Reading.{◌>>=◌, Spelled, header_at, ended, frame_at}

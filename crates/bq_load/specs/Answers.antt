@@ -8,10 +8,10 @@ use Rattle.bq_insn.specs.Slots.{spread}
 use Rattle.bq_insn.specs.Laws.{AllFit}
 use Rattle.bq_bpf.specs.declared.shape.MapShape.{MapShape}
 use Rattle.bq_verify.specs.Accepted.{Accepted, IsAccepted}
-use Rattle.bq_bpf.specs.Hooks.{context_length_of}
+use Rattle.bq_hooks.specs.Hooks.{context_length_of}
 use Rattle.bq_verify.specs.Refusals.{IsRefusal}
-use Rattle.bq_bpf.specs.declared.hook.Hook.{Hook}
-use Rattle.bq_bpf.specs.declared.hook.Version.{Version}
+use Rattle.bq_hooks.specs.declared.hook.Hook.{Hook}
+use Rattle.bq_hooks.specs.declared.hook.Version.{Version}
 use Rattle.bq_verify.specs.declared.refused.Refused.{Refused}
 use Rattle.bq_verify.specs.declared.refused.Refused.TheVariants as refused
 use Rattle.bq_load.specs.declared.fault.LoadFault.{LoadFault}

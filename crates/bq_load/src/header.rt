@@ -5,8 +5,9 @@ ghost use Rattle.bq_load.specs.Reading.{Gives, magic_at, version_at, hook_at, nu
 ghost use Rattle.bq_load.specs.Headers.{spelled_of};
 
 use crate::fault::LoadFault;
+use bq_bpf::MapShape;
 use bq_bpf::shape::MAPS;
-use bq_bpf::{Hook, MapShape, Version};
+use bq_hooks::{Hook, Version};
 use byteorder::{ByteOrder, LittleEndian};
 
 /// The header of an image.

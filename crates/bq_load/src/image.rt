@@ -4,7 +4,8 @@ ghost use Rattle.bq_load.specs.Answers.{Spells, IsUnread};
 
 use crate::fault::LoadFault;
 use crate::framing::{parts, shapes_in};
-use bq_bpf::{Hook, MapShape, Version};
+use bq_bpf::MapShape;
+use bq_hooks::{Hook, Version};
 use std::alloc::Global;
 
 /// An image: a program's bytes, the choice that it makes, and the shapes of its maps.

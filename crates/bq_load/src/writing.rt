@@ -8,7 +8,8 @@ ghost use Rattle.bq_load.specs.Layout.{hook_byte, shape_bytes, shapes_bytes, ope
 ghost use Rattle.bq_load.specs.Writing.{written};
 
 use crate::image::Image;
-use bq_bpf::{Hook, MapShape, Version};
+use bq_bpf::MapShape;
+use bq_hooks::{Hook, Version};
 use byteorder::{ByteOrder, LittleEndian};
 use std::alloc::AllocError;
 

@@ -11,10 +11,10 @@ ghost use Rattle.bq_machine.specs.Loading.{IsPolicyOf, IsLoadRefused};
 
 use crate::clock::Clock;
 use crate::locks::Machine;
-use bq_bpf::Hook;
 use bq_cells::{Record, record_room};
 use bq_disc::RunQueue;
 use bq_history::Receipt;
+use bq_hooks::Hook;
 use bq_load::{LoadFault, load};
 use bq_parts::{Event, Refusal};
 use bq_policies::Policy;

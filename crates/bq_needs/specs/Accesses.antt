@@ -4,7 +4,7 @@ use Rattle.std.specs.Fmt.{decimal}
 use Rattle.bq_bpf.specs.Steps.{address_of}
 use Rattle.bq_ranges.specs.Within.{Within}
 use Rattle.bq_ranges.specs.declared.range.Range.{Range}
-use Rattle.bq_bpf.specs.Hooks.{context_length_of, hook_word, version_number}
+use Rattle.bq_hooks.specs.Hooks.{context_length_of, hook_word, version_number}
 use Rattle.bq_bpf.specs.Memory.{stack_size}
 use Rattle.bq_states.specs.AbstractStates.{bound_of, size_of_shape}
 use Rattle.bq_states.specs.declared.abstract_state.ValueKind.{ValueKind}

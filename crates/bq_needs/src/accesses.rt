@@ -5,8 +5,9 @@ ghost use Rattle.bq_needs.specs.Accesses.{AreSet, Follows, GoesBeyond, IsMoved, 
 use crate::known::{kind_text, known_text};
 use crate::operands::Access;
 use bq_bpf::addresses::STACK_SIZE;
+use bq_bpf::with_stack_size;
 use bq_bpf::words::address;
-use bq_bpf::{context_length, with_stack_size};
+use bq_hooks::context_length;
 use bq_program::PolicySource;
 use bq_ranges::Range;
 use bq_states::abstract_state::{AbstractState, AbstractValue, ValueKind};

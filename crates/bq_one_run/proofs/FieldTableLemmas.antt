@@ -4,7 +4,7 @@ use Rattle.std.specs.Option.{option_map_or}
 use Rattle.std.specs.Str.{bytes_eq}
 use Rattle.bq_disc.specs.Tasks.{Task, id_of}
 use Rattle.bq_hooks.specs.Contexts.{PlaceFacts, PreemptFacts, PullFacts, place_header, place_bytes_below, preempt_bytes, pull_header, pull_bytes, task_bytes, u32_bytes, u64_bytes, as_number, nobody, or_nobody}
-use Rattle.bq_bpf.specs.declared.hook.Hook.TheVariants.{Place, Preempt, Pull}
+use Rattle.bq_hooks.specs.declared.hook.Hook.TheVariants.{Place, Preempt, Pull}
 use Rattle.bq_one_run.specs.declared.fields.FieldWidth.{FieldWidth}
 use Rattle.bq_one_run.specs.Fields.{NamedField, bytes_in, fields_of, once, row_named, several}
 use Rattle.bq_one_run.specs.FieldsLaw.{Holds, Meaning, each, meaning_named, one, place_meanings, preempt_meanings, pull_meanings}

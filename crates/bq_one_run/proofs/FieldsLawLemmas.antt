@@ -1,11 +1,11 @@
 -- The field of a name holds what the name says.
 use Rattle.std.proofs.Common.{◌≡◌, ℕ, ◌+◌, ◌*◌, List, length, Option, Some, inl, inr, refl, sym, subst, arith}
 use Rattle.bq_hooks.proofs.LengthLemmas.{length-place_bytes_first, length-place_bytes_second, length-preempt_bytes, length-pull_bytes}
-use Rattle.bq_bpf.specs.Hooks.{context_length_of}
-use Rattle.bq_bpf.specs.declared.hook.Hook.{Hook}
-use Rattle.bq_bpf.specs.declared.hook.Hook.TheVariants.{Place, Preempt, Pull}
-use Rattle.bq_bpf.specs.declared.hook.Version.{Version}
-use Rattle.bq_bpf.specs.declared.hook.Version.TheVariants.{First, Second}
+use Rattle.bq_hooks.specs.Hooks.{context_length_of}
+use Rattle.bq_hooks.specs.declared.hook.Hook.{Hook}
+use Rattle.bq_hooks.specs.declared.hook.Hook.TheVariants.{Place, Preempt, Pull}
+use Rattle.bq_hooks.specs.declared.hook.Version.{Version}
+use Rattle.bq_hooks.specs.declared.hook.Version.TheVariants.{First, Second}
 use Rattle.bq_one_run.specs.declared.fields.Field.{Field}
 use Rattle.bq_one_run.specs.Fields.{GoesBy, IsField, NamedField, fields_of, row_named}
 use Rattle.bq_one_run.specs.FieldsLaw.{FactsOf, FieldsAreAsNamed, Holds, Meaning, Says, context_of, meaning_named, meanings_of}

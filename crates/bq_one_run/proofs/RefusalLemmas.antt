@@ -9,8 +9,8 @@ use Rattle.bq_maps.specs.Arrays.{Arrays, HasEntry, entries_in, first_of, value_s
 use Rattle.bq_maps.proofs.ShapeLemmas.{length-overwrite}
 use Rattle.bq_bpf.specs.Memory.{overwrite}
 use Rattle.bq_bpf.specs.declared.shape.MapShape.{MapShape}
-use Rattle.bq_bpf.specs.declared.hook.Hook.{Hook}
-use Rattle.bq_bpf.specs.declared.hook.Version.{Version}
+use Rattle.bq_hooks.specs.declared.hook.Hook.{Hook}
+use Rattle.bq_hooks.specs.declared.hook.Version.{Version}
 use Rattle.bq_console.specs.declared.fault.WordsFault.{WordsFault}
 use Rattle.bq_one_run.specs.declared.fields.Field.{Field}
 use Rattle.bq_one_run.specs.declared.fields.FieldWidth.{FieldWidth}

@@ -5,10 +5,10 @@ use Rattle.std.specs.Int.{bytes_low_first}
 use Rattle.std.specs.List.{find}
 use Rattle.std.specs.Str.{bytes_eq}
 use Rattle.bq_bpf.specs.Memory.{overwrite}
-use Rattle.bq_bpf.specs.Hooks.{context_length_of}
-use Rattle.bq_bpf.specs.declared.hook.Hook.{Hook}
-use Rattle.bq_bpf.specs.declared.hook.Hook.TheVariants.{Place, Preempt, Pull}
-use Rattle.bq_bpf.specs.declared.hook.Version.{Version}
+use Rattle.bq_hooks.specs.Hooks.{context_length_of}
+use Rattle.bq_hooks.specs.declared.hook.Hook.{Hook}
+use Rattle.bq_hooks.specs.declared.hook.Hook.TheVariants.{Place, Preempt, Pull}
+use Rattle.bq_hooks.specs.declared.hook.Version.{Version}
 use Rattle.bq_one_run.specs.declared.fields.Field.{Field}
 use Rattle.bq_one_run.specs.declared.fields.FieldWidth.{FieldWidth}
 use Rattle.bq_one_run.specs.declared.fields.FieldWidth.TheVariants.{Four, Eight}

@@ -6,11 +6,11 @@ use Rattle.std.specs.Str.{bytes_eq}
 use Rattle.bq_console.specs.Words.{IsCut, IsNumber}
 use Rattle.bq_disc.specs.Tasks.{Task, id_of}
 use Rattle.bq_hooks.specs.Contexts.{PlaceFacts, PreemptFacts, PullFacts, place_bytes_first, place_bytes_second, preempt_bytes, pull_bytes, as_number, if_any_shown, if_shown, or_nobody, u32_bytes, u64_bytes}
-use Rattle.bq_bpf.specs.Hooks.{context_length_of}
-use Rattle.bq_bpf.specs.declared.hook.Hook.{Hook}
-use Rattle.bq_bpf.specs.declared.hook.Hook.TheVariants.{Place, Preempt, Pull}
-use Rattle.bq_bpf.specs.declared.hook.Version.{Version}
-use Rattle.bq_bpf.specs.declared.hook.Version.TheVariants.{First, Second}
+use Rattle.bq_hooks.specs.Hooks.{context_length_of}
+use Rattle.bq_hooks.specs.declared.hook.Hook.{Hook}
+use Rattle.bq_hooks.specs.declared.hook.Hook.TheVariants.{Place, Preempt, Pull}
+use Rattle.bq_hooks.specs.declared.hook.Version.{Version}
+use Rattle.bq_hooks.specs.declared.hook.Version.TheVariants.{First, Second}
 use Rattle.bq_one_run.specs.declared.fields.Field.{Field}
 use Rattle.bq_one_run.specs.declared.fields.FieldWidth.{FieldWidth}
 use Rattle.bq_one_run.specs.Fields.{IsField, bytes_in}

@@ -5,8 +5,8 @@ use Rattle.byteorder.specs.Endian.{little_number}
 use Rattle.bq_hooks.specs.Contexts.{nobody}
 use Rattle.bq_disc.specs.Masks.{allows}
 use Rattle.bq_hooks.specs.Permitted.{may_preempt}
-use Rattle.bq_bpf.specs.declared.hook.Hook.{Hook}
-use Rattle.bq_bpf.specs.declared.hook.Hook.TheVariants.{Place, Preempt, Pull}
+use Rattle.bq_hooks.specs.declared.hook.Hook.{Hook}
+use Rattle.bq_hooks.specs.declared.hook.Hook.TheVariants.{Place, Preempt, Pull}
 use Rattle.bq_one_run.specs.declared.permitted.Word.{Word}
 use Rattle.bq_one_run.specs.declared.permitted.Word.TheVariants.{Permitted, NotPermitted, NotShown}
 

@@ -5,7 +5,7 @@ use Rattle.bq_disc.specs.Queues.{HasDistinctIds, HasSmallIds}
 use Rattle.bq_disc.specs.Movable.{movable_to}
 use Rattle.bq_hooks.specs.Contexts.{PlaceFacts, PreemptFacts, PullFacts, place_bytes_below, preempt_bytes, pull_bytes}
 use Rattle.bq_hooks.specs.Permitted.{may_place, may_preempt, may_pull}
-use Rattle.bq_bpf.specs.declared.hook.Hook.TheVariants.{Place, Preempt, Pull}
+use Rattle.bq_hooks.specs.declared.hook.Hook.TheVariants.{Place, Preempt, Pull}
 use Rattle.bq_one_run.specs.declared.permitted.Word.{Word}
 use Rattle.bq_one_run.specs.declared.permitted.Word.TheVariants.{Permitted, NotPermitted, NotShown}
 use Rattle.bq_one_run.specs.Permitting.{word_of}

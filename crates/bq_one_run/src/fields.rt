@@ -6,8 +6,8 @@ ghost use Rattle.std.specs.Str.{bytes_eq};
 ghost use Rattle.bq_one_run.specs.Fields.{GoesBy, GoesByName, HasNumber, IsField, IsNumbered, IsPasted, IsPut, IsSingle, bytes_in, fields_of, row_named, row_of};
 ghost use Rattle.bq_one_run.specs.declared.fields.Field.{Field as OfField};
 
-use bq_bpf::{Hook, Version, context_length};
 use bq_console::words::{cut, decimal};
+use bq_hooks::{Hook, Version, context_length};
 
 /// How many bytes a field has: four, or eight.
 #[derive(Clone, Copy)]

@@ -2,13 +2,14 @@
 ghost use Rattle.std.specs.Prelude.{◌≡◌, ◌≢◌, List, ℕ, IfErr, IfNone, IfOk, IfSome, length, replicate};
 ghost use Rattle.std.specs.Result.{OnErr, OnOk};
 ghost use Rattle.hex.specs.Hex.{decode_of};
-ghost use Rattle.bq_bpf.specs.Hooks.{context_length_of};
+ghost use Rattle.bq_hooks.specs.Hooks.{context_length_of};
 ghost use Rattle.bq_bpf.specs.declared.board.TheConstants.{COUNTERS};
 ghost use Rattle.bq_console.specs.Words.{SaysNone};
 ghost use Rattle.bq_one_run.specs.Naming.{IsClean, IsContextNamed};
 
-use bq_bpf::{Plain, context_length};
+use bq_bpf::Plain;
 use bq_console::{WordsFault, words_fault};
+use bq_hooks::context_length;
 use bq_interp::Env;
 use bq_maps::Maps;
 use bq_verify::Verified;

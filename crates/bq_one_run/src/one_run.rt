@@ -1,13 +1,14 @@
 //! Runs, and what came of them.
 ghost use Rattle.std.specs.Prelude.{◌≡◌, ◌<◌, ◌↔◌, [], length, IfNone, IfOk, IfSome, IsTrue};
 ghost use Rattle.bq_interp.specs.Progress.{setting_of};
-ghost use Rattle.bq_bpf.specs.Hooks.{context_length_of};
+ghost use Rattle.bq_hooks.specs.Hooks.{context_length_of};
 ghost use Rattle.bq_interp.specs.Snapshots.{AreSnapshots};
 ghost use Rattle.bq_bpf.specs.Runs.{start};
 ghost use Rattle.bq_one_run.specs.Runs.{AreRuns, Fits, IsRun, kept_in};
 
 use crate::inputs::Inputs;
-use bq_bpf::{context_length, same_shapes};
+use bq_bpf::same_shapes;
+use bq_hooks::context_length;
 use bq_interp::{Ran, Snapshot, Stack, run, run_traced};
 use bq_verify::Verified;
 use std::alloc::AllocError;

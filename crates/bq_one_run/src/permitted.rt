@@ -2,15 +2,14 @@
 ghost use Rattle.std.specs.Prelude.{◌≡◌, ◌≤◌, ◌+◌, length, slice_range};
 ghost use Rattle.byteorder.specs.Endian.{little_number};
 ghost use Rattle.bq_one_run.specs.Permitting.{hides_tasks, number_at, place_permits, place_word, preempt_word, pull_word, shows_task, word_of};
-ghost use Rattle.bq_bpf.specs.Hooks.{context_length_of};
-ghost use Rattle.bq_bpf.specs.declared.hook.Version.{Version as OfVersion};
+ghost use Rattle.bq_hooks.specs.Hooks.{context_length_of};
+ghost use Rattle.bq_hooks.specs.declared.hook.Version.{Version as OfVersion};
 
-use bq_bpf::Hook;
 use bq_disc::limits::PROCESSORS;
 use bq_disc::mask::allows;
-use bq_hooks::PULL_LENGTH;
 use bq_hooks::place::{MASK_AT, PROCESSORS_AT};
 use bq_hooks::pull::{MOVABLE_AT, SHOWN_AT, TASK_LENGTH, TASKS_AT};
+use bq_hooks::{Hook, PULL_LENGTH};
 use byteorder::{ByteOrder, LittleEndian};
 
 /// The answer of a pull policy that takes no task.

@@ -7,10 +7,9 @@ ghost use Rattle.bq_one_run.specs.Naming.{IsFieldWord, SetsField, SetsFields, Te
 use crate::faults::refused;
 use crate::fields::{field_named, field_names, put};
 use crate::inputs::Inputs;
-use bq_bpf::{Hook, Version};
 use bq_console::words::{cut, value};
 use bq_console::{WordsFault, words_fault};
-use bq_hooks::NOBODY;
+use bq_hooks::{Hook, NOBODY, Version};
 use std::alloc::Global;
 
 impl Inputs {

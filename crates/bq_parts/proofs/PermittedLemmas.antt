@@ -9,7 +9,7 @@ use Rattle.bq_disc.specs.Tasks.{Task, has_id, with_id, first_by, former, id_of}
 use Rattle.bq_disc.specs.Queues.{can_use}
 use Rattle.bq_disc.specs.Pulls.{movable, pulled_before}
 use Rattle.bq_disc.specs.Movable.{is_movable_to}
-use Rattle.bq_bpf.specs.declared.hook.Version.{Version}
+use Rattle.bq_hooks.specs.declared.hook.Version.{Version}
 use Rattle.bq_verify.specs.Accepted.{Accepted}
 use Rattle.bq_policies.specs.Attachments.{Attached}
 use Rattle.bq_hooks.specs.Contexts.{nobody, or_nobody}

@@ -6,8 +6,8 @@ use Rattle.bq_disc.specs.Movable.{movable_to}
 use Rattle.bq_disc.specs.Pulls.{pull_of}
 use Rattle.bq_disc.specs.OneProcessor.{decided, own_preempt}
 use Rattle.bq_bpf.specs.declared.board.Call.{Call as Asked}
-use Rattle.bq_bpf.specs.declared.hook.Version.{Version}
-use Rattle.bq_bpf.specs.declared.hook.Version.TheVariants.{First, Second}
+use Rattle.bq_hooks.specs.declared.hook.Version.{Version}
+use Rattle.bq_hooks.specs.declared.hook.Version.TheVariants.{First, Second}
 use Rattle.bq_verify.specs.Accepted.{Accepted}
 use Rattle.bq_bpf.specs.Memory.{HaveShapes}
 use Rattle.bq_policies.specs.Answers.{Answers, IsWithin}

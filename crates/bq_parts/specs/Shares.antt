@@ -14,7 +14,7 @@ use Rattle.bq_parts.specs.Processors.{Processor}
 use Rattle.bq_parts.specs.declared.carried.Carried.{Carried}
 use Rattle.bq_parts.specs.declared.wakes.Placement.{Placement}
 use Rattle.bq_parts.specs.Refusals.{is_absent, retire_refusal, begin_refusal, install_refusal}
-use Rattle.bq_bpf.specs.declared.hook.Hook.{Hook}
+use Rattle.bq_hooks.specs.declared.hook.Hook.{Hook}
 use Rattle.bq_policies.specs.Attachments.{Attached, at_hook, with_attached}
 use Rattle.bq_policies.specs.Standing.{MayStand}
 use Rattle.bq_hooks.specs.Permitted.{task_numbered}

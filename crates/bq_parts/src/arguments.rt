@@ -3,9 +3,8 @@ ghost use Rattle.std.specs.Prelude.{◌≡◌, ◌<◌, ◌≤◌, Some, None};
 ghost use Rattle.bq_parts.specs.Refusals.{argument_refusal};
 
 use crate::{Event, Refusal};
-use bq_bpf::Hook;
 use bq_disc::limits::{GREATEST_SLICE, LEAST_SLICE, TASKS};
-use bq_hooks::low_bits;
+use bq_hooks::{Hook, low_bits};
 use bq_policies::Policy;
 use bq_weights::is_nice;
 

@@ -13,12 +13,12 @@ ghost use Rattle.bq_parts.specs.Processors.{HasEachOnce, HasLobbyIds, size_of};
 ghost use Rattle.bq_parts.specs.Choices.{policies, place_bytes, SettlesPlace, SettlesPreempt, SettlesPull, decided_by};
 
 use crate::{Carried, Cpu, Decision};
-use bq_bpf::{Board, Hook, Version};
+use bq_bpf::Board;
 use bq_disc::RunQueue;
 use bq_hooks::place::{PLACE_LENGTH, Place, WIDE_PLACE_LENGTH, place_ctx, wide_place_ctx};
 use bq_hooks::preempt::{PREEMPT_LENGTH, Preempt, preempt_ctx};
 use bq_hooks::pull::{PULL_LENGTH, Pull, pull_ctx};
-use bq_hooks::{By, Choice, own_place, settle_place, settle_preempt, settle_pull};
+use bq_hooks::{By, Choice, Hook, Version, own_place, settle_place, settle_preempt, settle_pull};
 use bq_interp::{Done, Env};
 use bq_policies::Scratch;
 

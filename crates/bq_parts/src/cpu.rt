@@ -14,10 +14,10 @@ ghost use Rattle.bq_parts.specs.Processors.{opening, load_of, size_of, count_of,
 ghost use Rattle.bq_parts.specs.Moves.{taken_from, without_task, with_pulled, started_if_idle};
 
 use crate::{Carried, Inbox, Unlinked};
-use bq_bpf::Hook;
 use bq_disc::clock::LATEST;
 use bq_disc::node::{self, Link};
 use bq_disc::{Entry, Node, RunQueue};
+use bq_hooks::Hook;
 use bq_interp::Done;
 use bq_policies::{Hooks, Installed};
 use std::marker::Model;

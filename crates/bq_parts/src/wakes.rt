@@ -8,9 +8,9 @@ ghost use Rattle.bq_parts.specs.Choices.{policies};
 ghost use Rattle.bq_parts.specs.Shares.{Begins, Installs, Places};
 
 use crate::{Carried, Cpu, Lobby, Refusal, Reply, Unlinked};
-use bq_bpf::{Board, Hook};
+use bq_bpf::Board;
 use bq_disc::RunQueue;
-use bq_hooks::{By, Loads};
+use bq_hooks::{By, Hook, Loads};
 use bq_policies::{Installed, Scratch};
 
 /// A task that left a hand, and where it goes: to a processor that a policy chose in so many steps, or the discipline.

@@ -10,7 +10,7 @@ use Rattle.bq_disc.specs.OneProcessor.{Running, decided, own_preempt, ticked}
 use Rattle.bq_cfs.specs.Cfs.{cfs}
 use Rattle.bq_cfs.specs.Spread.{passed, departed, Block as BlockAt}
 use Rattle.bq_bpf.specs.declared.board.Call.{Call as Asked}
-use Rattle.bq_bpf.specs.declared.hook.Version.{Version}
+use Rattle.bq_hooks.specs.declared.hook.Version.{Version}
 use Rattle.bq_verify.specs.Accepted.{Accepted}
 use Rattle.bq_policies.specs.Attachments.{Attached}
 use Rattle.bq_hooks.specs.declared.settled.By.TheVariants as who

@@ -3,7 +3,7 @@ use Rattle.std.proofs.Common.{◌≡◌, ℕ, ◌<◌, ◌^◌, true, List, leng
 use Rattle.std.specs.Prelude.{IfSome, is_some, slice_index}
 use Rattle.std.proofs.lemmas.Bool.{false≢true}
 use Rattle.bq_bpf.specs.declared.board.Call.{Call as Asked}
-use Rattle.bq_bpf.specs.Hooks.{context_length_of}
+use Rattle.bq_hooks.specs.Hooks.{context_length_of}
 use Rattle.bq_bpf.specs.Memory.{HaveShapes}
 use Rattle.bq_interp.specs.declared.runs.Done.{Done}
 use Rattle.bq_verify.specs.Accepted.{Accepted}

@@ -1,9 +1,9 @@
 -- What may stand at a hook: nothing, or a policy that was accepted for it, with maps of its shapes.
 use Rattle.std.specs.Prelude.{◌≡◌, ℕ, ◌^◌, ◌<◌, List, length, slice_index, Option, Some, None}
 use Rattle.bq_bpf.specs.Memory.{HaveShapes}
-use Rattle.bq_bpf.specs.declared.hook.Hook.{Hook}
+use Rattle.bq_hooks.specs.declared.hook.Hook.{Hook}
 use Rattle.bq_verify.specs.Accepted.{Accepted, IsAccepted}
-use Rattle.bq_bpf.specs.Hooks.{context_length_of}
+use Rattle.bq_hooks.specs.Hooks.{context_length_of}
 use Rattle.bq_bpf.specs.declared.board.Call.{Call as Asked}
 use Rattle.bq_interp.specs.declared.runs.Done.{Done}
 use Rattle.bq_policies.specs.Answers.{Answers, IsWithin}

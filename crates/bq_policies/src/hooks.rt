@@ -2,14 +2,15 @@
 ghost use Rattle.std.specs.Prelude.{◌≡◌, true, length, IfSome, is_some};
 ghost use Rattle.std.specs.Option.{option_map};
 ghost use Rattle.bq_bpf.specs.Counters.{Through};
-ghost use Rattle.bq_bpf.specs.Hooks.{context_length_of};
+ghost use Rattle.bq_hooks.specs.Hooks.{context_length_of};
 ghost use Rattle.bq_bpf.specs.Memory.{HaveShapes};
 ghost use Rattle.bq_policies.specs.Answers.{Answers, IsWithin};
 ghost use Rattle.bq_policies.specs.Standing.{WasAnswered};
 ghost use Rattle.bq_policies.specs.Attachments.{none_attached, at_hook, with_attached, IsFor};
 
 use crate::{Installed, Scratch};
-use bq_bpf::{Board, Hook, Version};
+use bq_bpf::Board;
+use bq_hooks::{Hook, Version};
 use bq_interp::{Done, Env};
 use std::marker::Model;
 
@@ -23,7 +24,7 @@ pub struct Hooks {
 
 impl Model for Hooks {
     ghost use Rattle.bq_policies.specs.Attachments.{Attachments, IsFor};
-    ghost use Rattle.bq_bpf.specs.declared.hook.Hook.TheVariants.{Place, Preempt, Pull};
+    ghost use Rattle.bq_hooks.specs.declared.hook.Hook.TheVariants.{Place, Preempt, Pull};
 
     ghost Value = { Attachments };
 

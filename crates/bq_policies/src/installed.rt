@@ -2,14 +2,15 @@
 ghost use Rattle.std.specs.Prelude.{◌≡◌, true, length, Some, None, IfErr, IfOk, IfSome, is_some};
 ghost use Rattle.std.specs.Option.{option_map};
 ghost use Rattle.bq_bpf.specs.Counters.{Through};
-ghost use Rattle.bq_bpf.specs.Hooks.{context_length_of};
+ghost use Rattle.bq_hooks.specs.Hooks.{context_length_of};
 ghost use Rattle.bq_bpf.specs.Memory.{HaveShapes};
 ghost use Rattle.bq_policies.specs.Answers.{Answers, IsWithin, fresh_maps};
 ghost use Rattle.bq_policies.specs.Standing.{IsEquipped, WasAnswered};
 ghost use Rattle.bq_policies.specs.Attachments.{nothing_attached};
 
 use crate::{Policy, Scratch};
-use bq_bpf::{Board, Version};
+use bq_bpf::Board;
+use bq_hooks::Version;
 use bq_interp::{Done, Env, run_into};
 use bq_maps::Maps;
 use std::alloc::{AllocError, Global};

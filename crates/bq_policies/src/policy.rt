@@ -3,7 +3,8 @@ ghost use Rattle.std.specs.Prelude.{◌≡◌, ◌↔◌, IfOk, IsTrue};
 ghost use Rattle.bq_policies.specs.Standing.{WasAccepted};
 
 use crate::same::same_slots;
-use bq_bpf::{Hook, Version, same_shapes};
+use bq_bpf::same_shapes;
+use bq_hooks::{Hook, Version};
 use bq_verify::Verified;
 use std::alloc::{AllocError, Global};
 use std::marker::Model;

@@ -5,7 +5,7 @@ use Rattle.bq_program.specs.declared.head.Head.{Head}
 use Rattle.bq_program.specs.Heads.{Names}
 use Rattle.bq_console.specs.Words.{SaysWord}
 use Rattle.bq_words.specs.Numbers.{number_of}
-use Rattle.bq_bpf.specs.Hooks.{hook_of, version_of}
+use Rattle.bq_hooks.specs.Hooks.{hook_of, version_of}
 use Rattle.bq_policy_commands.specs.declared.answered.Answered.{Answered}
 use Rattle.bq_policy_commands.specs.declared.answered.Answered.TheVariants.{Words}
 use Rattle.bq_policy_commands.specs.declared.words.PolicyWords.{PolicyWords}

@@ -4,7 +4,7 @@ ghost use Rattle.bq_policy_commands.specs.Noting.{IsAsmNote, IsNoteBeside, Tells
 
 use crate::asm_head::head_of;
 use crate::reasons::fault_reason;
-use bq_bpf::Version;
+use bq_hooks::Version;
 use bq_program::{FileKind, Head, Options, PolicyFault, PolicySource, kind_of, read_policy};
 use std::alloc::{AllocError, Global};
 

@@ -3,13 +3,14 @@ ghost use Rattle.std.specs.Prelude.{◌≡◌, IfErr, IfOk, Some};
 ghost use Rattle.bq_console.specs.Words.{SaysNone, SaysWord};
 ghost use Rattle.bq_policy_commands.specs.Saying.{SaysHead, option_bytes};
 ghost use Rattle.bq_program.specs.Heads.{Names};
-ghost use Rattle.bq_bpf.specs.Hooks.{hook_of, version_of};
+ghost use Rattle.bq_hooks.specs.Hooks.{hook_of, version_of};
 
 use crate::asm_options::maps_option_words;
 use crate::words::PolicyWords;
-use bq_bpf::hook::{NO_HOOK, NO_VERSION};
-use bq_bpf::{Hook, MapShape, Version};
+use bq_bpf::MapShape;
 use bq_console::{WordsFault, words_fault};
+use bq_hooks::hook::{NO_HOOK, NO_VERSION};
+use bq_hooks::{Hook, Version};
 use bq_program::{Head, shapes_of};
 use std::alloc::{AllocError, Global};
 

@@ -1,5 +1,6 @@
 //! What an image lacks, in words.
-use bq_bpf::{with_hooks, with_map_limits, with_slots, with_versions};
+use bq_bpf::{with_map_limits, with_slots};
+use bq_hooks::{with_hooks, with_versions};
 use bq_insn::fault::Cause as Spelling;
 use bq_load::LoadFault;
 

@@ -3,7 +3,7 @@ use Rattle.std.proofs.Common.{◌∙◌, ◌≡◌, ℕ, List, subst, sym}
 use Rattle.bq_insn.specs.declared.Insn.{Insn}
 use Rattle.bq_insn.specs.Slots.{spread}
 use Rattle.bq_bpf.specs.declared.shape.MapShape.{MapShape}
-use Rattle.bq_bpf.specs.Hooks.{context_length_of}
+use Rattle.bq_hooks.specs.Hooks.{context_length_of}
 use Rattle.bq_bpf.specs.Safe.{Safe}
 use Rattle.bq_graph.specs.Faults.{IsFaultless}
 use Rattle.bq_graph.specs.Paths.{IsGreatest, PathOut}

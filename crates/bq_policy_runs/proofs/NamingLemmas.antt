@@ -2,7 +2,7 @@
 use Rattle.std.proofs.Common.{◌≡◌, ℕ, List, length, replicate, Option, Some, None, inl, inr, sym, subst, ap, ◌∙◌, String, string_bytes}
 use Rattle.std.specs.declared.alloc.Global.{Global}
 use Rattle.std.proofs.lemmas.List.{length-replicate}
-use Rattle.bq_bpf.specs.Hooks.{context_length_of}
+use Rattle.bq_hooks.specs.Hooks.{context_length_of}
 use Rattle.bq_maps.specs.Arrays.{Arrays}
 use Rattle.bq_verify.specs.Accepted.{Accepted}
 use Rattle.bq_one_run.specs.declared.inputs.Inputs.{Inputs}

@@ -1,6 +1,6 @@
 //! `run` of a policy's file.
 ghost use Rattle.std.specs.Prelude.{◌≡◌, ◌++◌, [], IfOk, IsNone, is_some, length, map, string_bytes};
-ghost use Rattle.bq_bpf.specs.Hooks.{context_length_of};
+ghost use Rattle.bq_hooks.specs.Hooks.{context_length_of};
 ghost use Rattle.bq_one_run.specs.Changes.{calls_text, changes_text, with_all};
 ghost use Rattle.bq_one_run.specs.Runs.{Fits};
 ghost use Rattle.bq_policy_runs.specs.Running.{HasRun, RunsFile, RunsPolicy, RunsProgram, RunsTo, TellsRun, TellsVerdict, answer_line};

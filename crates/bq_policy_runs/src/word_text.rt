@@ -3,10 +3,10 @@ ghost use Rattle.std.specs.Prelude.{◌≡◌, ◌≢◌, ◌≤◌, length, IfO
 ghost use Rattle.bq_one_run.specs.Permitting.{word_of};
 ghost use Rattle.bq_one_run.specs.declared.permitted.Word.TheVariants.{NotPermitted, NotShown, Permitted};
 ghost use Rattle.bq_policy_runs.specs.Judging.{TellsWord};
-ghost use Rattle.bq_bpf.specs.Hooks.{context_length_of};
-ghost use Rattle.bq_bpf.specs.declared.hook.Version.{Version};
+ghost use Rattle.bq_hooks.specs.Hooks.{context_length_of};
+ghost use Rattle.bq_hooks.specs.declared.hook.Version.{Version};
 
-use bq_bpf::Hook;
+use bq_hooks::Hook;
 use bq_one_run::{PLACE_SHOWN, Word, place_shown, word_on};
 use std::alloc::{AllocError, Global};
 

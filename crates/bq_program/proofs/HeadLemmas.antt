@@ -9,7 +9,7 @@ use Rattle.bq_program.specs.declared.head.Head.{Head}
 use Rattle.bq_program.specs.declared.mark.Key.{Key}
 use Rattle.bq_program.specs.declared.mark.Key.TheVariants as key
 use Rattle.bq_program.specs.Marks.{are_known, key_word, mark_words, value_in, values}
-use Rattle.bq_bpf.specs.Hooks.{hook_of, version_of}
+use Rattle.bq_hooks.specs.Hooks.{hook_of, version_of}
 use Rattle.std.specs.Str.Lines.{lines}
 use Rattle.std.proofs.lemmas.List.{length-map, map-append}
 use Rattle.bq_program.specs.declared.fault.HeadFault.{HeadFault}

@@ -11,12 +11,12 @@ use Rattle.std.proofs.lemmas.List.{length-append}
 use Rattle.std.proofs.lemmas.List.Elements.{All-from_recursion}
 use Rattle.bq_bpf.specs.declared.shape.MapShape.{MapShape}
 use Rattle.bq_program.specs.ShapesText.{NamesShapes}
-use Rattle.bq_bpf.specs.Hooks.{hook_word}
-use Rattle.bq_bpf.specs.declared.hook.Hook.{Hook}
-use Rattle.bq_bpf.specs.declared.hook.Hook.TheVariants.{Place, Preempt, Pull}
-use Rattle.bq_bpf.specs.declared.hook.Version.{Version}
-use Rattle.bq_bpf.specs.declared.hook.Version.TheVariants.{First, Second}
-use Rattle.bq_bpf.proofs.HookLemmas.{hook_of-hook_word}
+use Rattle.bq_hooks.specs.Hooks.{hook_word}
+use Rattle.bq_hooks.specs.declared.hook.Hook.{Hook}
+use Rattle.bq_hooks.specs.declared.hook.Hook.TheVariants.{Place, Preempt, Pull}
+use Rattle.bq_hooks.specs.declared.hook.Version.{Version}
+use Rattle.bq_hooks.specs.declared.hook.Version.TheVariants.{First, Second}
+use Rattle.bq_hooks.proofs.HookLemmas.{hook_of-hook_word}
 use Rattle.bq_words.specs.Words.{is_space, words}
 use Rattle.bq_words.proofs.WordLemmas.{words-blank, words-word}
 use Rattle.bq_asm.specs.Lines.{Blank, line_said}

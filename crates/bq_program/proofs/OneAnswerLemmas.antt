@@ -12,8 +12,8 @@ use Rattle.bq_insn.proofs.LengthLemmas as lengths
 use Rattle.bq_asm.specs.Text.{listing_text}
 use Rattle.bq_asm.proofs.LawLemmas as asm
 use Rattle.bq_bpf.specs.declared.shape.MapShape.{MapShape}
-use Rattle.bq_bpf.specs.declared.hook.Hook.{Hook}
-use Rattle.bq_bpf.specs.declared.hook.Version.{Version}
+use Rattle.bq_hooks.specs.declared.hook.Hook.{Hook}
+use Rattle.bq_hooks.specs.declared.hook.Version.{Version}
 use Rattle.bq_load.specs.Layout.{header_bytes, IsImage}
 use Rattle.bq_program.specs.declared.form.ProgramForm.{ProgramForm}
 use Rattle.bq_program.specs.declared.form.ProgramForm.TheVariants.{Program, Image}

@@ -13,8 +13,8 @@ use Rattle.bq_asm.proofs.LawLemmas as asm
 use Rattle.bq_asm.specs.Faults.{Faulty}
 use Rattle.bq_asm.specs.Lines.{lines_of}
 use Rattle.bq_asm.specs.declared.fault.Cause.{Cause as AsmCause}
-use Rattle.bq_bpf.specs.declared.hook.Hook.{Hook}
-use Rattle.bq_bpf.specs.declared.hook.Version.{Version}
+use Rattle.bq_hooks.specs.declared.hook.Hook.{Hook}
+use Rattle.bq_hooks.specs.declared.hook.Version.{Version}
 use Rattle.bq_bpf.specs.declared.shape.MapShape.{MapShape}
 use Rattle.bq_load.specs.Answers.{HasProgram}
 use Rattle.bq_load.specs.Faults.{IsFault as HasFault}

@@ -5,9 +5,9 @@ use Rattle.bq_insn.proofs.OptionLemmas.{some_same}
 use Rattle.bq_bpf.specs.declared.shape.MapShape.{MapShape}
 use Rattle.bq_load.proofs.UniqueLemmas.{same_shape}
 use Rattle.bq_program.specs.ShapesText.{numbers_of}
-use Rattle.bq_bpf.specs.Hooks.{hook_of, version_of}
-use Rattle.bq_bpf.specs.declared.hook.Hook.{Hook}
-use Rattle.bq_bpf.specs.declared.hook.Version.{Version}
+use Rattle.bq_hooks.specs.Hooks.{hook_of, version_of}
+use Rattle.bq_hooks.specs.declared.hook.Hook.{Hook}
+use Rattle.bq_hooks.specs.declared.hook.Version.{Version}
 use Rattle.bq_program.specs.declared.head.Head.{Head}
 use Rattle.bq_program.specs.declared.mark.Key.TheVariants as key
 use Rattle.bq_program.specs.Files.{maps_in}

@@ -10,9 +10,9 @@ use Rattle.bq_insn.specs.declared.fault.DecodeFault.TheVariants as decode
 use Rattle.bq_insn.specs.Faults.{IsFault as IsProgramFault}
 use Rattle.bq_insn.specs.Spelling.{spelling}
 use Rattle.bq_bpf.specs.declared.shape.MapShape.{MapShape}
-use Rattle.bq_bpf.specs.declared.hook.Hook.{Hook}
-use Rattle.bq_bpf.specs.declared.hook.Version.{Version}
-use Rattle.bq_bpf.specs.declared.hook.Version.TheVariants.{First}
+use Rattle.bq_hooks.specs.declared.hook.Hook.{Hook}
+use Rattle.bq_hooks.specs.declared.hook.Version.{Version}
+use Rattle.bq_hooks.specs.declared.hook.Version.TheVariants.{First}
 use Rattle.bq_asm.specs.Assembly.{Assembles}
 use Rattle.bq_asm.specs.Faults.{Faulty}
 use Rattle.bq_asm.specs.Lines.{is_instruction, line_said, lines_of}

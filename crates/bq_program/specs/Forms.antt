@@ -4,7 +4,7 @@ use Rattle.std.specs.String.{string_bytes}
 use Rattle.bq_insn.specs.declared.Insn.{Insn}
 use Rattle.bq_insn.specs.Spelling.{spelling}
 use Rattle.bq_bpf.specs.declared.shape.MapShape.{MapShape}
-use Rattle.bq_bpf.specs.declared.hook.Version.TheVariants.{First}
+use Rattle.bq_hooks.specs.declared.hook.Version.TheVariants.{First}
 use Rattle.bq_load.specs.Layout.{IsImage}
 use Rattle.bq_program.specs.declared.options.Options.{Options}
 use Rattle.bq_program.specs.declared.options.OptionsFault.{OptionsFault}

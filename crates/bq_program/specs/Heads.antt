@@ -15,7 +15,7 @@ use Rattle.bq_program.specs.declared.fault.HeadCause.TheVariants as cause
 use Rattle.bq_program.specs.declared.fault.HeadFault.{HeadFault}
 use Rattle.bq_program.specs.declared.fault.HeadFault.TheVariants.{At, OutOfMemory}
 use Rattle.bq_program.specs.Marks.{are_known, key_word, mark_words, values}
-use Rattle.bq_bpf.specs.Hooks.{hook_of, version_of}
+use Rattle.bq_hooks.specs.Hooks.{hook_of, version_of}
 
 -- what one line is
 abbrev pub IsMark : List ℕ → Mark → Type 0

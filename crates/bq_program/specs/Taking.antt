@@ -3,8 +3,8 @@ use Rattle.std.specs.Prelude.{◌≡◌, ℕ, List, Some, None}
 use Rattle.std.proofs.Common.{Global}
 use Rattle.std.specs.declared.vec.Vec.{Vec}
 use Rattle.bq_bpf.specs.declared.shape.MapShape.{MapShape}
-use Rattle.bq_bpf.specs.declared.hook.Hook.{Hook}
-use Rattle.bq_bpf.specs.declared.hook.Version.{Version}
+use Rattle.bq_hooks.specs.declared.hook.Hook.{Hook}
+use Rattle.bq_hooks.specs.declared.hook.Version.{Version}
 use Rattle.bq_program.specs.declared.head.Head.{Head}
 use Rattle.bq_program.specs.declared.mark.Key.{Key}
 use Rattle.bq_program.specs.declared.mark.Key.TheVariants as key
@@ -12,7 +12,7 @@ use Rattle.bq_program.specs.declared.fault.HeadCause.TheVariants as cause
 use Rattle.bq_program.specs.declared.fault.HeadCause.{HeadCause}
 use Rattle.bq_program.specs.declared.fault.HeadFault.{HeadFault}
 use Rattle.bq_program.specs.declared.fault.HeadFault.TheVariants.{At, OutOfMemory}
-use Rattle.bq_bpf.specs.Hooks.{hook_of, version_of}
+use Rattle.bq_hooks.specs.Hooks.{hook_of, version_of}
 use Rattle.bq_program.specs.Heads.{HasKey, IsBadLine, IsNoValue, Names}
 
 -- nothing was said of the key, and then the value is, and nothing else

@@ -7,7 +7,7 @@ ghost use Rattle.bq_program.specs.Check.{CheckWrites, accepted_line};
 
 use crate::Answer;
 use crate::hex_text::bytes_of;
-use bq_bpf::Hook;
+use bq_hooks::Hook;
 use bq_load::{LoadFault, load};
 use std::alloc::{AllocError, Global};
 

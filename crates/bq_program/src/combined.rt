@@ -6,7 +6,8 @@ ghost use Rattle.bq_program.specs.Combining.{IsUncombinable};
 use crate::fault::PolicyFault;
 use crate::head::Head;
 use crate::mark::Key;
-use bq_bpf::{Hook, MapShape, Version, same_shapes};
+use bq_bpf::{MapShape, same_shapes};
+use bq_hooks::{Hook, Version};
 use std::alloc::Global;
 
 /// The hook, the shapes of the maps and the version.

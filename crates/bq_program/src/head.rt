@@ -5,7 +5,8 @@ ghost use Rattle.std.specs.Option.{ForSome};
 use crate::fault::{HeadCause, HeadFault, refusal};
 use crate::mark::{Key, Mark, mark_of};
 use crate::shapes_of;
-use bq_bpf::{Hook, MapShape, Version};
+use bq_bpf::MapShape;
+use bq_hooks::{Hook, Version};
 use std::alloc::Global;
 
 /// What is said of a program beside its instructions: by the marks of a text, or by words of a command.

@@ -3,7 +3,8 @@ ghost use Rattle.std.specs.Prelude.{◌≡◌, ◌≤◌, length, true, IfOk};
 ghost use Rattle.bq_insn.specs.Faults.{is_length};
 ghost use Rattle.bq_load.specs.Layout.{IsImage};
 
-use bq_bpf::{Hook, MapShape, Version};
+use bq_bpf::MapShape;
+use bq_hooks::{Hook, Version};
 use bq_load::{Image, write_image};
 use std::alloc::{AllocError, Global};
 

@@ -8,7 +8,7 @@ use crate::form::ProgramForm;
 use crate::image_form::ImageForm;
 use crate::mark::Key;
 use crate::shapes_text::shapes_of;
-use bq_bpf::{Hook, Version};
+use bq_hooks::{Hook, Version};
 use std::alloc::{AllocError, Global};
 use std::fmt;
 use thiserror::Error;

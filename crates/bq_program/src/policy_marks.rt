@@ -3,7 +3,8 @@ ghost use Rattle.std.specs.Prelude.{◌≡◌, IfOk, string_bytes};
 ghost use Rattle.bq_program.specs.MarkLines.{AreMarks, format_mark, maps_mark, marks_text, more_maps};
 
 use crate::PolicySource;
-use bq_bpf::{Hook, MapShape, Version};
+use bq_bpf::MapShape;
+use bq_hooks::{Hook, Version};
 use std::alloc::{AllocError, Global};
 
 /// The lines that say the hook of a policy, its maps if it has some, and its version if that is not the first.

@@ -2,8 +2,8 @@
 
 use crate::asking::{Request, ask};
 use crate::images::{ADDS, COUNTING, IN_TURN, OWN_PULL};
-use bq_bpf::Hook;
 use bq_disc::RunQueue;
+use bq_hooks::Hook;
 use bq_load::LoadFault;
 use bq_machine::{Clock, LoadRefused, Machine};
 use bq_parts::Refusal;

@@ -3,7 +3,7 @@
 use crate::images::{ADDS, ZERO};
 use crate::play::{Play, Script};
 use crate::script::{AllPlayed, run_script};
-use bq_bpf::Hook;
+use bq_hooks::Hook;
 use bq_parts::{Event, Refusal, Reply};
 use std::process::Abort;
 

@@ -2,11 +2,10 @@
 ghost use Rattle.std.specs.Prelude.{◌≡◌};
 
 use crate::asking::{Request, ask};
-use bq_bpf::Hook;
 use bq_cells::{PackedAnswer, Record};
 use bq_cfs::CfsQueue;
 use bq_history::Receipt;
-use bq_hooks::By;
+use bq_hooks::{By, Hook};
 use bq_load::LoadFault;
 use bq_machine::{Clock, LoadRefused, Machine};
 use bq_parts::{Refusal, Reply};

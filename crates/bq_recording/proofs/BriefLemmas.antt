@@ -9,7 +9,7 @@ use Rattle.bq_parts.specs.declared.refusal.Refusal.{Refusal}
 use Rattle.bq_parts.specs.Processors.{Processor}
 use Rattle.bq_parts.specs.Shares.{Admits, Retires, Blocks, Installs}
 use Rattle.bq_policies.specs.Attachments.{Attached}
-use Rattle.bq_bpf.specs.declared.hook.Hook.{Hook}
+use Rattle.bq_hooks.specs.declared.hook.Hook.{Hook}
 
 -- no admission is answered by loads
 pub admits_brief : (id : ℕ) (t : Task) (lobby : List LobbyEntry) (a : Result Reply Refusal) (lobby' : List LobbyEntry) → Admits id t lobby a lobby' → has_loads a ≡ false

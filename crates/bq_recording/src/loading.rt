@@ -8,10 +8,10 @@ ghost use Rattle.bq_cells.specs.Parts.{told_calls};
 
 use crate::recorder::{Recorder, WorkingSeat};
 use crate::told::{answer_twice, both_records, no_calls, quiet_twice};
-use bq_bpf::Hook;
 use bq_cells::{NumberedCpu, Record, UnderLock, policy_again};
 use bq_disc::RunQueue;
 use bq_history::{CommitDraft, Receipt, Room};
+use bq_hooks::Hook;
 use bq_parts::{Event, Reply};
 use bq_policies::{Installed, Policy};
 use bq_seats::Counting;

@@ -10,7 +10,7 @@ use Rattle.bq_parts.specs.declared.event.Event.TheVariants.{Admit, EndWake, Drai
 use Rattle.bq_parts.specs.declared.reply.Reply.{Reply}
 use Rattle.bq_parts.specs.declared.reply.Reply.TheVariants.{Admitted, Placed, Drained, Ticked, Blocked as Went, Pulled}
 use Rattle.bq_parts.specs.declared.refusal.Refusal.{Refusal}
-use Rattle.bq_bpf.specs.declared.hook.Hook.TheVariants.{Preempt, Pull as OnPull}
+use Rattle.bq_hooks.specs.declared.hook.Hook.TheVariants.{Preempt, Pull as OnPull}
 use Rattle.bq_schedule.specs.declared.change.Decision.{Decision}
 use Rattle.bq_schedule.specs.declared.change.Start.{Start}
 use Rattle.bq_schedule.specs.declared.change.Stop.{Stop}

@@ -4,8 +4,8 @@ use Rattle.std.specs.Option.{option_map}
 use Rattle.bq_weights.specs.VirtualTime.{is_nice, weight_of}
 use Rattle.bq_hooks.specs.declared.settled.By.{By}
 use Rattle.bq_hooks.specs.declared.settled.By.TheVariants as who
-use Rattle.bq_bpf.specs.declared.hook.Hook.{Hook}
-use Rattle.bq_bpf.specs.declared.hook.Hook.TheVariants.{Place, Preempt, Pull as OnPull}
+use Rattle.bq_hooks.specs.declared.hook.Hook.{Hook}
+use Rattle.bq_hooks.specs.declared.hook.Hook.TheVariants.{Place, Preempt, Pull as OnPull}
 use Rattle.bq_disc.specs.OneProcessor.{reading}
 use Rattle.bq_parts.specs.declared.refusal.Refusal.{Refusal}
 use Rattle.bq_parts.specs.declared.event.Event.{Event}

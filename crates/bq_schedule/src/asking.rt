@@ -6,7 +6,7 @@ ghost use Rattle.bq_schedule.specs.Steps.{hook_asked, processor_asked, asked};
 use crate::change::Decision;
 use crate::figures::{HookFigures, ProcessorFigures};
 use crate::schedule::Schedule;
-use bq_bpf::Hook;
+use bq_hooks::Hook;
 
 impl Schedule {
     /// A hook of a processor came to its choice.

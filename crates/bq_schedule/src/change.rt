@@ -3,8 +3,7 @@
 ghost use Rattle.std.specs.Prelude.{◌≡◌};
 
 use crate::slice::Slice;
-use bq_bpf::Hook;
-use bq_hooks::By;
+use bq_hooks::{By, Hook};
 
 /// What one answer changes. An event that is refused changes nothing, nor does one whose answer is not of its kind, or that
 /// names a processor that is not there. Times are nanoseconds of the clock of the event's processor.

@@ -6,7 +6,7 @@ ghost use Rattle.bq_schedule.specs.Runnable.{leaves};
 
 use crate::change::{Change, Decision, Left, PulledTask, Wake};
 use crate::schedule::Schedule;
-use bq_bpf::Hook;
+use bq_hooks::Hook;
 use bq_parts::{Event, Reply};
 use bq_weights::{is_nice, weight};
 

@@ -5,7 +5,7 @@ use Rattle.std.specs.Str.Lines.{lines, strip_carriage_return}
 use Rattle.hex.specs.Hex.{encode_lower}
 use Rattle.hex.proofs.HexLemmas.{decode_of-encode_lower}
 use Rattle.bq_verify.specs.Accepted.{Accepted}
-use Rattle.bq_bpf.specs.declared.hook.Hook.{Hook}
+use Rattle.bq_hooks.specs.declared.hook.Hook.{Hook}
 use Rattle.bq_parts.specs.declared.event.Event.{Event}
 use Rattle.bq_parts.specs.declared.event.Event.TheVariants.{Admit, Retire, Draw, Install, BeginWake, EndWake, Drain, Tick, Block, Pull}
 use Rattle.bq_parts.specs.declared.reply.Reply.{Reply}

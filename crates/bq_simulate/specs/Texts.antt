@@ -8,8 +8,8 @@ use Rattle.bq_parts.specs.declared.event.Event.TheVariants.{Install}
 use Rattle.bq_simulate.specs.Spelling.{HasFittingNumbers, asking_line, machine_line}
 use Rattle.bq_trace.specs.Feeding.{with_feeds}
 use Rattle.bq_trace.specs.News.{News, Told, Opened, Skipped, Comes}
-use Rattle.bq_bpf.specs.declared.hook.Hook.{Hook}
-use Rattle.bq_bpf.specs.declared.hook.Hook.TheVariants as hooks
+use Rattle.bq_hooks.specs.declared.hook.Hook.{Hook}
+use Rattle.bq_hooks.specs.declared.hook.Hook.TheVariants as hooks
 use Rattle.bq_simulate.specs.declared.images.Images.{Images}
 
 -- what stands at each hook of all processors: the bytes of an image, or nothing

@@ -4,7 +4,7 @@ ghost use Rattle.std.specs.Borrow.{Bor};
 ghost use Rattle.std.specs.Option.{option_map};
 ghost use Rattle.bq_simulate.specs.Texts.{image_at};
 
-use bq_bpf::Hook;
+use bq_hooks::Hook;
 
 /// The bytes of an image for each hook, or none.
 #[derive(Clone, Copy)]

@@ -3,12 +3,12 @@ ghost use Rattle.std.specs.Prelude.{◌≡◌, ◌++◌, ◌∷◌, [], ℕ, Lis
 ghost use Rattle.std.specs.Borrow.{Bor};
 ghost use Rattle.std.specs.Fmt.{decimal};
 ghost use Rattle.std.specs.Option.{option_map};
-ghost use Rattle.bq_bpf.specs.Hooks.{hook_word};
+ghost use Rattle.bq_hooks.specs.Hooks.{hook_word};
 ghost use Rattle.bq_lines.specs.Keywords.{keyword_word};
 ghost use Rattle.bq_lines.specs.declared.keyword.Keyword.TheVariants as keywords;
 ghost use Rattle.bq_simulate.specs.Spelling.{HasFittingNumbers, asking_line, image_word, machine_line, spaced_words};
 
-use bq_bpf::Hook;
+use bq_hooks::Hook;
 use bq_lines::Keyword;
 use bq_parts::Event;
 use bq_words::{ProcessorCount, Rule};

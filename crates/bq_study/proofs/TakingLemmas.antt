@@ -1,6 +1,6 @@
 -- A policy that is read and taken.
 use Rattle.std.proofs.Common.{◌≡◌, ℕ, List, Option, Result, Ok, Err, Some, None, OnOk, IfErr, subst, sym, ◌∙◌}
-use Rattle.bq_bpf.specs.declared.hook.Hook.{Hook}
+use Rattle.bq_hooks.specs.declared.hook.Hook.{Hook}
 use Rattle.bq_insn.specs.Spelling.{spelling}
 use Rattle.bq_load.specs.Layout.{IsImage}
 use Rattle.bq_program.specs.Files.{Agree, IsOfKind, IsPolicy, IsPolicyFault, either, kind_of}

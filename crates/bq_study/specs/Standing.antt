@@ -1,7 +1,7 @@
 -- What stands at hooks: policies, and the images that they are of.
 use Rattle.std.specs.Prelude.{◌≡◌, ℕ, List, [], ◌∷◌, ◌++◌, Some, None, Vec, if◌then◌else◌, map}
 use Rattle.std.specs.Global.{Global}
-use Rattle.bq_bpf.specs.declared.hook.Hook.{Hook}
+use Rattle.bq_hooks.specs.declared.hook.Hook.{Hook}
 use Rattle.bq_parts.specs.Refusals.{same_hook}
 use Rattle.bq_simulate.specs.Retelling.{AreOfImages}
 use Rattle.bq_simulate.specs.Texts.{ByHook}

@@ -1,6 +1,6 @@
 -- What is taken of a file: a policy and its image.
 use Rattle.std.specs.Prelude.{◌≡◌, ℕ, List, Option, Some, None, IsSome}
-use Rattle.bq_bpf.specs.declared.hook.Hook.{Hook}
+use Rattle.bq_hooks.specs.declared.hook.Hook.{Hook}
 use Rattle.bq_insn.specs.Spelling.{spelling}
 use Rattle.bq_load.specs.Answers.{IsUnloaded}
 use Rattle.bq_load.specs.Layout.{IsImage}

@@ -8,7 +8,7 @@ ghost use Rattle.bq_simulate.specs.Texts.{image_at};
 ghost use Rattle.bq_study.specs.Standing.{Adds, AreOfTheirImages, image_for};
 ghost use Rattle.bq_study.specs.Taking.{IsNone, IsRead, IsTold, IsToldOf, IsToldOfImage, Takes};
 
-use bq_bpf::Hook;
+use bq_hooks::Hook;
 use bq_load::{LoadFault, load};
 use bq_policies::Policy;
 use bq_policy_commands::{HOOK_UNSAID, fault_reason};

@@ -1,7 +1,7 @@
 // Policies as files, each for the hook preempt. The bytes of the image were written down by hand from docs/IMAGE.md.
 
 use crate::cases::holds;
-use bq_bpf::Hook;
+use bq_hooks::Hook;
 use bq_study::Policies;
 use std::alloc::Global;
 use std::test::Fail;

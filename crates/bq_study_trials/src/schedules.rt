@@ -3,8 +3,7 @@
 use crate::cases::holds;
 use crate::facts::{Fact, tells};
 use crate::steps::Step;
-use bq_bpf::Hook;
-use bq_hooks::By;
+use bq_hooks::{By, Hook};
 use bq_schedule::{
     Change, ClockReading, Decision, Latencies, Left, PARTS, PulledTask, Slice, Start, Stop, Wake,
 };

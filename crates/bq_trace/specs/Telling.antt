@@ -6,7 +6,7 @@ use Rattle.hex.specs.declared.error.FromHexError.{FromHexError}
 use Rattle.hex.specs.Hex.{decode_of}
 use Rattle.bq_verify.specs.Accepted.{Accepted}
 use Rattle.bq_bpf.specs.declared.board.TheConstants.{COUNTERS}
-use Rattle.bq_bpf.specs.declared.hook.Hook.{Hook}
+use Rattle.bq_hooks.specs.declared.hook.Hook.{Hook}
 use Rattle.bq_load.specs.Answers.{Loads, IsUnloaded}
 use Rattle.bq_load.specs.declared.fault.LoadFault.{LoadFault}
 use Rattle.bq_load.specs.declared.fault.LoadFault.TheVariants as fault

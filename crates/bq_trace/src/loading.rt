@@ -6,7 +6,7 @@ ghost use Rattle.bq_load.specs.declared.fault.LoadFault.TheVariants as why;
 use crate::any_core::AnyCore;
 use crate::sink::Sink;
 use crate::telling;
-use bq_bpf::Hook;
+use bq_hooks::Hook;
 use bq_lines::HexWord;
 use bq_load::{LoadFault, load};
 use bq_parts::Event;

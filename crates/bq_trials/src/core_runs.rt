@@ -5,11 +5,12 @@ ghost use Rattle.std.specs.Prelude.{◌≤◌};
 
 use crate::asserting::{is_number, is_text};
 use crate::hex_text::bytes_of;
-use bq_bpf::{Board, Hook, Plain};
+use bq_bpf::{Board, Plain};
 use bq_cfs::CfsQueue;
 use bq_core::Core;
 use bq_disc::RunQueue;
 use bq_eevdf::EevdfQueue;
+use bq_hooks::Hook;
 use bq_load::load;
 use bq_parts::{Event, Refusal, Reply};
 use bq_policies::Policy;

@@ -2,9 +2,10 @@
 // `tests/examples.py` compares them.
 
 use bq_asm::assemble;
-use bq_bpf::{Hook, Plain, Version, context_length};
+use bq_bpf::Plain;
 use bq_cfs::CfsQueue;
 use bq_core::{Core, DynamicCore};
+use bq_hooks::{Hook, Version, context_length};
 use bq_interp::env::Env;
 use bq_interp::runs::run;
 use bq_interp::stack::Stack;

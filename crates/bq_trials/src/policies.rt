@@ -2,7 +2,8 @@
 
 use crate::asserting::{is_number, is_true};
 use bq_asm::assemble;
-use bq_bpf::{Call, Hook, MapShape, Plain, Version, context_length};
+use bq_bpf::{Call, MapShape, Plain};
+use bq_hooks::{Hook, Version, context_length};
 use bq_interp::Env;
 use bq_policies::{Hooks, Installed, Policy, Scratch};
 use bq_verify::{Program, verify};

@@ -7,7 +7,7 @@ ghost use Rattle.std.specs.List.{list_all};
 ghost use Rattle.bq_states.specs.declared.abstract_state.AbstractState.{AbstractState as Knowledge};
 ghost use Rattle.bq_graph.specs.Edges.{IsStart};
 ghost use Rattle.bq_graph.specs.Passes.{IsSound};
-ghost use Rattle.bq_bpf.specs.Hooks.{context_length_of};
+ghost use Rattle.bq_hooks.specs.Hooks.{context_length_of};
 ghost use Rattle.bq_verify.specs.Control.{IsKnown, SparesFrame};
 ghost use Rattle.bq_verify.specs.KnownAt.{ContainsRuns, IsNotReached, RestIsCovered};
 ghost use Rattle.bq_verify.specs.Refusals.{IsOutOfMemory};
@@ -19,8 +19,8 @@ use crate::program::{Program, check_graph};
 use crate::refused::Refused;
 use crate::subject::Subject;
 use crate::waiting::{arrive, nothing_waits};
-use bq_bpf::context_length;
 use bq_graph::layout::lay_out;
+use bq_hooks::context_length;
 use bq_states::abstract_state::AbstractState;
 use std::alloc::{AllocError, Global};
 

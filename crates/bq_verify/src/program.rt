@@ -11,16 +11,17 @@ ghost use Rattle.bq_graph.specs.Paths.{IsGreatest, PathOut};
 ghost use Rattle.bq_graph.specs.Faults.{IsFaultless};
 ghost use Rattle.bq_verify.specs.Refusals.{IsRefusal, IsOutOfMemory};
 ghost use Rattle.bq_verify.specs.Control.{AreMade};
-ghost use Rattle.bq_bpf.specs.Hooks.{context_length_of};
+ghost use Rattle.bq_hooks.specs.Hooks.{context_length_of};
 ghost use Rattle.bq_verify.specs.Straight.{IsStraightProgram};
 
 use crate::cause::Cause;
 use crate::refused::Refused;
 use crate::verified::Verified;
-use bq_bpf::{Hook, MapShape, Version};
+use bq_bpf::MapShape;
 use bq_graph::checks::check;
 use bq_graph::layout::lay_out;
 use bq_graph::passes::measure;
+use bq_hooks::{Hook, Version};
 use bq_insn::Insn;
 use std::alloc::{AllocError, Global};
 

@@ -3,7 +3,8 @@
 use crate::pass::judge;
 use crate::refused::Refused;
 use crate::subject::Subject;
-use bq_bpf::{Hook, MapShape, Packed, Version, context_length, pack_all};
+use bq_bpf::{MapShape, Packed, pack_all};
+use bq_hooks::{Hook, Version, context_length};
 use bq_insn::Insn;
 use std::alloc::Global;
 use std::marker::Model;
@@ -22,7 +23,7 @@ pub struct Verified {
 impl Model for Verified {
     ghost use Rattle.bq_bpf.specs.Packing.{Stands};
     ghost use Rattle.bq_verify.specs.Accepted.{Accepted, IsAccepted};
-    ghost use Rattle.bq_bpf.specs.Hooks.{context_length_of};
+    ghost use Rattle.bq_hooks.specs.Hooks.{context_length_of};
 
     ghost Value = { Accepted };
 
@@ -35,7 +36,7 @@ impl Verified {
     ghost use Rattle.std.specs.Prelude.{◌≡◌, ◌≤◌, ◌<◌, ℕ, IfErr, IfOk, length, slice_index};
     ghost use Rattle.bq_bpf.specs.Packing.{Stands};
     ghost use Rattle.bq_verify.specs.Accepted.{IsAccepted};
-    ghost use Rattle.bq_bpf.specs.Hooks.{context_length_of};
+    ghost use Rattle.bq_hooks.specs.Hooks.{context_length_of};
     ghost use Rattle.bq_verify.specs.Control.{AreHeights, AreMade, SparesFrame};
     ghost use Rattle.bq_graph.specs.Passes.{IsSound};
     ghost use Rattle.bq_graph.specs.Edges.{IsStart};

@@ -2,7 +2,8 @@
 // contexts of zeros and of ff. That it does so on every context is proved; the test is of the code as it is built.
 
 use crate::images::COUNTING;
-use bq_bpf::{Plain, context_length};
+use bq_bpf::Plain;
+use bq_hooks::context_length;
 use bq_interp::{Env, Ran, Stack, run};
 use bq_load::load;
 use bq_maps::Maps;

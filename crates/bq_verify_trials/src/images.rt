@@ -2,7 +2,7 @@
 // The images and their answers are worked by hand from the format and the rules of the verifier.
 
 use crate::asserting::{are_bytes, is_number, is_true};
-use bq_bpf::{Hook, Version};
+use bq_hooks::{Hook, Version};
 use bq_insn::fault::Cause as Code;
 use bq_load::{Image, LoadFault, load, read_image, write_image};
 use bq_transfer::doubt::Doubt;

@@ -5,7 +5,8 @@ ghost use Rattle.bq_insn.specs.Spelling.{is_well_formed};
 
 use crate::asserting::is_said;
 use bq_asm::assemble;
-use bq_bpf::{Hook, MapShape, Version};
+use bq_bpf::MapShape;
+use bq_hooks::{Hook, Version};
 use bq_insn::Insn;
 use bq_insn::encode::well_formed;
 use bq_verify::{Program, Refused, verify};

@@ -1,7 +1,7 @@
 //! Programs that are accepted, with their budgets, and programs that are refused, with slot and cause.
 
 use crate::judging::{Terms, expect, is_answered, preempt, shape};
-use bq_bpf::{Hook, Version};
+use bq_hooks::{Hook, Version};
 use std::alloc::{AllocError, Global};
 use std::process::Abort;
 

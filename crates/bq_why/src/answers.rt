@@ -4,8 +4,8 @@ ghost use Rattle.bq_policies.specs.Attachments.{at_hook};
 ghost use Rattle.bq_policies.specs.Standing.{HasAnswered};
 ghost use Rattle.bq_verify.specs.Accepted.{Accepted};
 
-use bq_bpf::Hook;
 use bq_disc::RunQueue;
+use bq_hooks::Hook;
 use bq_parts::Cpu;
 
 /// The number that the policy at a hook answered when it was asked last, if it took so many steps then: a run of the policy that

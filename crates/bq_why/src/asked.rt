@@ -1,7 +1,7 @@
 //! What came of asking a policy, in words.
 
 use crate::answers::answer;
-use bq_bpf::Hook;
+use bq_hooks::Hook;
 use bq_trace::{AnyCore, Seen};
 use std::alloc::AllocError;
 

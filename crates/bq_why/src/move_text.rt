@@ -3,9 +3,8 @@
 use crate::asked::Asked;
 use crate::pulling::{OwnPull, PullSight};
 use crate::words_of::Who;
-use bq_bpf::Hook;
 use bq_forms::Names;
-use bq_hooks::By;
+use bq_hooks::{By, Hook};
 use std::alloc::AllocError;
 
 /// Adds where a woken task is placed, and why.

@@ -4,8 +4,9 @@ ghost use Rattle.std.specs.Char.{is_ascii_digit};
 ghost use Rattle.std.specs.List.{list_all};
 
 use bq_bpf::board::COUNTERS;
-use bq_bpf::hook::NO_HOOK;
-use bq_bpf::{Hook, with_counters};
+use bq_bpf::with_counters;
+use bq_hooks::Hook;
+use bq_hooks::hook::NO_HOOK;
 use bq_lines::{Keyword, numbers, with_tasks};
 use bq_words::numbers::hex_digits;
 use bq_words::{Rule, with_rules};

@@ -3,8 +3,8 @@ use Rattle.std.specs.Prelude.{◌≢◌, string_bytes}
 use Rattle.std.proofs.lemmas.Result.{IfOk-weaker}
 use Rattle.bq_one_run.specs.Permitting.{word_of}
 use Rattle.bq_one_run.specs.declared.permitted.Word.TheVariants.{NotShown}
-use Rattle.bq_bpf.specs.Hooks.{context_length_of}
-use Rattle.bq_bpf.specs.declared.hook.Version.{Version}
+use Rattle.bq_hooks.specs.Hooks.{context_length_of}
+use Rattle.bq_hooks.specs.declared.hook.Version.{Version}
 use Rattle.bq_policy_runs.specs.Judging.{TellsWord}
 use Rattle.bq_policy_runs.proofs.JudgeLemmas.{judged_place, judged_preempt, judged_pull}
 use Rattle.bq_policy_runs.proofs.word_text.word_text.Goals as goal

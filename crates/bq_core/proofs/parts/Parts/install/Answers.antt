@@ -1,7 +1,7 @@
 use Rattle.std.proofs.Common.{◌≡◌, ℕ, [], Option, None, refl, sym, ap, subst, ◌∙◌, inr}
 use Rattle.std.specs.Prelude.{Result}
 use Rattle.std.proofs.lemmas.List.{length-set}
-use Rattle.bq_bpf.specs.declared.hook.Hook.{Hook}
+use Rattle.bq_hooks.specs.declared.hook.Hook.{Hook}
 use Rattle.bq_disc.specs.Discipline.{Discipline}
 use Rattle.bq_verify.specs.Accepted.{Accepted}
 use Rattle.bq_policies.specs.Answers.{fresh_maps}

@@ -1,8 +1,8 @@
 -- The words of hooks.
 use Rattle.std.proofs.Common.{◌≡◌, Some, refl}
-use Rattle.bq_bpf.specs.declared.hook.Hook.{Hook}
-use Rattle.bq_bpf.specs.declared.hook.Hook.TheVariants.{Place, Preempt, Pull}
-use Rattle.bq_bpf.specs.Hooks.{hook_word, hook_of}
+use Rattle.bq_hooks.specs.declared.hook.Hook.{Hook}
+use Rattle.bq_hooks.specs.declared.hook.Hook.TheVariants.{Place, Preempt, Pull}
+use Rattle.bq_hooks.specs.Hooks.{hook_word, hook_of}
 
 -- the word of a hook names it
 pub hook_of-hook_word : (hook : Hook) → hook_of (hook_word hook) ≡ Some hook

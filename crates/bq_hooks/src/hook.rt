@@ -1,7 +1,9 @@
 //! Where a policy is asked, how that is named, and how long its context is.
 
 ghost use Rattle.std.specs.Prelude.{◌≡◌};
-ghost use Rattle.bq_bpf.specs.Hooks.{context_length_of, hook_of, hook_word, version_number, version_of};
+ghost use Rattle.bq_hooks.specs.Hooks.{context_length_of, hook_of, hook_word, version_number, version_of};
+
+use crate::{PLACE_LENGTH, PREEMPT_LENGTH, PULL_LENGTH, WIDE_PLACE_LENGTH};
 
 /// The choice that a policy makes.
 #[derive(Clone, Copy, Debug, PartialEq, Eq)]
@@ -131,9 +133,9 @@ pub fn context_length(hook: Hook, version: Version) -> usize
     ensures { result ≡ context_length_of hook version }
 {
     match (hook, version) {
-        (Hook::Place, Version::First) => 104,
-        (Hook::Place, Version::Second) => 296,
-        (Hook::Preempt, _) => 56,
-        (Hook::Pull, _) => 160,
+        (Hook::Place, Version::First) => PLACE_LENGTH,
+        (Hook::Place, Version::Second) => WIDE_PLACE_LENGTH,
+        (Hook::Preempt, _) => PREEMPT_LENGTH,
+        (Hook::Pull, _) => PULL_LENGTH,
     }
 }
