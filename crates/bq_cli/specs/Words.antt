@@ -4,8 +4,7 @@ use Rattle.std.specs.declared.alloc.Global.{Global}
 use Rattle.clap.specs.Words.{Row, Text, all_of, first_of}
 use Rattle.bq_hooks.specs.Hooks.{hook_of, version_of}
 use Rattle.bq_console.specs.Words.{SaysWord}
-use Rattle.bq_lines.specs.Lines.{size_of}
-use Rattle.bq_lines.specs.Numbers.{decimal_of}
+use Rattle.bq_words.specs.Quantities.{size_of, decimal_of}
 use Rattle.bq_policy_commands.specs.Saying.{option_bytes}
 use Rattle.bq_policy_commands.specs.declared.words.CheckWords.{CheckWords}
 use Rattle.bq_policy_commands.specs.declared.words.ListWords.{ListWords}

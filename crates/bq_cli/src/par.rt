@@ -2,15 +2,14 @@
 ghost use Rattle.std.specs.Prelude.{◌≡◌, ℕ, List, Option, Some, true, IfOk, IfErr, OnOk, OnErr, option_map, option_and_then};
 ghost use Rattle.std.specs.Borrow.{Bor};
 ghost use Rattle.clap.specs.Words.{found_of, rows_of};
-ghost use Rattle.bq_words.specs.Sizes.{rule_of};
+ghost use Rattle.bq_words.specs.Sizes.{rule_of, processors_in};
 ghost use Rattle.bq_words.specs.declared.rule.Rule.{Rule as Way};
 ghost use Rattle.bq_words.specs.declared.processor_count.ProcessorCount.{ProcessorCount as Many};
-ghost use Rattle.bq_lines.specs.Lines.{size_of};
+ghost use Rattle.bq_words.specs.Quantities.{size_of};
 ghost use Rattle.bq_par.specs.Summaries.{IsSummary};
 ghost use Rattle.bq_streams.specs.Counts.{inner_of, failures_of};
 ghost use Rattle.bq_streams.specs.Faults.{IsWriteFault};
 ghost use Rattle.bq_trace.specs.Machines.{discipline_of};
-ghost use Rattle.bq_words.specs.Sizes.{processors_in};
 ghost use Rattle.bq_cli.specs.declared.par.Parallel.{Parallel as Asked};
 ghost use Rattle.bq_cli.specs.Performing.{WritesPar, WritesParInPart};
 ghost use Rattle.bq_cli.specs.Words.{IsParallel, ticks_of};
@@ -19,10 +18,9 @@ use crate::with_ticks;
 use bq_cfs::CfsQueue;
 use bq_console::{WordsFault, refused_value, value};
 use bq_eevdf::EevdfQueue;
-use bq_lines::numbers;
 use bq_par::{HistorySummary, run};
 use bq_streams::{Counted, StreamFault};
-use bq_words::{ProcessorCount, Rule, with_rules, with_sizes};
+use bq_words::{ProcessorCount, Rule, quantities, with_rules, with_sizes};
 use clap::ArgMatches;
 use std::alloc::{AllocError, Global};
 use std::io::Write;
@@ -91,7 +89,7 @@ fn size_in(alloc: Global, word: Option<&str>) -> Result<ProcessorCount, WordsFau
     let Some(word) = word else {
         return Err(refused_value(alloc, "processors", "", SIZES));
     };
-    match numbers::size(word.as_bytes()) {
+    match quantities::size(word.as_bytes()) {
         Some(size) => Ok(size),
         None => Err(refused_value(alloc, "processors", word, SIZES)),
     }
@@ -115,7 +113,7 @@ fn ticks_in(alloc: Global, word: Option<&str>) -> Result<u32, WordsFault>
 fn ticks_named(word: &[u8]) -> Option<u32>
     ensures { result ≡ ticks_of word.now }
 {
-    let ticks = numbers::decimal(word)?;
+    let ticks = quantities::decimal(word)?;
     if ticks > u64::from(MOST_TICKS) {
         return None;
     }

@@ -1,7 +1,7 @@
 -- What the words of a comparison ask for.
 use Rattle.std.specs.Prelude.{◌≡◌, ℕ, ◌&&◌, nat_le, List, [], Option, Some, None, IsNone, String, if◌then◌else◌, option_and_then, string_bytes}
 use Rattle.std.specs.Global.{Global}
-use Rattle.bq_lines.specs.Numbers.{decimal_of}
+use Rattle.bq_words.specs.Quantities.{decimal_of}
 use Rattle.bq_timeline.specs.Settings.{AsksFor, IsNoSettings, form_asked}
 use Rattle.bq_timeline.specs.declared.form_names.FormName.{FormName}
 use Rattle.bq_timeline.specs.declared.form_names.FormName.TheVariants as form

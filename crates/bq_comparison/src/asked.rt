@@ -84,7 +84,7 @@ fn seeds_of(word: &str) -> Option<u16>
     ensures value { result ≡ seeds_in word.now }
     ensures bound { IfSome result (λ n. (1 ≤ n) × (n ≤ 1000)) }
 {
-    let seeds = bq_lines::numbers::decimal(word.as_bytes())?;
+    let seeds = bq_words::quantities::decimal(word.as_bytes())?;
     if 1 <= seeds && seeds <= MOST_SEEDS {
         Some(seeds as u16)
     } else {

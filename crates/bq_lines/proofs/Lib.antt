@@ -1,4 +1,3 @@
 pub mod AllowedLemmas
 pub mod KeptLemmas
-pub mod SplittingLemmas
 pub mod WordCountLemmas

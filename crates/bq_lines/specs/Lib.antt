@@ -2,5 +2,3 @@ pub mod Bytes
 pub mod Kept
 pub mod Keywords
 pub mod Lines
-pub mod Numbers
-pub mod ProcessorSets

@@ -7,10 +7,10 @@ use Rattle.bq_parts.specs.declared.event.Event.TheVariants.{Admit, Retire, Draw,
 use Rattle.bq_hooks.specs.Hooks.{hook_of}
 use Rattle.bq_hooks.specs.declared.hook.Hook.{Hook}
 use Rattle.bq_lines.specs.Bytes.{is_allowed}
-use Rattle.bq_lines.specs.Numbers.{decimal_of, processor_of, task_of, mask_of, nice_of}
+use Rattle.bq_words.specs.Quantities.{size_of, decimal_of, processor_of, task_of, mask_of, nice_of}
 use Rattle.bq_words.specs.declared.processor_count.ProcessorCount.{ProcessorCount}
 use Rattle.bq_words.specs.declared.rule.Rule.{Rule}
-use Rattle.bq_words.specs.Sizes.{rule_of, size_numbered}
+use Rattle.bq_words.specs.Sizes.{rule_of}
 use Rattle.bq_lines.specs.Keywords.{keyword_of}
 use Rattle.bq_lines.specs.declared.keyword.Keyword.{Keyword}
 use Rattle.bq_lines.specs.declared.keyword.Keyword.TheVariants as keywords
@@ -18,10 +18,6 @@ use Rattle.bq_lines.specs.declared.command.Command.{Command}
 use Rattle.bq_lines.specs.declared.command.Command.TheVariants.{Machine, Does, Wake, Load, Show, Counter}
 use Rattle.bq_lines.specs.declared.command.LineReading.{LineReading}
 use Rattle.bq_lines.specs.declared.command.LineReading.TheVariants.{Skipped, Bad, Says}
-
--- the size that a word names
-abbrev pub size_of : List ℕ → Option ProcessorCount
-size_of word = option_and_then size_numbered (processor_of word)
 
 -- the words of a line that has just so many
 

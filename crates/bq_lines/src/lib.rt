@@ -1,6 +1,6 @@
-//! The lines of a trace: words, numbers, sets of processors, what a line asks, and the line that has begun of a text in pieces.
+//! The lines of a trace: their words, what a line asks, and the line that has begun of a text in pieces.
 //! Promises that each line is read as the format says, whatever its bytes.
-//! Stands on the core's events, on the machine that a policy runs on, and on `bq_words` for rules, sizes and decimals.
+//! Stands on the core's events, on the machine that a policy runs on, and on `bq_words` for numbers, rules and sizes.
 #![tactic(auto)]
 
 pub mod begun;
@@ -8,8 +8,6 @@ pub mod command;
 pub mod image;
 pub mod keyword;
 pub mod lines;
-pub mod numbers;
-pub mod processor_sets;
 pub mod words;
 
 pub use begun::{Begun, first_line};

@@ -8,11 +8,10 @@ ghost use Rattle.bq_lines.specs.Lines.{machine_of, admit_of, retire_of, draw_of,
 use crate::command::{Command, LineReading};
 use crate::image::HexWord;
 use crate::keyword::Keyword;
-use crate::numbers;
 use crate::words::{end_of_words, four_words, is_allowed_line, only_word, three_words, two_words};
 use bq_hooks::Hook;
 use bq_parts::Event;
-use bq_words::{ProcessorCount, Rule, next_word};
+use bq_words::{ProcessorCount, Rule, next_word, quantities};
 
 /// The longest line.
 pub const LONGEST: usize = 131_072;
@@ -80,7 +79,7 @@ fn machine_words(operands: &[u8]) -> Option<(Rule, ProcessorCount)>
     ensures { result ≡ machine_words (words operands.now) }
 {
     match two_words(operands) {
-        Some((first, second)) => Rule::of_word(first).zip(numbers::size(second)),
+        Some((first, second)) => Rule::of_word(first).zip(quantities::size(second)),
         None => None,
     }
 }
@@ -91,8 +90,8 @@ fn admit_words(operands: &[u8]) -> Option<(u16, (i8, (u64, u64)))>
 {
     match four_words(operands) {
         Some((first, second, third, fourth)) => {
-            let mask_and_slice = numbers::mask(third).zip(numbers::decimal(fourth));
-            numbers::task(first).zip(numbers::nice(second).zip(mask_and_slice))
+            let mask_and_slice = quantities::mask(third).zip(quantities::decimal(fourth));
+            quantities::task(first).zip(quantities::nice(second).zip(mask_and_slice))
         }
         None => None,
     }
@@ -105,7 +104,7 @@ fn install_words(operands: &[u8]) -> Option<(u8, (u64, (Hook, &[u8])))>
     match four_words(operands) {
         Some((first, second, third, image)) => {
             let hook_and_image = Hook::of_word(third).zip(Some(image));
-            numbers::processor(first).zip(numbers::decimal(second).zip(hook_and_image))
+            quantities::processor(first).zip(quantities::decimal(second).zip(hook_and_image))
         }
         None => None,
     }
@@ -116,7 +115,7 @@ fn one_task(operands: &[u8]) -> Option<u16>
     ensures { result ≡ one_task (words operands.now) }
 {
     match only_word(operands) {
-        Some(word) => numbers::task(word),
+        Some(word) => quantities::task(word),
         None => None,
     }
 }
@@ -126,7 +125,7 @@ fn one_number(operands: &[u8]) -> Option<u8>
     ensures { result ≡ one_number (words operands.now) }
 {
     match only_word(operands) {
-        Some(word) => numbers::processor(word),
+        Some(word) => quantities::processor(word),
         None => None,
     }
 }
@@ -136,7 +135,7 @@ fn processor_and_task(operands: &[u8]) -> Option<(u8, u16)>
     ensures { result ≡ processor_and_task (words operands.now) }
 {
     match two_words(operands) {
-        Some((first, second)) => numbers::processor(first).zip(numbers::task(second)),
+        Some((first, second)) => quantities::processor(first).zip(quantities::task(second)),
         None => None,
     }
 }
@@ -147,8 +146,8 @@ fn processor_and_time(operands: &[u8]) -> Option<(u8, u64)>
     ensures { result ≡ processor_and_time (words operands.now) }
 {
     let (first, second) = two_words(operands)?;
-    let processor = numbers::processor(first)?;
-    let now = numbers::decimal(second)?;
+    let processor = quantities::processor(first)?;
+    let now = quantities::decimal(second)?;
     Some((processor, now))
 }
 
@@ -157,9 +156,9 @@ fn wake_words(operands: &[u8]) -> Option<(u8, u16, u64)>
     ensures { result ≡ wake_words (words operands.now) }
 {
     let (first, second, third) = three_words(operands)?;
-    let processor = numbers::processor(first)?;
-    let task = numbers::task(second)?;
-    let now = numbers::decimal(third)?;
+    let processor = quantities::processor(first)?;
+    let task = quantities::task(second)?;
+    let now = quantities::decimal(third)?;
     Some((processor, task, now))
 }
 
@@ -169,7 +168,9 @@ fn pull_words(operands: &[u8]) -> Option<(u8, (u8, u64))>
 {
     match three_words(operands) {
         Some((first, second, third)) => {
-            numbers::processor(first).zip(numbers::processor(second).zip(numbers::decimal(third)))
+            quantities::processor(first).zip(quantities::processor(second).zip(quantities::decimal(
+                third,
+            )))
         }
         None => None,
     }

@@ -12,7 +12,7 @@ use Rattle.bq_one_run.proofs.InTurnLemmas.{IsSeen, turns_seen}
 use Rattle.bq_one_run.proofs.RefusalLemmas.{entry_seen, fields_seen, texts_seen}
 use Rattle.bq_policy_commands.specs.declared.words.RunWords.{RunWords}
 use Rattle.bq_words.specs.Numbers.{number_of}
-use Rattle.bq_workload.specs.Durations.{duration_of}
+use Rattle.bq_words.specs.Durations.{duration_of}
 use Rattle.bq_policy_runs.specs.Running.{HasInputs, SetsParts, WritesTime}
 use Rattle.bq_policy_commands.specs.Saying.{option_bytes}
 

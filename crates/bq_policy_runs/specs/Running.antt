@@ -32,7 +32,7 @@ use Rattle.bq_policy_commands.specs.declared.words.RunWords.{RunWords}
 use Rattle.bq_policy_runs.specs.Judging.{TellsWord}
 use Rattle.bq_policy_commands.specs.Refusing.{IsRefusedFile}
 use Rattle.bq_policy_runs.specs.Tracing.{TellsSteps}
-use Rattle.bq_workload.specs.Durations.{duration_of}
+use Rattle.bq_words.specs.Durations.{duration_of}
 use Rattle.bq_policy_commands.specs.Saying.{IsNumberBelow, IsWordsFault, SaysHead, option_bytes}
 
 -- without a word the number is 0, and it is below that limit

@@ -12,8 +12,7 @@ use bq_interp::Env;
 use bq_one_run::{Inputs, inputs_of};
 use bq_policy_commands::{RunWords, small_number};
 use bq_verify::Verified;
-use bq_words::{with_32_bits, with_units};
-use bq_workload::duration;
+use bq_words::{duration, with_32_bits, with_units};
 use std::alloc::Global;
 
 /// What a time is.

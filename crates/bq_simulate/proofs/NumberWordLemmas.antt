@@ -10,7 +10,7 @@ use Rattle.std.proofs.lemmas.Bool.Decides.{nat_tests}
 use Rattle.std.proofs.lemmas.Fmt.{decimal_is_IsNumeral, length-decimal-le}
 use Rattle.bq_words.specs.Numbers.{number_of}
 use Rattle.bq_words.proofs.NumberLemmas.{below-Some}
-use Rattle.bq_lines.specs.Numbers.{decimal_of, processor_of, task_of, mask_of, nice_of}
+use Rattle.bq_words.specs.Quantities.{decimal_of, processor_of, task_of, mask_of, nice_of}
 use Rattle.bq_simulate.proofs.PlainWordLemmas.{is_plain, IsPlain}
 
 -- a digit is a plain byte

@@ -21,7 +21,8 @@ use Rattle.bq_words.proofs.SizeLemmas.{processors_in-few}
 use Rattle.bq_lines.specs.Keywords.{keyword_word}
 use Rattle.bq_lines.specs.declared.keyword.Keyword.{Keyword}
 use Rattle.bq_lines.specs.declared.keyword.Keyword.TheVariants as keywords
-use Rattle.bq_lines.specs.Lines.{reading_of, reading_of_words, said, size_of, installing as reads_install}
+use Rattle.bq_lines.specs.Lines.{reading_of, reading_of_words, said, installing as reads_install}
+use Rattle.bq_words.specs.Quantities.{size_of}
 use Rattle.bq_lines.specs.declared.command.Command.{Command}
 use Rattle.bq_lines.specs.declared.command.Command.TheVariants.{Does, Machine}
 use Rattle.bq_lines.specs.declared.command.LineReading.TheVariants.{Says}

@@ -2,13 +2,12 @@
 use Rattle.std.specs.Prelude.{◌≡◌, ℕ, Bool, true, false, ◌&&◌, ◌||◌, nat_le, List, Option, Some, None, String, if◌then◌else◌, codes, is_some, option_and_then, option_map}
 use Rattle.std.specs.Global.{Global}
 use Rattle.bq_actions.specs.Lengths.{longest}
-use Rattle.bq_lines.specs.Lines.{size_of}
-use Rattle.bq_lines.specs.Numbers.{decimal_of}
+use Rattle.bq_words.specs.Quantities.{size_of, decimal_of}
 use Rattle.bq_policy_commands.specs.Saying.{option_bytes}
 use Rattle.bq_timeline.specs.Settings.{AsksFor, IsNoSettings, asked_or, form_asked}
 use Rattle.bq_timeline.specs.declared.settings.Words.{Words}
 use Rattle.bq_words.specs.Sizes.{rule_of}
-use Rattle.bq_workload.specs.Durations.{duration_of}
+use Rattle.bq_words.specs.Durations.{duration_of}
 use Rattle.bq_workload.specs.declared.changes.Changes.{Changes}
 use Rattle.bq_study.specs.declared.asked.ShownAs.{ShownAs}
 use Rattle.bq_study.specs.declared.asked.ShownAs.TheVariants.{Trace, Timeline}

@@ -1,17 +1,16 @@
 //! What a simulation is asked for, by the words of its options.
 ghost use Rattle.std.specs.Prelude.{◌≡◌, ◌↔◌, IfErr, IfOk, IsTrue, Some, codes};
-ghost use Rattle.bq_lines.specs.Lines.{size_of};
-ghost use Rattle.bq_lines.specs.Numbers.{decimal_of};
+ghost use Rattle.bq_words.specs.Quantities.{size_of, decimal_of};
 ghost use Rattle.bq_policy_commands.specs.Saying.{option_bytes};
 ghost use Rattle.bq_words.specs.Sizes.{rule_of};
 ghost use Rattle.bq_study.specs.Asking.{AskForChanges, AskToShow, IsNoChange, IsNotShown, change_asked, chooses_part, time_in};
 
 use crate::words::StudyWords;
 use bq_actions::limits::LONGEST;
-use bq_lines::numbers::{decimal, size};
 use bq_timeline::{Settings, SettingsFault, Words, with_forms};
-use bq_words::{ProcessorCount, Rule, with_rules, with_sizes, with_units};
-use bq_workload::{Changes, duration};
+use bq_words::quantities::{decimal, size};
+use bq_words::{ProcessorCount, Rule, duration, with_rules, with_sizes, with_units};
+use bq_workload::Changes;
 use std::alloc::Global;
 use thiserror::Error;
 

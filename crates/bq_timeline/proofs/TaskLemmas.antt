@@ -2,7 +2,7 @@
 use Rattle.std.proofs.Common.{◌≡◌, ℕ, suc, ◌+◌, ◌-◌, ◌<◌, ◌≤◌, List, [], ◌∷◌, ◌++◌, refl, sym, ap, ◌∙◌, append_assoc, append-nil, arith, Some, None, Option}
 use Rattle.std.specs.Prelude.{option_and_then, option_map}
 use Rattle.std.specs.List.{range_with_len, slice_split}
-use Rattle.bq_lines.specs.ProcessorSets.{is_comma}
+use Rattle.bq_words.specs.ProcessorSets.{is_comma}
 use Rattle.bq_timeline.specs.Settings.{AddsPart, RunBackwards, from_asked, tasks_in, tasks_of_part, to_asked}
 use Rattle.bq_timeline.specs.declared.settings.Words.{Words}
 

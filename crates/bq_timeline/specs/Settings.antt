@@ -6,8 +6,8 @@ use Rattle.std.specs.List.{list_all, range_with_len, slice_split}
 use Rattle.std.specs.Str.{bytes_eq}
 use Rattle.bq_words.specs.Numbers.{below}
 use Rattle.bq_words.specs.Units.{unit_of}
-use Rattle.bq_lines.specs.Numbers.{decimal_of, task_of}
-use Rattle.bq_lines.specs.ProcessorSets.{is_comma, is_dash, processors_of}
+use Rattle.bq_words.specs.Quantities.{decimal_of, task_of}
+use Rattle.bq_words.specs.ProcessorSets.{is_comma, is_dash, processors_of}
 use Rattle.bq_pictures.specs.Themes.{theme_of}
 use Rattle.bq_pictures.specs.declared.theme.Theme.{Theme}
 use Rattle.bq_pictures.specs.declared.theme.Theme.TheVariants.{Light}

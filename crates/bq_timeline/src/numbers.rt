@@ -2,11 +2,11 @@
 ghost use Rattle.std.specs.Prelude.{◌≡◌, ◌<◌, ◌≤◌, ◌+◌, ◌-◌, ◌++◌, IfOk, IfSome, MatchBool, None, OnOk, length, option_map, position};
 ghost use Rattle.std.specs.List.{range_with_len};
 ghost use Rattle.bq_timeline.specs.Settings.{AddsPart, amount_of, ends_number, fraction_of, is_point, tasks_of, tasks_of_part, time_of, width_of};
-ghost use Rattle.bq_lines.specs.ProcessorSets.{is_dash};
+ghost use Rattle.bq_words.specs.ProcessorSets.{is_dash};
 
-use bq_lines::numbers::{decimal, task};
-use bq_lines::processor_sets::first_part;
 use bq_words::nanoseconds;
+use bq_words::processor_sets::first_part;
+use bq_words::quantities::{decimal, task};
 use std::alloc::{AllocError, Global};
 
 /// The fewest columns of a map.

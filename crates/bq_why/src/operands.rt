@@ -7,9 +7,9 @@ use bq_bpf::board::COUNTERS;
 use bq_bpf::with_counters;
 use bq_hooks::Hook;
 use bq_hooks::hook::NO_HOOK;
-use bq_lines::{Keyword, numbers, with_tasks};
+use bq_lines::Keyword;
 use bq_words::numbers::hex_digits;
-use bq_words::{Rule, with_rules};
+use bq_words::{Rule, quantities, with_rules, with_tasks};
 use std::fmt;
 
 /// What a word of a line is to be.
@@ -34,17 +34,17 @@ impl LineOperand {
     pub fn fits(self, word: &[u8]) -> bool {
         match self {
             LineOperand::Rule => Rule::of_word(word).is_some(),
-            LineOperand::ProcessorCount => numbers::size(word).is_some(),
-            LineOperand::Processor => numbers::processor(word).is_some(),
-            LineOperand::Task => numbers::task(word).is_some(),
-            LineOperand::Nice => numbers::nice(word).is_some(),
-            LineOperand::Mask => numbers::mask(word).is_some(),
-            LineOperand::Time | LineOperand::Generation | LineOperand::Slice => numbers::decimal(
+            LineOperand::ProcessorCount => quantities::size(word).is_some(),
+            LineOperand::Processor => quantities::processor(word).is_some(),
+            LineOperand::Task => quantities::task(word).is_some(),
+            LineOperand::Nice => quantities::nice(word).is_some(),
+            LineOperand::Mask => quantities::mask(word).is_some(),
+            LineOperand::Time | LineOperand::Generation | LineOperand::Slice => quantities::decimal(
                 word,
             ).is_some(),
             LineOperand::Hook => Hook::of_word(word).is_some(),
             LineOperand::Image => true,
-            LineOperand::Counter => numbers::processor(word).is_some_and(|counter| usize::from(
+            LineOperand::Counter => quantities::processor(word).is_some_and(|counter| usize::from(
                 counter,
             ) < COUNTERS),
         }
@@ -89,7 +89,7 @@ impl LineOperand {
     fn words(self) -> &'static str {
         match self {
             LineOperand::Rule => with_rules!("is no rule (", ")"),
-            LineOperand::ProcessorCount => numbers::NO_SIZE,
+            LineOperand::ProcessorCount => quantities::NO_SIZE,
             LineOperand::Processor => "does not fit a processor's number (0 to 255)",
             LineOperand::Task => with_tasks!("does not fit a task's number (", ")"),
             LineOperand::Nice => "does not fit a nice value (-128 to 127)",

@@ -1,3 +1,4 @@
 pub mod NumberLemmas
 pub mod WordLemmas
 pub mod SizeLemmas
+pub mod SplittingLemmas

@@ -4,3 +4,6 @@ pub mod Words
 pub mod Sizes
 pub mod Nearness
 pub mod Refused
+pub mod Quantities
+pub mod ProcessorSets
+pub mod Durations

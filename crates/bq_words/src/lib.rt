@@ -1,18 +1,22 @@
-//! The words of a line, the numbers that words write, what words and numbers name: rules and sizes; and how near a misspelling is to a word.
+//! The words of a line, the numbers that words write, and what words name: rules, sizes, processors, lengths of time.
 //! Promises that a line falls into exactly the words between its blanks, whatever counts as a blank, that a word is taken
-//! for a number only where it is one that fits 64 bits, that words and numbers name exactly the schedulers that can be
-//! asked for, and that a word which was perhaps meant is near. Traces, marks, options and assembler text share these.
+//! for a number only where it is one that fits its type, that words and numbers name exactly the schedulers that can be
+//! asked for, and that a word which was perhaps meant is near. Traces, workloads, marks, options and assembler text share these.
 #![tactic(auto)]
 
 pub mod blanks;
+pub mod durations;
 pub mod near;
 pub mod numbers;
 pub mod processor_count;
+pub mod processor_sets;
+pub mod quantities;
 pub mod rule;
 pub mod units;
 pub mod words;
 
 pub use blanks::{Blank, Spaces};
+pub use durations::duration;
 pub use near::Near;
 pub use numbers::{number, value};
 pub use processor_count::ProcessorCount;

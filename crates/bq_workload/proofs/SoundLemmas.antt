@@ -8,7 +8,7 @@ use Rattle.std.proofs.lemmas.Bool.Decides.{nat_tests}
 use Rattle.toml.specs.Data.{Data, Items, no_items, item, Members, get_member, as_array, as_bool, as_integer, as_str, as_table}
 use Rattle.bq_weights.specs.VirtualTime.{is_nice}
 use Rattle.bq_words.specs.Sizes.{processors_in}
-use Rattle.bq_lines.specs.ProcessorSets.{processors_of}
+use Rattle.bq_words.specs.ProcessorSets.{processors_of}
 use Rattle.bq_words.specs.declared.processor_count.ProcessorCount.{ProcessorCount}
 use Rattle.bq_actions.specs.Kinds.{tasks_in}
 use Rattle.bq_actions.specs.Lengths.{is_length, is_long, longest, takes_time}
@@ -24,7 +24,7 @@ use Rattle.bq_actions.specs.declared.workload.TaskKind.{TaskKind}
 use Rattle.bq_actions.specs.declared.workload.Workload.{Workload}
 use Rattle.bq_workload.specs.declared.changes.Changes.{Changes}
 use Rattle.bq_workload.specs.Actions.{action_of, actions_of, entry_of, named_at, waits}
-use Rattle.bq_workload.specs.Durations.{duration_of}
+use Rattle.bq_words.specs.Durations.{duration_of}
 use Rattle.bq_workload.specs.Fields.{loops_of, mask_of, name_of, nice_of, number_in, or_default, some_of, span_in, whole, within}
 use Rattle.bq_workload.specs.Lengths.{drawn_by, ends_of, fixed_or_drawn, length_of, time_of, uniform_of}
 use Rattle.bq_workload.specs.Tables.{only_of}

@@ -6,8 +6,8 @@ use Rattle.bq_actions.specs.declared.limits.TheConstants.{LONGEST_NAME}
 use Rattle.bq_words.specs.declared.rule.Rule.{Rule}
 use Rattle.bq_words.specs.declared.processor_count.ProcessorCount.{ProcessorCount}
 use Rattle.bq_words.specs.Sizes.{rule_of, size_numbered}
-use Rattle.bq_workload.specs.Durations.{duration_of}
-use Rattle.bq_lines.specs.ProcessorSets.{processors_of}
+use Rattle.bq_words.specs.Durations.{duration_of}
+use Rattle.bq_words.specs.ProcessorSets.{processors_of}
 
 -- a number from the least to the greatest
 abbrev pub within : ℕ → ℕ → ℕ → Option ℕ

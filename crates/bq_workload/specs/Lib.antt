@@ -5,4 +5,3 @@ pub mod Lengths
 pub mod Actions
 pub mod Positions
 pub mod Workloads
-pub mod Durations

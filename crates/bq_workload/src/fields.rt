@@ -3,16 +3,15 @@ ghost use Rattle.std.specs.Prelude.{◌≡◌, ◌≤◌, pos, IfOk, IfSome, cod
 ghost use Rattle.std.specs.Result.{result_ok};
 ghost use Rattle.toml.specs.Data.{as_str, get_member};
 ghost use Rattle.toml.specs.View.{view, table_view};
-ghost use Rattle.bq_lines.specs.ProcessorSets.{processors_of};
+ghost use Rattle.bq_words.specs.ProcessorSets.{processors_of};
 ghost use Rattle.bq_workload.specs.Fields.{within, span_in, number_in, or_default, nice_of, rule_in, size_in, name_of, mask_of, loops_of};
 
-use crate::duration;
 use crate::tables::at;
 use crate::why::{Range, Wanted, Why};
 use bq_actions::limits::LONGEST_NAME;
-use bq_lines::processor_sets::processors;
 use bq_weights::is_nice;
-use bq_words::{ProcessorCount, Rule};
+use bq_words::processor_sets::processors;
+use bq_words::{ProcessorCount, Rule, duration};
 use toml::{Table, Value};
 
 /// The number, if it is in the range.

@@ -15,8 +15,8 @@ use crate::why::{Range, Why};
 use bq_actions::limits::LONGEST;
 use bq_actions::{TaskKind, take_time};
 use bq_disc::limits::{DEFAULT_SLICE, GREATEST_SLICE, LEAST_SLICE, TASKS};
-use bq_lines::processor_sets::bits;
 use bq_words::ProcessorCount;
+use bq_words::processor_sets::bits;
 use std::alloc::Global;
 use toml::Table;
 

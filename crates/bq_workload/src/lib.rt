@@ -7,7 +7,6 @@ mod actions;
 mod blame;
 pub mod changes;
 mod doing;
-pub mod durations;
 mod fault;
 mod fields;
 mod kinds;
@@ -19,6 +18,5 @@ mod why;
 mod workloads;
 
 pub use changes::Changes;
-pub use durations::duration;
 pub use fault::Fault;
 pub use workloads::read;

@@ -1,14 +1,13 @@
 //! What can be wrong with a table or a value.
 
-use crate::duration;
 use crate::fields::span;
 use crate::tables::only;
 use bq_actions::limits::{LONGEST, LONGEST_NAME};
 use bq_disc::limits::TASKS;
 use bq_disc::with_processors;
-use bq_lines::numbers::NO_SIZE;
 use bq_weights::with_nice_values;
-use bq_words::{with_rules, with_units};
+use bq_words::quantities::NO_SIZE;
+use bq_words::{duration, with_rules, with_units};
 use std::fmt;
 use toml::{Table, Value};
 

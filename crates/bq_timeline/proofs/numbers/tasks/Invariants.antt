@@ -1,7 +1,7 @@
 use Rattle.std.proofs.Common.{◌≡◌, ◌≤◌, ◌++◌, length}
 use Rattle.std.specs.Prelude.{option_map}
 use Rattle.std.specs.List.{slice_split}
-use Rattle.bq_lines.specs.ProcessorSets.{is_comma}
+use Rattle.bq_words.specs.ProcessorSets.{is_comma}
 use Rattle.bq_timeline.specs.Settings.{tasks_in, tasks_of}
 use Rattle.bq_timeline.proofs.numbers.tasks.Given as goal
 

@@ -1,9 +1,9 @@
 //! Lengths of time.
 ghost use Rattle.std.specs.Prelude.{◌≡◌, ◌<◌, IfSome, length, position};
-ghost use Rattle.bq_workload.specs.Durations.{duration_of, is_no_digit};
+ghost use Rattle.bq_words.specs.Durations.{duration_of, is_no_digit};
 
-use bq_lines::numbers::decimal;
-use bq_words::nanoseconds;
+use crate::nanoseconds;
+use crate::quantities::decimal;
 
 /// The nanoseconds that a word writes: a whole number and its unit, as `500us`. The unit is `ns`, `us`, `ms` or `s`.
 ///

@@ -1,9 +1,8 @@
-//! The numbers that words write.
+//! What words write for tasks, processors, masks and nice values: each number has to fit its type.
 ghost use Rattle.std.specs.Prelude.{◌≡◌};
-ghost use Rattle.bq_lines.specs.Lines.{size_of};
-ghost use Rattle.bq_lines.specs.Numbers.{decimal_of, processor_of, task_of, mask_of, nice_of};
+ghost use Rattle.bq_words.specs.Quantities.{size_of, decimal_of, processor_of, task_of, mask_of, nice_of};
 
-use bq_words::{ProcessorCount, number, value, with_sizes};
+use crate::{ProcessorCount, number, value, with_sizes};
 
 /// A generation, a slice or a clock reading: decimal, below 2^64.
 pub fn decimal(word: &[u8]) -> Option<u64>

@@ -2,7 +2,7 @@
 use Rattle.std.specs.Prelude.{ℕ, Bool, ◌==◌, ◌+◌, ◌-◌, ◌^◌, nat_lt, List, [], ◌∷◌, take, drop, position, bit_or, Option, Some, None, if◌then◌else◌, option_and_then}
 use Rattle.std.specs.List.{slice_split}
 use Rattle.bq_words.specs.Numbers.{below}
-use Rattle.bq_lines.specs.Numbers.{processor_of}
+use Rattle.bq_words.specs.Quantities.{processor_of}
 
 -- a processor's number, which is below 64
 abbrev pub processor_below : List ℕ → Option ℕ

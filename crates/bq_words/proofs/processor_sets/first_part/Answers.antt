@@ -1,7 +1,7 @@
 use Rattle.std.proofs.Common.{◌∙◌, sym, arith}
 use Rattle.std.proofs.lemmas.Grind.{common_steps}
-use Rattle.bq_lines.proofs.SplittingLemmas.{split_here, split_nowhere}
-use Rattle.bq_lines.proofs.processor_sets.first_part.Goals as goal
+use Rattle.bq_words.proofs.SplittingLemmas.{split_here, split_nowhere}
+use Rattle.bq_words.proofs.processor_sets.first_part.Goals as goal
 
 pub returns-in-Some-clause-some : goal.returns-in-Some-clause-some
 returns-in-Some-clause-some c =

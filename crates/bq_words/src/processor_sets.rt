@@ -1,10 +1,9 @@
 //! Sets of processors, as bits: bit k is processor k.
 ghost use Rattle.std.specs.Prelude.{◌≡◌, ◌<◌, ◌≤◌, ◌+◌, ◌-◌, ◌^◌, ◌==◌, [], ◌∷◌, IfNone, IfSome, bit_or, length, option_and_then, option_map, position};
 ghost use Rattle.std.specs.List.{slice_split};
-ghost use Rattle.bq_lines.specs.ProcessorSets.{processors_of, is_comma, bits_of, span_of, span_at, processor_below};
+ghost use Rattle.bq_words.specs.ProcessorSets.{processors_of, is_comma, bits_of, span_of, span_at, processor_below};
 
-use crate::numbers;
-use bq_disc::limits::PROCESSORS;
+use crate::{ProcessorCount, quantities};
 
 /// The processors that a word names: numbers and ranges with commas between them, as `0-3,5`. Each is below 64.
 ///
@@ -106,8 +105,8 @@ pub fn bits(first: u8, last: u8) -> u64
 fn processor(word: &[u8]) -> Option<u8>
     ensures { result ≡ processor_below word.now }
 {
-    match numbers::processor(word) {
-        Some(number) if number < PROCESSORS => Some(number),
+    match quantities::processor(word) {
+        Some(number) if number < ProcessorCount::SixtyFour.processors() => Some(number),
         _ => None,
     }
 }

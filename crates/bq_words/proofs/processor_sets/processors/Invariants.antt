@@ -1,7 +1,7 @@
 use Rattle.std.proofs.Common.{◌≡◌, length}
 use Rattle.std.specs.List.{slice_split}
-use Rattle.bq_lines.specs.ProcessorSets.{processors_of, with_parts, is_comma}
-use Rattle.bq_lines.proofs.processor_sets.processors.Given as goal
+use Rattle.bq_words.specs.ProcessorSets.{processors_of, with_parts, is_comma}
+use Rattle.bq_words.proofs.processor_sets.processors.Given as goal
 
 abbrev pub invariant-parts : goal.invariant-parts
 invariant-parts l = with_parts l.mask (slice_split is_comma l.rest) ≡ processors_of l.fn.word

@@ -1,6 +1,8 @@
--- The numbers that words write: each has to fit its type.
-use Rattle.std.specs.Prelude.{ℕ, ◌^◌, List, drop, Option, if◌then◌else◌, codes, nat_eq, ℤ, pos, neg_ℤ, option_map}
+-- What words write for tasks, processors, masks and nice values: each number has to fit its type.
+use Rattle.std.specs.Prelude.{ℕ, ◌^◌, List, drop, Option, if◌then◌else◌, codes, nat_eq, ℤ, pos, neg_ℤ, option_map, option_and_then}
 use Rattle.std.specs.List.{starts_with}
+use Rattle.bq_words.specs.declared.processor_count.ProcessorCount.{ProcessorCount}
+use Rattle.bq_words.specs.Sizes.{size_numbered}
 use Rattle.bq_words.specs.Numbers.{below, number_of, value_of}
 
 -- generations, slices and clock readings
@@ -22,3 +24,7 @@ abbrev pub nice_of : List ℕ → Option ℤ
 nice_of word =
     if starts_with nat_eq word (codes "-") then option_map (λ n. neg_ℤ (pos n)) (below 129 (decimal_of (drop 1 word)))
     else option_map (λ n. pos n) (below 128 (decimal_of word))
+
+-- the size that a word names
+abbrev pub size_of : List ℕ → Option ProcessorCount
+size_of word = option_and_then size_numbered (processor_of word)

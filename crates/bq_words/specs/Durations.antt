@@ -2,7 +2,7 @@
 use Rattle.std.specs.Prelude.{ℕ, Bool, not, ◌*◌, ◌^◌, nat_lt, List, take, drop, position, Option, Some, None, if◌then◌else◌, option_and_then}
 use Rattle.std.specs.Char.{is_ascii_digit}
 use Rattle.bq_words.specs.Units.{unit_of}
-use Rattle.bq_lines.specs.Numbers.{decimal_of}
+use Rattle.bq_words.specs.Quantities.{decimal_of}
 
 -- so many of a unit, if that is below 2^64 ns
 abbrev pub times : ℕ → ℕ → Option ℕ

@@ -3,7 +3,7 @@ use Rattle.std.proofs.Common.{◌≡◌, ℕ, ◌<◌, ◌≤◌, ◌+◌, Bool,
 use Rattle.std.proofs.lemmas.Bool.Decides.{nat_tests}
 use Rattle.std.proofs.lemmas.List.Splits.{slice_split_first}
 use Rattle.std.specs.List.{position, position_or_len, slice_split, onto_first}
-use Rattle.bq_lines.specs.ProcessorSets.{is_comma}
+use Rattle.bq_words.specs.ProcessorSets.{is_comma}
 
 -- where there is no comma, the word is the one part
 split_none : (xs : List ℕ) → length xs ≤ position_or_len is_comma xs → slice_split is_comma xs ≡ xs ∷ []
