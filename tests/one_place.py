@@ -22,7 +22,7 @@ FACTS = [
     ('an address of the machine', r'0x2_0000_0\d\d\d|0x10_0000_0000|0x4000_0000_0000', {'bq_bpf/src/addresses.rt'}),
     ('the number of a helper', r'helper\s*(?:==|=>)\s*\d', {'bq_bpf/src/helper.rt'}),
     ('the list of the helpers', r'\bUPDATE\W+(?:helper\W+)?NOW\b', {'bq_bpf/src/helper.rt'}),
-    ('which helpers are of counters', r'ADD_COUNTER \|\| \*?helper == READ_COUNTER', {'bq_graph/src/single.rt'}),
+    ('which helpers are of counters', r'ADD_COUNTER \|\| \*?helper == READ_COUNTER', {'bq_bpf/src/instruction.rt'}),
     ('the size of the stack', r'(?m)^(?! *(?:requires|ensures|ghost)\b)[^"\n]*?(?<!; )\b512\b', {'bq_bpf/src/addresses.rt'}),
     ('the number of a fault or a cause', r'(?:Cause|Doubt)::\w+ => \d', {'bq_insn/src/fault.rt', 'bq_asm/src/fault.rt', 'bq_graph/src/cause.rt', 'bq_transfer/src/doubt.rt'}),
     ('the number of processors of a machine', r'ProcessorCount::\w+ => \d', {'bq_words/src/processor_count.rt'}),

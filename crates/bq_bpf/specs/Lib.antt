@@ -7,3 +7,4 @@ pub mod Runs
 pub mod Safe
 pub mod Meaning
 pub mod Packing
+pub mod Instructions

@@ -9,6 +9,7 @@ pub mod addresses;
 pub mod board;
 pub mod code;
 pub mod helper;
+pub mod instruction;
 pub mod list;
 pub mod pack;
 pub mod shape;

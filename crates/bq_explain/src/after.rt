@@ -5,7 +5,7 @@ ghost use Rattle.bq_transfer.specs.Ready.{IsTransferred, WritesBelowFrame};
 ghost use Rattle.bq_explain.specs.Makers.{IsLaidOut};
 
 use bq_bpf::MapShape;
-use bq_graph::single::{destination, is_counter_call};
+use bq_bpf::instruction::{destination, is_counter_call};
 use bq_hooks::context_length;
 use bq_insn::{Condition, Insn, Source, Width};
 use bq_states::abstract_state::AbstractState;

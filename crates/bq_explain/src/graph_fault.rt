@@ -2,8 +2,8 @@
 ghost use Rattle.std.specs.Prelude.{◌≡◌};
 ghost use Rattle.bq_explain.specs.Explained.{graph_cause_of};
 
+use bq_bpf::instruction::distance;
 use bq_bpf::{with_helper_numbers, with_most_calls};
-use bq_graph::edges::distance;
 use bq_insn::Insn;
 use bq_verify::GraphCause;
 use std::alloc::{AllocError, Global};

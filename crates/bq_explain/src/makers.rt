@@ -5,9 +5,9 @@ ghost use Rattle.bq_explain.specs.Makers.{AreLeading, AreOnTrail, IsMaker, IsOnT
 ghost use Rattle.bq_explain.specs.declared.makers.Maker.{Maker as Named};
 ghost use Rattle.bq_verify.specs.Straight.{spares};
 
+use bq_bpf::instruction::destination;
 use bq_graph::edges::{Targets, instruction};
 use bq_graph::passes::targets;
-use bq_graph::single::destination;
 use bq_insn::Insn;
 use bq_needs::{Registers, read_registers};
 use std::alloc::{AllocError, Global};

@@ -5,7 +5,7 @@ ghost use Rattle.bq_explain.specs.Beginnings.{accepted_words, maps_text};
 
 use bq_bpf::MapShape;
 use bq_bpf::helper::{ADD_COUNTER, LOOKUP, NOW, PROCESSOR, READ_COUNTER, UPDATE};
-use bq_graph::single::is_counter_call;
+use bq_bpf::instruction::is_counter_call;
 use bq_insn::{Insn, SLOTS};
 use bq_program::{PolicySource, more_maps};
 use std::alloc::{AllocError, Global};

@@ -6,7 +6,8 @@ use Rattle.std.proofs.lemmas.Bool.Decides.{eqb_tells}
 use Rattle.bq_insn.specs.declared.Insn.{Insn}
 use Rattle.bq_bpf.specs.Steps.{instruction_at}
 use Rattle.bq_graph.specs.Edges.{IsEdge}
-use Rattle.bq_graph.specs.Paths.{IsPath, end_of, CallsOnWay, asks_counter, calls_of, calls_before_end, IsMostCalls}
+use Rattle.bq_graph.specs.Paths.{IsPath, end_of, CallsOnWay, calls_of, calls_before_end, IsMostCalls}
+use Rattle.bq_bpf.specs.Instructions.{asks_counter}
 use Rattle.bq_graph.specs.Passes.{IsSound, IsOf, LeadsOut, Raises, CountsFollowed}
 use Rattle.bq_graph.specs.declared.edges.Targets.{Targets}
 use Rattle.bq_insn.proofs.OptionLemmas.{some_same, some_none}

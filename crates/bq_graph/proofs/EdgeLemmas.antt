@@ -8,7 +8,8 @@ use Rattle.bq_insn.specs.declared.Insn.TheVariants.{Goto, Goto32, Branch, Exit}
 use Rattle.bq_insn.specs.Slots.{slots_of}
 use Rattle.bq_insn.proofs.OptionLemmas.{some_same, some_none}
 use Rattle.bq_bpf.specs.Steps.{LeadsTo, instruction_at}
-use Rattle.bq_graph.specs.Edges.{IsEdge, IsStart, IsForward, Leaves, distance_of, goes_on}
+use Rattle.bq_graph.specs.Edges.{IsEdge, IsStart, IsForward}
+use Rattle.bq_bpf.specs.Instructions.{Leaves, distance_of, goes_on}
 use Rattle.bq_graph.specs.Paths.{IsPath, end_of}
 use Rattle.bq_graph.specs.Faults.{IsBadJump}
 use Rattle.bq_graph.specs.Passes.{IsSound, IsOf, LeadsOut}

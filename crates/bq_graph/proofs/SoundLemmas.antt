@@ -4,8 +4,9 @@ use Rattle.std.proofs.lemmas.Bool.{cases_lt}
 use Rattle.bq_insn.specs.declared.Insn.{Insn}
 use Rattle.bq_insn.specs.Slots.{slots_of}
 use Rattle.bq_bpf.specs.Steps.{LeadsTo, instruction_at}
-use Rattle.bq_graph.specs.Edges.{IsStart, IsWhole, Leaves, distance_of, goes_on}
-use Rattle.bq_graph.specs.Paths.{IsGreatest, CallsOnWay, asks_counter}
+use Rattle.bq_graph.specs.Edges.{IsStart, IsWhole}
+use Rattle.bq_bpf.specs.Instructions.{Leaves, distance_of, goes_on, asks_counter}
+use Rattle.bq_graph.specs.Paths.{IsGreatest, CallsOnWay}
 use Rattle.bq_graph.specs.Faults.{IsBadJump, RunsOut, IsLateCall}
 use Rattle.bq_graph.specs.Passes.{IsSound}
 use Rattle.bq_insn.proofs.OptionLemmas.{some_none}

@@ -1,28 +1,9 @@
 -- Where control may go from a slot: the control graph of a program.
-use Rattle.std.specs.Prelude.{Bool, true, false, ◌≡◌, ℕ, ◌+◌, ◌<◌, ℤ, List, Option, Some, None, length, ◌⊎◌}
+use Rattle.std.specs.Prelude.{◌≡◌, ℕ, ◌+◌, ◌<◌, List, Option, Some, length}
 use Rattle.bq_insn.specs.declared.Insn.{Insn}
-use Rattle.bq_insn.specs.declared.Insn.TheVariants.{Goto, Goto32, Branch, Exit}
 use Rattle.bq_insn.specs.Slots.{slots_of}
-use Rattle.bq_bpf.specs.Steps.{LeadsTo, instruction_at}
-
--- how far a jump goes
-abbrev pub distance_of : Insn → Option ℤ
-distance_of (Goto off) = Some off
-distance_of (Goto32 imm) = Some imm
-distance_of (Branch w c d s off) = Some off
-distance_of _ = None
-
--- whether control may go on to the next instruction
-abbrev pub goes_on : Insn → Bool
-goes_on (Goto off) = false
-goes_on (Goto32 imm) = false
-goes_on Exit = false
-goes_on _ = true
-
--- from a slot with the instruction control may go to that slot
-abbrev pub Leaves : Insn → ℕ → ℕ → Type 0
-Leaves insn slot to =
-    ((goes_on insn ≡ true) × (to ≡ slot + slots_of insn)) ⊎ ((distance : ℤ) × (distance_of insn ≡ Some distance) × LeadsTo slot distance to)
+use Rattle.bq_bpf.specs.Instructions.{Leaves}
+use Rattle.bq_bpf.specs.Steps.{instruction_at}
 
 -- an edge of the control graph
 pub record IsEdge (slots : List (Option Insn)) (from to : ℕ) : Type 0 where

@@ -2,14 +2,15 @@
 use Rattle.std.specs.Prelude.{Bool, true, false, ◌≡◌, ℕ, ◌+◌, ◌<◌, ◌≤◌, ℤ, List, Option, Some, None, length, ◌||◌}
 use Rattle.std.specs.Ordering.{int_eq}
 use Rattle.bq_insn.specs.declared.Insn.{Insn}
-use Rattle.bq_insn.specs.declared.Insn.TheVariants.{Alu, MovSx, Neg, End, Load, Imm64, MapRef, Call}
+use Rattle.bq_insn.specs.declared.Insn.TheVariants.{Call}
 use Rattle.bq_insn.specs.Slots.{slots_of}
+use Rattle.bq_bpf.specs.Instructions.{destination_of, distance_of, goes_on, asks_counter}
 use Rattle.bq_bpf.specs.Steps.{LeadsTo, instruction_at}
 use Rattle.bq_bpf.specs.Helpers.{number_of_helper}
 use Rattle.bq_bpf.specs.Safe.{most_calls}
 use Rattle.bq_bpf.specs.declared.helper.Helper.TheVariants.{Lookup, Update, Now, Processor, AddCounter, ReadCounter}
-use Rattle.bq_graph.specs.Edges.{distance_of, goes_on, IsStart}
-use Rattle.bq_graph.specs.Paths.{Path, CallsOnWay, asks_counter}
+use Rattle.bq_graph.specs.Edges.{IsStart}
+use Rattle.bq_graph.specs.Paths.{Path, CallsOnWay}
 use Rattle.bq_graph.specs.declared.cause.GraphCause.{GraphCause}
 use Rattle.bq_graph.specs.declared.cause.GraphCause.TheVariants.{Jump, NoExit, Unreached, Frame, Helper, Counters}
 
@@ -27,17 +28,6 @@ pub record RunsOut (slots : List (Option Insn)) (slot : ℕ) : Type 0 where
   pub here : instruction_at slots slot ≡ Some insn
   pub on : goes_on insn ≡ true
   pub past : length slots ≤ slot + slots_of insn
-
--- the register that an instruction writes, if it names one
-abbrev pub destination_of : Insn → Option ℕ
-destination_of (Alu w op dst src) = Some dst
-destination_of (MovSx w bits dst src) = Some dst
-destination_of (Neg w dst) = Some dst
-destination_of (End order bits dst) = Some dst
-destination_of (Load size signed dst src off) = Some dst
-destination_of (Imm64 dst value) = Some dst
-destination_of (MapRef dst index) = Some dst
-destination_of _ = None
 
 -- an instruction that writes register 10, the address of the stack's end
 pub record WritesFrame (slots : List (Option Insn)) (slot : ℕ) : Type 0 where

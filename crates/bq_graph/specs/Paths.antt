@@ -1,11 +1,9 @@
 -- Paths of the control graph, and what is greatest over them.
-use Rattle.std.specs.Prelude.{Bool, false, ◌≡◌, ℕ, suc, ◌+◌, ◌≤◌, List, [], ◌∷◌, Option, Some, None, length, if◌then◌else◌, ◌||◌}
-use Rattle.std.specs.Ordering.{int_eq}
+use Rattle.std.specs.Prelude.{◌≡◌, ℕ, suc, ◌+◌, ◌≤◌, List, [], ◌∷◌, Option, Some, None, length, if◌then◌else◌}
 use Rattle.bq_insn.specs.declared.Insn.{Insn}
-use Rattle.bq_insn.specs.declared.Insn.TheVariants.{Call, Exit}
+use Rattle.bq_insn.specs.declared.Insn.TheVariants.{Exit}
+use Rattle.bq_bpf.specs.Instructions.{asks_counter}
 use Rattle.bq_bpf.specs.Steps.{instruction_at}
-use Rattle.bq_bpf.specs.Helpers.{number_of_helper}
-use Rattle.bq_bpf.specs.declared.helper.Helper.TheVariants.{AddCounter, ReadCounter}
 use Rattle.bq_graph.specs.Edges.{IsEdge}
 
 -- a path from the slot over those of the list, by an edge to each from the one before
@@ -35,11 +33,6 @@ pub record PathOut (slots : List (Option Insn)) (from count : ℕ) : Type 0 wher
 pub record IsGreatest (P : ℕ → Type 0) (n : ℕ) : Type 0 where
   pub holds : P n
   pub bounds : (m : ℕ) → P m → m ≤ n
-
--- whether an instruction asks a counter of the machine
-abbrev pub asks_counter : Insn → Bool
-asks_counter (Call helper) = int_eq helper (number_of_helper AddCounter) || int_eq helper (number_of_helper ReadCounter)
-asks_counter _ = false
 
 -- how many counter calls an instruction is
 abbrev pub calls_of : Option Insn → ℕ

@@ -8,8 +8,9 @@ ghost use Rattle.bq_graph.specs.Faults.{HasFault, IsLateCall, IsLeast, IsFirstFa
 use crate::cause::GraphCause;
 use crate::edges::instruction;
 use crate::passes::{count_at, count_calls};
-use crate::single::{calls_unknown, is_bad_jump, is_counter_call, runs_out, writes_frame};
+use crate::single::{calls_unknown, is_bad_jump, runs_out, writes_frame};
 use bq_bpf::board::MOST_CALLS;
+use bq_bpf::instruction::is_counter_call;
 use bq_insn::Insn;
 
 /// Where a program is at fault, and why.

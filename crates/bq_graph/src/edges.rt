@@ -1,31 +1,9 @@
 //! Where control may go from a slot.
 ghost use Rattle.std.specs.Prelude.{◌≡◌, ◌<◌, ◌≤◌, ◌+◌, ℕ, length, IfSome, IfNone, Some};
 ghost use Rattle.bq_bpf.specs.Steps.{LeadsTo, instruction_at};
-ghost use Rattle.bq_graph.specs.Edges.{distance_of, goes_on, IsStart};
+ghost use Rattle.bq_graph.specs.Edges.{IsStart};
 
 use bq_insn::{Insn, SLOTS};
-
-/// How far a jump goes, in slots from the one after it (RFC 9669 section 4.3); `None` where the instruction is no jump.
-pub fn distance(insn: Insn) -> Option<i64>
-    ensures { result ≡ distance_of insn }
-{
-    match insn {
-        Insn::Goto { off } => Some(i64::from(off)),
-        Insn::Goto32 { imm } => Some(i64::from(imm)),
-        Insn::Branch { off, .. } => Some(i64::from(off)),
-        _ => None,
-    }
-}
-
-/// Whether control may go on to the next instruction: not from an EXIT or a jump without a condition.
-pub fn may_go_on(insn: Insn) -> bool
-    ensures { result ≡ goes_on insn }
-{
-    match insn {
-        Insn::Goto { .. } | Insn::Goto32 { .. } | Insn::Exit => false,
-        _ => true,
-    }
-}
 
 /// The instruction that begins at a slot; `None` at the second slot of a wide one.
 pub fn instruction(slots: &[Option<Insn>], slot: usize) -> Option<Insn>

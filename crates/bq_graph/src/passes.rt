@@ -2,12 +2,13 @@
 ghost use Rattle.std.specs.Prelude.{◌≡◌, ◌<◌, ◌≤◌, ◌+◌, ◌⊎◌, ℕ, ℤ, length, IfSome, IfNone, Some, None, slice_index_or, if◌then◌else◌};
 ghost use Rattle.bq_insn.specs.Slots.{slots_of};
 ghost use Rattle.bq_bpf.specs.Steps.{LeadsTo, instruction_at};
-ghost use Rattle.bq_graph.specs.Edges.{distance_of, goes_on, IsStart};
+ghost use Rattle.bq_bpf.specs.Instructions.{distance_of, goes_on};
+ghost use Rattle.bq_graph.specs.Edges.{IsStart};
 ghost use Rattle.bq_graph.specs.Paths.{IsMostCalls, IsGreatest, PathOut, calls_of};
 ghost use Rattle.bq_graph.specs.Passes.{IsSound, LeadsOut, Raises, CountsFollowed, Measured, height_to};
 
-use crate::edges::{Targets, distance, instruction, landing, may_go_on};
-use crate::single::is_counter_call;
+use crate::edges::{Targets, instruction, landing};
+use bq_bpf::instruction::{distance, is_counter_call, may_go_on};
 use bq_insn::Insn;
 
 /// The slot of the next instruction, if control may go on to it.

@@ -1,47 +1,18 @@
 //! Faults that one instruction has by itself.
 ghost use Rattle.std.specs.Prelude.{◌≡◌, ◌<◌, ◌≤◌, ◌+◌, length, IsTrue, ◌↔◌, Some};
-ghost use Rattle.bq_bpf.specs.Steps.{instruction_at, IsCounterCall};
-ghost use Rattle.bq_graph.specs.Paths.{asks_counter};
-ghost use Rattle.bq_graph.specs.Faults.{destination_of, is_helper, IsBadJump, RunsOut, WritesFrame, CallsUnknown};
+ghost use Rattle.bq_bpf.specs.Steps.{instruction_at};
+ghost use Rattle.bq_graph.specs.Faults.{is_helper, IsBadJump, RunsOut, WritesFrame, CallsUnknown};
 
-use crate::cause::GraphCause;
-use crate::edges::{distance, instruction, landing, may_go_on};
-use bq_bpf::helper::{ADD_COUNTER, Helper, READ_COUNTER};
+use crate::edges::landing;
+use bq_bpf::helper::Helper;
+use bq_bpf::instruction::{destination, distance, may_go_on};
 use bq_insn::Insn;
-
-/// The register that an instruction writes, if it names one.
-pub fn destination(insn: Insn) -> Option<u8>
-    ensures { result ≡ destination_of insn }
-{
-    match insn {
-        Insn::Alu { dst, .. }
-        | Insn::MovSx { dst, .. }
-        | Insn::Neg { dst, .. }
-        | Insn::End { dst, .. }
-        | Insn::Load { dst, .. }
-        | Insn::Imm64 { dst, .. }
-        | Insn::MapRef { dst, .. } => Some(dst),
-        _ => None,
-    }
-}
 
 /// Whether there is such a helper.
 pub fn is_known_helper(helper: i32) -> bool
     ensures { result ≡ is_helper helper }
 {
     Helper::of(helper).is_some()
-}
-
-/// Whether an instruction asks a counter of the machine: helper 100 adds to one, and helper 101 reads one.
-pub fn is_counter_call(insn: Insn) -> bool
-    ensures asks { result ≡ asks_counter insn }
-    ensures is { IsTrue result → IsCounterCall insn }
-    ensures only { IsCounterCall insn → IsTrue result }
-{
-    match insn {
-        Insn::Call { helper } => helper == ADD_COUNTER || helper == READ_COUNTER,
-        _ => false,
-    }
 }
 
 /// Whether the instruction is a jump that leads to no later instruction.

@@ -13,7 +13,8 @@ use Rattle.bq_insn.specs.Slots.{slots_of, spread}
 use Rattle.bq_insn.specs.Spelling.{is_insn, is_register}
 use Rattle.bq_insn.specs.Laws.{Fits, AllFit}
 use Rattle.bq_bpf.specs.Steps.{instruction_at}
-use Rattle.bq_graph.specs.Edges.{distance_of, goes_on, IsStart}
+use Rattle.bq_bpf.specs.Instructions.{distance_of, goes_on}
+use Rattle.bq_graph.specs.Edges.{IsStart}
 use Rattle.bq_insn.proofs.OptionLemmas.{some_none}
 use Rattle.bq_insn.proofs.CountLemmas.{slots_positive}
 use Rattle.bq_graph.proofs.EdgeLemmas.{start_inside}

@@ -8,7 +8,7 @@ use Rattle.bq_bpf.specs.declared.board.Call.{Call as Asked}
 use Rattle.bq_bpf.specs.Memory.{Setting, State, reference}
 use Rattle.bq_bpf.specs.Steps.{Takes, Step, LeadsTo, put, IsTarget}
 use Rattle.bq_bpf.specs.Runs.{Ends}
-use Rattle.bq_graph.specs.Edges.{distance_of, goes_on}
+use Rattle.bq_bpf.specs.Instructions.{distance_of, goes_on}
 use Rattle.bq_insn.proofs.OptionLemmas.{some_same}
 use Rattle.bq_graph.proofs.EdgeLemmas.{leads_same}
 use Rattle.bq_import.specs.Laws.{beside}

@@ -8,7 +8,8 @@ use Rattle.bq_graph.specs.Faults.{RunsOut}
 use Rattle.bq_insn.specs.declared.Insn.{Insn}
 use Rattle.bq_insn.specs.Slots.{slots_of}
 use Rattle.bq_bpf.specs.Steps.{LeadsTo, instruction_at}
-use Rattle.bq_graph.specs.Edges.{distance_of, goes_on, IsStart}
+use Rattle.bq_bpf.specs.Instructions.{distance_of, goes_on}
+use Rattle.bq_graph.specs.Edges.{IsStart}
 use Rattle.bq_graph.specs.Passes.{LeadsOut, IsOf}
 use Rattle.bq_graph.specs.declared.edges.Targets.{Targets}
 use Rattle.bq_insn.proofs.OptionLemmas.{some_same, some_none}

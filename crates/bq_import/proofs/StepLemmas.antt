@@ -9,7 +9,7 @@ use Rattle.bq_bpf.specs.declared.board.Call.{Call as Asked}
 use Rattle.bq_bpf.specs.declared.board.Call.TheVariants.{Add, Read}
 use Rattle.bq_bpf.specs.Memory.{Setting, State, Region, InContext, InStack, InEntry, IsGood, Reads, Writes, written}
 use Rattle.bq_bpf.specs.Steps.{Does, Helps, NamesEntry, Takes}
-use Rattle.bq_graph.specs.Edges.{distance_of}
+use Rattle.bq_bpf.specs.Instructions.{distance_of}
 use Rattle.bq_import.specs.Laws.{beside}
 
 -- the state at another slot

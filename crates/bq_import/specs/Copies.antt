@@ -6,7 +6,8 @@ use Rattle.bq_insn.specs.declared.Insn.TheVariants.{Imm64, MapRef, Goto, Goto32,
 use Rattle.bq_insn.specs.Slots.{slots_of}
 use Rattle.bq_bpf.specs.Memory.{reference}
 use Rattle.bq_bpf.specs.Steps.{LeadsTo, instruction_at}
-use Rattle.bq_graph.specs.Edges.{distance_of, goes_on, IsStart}
+use Rattle.bq_bpf.specs.Instructions.{distance_of, goes_on}
+use Rattle.bq_graph.specs.Edges.{IsStart}
 
 -- a number that is the reference of one of so many maps
 abbrev pub is_reference : ℕ → ℕ → Bool

@@ -3,7 +3,8 @@ use Rattle.std.specs.Prelude.{◌≡◌, ℕ, ◌+◌, ◌*◌, ◌<◌, ◌≤�
 use Rattle.bq_insn.specs.declared.Insn.{Insn}
 use Rattle.bq_bpf.specs.Steps.{LeadsTo}
 use Rattle.bq_insn.specs.Slots.{slots_of}
-use Rattle.bq_graph.specs.Edges.{distance_of, goes_on, IsEdge, IsStart}
+use Rattle.bq_bpf.specs.Instructions.{distance_of, goes_on}
+use Rattle.bq_graph.specs.Edges.{IsEdge, IsStart}
 use Rattle.bq_graph.specs.Paths.{Path}
 use Rattle.bq_graph.specs.Passes.{LeadsOut, IsOf}
 use Rattle.bq_graph.specs.declared.edges.Targets.{Targets}

@@ -12,7 +12,7 @@ use Rattle.bq_insn.specs.declared.Width.TheVariants.{W64}
 use Rattle.bq_bpf.specs.Meaning.{word_of}
 use Rattle.bq_insn.specs.declared.Source.{Source}
 use Rattle.bq_insn.specs.declared.Source.TheVariants.{Imm, Reg}
-use Rattle.bq_graph.specs.Faults.{destination_of}
+use Rattle.bq_bpf.specs.Instructions.{destination_of}
 use Rattle.bq_states.specs.declared.abstract_state.ValueKind.{ValueKind}
 use Rattle.bq_states.specs.declared.abstract_state.ValueKind.TheVariants.{Number, Stack, Entry, EntryOrNull, Map}
 use Rattle.bq_states.specs.declared.abstract_state.AbstractValue.{AbstractValue}

@@ -7,7 +7,7 @@ use Rattle.bq_insn.specs.declared.Insn.{Insn}
 use Rattle.bq_insn.specs.declared.Insn.TheVariants.{Goto, Goto32, Branch, Exit}
 use Rattle.bq_insn.specs.declared.Size.{Size}
 use Rattle.bq_bpf.specs.declared.shape.MapShape.{MapShape}
-use Rattle.bq_graph.specs.Faults.{destination_of}
+use Rattle.bq_bpf.specs.Instructions.{destination_of}
 use Rattle.bq_states.specs.Certainty.{Fact, Has, IsGiven, IsStoredAt}
 use Rattle.bq_states.specs.declared.abstract_state.ValueKind.{ValueKind}
 use Rattle.bq_states.specs.declared.abstract_state.ValueKind.TheVariants.{Stack, Entry}

@@ -14,7 +14,7 @@ use Rattle.bq_bpf.specs.Steps.{LeadsTo}
 use Rattle.bq_bpf.specs.Helpers.{number_of_helper}
 use Rattle.bq_bpf.specs.declared.helper.Helper.TheVariants.{Lookup}
 use Rattle.bq_bpf.specs.Memory.{stack_size}
-use Rattle.bq_graph.specs.Faults.{destination_of}
+use Rattle.bq_bpf.specs.Instructions.{destination_of}
 use Rattle.bq_states.specs.Certainty.{Scalar, Exact, Pointer, NoPointer, StandsAt, Fact, Never, AtRegister, IsSetAt, IsPlainAt, Has}
 use Rattle.bq_states.specs.Told.{IsCertain}
 use Rattle.bq_states.specs.declared.abstract_state.ValueKind.TheVariants.{Entry, EntryOrNull, Map}

@@ -5,7 +5,7 @@ use Rattle.bq_insn.specs.Slots.{slots_of, byte_count}
 use Rattle.bq_insn.specs.declared.Size.{Size}
 use Rattle.bq_insn.specs.declared.Size.TheVariants.{Double}
 use Rattle.bq_bpf.specs.Meaning.{alu_result}
-use Rattle.bq_graph.specs.Edges.{Leaves}
+use Rattle.bq_bpf.specs.Instructions.{Leaves}
 use Rattle.bq_bpf.specs.declared.shape.MapShape.{MapShape}
 use Rattle.bq_bpf.specs.Memory.{Setting, State, Region, IsGood, Writes}
 use Rattle.bq_bpf.specs.declared.board.Call.{Call as Asked}

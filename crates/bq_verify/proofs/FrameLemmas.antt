@@ -13,7 +13,8 @@ use Rattle.bq_insn.specs.Slots.{slots_of, spread}
 use Rattle.bq_insn.specs.Spelling.{is_insn}
 use Rattle.bq_bpf.specs.Steps.{instruction_at}
 use Rattle.bq_graph.specs.declared.cause.GraphCause.TheVariants.{Frame}
-use Rattle.bq_graph.specs.Faults.{IsFaultless, destination_of}
+use Rattle.bq_graph.specs.Faults.{IsFaultless}
+use Rattle.bq_bpf.specs.Instructions.{destination_of}
 use Rattle.bq_insn.proofs.OptionLemmas.{some_same, some_none}
 use Rattle.bq_graph.proofs.SpreadLemmas.{one_or_two}
 use Rattle.bq_verify.specs.Control.{SparesFrame}

@@ -9,7 +9,8 @@ use Rattle.bq_graph.proofs.SoundLemmas.{late_by, sound_graph}
 use Rattle.bq_insn.specs.declared.Insn.{Insn}
 use Rattle.bq_insn.specs.Slots.{spread}
 use Rattle.bq_graph.specs.Edges.{IsEdge, IsWhole, IsStart}
-use Rattle.bq_graph.specs.Paths.{IsGreatest, IsMostCalls, PathOut, CallsOnWay, asks_counter, calls_of}
+use Rattle.bq_graph.specs.Paths.{IsGreatest, IsMostCalls, PathOut, CallsOnWay, calls_of}
+use Rattle.bq_bpf.specs.Instructions.{asks_counter}
 use Rattle.bq_graph.specs.Faults.{IsFaultless}
 use Rattle.bq_graph.specs.Passes.{IsSound, Measured}
 use Rattle.bq_graph.specs.declared.cause.GraphCause.TheVariants.{Jump, NoExit, Unreached, Counters}

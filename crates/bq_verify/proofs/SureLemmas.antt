@@ -21,7 +21,7 @@ use Rattle.bq_bpf.specs.Steps.{instruction_at}
 use Rattle.bq_graph.specs.Edges.{IsEdge}
 use Rattle.bq_graph.specs.Paths.{IsPath, Path, end_of}
 use Rattle.bq_graph.specs.Passes.{IsSound}
-use Rattle.bq_graph.specs.Faults.{destination_of}
+use Rattle.bq_bpf.specs.Instructions.{destination_of}
 use Rattle.bq_graph.specs.declared.cause.GraphCause.TheVariants.{Frame}
 use Rattle.bq_graph.proofs.EdgeLemmas.{end_of-push, IsPath-push}
 use Rattle.bq_states.specs.declared.abstract_state.ValueKind.{ValueKind}

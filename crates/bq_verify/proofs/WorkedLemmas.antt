@@ -13,9 +13,10 @@ use Rattle.bq_insn.specs.declared.Width.TheVariants.{W64}
 use Rattle.bq_insn.specs.Slots.{slots_of, spread}
 use Rattle.bq_bpf.specs.Steps.{LeadsTo}
 use Rattle.bq_bpf.specs.declared.shape.MapShape.{MapShape}
-use Rattle.bq_graph.specs.Edges.{IsEdge, IsStart, Leaves, distance_of, goes_on}
-use Rattle.bq_graph.specs.Paths.{Path, asks_counter}
-use Rattle.bq_graph.specs.Faults.{IsFaultless, destination_of, is_helper}
+use Rattle.bq_graph.specs.Edges.{IsEdge, IsStart}
+use Rattle.bq_bpf.specs.Instructions.{Leaves, distance_of, goes_on, asks_counter, destination_of}
+use Rattle.bq_graph.specs.Paths.{Path}
+use Rattle.bq_graph.specs.Faults.{IsFaultless, is_helper}
 use Rattle.bq_graph.specs.declared.cause.GraphCause.TheVariants.{Jump, NoExit, Unreached, Frame, Helper, Counters}
 use Rattle.bq_graph.proofs.EdgeLemmas.{end_of-push, IsPath-push, leads_same}
 use Rattle.bq_transfer.specs.Ready.{IsNullCheck}

@@ -20,7 +20,8 @@ use Rattle.bq_bpf.specs.declared.helper.Helper.TheVariants.{Lookup, Update, Now,
 use Rattle.bq_bpf.specs.Memory.{stack_size}
 use Rattle.bq_graph.specs.Edges.{IsEdge}
 use Rattle.bq_graph.specs.Paths.{IsPath, end_of}
-use Rattle.bq_graph.specs.Faults.{IsFaultless, destination_of}
+use Rattle.bq_graph.specs.Faults.{IsFaultless}
+use Rattle.bq_bpf.specs.Instructions.{destination_of}
 use Rattle.bq_transfer.specs.Ready.{IsNullCheck}
 use Rattle.bq_transfer.specs.After.{IsFoundSide, IsStackByte, LeavesPointer}
 use Rattle.bq_states.specs.declared.abstract_state.ValueKind.{ValueKind}

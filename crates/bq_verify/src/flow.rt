@@ -18,8 +18,8 @@ ghost use Rattle.bq_verify.specs.Control.{Goes, IsKnown, IsOnSide, PartsTo, Wait
 use crate::stop::PassStop;
 use crate::subject::Subject;
 use crate::waiting::wait;
+use bq_bpf::instruction::is_counter_call;
 use bq_graph::passes::target;
-use bq_graph::single::is_counter_call;
 use bq_insn::{Condition, Insn, Source, Width};
 use bq_states::abstract_state::{AbstractState, AbstractValue, ValueKind};
 use bq_states::registers::{known, operand};
