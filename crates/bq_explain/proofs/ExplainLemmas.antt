@@ -3,10 +3,10 @@ use Rattle.std.proofs.Common.{◌≡◌, ℕ, Bool, List, [], Option, Result, Ok
 use Rattle.std.specs.Prelude.{Contains}
 use Rattle.bq_insn.specs.declared.Insn.{Insn}
 use Rattle.bq_insn.specs.Slots.{spread}
-use Rattle.bq_graph.specs.Edges.{IsStart}
-use Rattle.bq_graph.specs.Faults.{HasFault, IsFaultless}
-use Rattle.bq_graph.specs.declared.cause.GraphCause.{GraphCause}
-use Rattle.bq_graph.specs.declared.cause.GraphCause.TheVariants.{Jump, NoExit, Unreached, Helper, Frame, Counters}
+use Rattle.bq_verify.specs.Edges.{IsStart}
+use Rattle.bq_verify.specs.Faults.{HasFault, IsFaultless}
+use Rattle.bq_verify.specs.declared.graph_cause.GraphCause.{GraphCause}
+use Rattle.bq_verify.specs.declared.graph_cause.GraphCause.TheVariants.{Jump, NoExit, Unreached, Helper, Frame, Counters}
 use Rattle.bq_verify.specs.Refusals.{IsRefusal}
 use Rattle.bq_verify.specs.declared.cause.Cause.{Cause}
 use Rattle.bq_verify.specs.declared.cause.Cause.TheVariants as cause

@@ -7,10 +7,10 @@ use Rattle.std.proofs.lemmas.List.Elements.{Contains-push, Contains-push_cases, 
 use Rattle.bq_insn.specs.declared.Insn.{Insn}
 use Rattle.bq_insn.proofs.OptionLemmas.{some_none}
 use Rattle.bq_bpf.specs.Steps.{instruction_at}
-use Rattle.bq_graph.specs.Edges.{IsEdge}
-use Rattle.bq_graph.specs.Paths.{IsPath, end_of}
-use Rattle.bq_graph.specs.Passes.{IsOf, IsSound, LeadsOut}
-use Rattle.bq_graph.specs.declared.edges.Targets.{Targets}
+use Rattle.bq_verify.specs.Edges.{IsEdge}
+use Rattle.bq_verify.specs.Paths.{IsPath, end_of}
+use Rattle.bq_verify.specs.Passes.{IsOf, IsSound, LeadsOut}
+use Rattle.bq_verify.specs.declared.edges.Targets.{Targets}
 use Rattle.bq_explain.specs.Makers.{AreLeading, AreSparing, IsMaker, IsPart, SparingWay}
 use Rattle.bq_explain.specs.declared.makers.Part.TheVariants.{Off, Makes, Leads}
 use Rattle.bq_verify.specs.Straight.{spares}

@@ -1,6 +1,6 @@
 -- Where instructions stand in their slots.
 use Rattle.std.proofs.Common.{◌≡◌, ℕ, zero, suc, ◌+◌, ◌-◌, ◌<◌, List, [], ◌∷◌, ◌++◌, Option, Some, None, length, take, get_or, slice_get, replicate, length-append, refl, ◌∙◌, ap, arith}
-use Rattle.bq_graph.proofs.SpreadLemmas.{spread_more}
+use Rattle.bq_verify.proofs.SpreadLemmas.{spread_more}
 use Rattle.bq_insn.specs.declared.Insn.TheVariants.{Imm64, MapRef}
 use Rattle.bq_insn.specs.declared.Insn.{Insn}
 use Rattle.bq_insn.specs.Slots.{slots_of, spread}

@@ -5,8 +5,8 @@ use Rattle.bq_insn.specs.Slots.{spread}
 use Rattle.bq_bpf.specs.Memory.{Setting, State}
 use Rattle.bq_bpf.specs.Steps.{instruction_at}
 use Rattle.bq_hooks.specs.Hooks.{context_length_of}
-use Rattle.bq_graph.specs.declared.cause.GraphCause.{GraphCause}
-use Rattle.bq_graph.specs.declared.cause.GraphCause.TheVariants.{Jump, NoExit, Unreached, Helper, Frame, Counters}
+use Rattle.bq_verify.specs.declared.graph_cause.GraphCause.{GraphCause}
+use Rattle.bq_verify.specs.declared.graph_cause.GraphCause.TheVariants.{Jump, NoExit, Unreached, Helper, Frame, Counters}
 use Rattle.bq_verify.specs.declared.cause.Cause.{Cause}
 use Rattle.bq_verify.specs.declared.cause.Cause.TheVariants as cause
 use Rattle.bq_verify.specs.KnownAt.{ContainsRuns, IsNotReached}

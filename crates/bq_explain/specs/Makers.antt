@@ -3,10 +3,10 @@ use Rattle.std.specs.Prelude.{Contains, ◌≡◌, ◌≤◌, ◌↔◌, ℕ, Bo
 use Rattle.bq_insn.specs.declared.Insn.{Insn}
 use Rattle.bq_bpf.specs.Steps.{instruction_at}
 use Rattle.bq_insn.specs.Spelling.{is_well_formed}
-use Rattle.bq_graph.specs.Edges.{IsEdge}
-use Rattle.bq_graph.specs.Passes.{IsSound}
+use Rattle.bq_verify.specs.Edges.{IsEdge}
+use Rattle.bq_verify.specs.Passes.{IsSound}
 use Rattle.bq_verify.specs.declared.program.Program.{Program}
-use Rattle.bq_graph.specs.Paths.{IsPath, end_of}
+use Rattle.bq_verify.specs.Paths.{IsPath, end_of}
 use Rattle.bq_verify.specs.Straight.{spares}
 use Rattle.bq_needs.specs.Operands.{reads}
 use Rattle.bq_explain.specs.declared.makers.Maker.{Maker}

@@ -4,8 +4,8 @@ use Rattle.std.specs.Fmt.{decimal, signed_decimal}
 use Rattle.bq_insn.specs.declared.Insn.{Insn}
 use Rattle.bq_insn.specs.declared.Insn.TheVariants.{Call}
 use Rattle.bq_insn.specs.Slots.{spread}
-use Rattle.bq_graph.specs.Faults.{IsFaultless}
-use Rattle.bq_graph.specs.Paths.{IsGreatest, PathOut}
+use Rattle.bq_verify.specs.Faults.{IsFaultless}
+use Rattle.bq_verify.specs.Paths.{IsGreatest, PathOut}
 use Rattle.bq_bpf.specs.Safe.{Safe}
 use Rattle.bq_load.specs.declared.fault.LoadFault.TheVariants as load
 use Rattle.bq_load.specs.Naming.{fault_text}

@@ -1,15 +1,15 @@
 //! Where a register's value comes from: the instructions that made it, by the ways of the control graph.
 ghost use Rattle.std.specs.Prelude.{◌+◌, ◌⊎◌, Bool, List, ◌≡◌, ◌<◌, ◌≤◌, ◌↔◌, ℕ, All, Contains, IfOk, IfSome, IsTrue, MatchBool, OnOk, false, length, slice_index_or, Some, true};
-ghost use Rattle.bq_graph.specs.Passes.{IsOf, IsSound};
+ghost use Rattle.bq_verify.specs.Passes.{IsOf, IsSound};
 ghost use Rattle.bq_explain.specs.Makers.{AreLeading, AreOnTrail, IsMaker, IsOnTrail, IsPart, MakesAsked};
 ghost use Rattle.bq_explain.specs.declared.makers.Maker.{Maker as Named};
 ghost use Rattle.bq_verify.specs.Straight.{spares};
 
 use bq_bpf::instruction::destination;
-use bq_graph::edges::{Targets, instruction};
-use bq_graph::passes::targets;
 use bq_insn::Insn;
 use bq_needs::{Registers, read_registers};
+use bq_verify::edges::{Targets, instruction};
+use bq_verify::passes::targets;
 use std::alloc::{AllocError, Global};
 
 /// What an instruction is to the ways to a slot on which no later one writes a register.

@@ -1,18 +1,18 @@
 //! Where ways meet on which a register holds different words.
 ghost use Rattle.std.specs.Prelude.{◌≡◌, ◌<◌, ◌≤◌, length, true};
 ghost use Rattle.bq_insn.specs.Spelling.{is_well_formed};
-ghost use Rattle.bq_graph.specs.Passes.{IsSound};
+ghost use Rattle.bq_verify.specs.Passes.{IsSound};
 ghost use Rattle.bq_explain.specs.Makers.{IsLaidOut};
 
 use crate::after::known_after;
 use crate::makers::leading_to;
 use crate::place::{Place, place_at};
-use bq_graph::edges::instruction;
-use bq_graph::passes::targets;
 use bq_insn::Insn;
 use bq_program::PolicySource;
 use bq_states::abstract_state::AbstractValue;
 use bq_states::registers::known;
+use bq_verify::edges::instruction;
+use bq_verify::passes::targets;
 use bq_verify::{Program, state_at};
 use std::alloc::{AllocError, Global};
 

@@ -3,7 +3,7 @@ ghost use Rattle.std.specs.Prelude.{◌≡◌, IfNone, IfOk, IfSome, Some, slice
 ghost use Rattle.bq_insn.specs.Slots.{spread};
 ghost use Rattle.bq_insn.specs.declared.Insn.{Insn as Told};
 ghost use Rattle.bq_bpf.specs.Steps.{instruction_at};
-ghost use Rattle.bq_graph.specs.Edges.{IsStart};
+ghost use Rattle.bq_verify.specs.Edges.{IsStart};
 ghost use Rattle.bq_explain.specs.Explained.{IsPlace};
 
 use bq_insn::Insn;

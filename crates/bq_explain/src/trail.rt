@@ -1,6 +1,6 @@
 //! Where the registers come from that matter to a need: what made them, and where their ways meet.
 ghost use Rattle.std.specs.Prelude.{◌≡◌, ◌<◌, ◌≤◌, [], IfOk, IfSome, length};
-ghost use Rattle.bq_graph.specs.Passes.{IsSound};
+ghost use Rattle.bq_verify.specs.Passes.{IsSound};
 ghost use Rattle.bq_explain.specs.Explained.{AreMade, AreOf, IsOf};
 ghost use Rattle.bq_explain.specs.Makers.{IsLaidOut};
 

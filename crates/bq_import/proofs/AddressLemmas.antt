@@ -7,7 +7,7 @@ use Rattle.bq_insn.specs.declared.Insn.TheVariants.{Imm64, MapRef}
 use Rattle.bq_insn.specs.Slots.{slots_of}
 use Rattle.bq_insn.specs.Spelling.{slot_count, is_well_formed}
 use Rattle.bq_insn.proofs.CountLemmas.{count_within}
-use Rattle.bq_graph.proofs.SlotLemmas.{spread_long, few_slots}
+use Rattle.bq_verify.proofs.SlotLemmas.{spread_long, few_slots}
 use Rattle.bq_import.specs.Importing.{IsFirstAddress, is_address}
 
 -- of a program they take at most 4096

@@ -14,11 +14,11 @@ use Rattle.bq_insn.specs.Spelling.{is_insn, is_register}
 use Rattle.bq_insn.specs.Laws.{Fits, AllFit}
 use Rattle.bq_bpf.specs.Steps.{instruction_at}
 use Rattle.bq_bpf.specs.Instructions.{distance_of, goes_on}
-use Rattle.bq_graph.specs.Edges.{IsStart}
+use Rattle.bq_verify.specs.Edges.{IsStart}
 use Rattle.bq_insn.proofs.OptionLemmas.{some_none}
 use Rattle.bq_insn.proofs.CountLemmas.{slots_positive}
-use Rattle.bq_graph.proofs.EdgeLemmas.{start_inside}
-use Rattle.bq_graph.proofs.SpreadLemmas.{one_or_two}
+use Rattle.bq_verify.proofs.EdgeLemmas.{start_inside}
+use Rattle.bq_verify.proofs.SpreadLemmas.{one_or_two}
 use Rattle.bq_import.specs.Copies.{is_reference, wide_copy, copied, Stands}
 use Rattle.bq_import.specs.Backward.{AreGood, JumpsBack, GoesBack, IsPlaced, insns_of, IsBuilt, Keeps, IsLengthened, MayStand}
 use Rattle.bq_import.proofs.CopyLemmas.{reference_refers}

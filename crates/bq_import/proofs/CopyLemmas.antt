@@ -10,7 +10,7 @@ use Rattle.bq_bpf.specs.Steps.{Takes, Step, LeadsTo, put, IsTarget}
 use Rattle.bq_bpf.specs.Runs.{Ends}
 use Rattle.bq_bpf.specs.Instructions.{distance_of, goes_on}
 use Rattle.bq_insn.proofs.OptionLemmas.{some_same}
-use Rattle.bq_graph.proofs.EdgeLemmas.{leads_same}
+use Rattle.bq_verify.proofs.EdgeLemmas.{leads_same}
 use Rattle.bq_import.specs.Laws.{beside}
 use Rattle.bq_import.specs.Copies.{is_reference, wide_copy, copied, Stands, JumpsAlike, IsCopy}
 use Rattle.bq_import.proofs.StepLemmas.{moved, takes_moved}

@@ -6,13 +6,13 @@ use Rattle.bq_insn.specs.declared.Insn.{Insn}
 use Rattle.bq_insn.specs.declared.Insn.TheVariants.{Alu, MovSx, Neg, End, Load, StoreImm, StoreReg, Imm64, MapRef, Goto, Goto32, Branch, Call, Exit}
 use Rattle.bq_insn.specs.Slots.{slots_of}
 use Rattle.bq_bpf.specs.Steps.{LeadsTo}
-use Rattle.bq_graph.specs.Edges.{IsEdge, IsStart}
+use Rattle.bq_verify.specs.Edges.{IsEdge, IsStart}
 use Rattle.bq_bpf.specs.Instructions.{distance_of, goes_on}
-use Rattle.bq_graph.specs.Paths.{IsPath, PathOut, end_of}
-use Rattle.bq_graph.specs.Faults.{IsBadJump, RunsOut}
+use Rattle.bq_verify.specs.Paths.{IsPath, PathOut, end_of}
+use Rattle.bq_verify.specs.Faults.{IsBadJump, RunsOut}
 use Rattle.bq_insn.proofs.OptionLemmas.{some_same}
 use Rattle.bq_insn.proofs.CountLemmas.{slots_positive}
-use Rattle.bq_graph.proofs.EdgeLemmas.{leads_same, start_inside}
+use Rattle.bq_verify.proofs.EdgeLemmas.{leads_same, start_inside}
 use Rattle.bq_import.specs.Copies.{is_reference, wide_copy, copied, Stands, IsCopy}
 use Rattle.bq_import.specs.Laws.{GoesForward, SameBudget}
 use Rattle.bq_import.proofs.CopyLemmas.{copied_exit}

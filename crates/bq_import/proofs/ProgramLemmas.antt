@@ -9,7 +9,7 @@ use Rattle.bq_insn.specs.Slots.{slots_of, spread}
 use Rattle.bq_insn.specs.Laws.{Fits, AllFit}
 use Rattle.bq_insn.specs.Spelling.{slot_count, is_insn, is_well_formed}
 use Rattle.bq_insn.proofs.OptionLemmas.{some_same, some_none}
-use Rattle.bq_graph.proofs.SlotLemmas.{spread_long}
+use Rattle.bq_verify.proofs.SlotLemmas.{spread_long}
 use Rattle.bq_import.specs.Backward.{AreGood, IsBuilt, IsFront, insns_of}
 
 gap_good : (n : ℕ) (rest : List (Option Insn)) → AreGood rest → AreGood (replicate n None ++ rest)

@@ -8,7 +8,7 @@ use Rattle.bq_insn.specs.declared.Insn.TheVariants.{Imm64, MapRef}
 use Rattle.bq_insn.specs.Slots.{slots_of}
 use Rattle.bq_bpf.specs.Steps.{instruction_at}
 use Rattle.bq_bpf.specs.Instructions.{goes_on}
-use Rattle.bq_graph.proofs.EdgeLemmas.{start_inside}
+use Rattle.bq_verify.proofs.EdgeLemmas.{start_inside}
 use Rattle.bq_import.specs.declared.fault.Disorder.{Disorder}
 use Rattle.bq_import.specs.declared.fault.Disorder.TheVariants.{Outside, Ends, Loop, Long, OutOfMemory}
 use Rattle.bq_import.specs.Faults.{IsDisorder, IsFull, IsLinked}

@@ -4,17 +4,17 @@ use Rattle.std.specs.Prelude.{if◌then◌else◌, IfSome, IfNone, is_some}
 use Rattle.bq_import.specs.declared.fault.Disorder.{Disorder}
 use Rattle.bq_import.specs.declared.fault.Disorder.TheVariants.{Outside, Ends, Loop, Long, OutOfMemory}
 use Rattle.bq_import.specs.Faults.{IsDisorder, IsLinked, IsWrongAt, LeadsNowhere, WellBefore}
-use Rattle.bq_graph.specs.Faults.{RunsOut}
+use Rattle.bq_verify.specs.Faults.{RunsOut}
 use Rattle.bq_insn.specs.declared.Insn.{Insn}
 use Rattle.bq_insn.specs.Slots.{slots_of}
 use Rattle.bq_bpf.specs.Steps.{LeadsTo, instruction_at}
 use Rattle.bq_bpf.specs.Instructions.{distance_of, goes_on}
-use Rattle.bq_graph.specs.Edges.{IsStart}
-use Rattle.bq_graph.specs.Passes.{LeadsOut, IsOf}
-use Rattle.bq_graph.specs.declared.edges.Targets.{Targets}
+use Rattle.bq_verify.specs.Edges.{IsStart}
+use Rattle.bq_verify.specs.Passes.{LeadsOut, IsOf}
+use Rattle.bq_verify.specs.declared.edges.Targets.{Targets}
 use Rattle.bq_insn.proofs.OptionLemmas.{some_same, some_none}
 use Rattle.bq_insn.proofs.CountLemmas.{slots_positive}
-use Rattle.bq_graph.proofs.EdgeLemmas.{leads_same, leads_out}
+use Rattle.bq_verify.proofs.EdgeLemmas.{leads_same, leads_out}
 use Rattle.bq_import.specs.Copies.{Stands}
 use Rattle.bq_import.specs.Backward.{JumpsBack, IsFront, IsLengthened, MayStand}
 use Rattle.bq_import.specs.Search.{AreTargets, JumpsTo}

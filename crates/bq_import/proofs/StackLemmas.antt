@@ -4,10 +4,10 @@ use Rattle.std.specs.Prelude.{slice_index, slice_set, sum_by}
 use Rattle.std.proofs.lemmas.List.{get_or_append_left, get_or-append-add, get_or-take, get_or-set_same, get_or-set_other, length-set}
 use Rattle.std.proofs.lemmas.List.Sums.{sum_by-set}
 use Rattle.bq_insn.specs.declared.Insn.{Insn}
-use Rattle.bq_graph.specs.Edges.{IsEdge, IsStart}
-use Rattle.bq_graph.specs.Paths.{Path}
+use Rattle.bq_verify.specs.Edges.{IsEdge, IsStart}
+use Rattle.bq_verify.specs.Paths.{Path}
 use Rattle.bq_insn.proofs.OptionLemmas.{some_same, some_none}
-use Rattle.bq_graph.proofs.EdgeLemmas.{start_inside, IsPath-push, end_of-push}
+use Rattle.bq_verify.proofs.EdgeLemmas.{start_inside, IsPath-push, end_of-push}
 use Rattle.bq_import.specs.Copies.{Stands}
 use Rattle.bq_import.proofs.RoomLemmas.{few_unopened, size_first, size_left}
 use Rattle.bq_import.specs.Backward.{IsBuilt, IsLengthened}

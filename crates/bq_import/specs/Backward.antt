@@ -7,7 +7,7 @@ use Rattle.bq_insn.specs.Spelling.{is_insn}
 use Rattle.bq_insn.specs.Laws.{Fits, AllFit}
 use Rattle.bq_bpf.specs.Steps.{LeadsTo, instruction_at}
 use Rattle.bq_bpf.specs.Instructions.{distance_of, goes_on}
-use Rattle.bq_graph.specs.Edges.{IsStart}
+use Rattle.bq_verify.specs.Edges.{IsStart}
 use Rattle.bq_import.specs.Copies.{copied, Stands}
 
 -- registers, widths and numbers of each instruction are in range

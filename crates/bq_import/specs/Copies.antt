@@ -7,7 +7,7 @@ use Rattle.bq_insn.specs.Slots.{slots_of}
 use Rattle.bq_bpf.specs.Memory.{reference}
 use Rattle.bq_bpf.specs.Steps.{LeadsTo, instruction_at}
 use Rattle.bq_bpf.specs.Instructions.{distance_of, goes_on}
-use Rattle.bq_graph.specs.Edges.{IsStart}
+use Rattle.bq_verify.specs.Edges.{IsStart}
 
 -- a number that is the reference of one of so many maps
 abbrev pub is_reference : ℕ → ℕ → Bool

@@ -4,9 +4,9 @@ use Rattle.bq_insn.specs.declared.Insn.{Insn}
 use Rattle.bq_insn.specs.Slots.{slots_of}
 use Rattle.bq_bpf.specs.Steps.{LeadsTo, instruction_at}
 use Rattle.bq_bpf.specs.Instructions.{distance_of, goes_on}
-use Rattle.bq_graph.specs.Edges.{IsEdge, IsStart}
-use Rattle.bq_graph.specs.Paths.{Path}
-use Rattle.bq_graph.specs.Faults.{RunsOut}
+use Rattle.bq_verify.specs.Edges.{IsEdge, IsStart}
+use Rattle.bq_verify.specs.Paths.{Path}
+use Rattle.bq_verify.specs.Faults.{RunsOut}
 use Rattle.bq_import.specs.Backward.{AreGood}
 use Rattle.bq_import.specs.declared.fault.Disorder.{Disorder}
 use Rattle.bq_import.specs.declared.fault.Disorder.TheVariants.{Outside, Ends, Loop, Long, OutOfMemory}

@@ -6,9 +6,9 @@ use Rattle.bq_bpf.specs.declared.board.Call.{Call as Asked}
 use Rattle.bq_bpf.specs.Memory.{Setting}
 use Rattle.bq_bpf.specs.Runs.{RunFrom, start}
 use Rattle.bq_bpf.specs.Safe.{Safe}
-use Rattle.bq_graph.specs.Edges.{IsForward}
-use Rattle.bq_graph.specs.Paths.{IsGreatest, PathOut}
-use Rattle.bq_graph.specs.Faults.{IsBadJump, RunsOut}
+use Rattle.bq_verify.specs.Edges.{IsForward}
+use Rattle.bq_verify.specs.Paths.{IsGreatest, PathOut}
+use Rattle.bq_verify.specs.Faults.{IsBadJump, RunsOut}
 use Rattle.bq_import.specs.Copies.{IsCopy}
 
 -- the setting with another program

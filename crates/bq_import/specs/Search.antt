@@ -4,10 +4,10 @@ use Rattle.bq_insn.specs.declared.Insn.{Insn}
 use Rattle.bq_bpf.specs.Steps.{LeadsTo}
 use Rattle.bq_insn.specs.Slots.{slots_of}
 use Rattle.bq_bpf.specs.Instructions.{distance_of, goes_on}
-use Rattle.bq_graph.specs.Edges.{IsEdge, IsStart}
-use Rattle.bq_graph.specs.Paths.{Path}
-use Rattle.bq_graph.specs.Passes.{LeadsOut, IsOf}
-use Rattle.bq_graph.specs.declared.edges.Targets.{Targets}
+use Rattle.bq_verify.specs.Edges.{IsEdge, IsStart}
+use Rattle.bq_verify.specs.Paths.{Path}
+use Rattle.bq_verify.specs.Passes.{LeadsOut, IsOf}
+use Rattle.bq_verify.specs.declared.edges.Targets.{Targets}
 use Rattle.bq_import.specs.Copies.{Stands}
 use Rattle.bq_import.specs.Backward.{IsBuilt}
 

@@ -3,8 +3,8 @@ ghost use Rattle.std.specs.Prelude.{◌<◌};
 ghost use Rattle.bq_import.specs.Faults.{IsLinked};
 
 use crate::linked::targets;
-use bq_graph::edges::{Targets, instruction};
 use bq_insn::Insn;
+use bq_verify::edges::{Targets, instruction};
 use std::alloc::{AllocError, Global};
 
 /// A walk over all slots that control may come to.

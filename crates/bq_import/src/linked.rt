@@ -2,16 +2,16 @@
 ghost use Rattle.std.specs.Prelude.{◌≡◌, ◌<◌, ◌≤◌, ◌+◌, ℕ, ℤ, length, OnOk, IfErr, IfSome, IfNone, Some, None};
 ghost use Rattle.bq_bpf.specs.Steps.{LeadsTo, instruction_at};
 ghost use Rattle.bq_bpf.specs.Instructions.{distance_of};
-ghost use Rattle.bq_graph.specs.Edges.{IsStart, IsWhole};
+ghost use Rattle.bq_verify.specs.Edges.{IsStart, IsWhole};
 ghost use Rattle.bq_import.specs.Backward.{AreGood};
 ghost use Rattle.bq_import.specs.Faults.{IsDisorder, IsLinked, IsWrongAt, LeadsWell, WellAt};
 ghost use Rattle.bq_import.specs.Search.{AreTargets};
 
 use crate::fault::Disorder;
 use bq_bpf::instruction::{distance, may_go_on};
-use bq_graph::edges::{Targets, instruction};
-use bq_graph::passes::next_slot;
 use bq_insn::{Insn, SLOTS};
+use bq_verify::edges::{Targets, instruction};
+use bq_verify::passes::next_slot;
 
 /// The slot that the jump leads to, where an instruction begins there.
 fn landing(slots: &[Option<Insn>], slot: usize, distance: i64) -> Option<usize>

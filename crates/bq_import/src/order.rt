@@ -4,7 +4,7 @@ ghost use Rattle.bq_insn.specs.declared.Insn.{Insn};
 ghost use Rattle.bq_insn.specs.Slots.{spread};
 ghost use Rattle.bq_insn.specs.Spelling.{is_well_formed};
 ghost use Rattle.bq_insn.specs.Laws.{AllFit};
-ghost use Rattle.bq_graph.specs.Edges.{IsStart};
+ghost use Rattle.bq_verify.specs.Edges.{IsStart};
 ghost use Rattle.bq_import.specs.Copies.{IsCopy};
 ghost use Rattle.bq_import.specs.Backward.{IsBuilt, IsFront, insns_of};
 ghost use Rattle.bq_import.specs.Faults.{IsDisorder, IsLinked};
@@ -16,9 +16,9 @@ use crate::fault::Disorder;
 use crate::landings::landings;
 use crate::linked::check;
 use crate::search::Search;
-use bq_graph::edges::instruction;
-use bq_graph::layout::lay_out;
 use bq_insn::Insn;
+use bq_verify::edges::instruction;
+use bq_verify::layout::lay_out;
 use std::alloc::{AllocError, Global};
 
 /// A program in order.

@@ -3,7 +3,7 @@ ghost use Rattle.std.specs.Prelude.{◌≡◌, ◌<◌, ◌≤◌, ◌+◌, ◌-
 ghost use Rattle.bq_insn.specs.declared.Insn.{Insn};
 ghost use Rattle.bq_insn.specs.Slots.{slots_of};
 ghost use Rattle.bq_bpf.specs.Steps.{instruction_at};
-ghost use Rattle.bq_graph.specs.Edges.{IsStart};
+ghost use Rattle.bq_verify.specs.Edges.{IsStart};
 ghost use Rattle.bq_import.specs.Backward.{IsBuilt, IsFront, IsLengthened};
 ghost use Rattle.bq_import.specs.Faults.{IsFull, IsLinked};
 ghost use Rattle.bq_import.specs.Search.{AreClosed, AreTargets, AreKnown, IsDone, IsReady, JumpsTo, place_at};
@@ -11,8 +11,8 @@ ghost use Rattle.bq_import.specs.Search.{AreClosed, AreTargets, AreKnown, IsDone
 use crate::backward::Backward;
 use crate::fault::Disorder;
 use crate::linked::targets;
-use bq_graph::edges::{Targets, instruction};
 use bq_insn::Insn;
+use bq_verify::edges::{Targets, instruction};
 
 impl Backward {
     /// What has to stand in front of the next instruction and does not.

@@ -1,8 +1,8 @@
 //! The search that puts each slot in place after all to which control may go from it, and finds a loop where that cannot be.
 ghost use Rattle.std.specs.Prelude.{◌≡◌, ◌<◌, ◌≤◌, ℕ, true, false, Option, length, OnOk, IfOk, IfErr, IfSome, IfNone, Some, None, slice_index_or};
 ghost use Rattle.bq_insn.specs.declared.Insn.{Insn};
-ghost use Rattle.bq_graph.specs.Edges.{IsEdge, IsStart};
-ghost use Rattle.bq_graph.specs.Passes.{IsOf};
+ghost use Rattle.bq_verify.specs.Edges.{IsEdge, IsStart};
+ghost use Rattle.bq_verify.specs.Passes.{IsOf};
 ghost use Rattle.bq_import.specs.Faults.{IsDisorder, IsLinked};
 ghost use Rattle.bq_import.specs.Search.{IsDone, IsReady, IsTop, place_at, is_open};
 ghost use Rattle.bq_import.specs.Searching.{IsAt, WentOn, IsDoneWith};
@@ -11,8 +11,8 @@ use crate::backward::Backward;
 use crate::fault::Disorder;
 use crate::linked::targets;
 use crate::putting::place_at;
-use bq_graph::edges::{Targets, instruction};
 use bq_insn::Insn;
+use bq_verify::edges::{Targets, instruction};
 use std::alloc::{AllocError, Global};
 
 /// A copy that grows, with the places of what is copied, and the slots that were begun.

@@ -14,10 +14,10 @@ use Rattle.bq_insn.proofs.LengthLemmas as lengths
 use Rattle.bq_bpf.specs.declared.shape.MapShape.{MapShape}
 use Rattle.bq_verify.specs.Accepted.{Accepted}
 use Rattle.bq_hooks.specs.Hooks.{context_length_of}
-use Rattle.bq_graph.specs.Faults.{IsFaultless}
-use Rattle.bq_graph.specs.Paths.{IsGreatest, PathOut}
+use Rattle.bq_verify.specs.Faults.{IsFaultless}
+use Rattle.bq_verify.specs.Paths.{IsGreatest, PathOut}
 use Rattle.bq_bpf.specs.Safe.{Safe}
-use Rattle.bq_graph.proofs.SlotLemmas.{few_slots}
+use Rattle.bq_verify.proofs.SlotLemmas.{few_slots}
 use Rattle.bq_verify.specs.Refusals.{IsRefusal}
 use Rattle.bq_verify.specs.Straight.{IsStraightProgram}
 use Rattle.bq_verify.specs.declared.refused.Refused.{Refused}

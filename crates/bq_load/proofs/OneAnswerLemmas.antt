@@ -10,11 +10,11 @@ use Rattle.bq_insn.proofs.LengthLemmas as lengths
 use Rattle.bq_insn.proofs.OneFaultLemmas as insn
 use Rattle.bq_insn.proofs.UniqueLemmas.{one_program}
 use Rattle.bq_insn.proofs.LengthLemmas.{well_formed_in_range}
-use Rattle.bq_graph.specs.declared.cause.GraphCause.{GraphCause}
+use Rattle.bq_verify.specs.declared.graph_cause.GraphCause.{GraphCause}
 use Rattle.bq_verify.specs.declared.cause.Cause.{Cause as Named}
 use Rattle.bq_verify.specs.declared.cause.Cause.TheVariants.{Graph, State}
-use Rattle.bq_graph.specs.Faults.{IsFaultless, IsFirstFault}
-use Rattle.bq_graph.specs.Paths.{IsGreatest, PathOut}
+use Rattle.bq_verify.specs.Faults.{IsFaultless, IsFirstFault}
+use Rattle.bq_verify.specs.Paths.{IsGreatest, PathOut}
 use Rattle.bq_verify.specs.Accepted.{Accepted}
 use Rattle.bq_verify.specs.Refusals.{IsRefusal}
 use Rattle.bq_verify.specs.declared.refused.Refused.TheVariants as refused

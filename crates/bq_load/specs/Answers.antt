@@ -1,7 +1,7 @@
 -- What bytes are answered by: an image, a program that is accepted, or why not.
 use Rattle.std.specs.Prelude.{◌≡◌, ℕ, List, ◌++◌, true}
-use Rattle.bq_graph.specs.Faults.{IsFaultless}
-use Rattle.bq_graph.specs.Paths.{IsGreatest, PathOut}
+use Rattle.bq_verify.specs.Faults.{IsFaultless}
+use Rattle.bq_verify.specs.Paths.{IsGreatest, PathOut}
 use Rattle.bq_insn.specs.declared.Insn.{Insn}
 use Rattle.bq_insn.specs.Spelling.{spelling, is_well_formed}
 use Rattle.bq_insn.specs.Slots.{spread}

@@ -5,8 +5,8 @@ use Rattle.bq_insn.specs.Slots.{spread}
 use Rattle.bq_bpf.specs.declared.shape.MapShape.{MapShape}
 use Rattle.bq_hooks.specs.Hooks.{context_length_of}
 use Rattle.bq_bpf.specs.Safe.{Safe}
-use Rattle.bq_graph.specs.Faults.{IsFaultless}
-use Rattle.bq_graph.specs.Paths.{IsGreatest, PathOut}
+use Rattle.bq_verify.specs.Faults.{IsFaultless}
+use Rattle.bq_verify.specs.Paths.{IsGreatest, PathOut}
 use Rattle.bq_verify.specs.Accepted.{Accepted}
 use Rattle.bq_verify.specs.declared.cause.Cause.{Cause}
 use Rattle.bq_verify.specs.declared.refused.Refused.{Refused}

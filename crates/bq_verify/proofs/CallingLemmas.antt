@@ -13,13 +13,13 @@ use Rattle.bq_insn.specs.declared.Width.TheVariants.{W64}
 use Rattle.bq_insn.specs.Slots.{slots_of, spread}
 use Rattle.bq_bpf.specs.Steps.{LeadsTo, instruction_at}
 use Rattle.bq_bpf.specs.declared.shape.MapShape.{MapShape}
-use Rattle.bq_graph.specs.Edges.{IsEdge, IsStart}
+use Rattle.bq_verify.specs.Edges.{IsEdge, IsStart}
 use Rattle.bq_bpf.specs.Instructions.{Leaves, distance_of, goes_on, destination_of}
-use Rattle.bq_graph.specs.Paths.{CallsOnWay, IsPath, Path, calls_before_end, end_of}
-use Rattle.bq_graph.specs.Faults.{IsFaultless, is_helper}
-use Rattle.bq_graph.specs.declared.cause.GraphCause.TheVariants.{Jump, NoExit, Unreached, Frame, Helper, Counters}
-use Rattle.bq_graph.proofs.EdgeLemmas.{exit_is_last}
-use Rattle.bq_graph.proofs.CountLemmas.{one_call}
+use Rattle.bq_verify.specs.Paths.{CallsOnWay, IsPath, Path, calls_before_end, end_of}
+use Rattle.bq_verify.specs.Faults.{IsFaultless, is_helper}
+use Rattle.bq_verify.specs.declared.graph_cause.GraphCause.TheVariants.{Jump, NoExit, Unreached, Frame, Helper, Counters}
+use Rattle.bq_verify.proofs.EdgeLemmas.{exit_is_last}
+use Rattle.bq_verify.proofs.CountLemmas.{one_call}
 use Rattle.bq_states.specs.declared.abstract_state.ValueKind.TheVariants.{Map, Stack}
 use Rattle.bq_verify.specs.Straight.{leaves, loads, stores, untouched, writes, HasOneWay, IsByteStored, IsCounting, IsGiving, IsLoaded, IsMoveOnStack, IsNaming, IsPointerFrom, IsWritten, Needs, OnEachPath}
 use Rattle.bq_verify.specs.Worked.{calling, CallingIsStraight}

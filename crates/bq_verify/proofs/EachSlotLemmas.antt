@@ -7,10 +7,10 @@ use Rattle.bq_insn.specs.declared.Insn.{Insn}
 use Rattle.bq_insn.specs.declared.Insn.TheVariants.{Exit}
 use Rattle.bq_insn.specs.Slots.{slots_of}
 use Rattle.bq_bpf.specs.Steps.{LeadsTo, instruction_at}
-use Rattle.bq_graph.specs.Edges.{IsEdge, IsStart}
+use Rattle.bq_verify.specs.Edges.{IsEdge, IsStart}
 use Rattle.bq_bpf.specs.Instructions.{Leaves, distance_of, goes_on}
-use Rattle.bq_graph.specs.Paths.{IsPath, Path, end_of}
-use Rattle.bq_graph.proofs.EdgeLemmas.{end_of-push, IsPath-push, exit_is_last}
+use Rattle.bq_verify.specs.Paths.{IsPath, Path, end_of}
+use Rattle.bq_verify.proofs.EdgeLemmas.{end_of-push, IsPath-push, exit_is_last}
 use Rattle.bq_verify.specs.Straight.{held_along, OnEachPath, always}
 
 -- a fact of each instruction and its slot

@@ -2,9 +2,9 @@
 use Rattle.std.proofs.Common.{◌≡◌, ℕ, zero, suc, ◌<◌, ◌≤◌, List, Option, refl, sym, ap, subst, ◌∙◌, arith, ◌⊎◌, inl, inr}
 use Rattle.std.proofs.lemmas.Bool.{cases_lt}
 use Rattle.bq_insn.specs.declared.Insn.{Insn}
-use Rattle.bq_graph.specs.declared.cause.GraphCause.{GraphCause}
-use Rattle.bq_graph.specs.declared.cause.GraphCause.TheVariants.{Jump, NoExit, Unreached, Frame, Helper, Counters}
-use Rattle.bq_graph.specs.Faults.{HasFault, IsFirstFault, place_of}
+use Rattle.bq_verify.specs.declared.graph_cause.GraphCause.{GraphCause}
+use Rattle.bq_verify.specs.declared.graph_cause.GraphCause.TheVariants.{Jump, NoExit, Unreached, Frame, Helper, Counters}
+use Rattle.bq_verify.specs.Faults.{HasFault, IsFirstFault, place_of}
 use Rattle.bq_verify.specs.Laws.{FaultlessHasNone, OneFirstFault}
 
 -- the cause of that check

@@ -12,11 +12,11 @@ use Rattle.bq_insn.specs.declared.Width.TheVariants.{W32, W64}
 use Rattle.bq_insn.specs.Slots.{slots_of, spread}
 use Rattle.bq_insn.specs.Spelling.{is_insn}
 use Rattle.bq_bpf.specs.Steps.{instruction_at}
-use Rattle.bq_graph.specs.declared.cause.GraphCause.TheVariants.{Frame}
-use Rattle.bq_graph.specs.Faults.{IsFaultless}
+use Rattle.bq_verify.specs.declared.graph_cause.GraphCause.TheVariants.{Frame}
+use Rattle.bq_verify.specs.Faults.{IsFaultless}
 use Rattle.bq_bpf.specs.Instructions.{destination_of}
 use Rattle.bq_insn.proofs.OptionLemmas.{some_same, some_none}
-use Rattle.bq_graph.proofs.SpreadLemmas.{one_or_two}
+use Rattle.bq_verify.proofs.SpreadLemmas.{one_or_two}
 use Rattle.bq_verify.specs.Control.{SparesFrame}
 
 -- each instruction of the slots is in range

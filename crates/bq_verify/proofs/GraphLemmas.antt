@@ -4,18 +4,18 @@ use Rattle.std.specs.Prelude.{slice_index, slice_index_or}
 use Rattle.std.proofs.lemmas.Bool.{cases_lt}
 use Rattle.bq_insn.specs.declared.Insn.TheVariants.{Call}
 use Rattle.bq_bpf.specs.Steps.{IsCounterCall, instruction_at}
-use Rattle.bq_graph.proofs.CountLemmas.{extend}
-use Rattle.bq_graph.proofs.SoundLemmas.{late_by, sound_graph}
+use Rattle.bq_verify.proofs.CountLemmas.{extend}
+use Rattle.bq_verify.proofs.SoundLemmas.{late_by, sound_graph}
 use Rattle.bq_insn.specs.declared.Insn.{Insn}
 use Rattle.bq_insn.specs.Slots.{spread}
-use Rattle.bq_graph.specs.Edges.{IsEdge, IsWhole, IsStart}
-use Rattle.bq_graph.specs.Paths.{IsGreatest, IsMostCalls, PathOut, CallsOnWay, calls_of}
+use Rattle.bq_verify.specs.Edges.{IsEdge, IsWhole, IsStart}
+use Rattle.bq_verify.specs.Paths.{IsGreatest, IsMostCalls, PathOut, CallsOnWay, calls_of}
 use Rattle.bq_bpf.specs.Instructions.{asks_counter}
-use Rattle.bq_graph.specs.Faults.{IsFaultless}
-use Rattle.bq_graph.specs.Passes.{IsSound, Measured}
-use Rattle.bq_graph.specs.declared.cause.GraphCause.TheVariants.{Jump, NoExit, Unreached, Counters}
-use Rattle.bq_graph.proofs.SpreadLemmas.{spread_begins}
-use Rattle.bq_graph.proofs.HeightLemmas.{heights_fall, heights_positive}
+use Rattle.bq_verify.specs.Faults.{IsFaultless}
+use Rattle.bq_verify.specs.Passes.{IsSound, Measured}
+use Rattle.bq_verify.specs.declared.graph_cause.GraphCause.TheVariants.{Jump, NoExit, Unreached, Counters}
+use Rattle.bq_verify.proofs.SpreadLemmas.{spread_begins}
+use Rattle.bq_verify.proofs.HeightLemmas.{heights_fall, heights_positive}
 use Rattle.bq_verify.specs.Control.{AreHeights, AreMade}
 
 -- in the slots of a program the next instruction begins where the one before it ends

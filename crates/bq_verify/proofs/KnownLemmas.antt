@@ -13,9 +13,9 @@ use Rattle.bq_bpf.specs.Memory.{Setting, State, Region, InContext, InStack, InEn
 use Rattle.bq_bpf.specs.Runs.{Steps, listed, start}
 use Rattle.bq_bpf.specs.Steps.{Does, Helps, LeadsTo, Step, Takes}
 use Rattle.bq_bpf.specs.Safe.{IsSetting}
-use Rattle.bq_graph.specs.Edges.{IsEdge, IsStart}
+use Rattle.bq_verify.specs.Edges.{IsEdge, IsStart}
 use Rattle.bq_bpf.specs.Instructions.{Leaves}
-use Rattle.bq_graph.specs.Passes.{IsSound}
+use Rattle.bq_verify.specs.Passes.{IsSound}
 use Rattle.bq_states.specs.declared.abstract_state.AbstractState.{AbstractState}
 use Rattle.bq_states.specs.declared.abstract_state.ValueKind.TheVariants.{Map}
 use Rattle.bq_states.specs.AbstractStates.{Contains}

@@ -1,3 +1,9 @@
+pub mod EdgeLemmas
+pub mod CountLemmas
+pub mod HeightLemmas
+pub mod SoundLemmas
+pub mod SlotLemmas
+pub mod SpreadLemmas
 pub mod SideLemmas
 pub mod SureLemmas
 pub mod OneStepLemmas

@@ -20,9 +20,9 @@ use Rattle.bq_bpf.specs.Steps.{Step, IsOperand, IsCounterCall, LeadsTo, instruct
 use Rattle.bq_bpf.specs.Runs.{Ends, start}
 use Rattle.bq_bpf.specs.Safe.{IsSetting, Safe, most_calls}
 use Rattle.bq_ranges.specs.Within.{Within}
-use Rattle.bq_graph.specs.Edges.{IsEdge, IsStart}
+use Rattle.bq_verify.specs.Edges.{IsEdge, IsStart}
 use Rattle.bq_bpf.specs.Instructions.{Leaves}
-use Rattle.bq_graph.specs.Passes.{IsSound}
+use Rattle.bq_verify.specs.Passes.{IsSound}
 use Rattle.bq_states.specs.declared.abstract_state.AbstractState.{AbstractState}
 use Rattle.bq_states.specs.declared.abstract_state.AbstractValue.{AbstractValue}
 use Rattle.bq_states.specs.declared.abstract_state.ValueKind.TheVariants.{Context, Stack}

@@ -18,12 +18,12 @@ use Rattle.bq_insn.specs.Slots.{byte_count}
 use Rattle.bq_bpf.specs.Meaning.{word_of}
 use Rattle.bq_bpf.specs.declared.shape.MapShape.{MapShape}
 use Rattle.bq_bpf.specs.Steps.{instruction_at}
-use Rattle.bq_graph.specs.Edges.{IsEdge}
-use Rattle.bq_graph.specs.Paths.{IsPath, Path, end_of}
-use Rattle.bq_graph.specs.Passes.{IsSound}
+use Rattle.bq_verify.specs.Edges.{IsEdge}
+use Rattle.bq_verify.specs.Paths.{IsPath, Path, end_of}
+use Rattle.bq_verify.specs.Passes.{IsSound}
 use Rattle.bq_bpf.specs.Instructions.{destination_of}
-use Rattle.bq_graph.specs.declared.cause.GraphCause.TheVariants.{Frame}
-use Rattle.bq_graph.proofs.EdgeLemmas.{end_of-push, IsPath-push}
+use Rattle.bq_verify.specs.declared.graph_cause.GraphCause.TheVariants.{Frame}
+use Rattle.bq_verify.proofs.EdgeLemmas.{end_of-push, IsPath-push}
 use Rattle.bq_states.specs.declared.abstract_state.ValueKind.{ValueKind}
 use Rattle.bq_states.specs.declared.abstract_state.ValueKind.TheVariants.{Context, Stack, Entry, EntryOrNull, Map}
 use Rattle.bq_states.specs.declared.abstract_state.AbstractState.{AbstractState}

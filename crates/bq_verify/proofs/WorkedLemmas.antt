@@ -13,12 +13,12 @@ use Rattle.bq_insn.specs.declared.Width.TheVariants.{W64}
 use Rattle.bq_insn.specs.Slots.{slots_of, spread}
 use Rattle.bq_bpf.specs.Steps.{LeadsTo}
 use Rattle.bq_bpf.specs.declared.shape.MapShape.{MapShape}
-use Rattle.bq_graph.specs.Edges.{IsEdge, IsStart}
+use Rattle.bq_verify.specs.Edges.{IsEdge, IsStart}
 use Rattle.bq_bpf.specs.Instructions.{Leaves, distance_of, goes_on, asks_counter, destination_of}
-use Rattle.bq_graph.specs.Paths.{Path}
-use Rattle.bq_graph.specs.Faults.{IsFaultless, is_helper}
-use Rattle.bq_graph.specs.declared.cause.GraphCause.TheVariants.{Jump, NoExit, Unreached, Frame, Helper, Counters}
-use Rattle.bq_graph.proofs.EdgeLemmas.{end_of-push, IsPath-push, leads_same}
+use Rattle.bq_verify.specs.Paths.{Path}
+use Rattle.bq_verify.specs.Faults.{IsFaultless, is_helper}
+use Rattle.bq_verify.specs.declared.graph_cause.GraphCause.TheVariants.{Jump, NoExit, Unreached, Frame, Helper, Counters}
+use Rattle.bq_verify.proofs.EdgeLemmas.{end_of-push, IsPath-push, leads_same}
 use Rattle.bq_transfer.specs.Ready.{IsNullCheck}
 use Rattle.bq_states.specs.declared.abstract_state.ValueKind.TheVariants.{Entry, EntryOrNull, Map, Stack}
 use Rattle.bq_verify.specs.Straight.{stores, writes, leaves, HasOneWay, IsByteStored, IsInEntry, IsMoveOnStack, IsNaming, IsPointerFrom, IsWritten, Needs}

@@ -1,6 +1,6 @@
 -- The numbers of the reasons for which a program is refused.
 use Rattle.std.specs.Prelude.{ℕ}
-use Rattle.bq_graph.specs.Causes.{cause_number as graph_number}
+use Rattle.bq_verify.specs.GraphCauses.{cause_number as graph_number}
 use Rattle.bq_transfer.specs.Doubts.{doubt_number}
 use Rattle.bq_verify.specs.declared.cause.Cause.{Cause}
 use Rattle.bq_verify.specs.declared.cause.Cause.TheVariants.{Graph, State}

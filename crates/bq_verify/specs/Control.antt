@@ -16,7 +16,7 @@ use Rattle.bq_bpf.specs.Steps.{IsOperand, instruction_at, Step, IsCounterCall}
 use Rattle.bq_bpf.specs.Runs.{Ends}
 use Rattle.bq_bpf.specs.Safe.{IsSetting, most_calls}
 use Rattle.bq_bpf.specs.Instructions.{Leaves}
-use Rattle.bq_graph.specs.Edges.{IsEdge, IsStart}
+use Rattle.bq_verify.specs.Edges.{IsEdge, IsStart}
 use Rattle.bq_states.specs.declared.abstract_state.AbstractValue.{AbstractValue}
 use Rattle.bq_states.specs.declared.abstract_state.AbstractState.{AbstractState}
 use Rattle.bq_transfer.specs.Ready.{WritesBelowFrame}

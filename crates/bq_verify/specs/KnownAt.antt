@@ -6,7 +6,7 @@ use Rattle.bq_bpf.specs.declared.board.Call.{Call as Asked}
 use Rattle.bq_bpf.specs.Memory.{HaveShapes, Setting, State}
 use Rattle.bq_bpf.specs.Runs.{Steps, start}
 use Rattle.bq_bpf.specs.Safe.{IsSetting}
-use Rattle.bq_graph.specs.Edges.{IsStart}
+use Rattle.bq_verify.specs.Edges.{IsStart}
 use Rattle.bq_states.specs.declared.abstract_state.AbstractState.{AbstractState}
 use Rattle.bq_states.specs.AbstractStates.{Contains}
 

@@ -1,8 +1,8 @@
 -- Laws of safe programs, and of the fault that is named of others.
 use Rattle.std.specs.Prelude.{ℕ, ◌≡◌, ◌^◌, ◌<◌, ◌≤◌, List, Option, take}
 use Rattle.bq_insn.specs.declared.Insn.{Insn}
-use Rattle.bq_graph.specs.declared.cause.GraphCause.{GraphCause}
-use Rattle.bq_graph.specs.Faults.{IsFaultless, IsFirstFault}
+use Rattle.bq_verify.specs.declared.graph_cause.GraphCause.{GraphCause}
+use Rattle.bq_verify.specs.Faults.{IsFaultless, IsFirstFault}
 use Rattle.bq_bpf.specs.declared.shape.MapShape.{MapShape}
 use Rattle.bq_bpf.specs.declared.board.Call.{Call as Asked}
 use Rattle.bq_bpf.specs.Memory.{Setting}

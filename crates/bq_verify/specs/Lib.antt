@@ -1,3 +1,8 @@
+pub mod Edges
+pub mod GraphCauses
+pub mod Paths
+pub mod Faults
+pub mod Passes
 pub mod Control
 pub mod Ways
 pub mod Straight

@@ -2,7 +2,7 @@
 use Rattle.std.specs.Prelude.{◌≡◌, ℕ, List, Option, Some}
 use Rattle.bq_insn.specs.declared.Insn.{Insn}
 use Rattle.bq_bpf.specs.Steps.{instruction_at}
-use Rattle.bq_graph.specs.Faults.{IsFirstFault, IsFaultless}
+use Rattle.bq_verify.specs.Faults.{IsFirstFault, IsFaultless}
 use Rattle.bq_transfer.specs.Doubts.{MayDoubt}
 use Rattle.bq_transfer.specs.declared.doubt.Doubt.{Doubt}
 use Rattle.bq_verify.specs.declared.cause.Cause.TheVariants.{Graph, State}

@@ -18,9 +18,9 @@ use Rattle.bq_bpf.specs.Steps.{instruction_at}
 use Rattle.bq_bpf.specs.Helpers.{number_of_helper}
 use Rattle.bq_bpf.specs.declared.helper.Helper.TheVariants.{Lookup, Update, Now, Processor, AddCounter, ReadCounter}
 use Rattle.bq_bpf.specs.Memory.{stack_size}
-use Rattle.bq_graph.specs.Edges.{IsEdge}
-use Rattle.bq_graph.specs.Paths.{IsPath, end_of}
-use Rattle.bq_graph.specs.Faults.{IsFaultless}
+use Rattle.bq_verify.specs.Edges.{IsEdge}
+use Rattle.bq_verify.specs.Paths.{IsPath, end_of}
+use Rattle.bq_verify.specs.Faults.{IsFaultless}
 use Rattle.bq_bpf.specs.Instructions.{destination_of}
 use Rattle.bq_transfer.specs.Ready.{IsNullCheck}
 use Rattle.bq_transfer.specs.After.{IsFoundSide, IsStackByte, LeavesPointer}

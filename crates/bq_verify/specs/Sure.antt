@@ -4,7 +4,7 @@ use Rattle.std.proofs.Common.{Global}
 use Rattle.std.specs.declared.boxed.Box.{Box}
 use Rattle.bq_insn.specs.declared.Insn.{Insn}
 use Rattle.bq_bpf.specs.Memory.{stack_size}
-use Rattle.bq_graph.specs.Paths.{Path}
+use Rattle.bq_verify.specs.Paths.{Path}
 use Rattle.bq_states.specs.declared.abstract_state.ValueKind.TheVariants.{Context, Stack}
 use Rattle.bq_states.specs.declared.abstract_state.AbstractState.{AbstractState}
 use Rattle.bq_states.specs.Certainty.{Scalar, Exact, Pointer, NoPointer, Fact, Never, AtRegister, IsSetAt, IsPlainAt}

@@ -3,7 +3,7 @@ use Rattle.std.proofs.Common.{Global}
 use Rattle.std.specs.Prelude.{Bool, true, ◌≡◌, ◌≢◌, ℕ, ◌+◌, List, Option, Some, None, slice_index_or, ◌⊎◌}
 use Rattle.std.specs.declared.boxed.Box.{Box}
 use Rattle.bq_insn.specs.declared.Insn.{Insn}
-use Rattle.bq_graph.specs.Edges.{IsEdge}
+use Rattle.bq_verify.specs.Edges.{IsEdge}
 use Rattle.bq_transfer.specs.After.{After}
 use Rattle.bq_states.specs.Certainty.{Pointer, Fact, AtRegister, Has}
 use Rattle.bq_states.specs.Told.{HasLearnt, IsLasting}

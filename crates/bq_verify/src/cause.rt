@@ -2,7 +2,7 @@
 ghost use Rattle.std.specs.Prelude.{◌≡◌};
 ghost use Rattle.bq_verify.specs.Causes.{cause_number};
 
-use bq_graph::cause::GraphCause;
+use crate::graph_cause::GraphCause;
 use bq_transfer::doubt::Doubt;
 use std::fmt;
 

@@ -4,7 +4,7 @@ ghost use Rattle.std.specs.Prelude.{◌≡◌, ◌<◌, ◌≤◌, ◌+◌, ◌^
 ghost use Rattle.bq_insn.specs.declared.Insn.{Insn};
 ghost use Rattle.bq_bpf.specs.Memory.{Setting, State};
 ghost use Rattle.bq_bpf.specs.Steps.{instruction_at};
-ghost use Rattle.bq_graph.specs.Passes.{IsSound};
+ghost use Rattle.bq_verify.specs.Passes.{IsSound};
 ghost use Rattle.bq_transfer.specs.Doubts.{MayDoubt, ReadsOperand, UsesWord};
 ghost use Rattle.bq_verify.specs.Stops.{IsWantOfMemory, MayStop};
 ghost use Rattle.bq_verify.specs.Ways.{AfterTest, GoesOnSure, HasOnSide, HasWaiting, IsSureOf};
@@ -15,11 +15,11 @@ ghost use Rattle.bq_states.specs.Told.{IsLasting};
 ghost use Rattle.bq_states.specs.AbstractStates.{Contains};
 ghost use Rattle.bq_verify.specs.Control.{Goes, IsKnown, IsOnSide, PartsTo, WaitsBoxed};
 
+use crate::passes::target;
 use crate::stop::PassStop;
 use crate::subject::Subject;
 use crate::waiting::wait;
 use bq_bpf::instruction::is_counter_call;
-use bq_graph::passes::target;
 use bq_insn::{Condition, Insn, Source, Width};
 use bq_states::abstract_state::{AbstractState, AbstractValue, ValueKind};
 use bq_states::registers::{known, operand};

@@ -4,8 +4,8 @@ ghost use Rattle.std.specs.Prelude.{◌≡◌, ◌<◌, ◌≤◌, ◌+◌, ◌^
 ghost use Rattle.bq_bpf.specs.Memory.{Setting, State, HaveShapes};
 ghost use Rattle.bq_bpf.specs.Safe.{Safe};
 ghost use Rattle.bq_bpf.specs.Runs.{start as beginning};
-ghost use Rattle.bq_graph.specs.Edges.{IsStart};
-ghost use Rattle.bq_graph.specs.Passes.{IsSound};
+ghost use Rattle.bq_verify.specs.Edges.{IsStart};
+ghost use Rattle.bq_verify.specs.Passes.{IsSound};
 ghost use Rattle.bq_verify.specs.Refusals.{IsOutOfMemory, IsStopped};
 ghost use Rattle.bq_states.specs.Certainty.{Pointer, Has, IsPlainAt, StandsAt};
 ghost use Rattle.bq_verify.specs.Straight.{IsStraightBefore, IsStraightProgram};
@@ -13,12 +13,12 @@ ghost use Rattle.bq_verify.specs.Sure.{IsSure};
 ghost use Rattle.bq_states.specs.AbstractStates.{Contains};
 ghost use Rattle.bq_verify.specs.Control.{AreHeights, AreMade, IsKnown, PassesOn, RestIsSafe, SparesFrame};
 
+use crate::edges::instruction;
 use crate::flow::visit;
 use crate::refused::{Refused, refuse};
 use crate::subject::Subject;
 use crate::waiting::{arrive, nothing_waits};
 use bq_bpf::addresses::STACK_SIZE;
-use bq_graph::edges::instruction;
 use bq_ranges::Range;
 use bq_states::abstract_state::{AbstractState, AbstractValue, StackPart, ValueKind};
 use bq_states::registers::learn;

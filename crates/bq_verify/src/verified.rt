@@ -38,8 +38,8 @@ impl Verified {
     ghost use Rattle.bq_verify.specs.Accepted.{IsAccepted};
     ghost use Rattle.bq_hooks.specs.Hooks.{context_length_of};
     ghost use Rattle.bq_verify.specs.Control.{AreHeights, AreMade, SparesFrame};
-    ghost use Rattle.bq_graph.specs.Passes.{IsSound};
-    ghost use Rattle.bq_graph.specs.Edges.{IsStart};
+    ghost use Rattle.bq_verify.specs.Passes.{IsSound};
+    ghost use Rattle.bq_verify.specs.Edges.{IsStart};
     ghost use Rattle.bq_verify.specs.Refusals.{IsOutOfMemory, IsStopped};
     ghost use Rattle.bq_verify.specs.Straight.{IsStraightProgram};
     ghost use Rattle.bq_bpf.specs.Safe.{Safe};

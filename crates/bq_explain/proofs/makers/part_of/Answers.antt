@@ -1,6 +1,6 @@
 use Rattle.std.proofs.Common.{◌≡◌, true, false, Some, None, refl, sym, rules}
 use Rattle.bq_bpf.specs.Steps.{instruction_at}
-use Rattle.bq_graph.proofs.EdgeLemmas.{target_inside}
+use Rattle.bq_verify.proofs.EdgeLemmas.{target_inside}
 use Rattle.bq_verify.specs.Straight.{spares}
 use Rattle.bq_explain.proofs.MakerLemmas.{part_none, part_off, part_makes, part_leads}
 use Rattle.bq_explain.proofs.makers.part_of.Goals as goal

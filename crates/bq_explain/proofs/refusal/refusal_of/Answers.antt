@@ -1,8 +1,8 @@
 use Rattle.std.proofs.Common.{◌≡◌, ◌∙◌, List, Option, ap, sym, subst}
 use Rattle.bq_insn.specs.declared.Insn.{Insn}
 use Rattle.bq_insn.specs.Slots.{spread}
-use Rattle.bq_graph.specs.Edges.{IsStart}
-use Rattle.bq_graph.proofs.EdgeLemmas.{start_inside}
+use Rattle.bq_verify.specs.Edges.{IsStart}
+use Rattle.bq_verify.proofs.EdgeLemmas.{start_inside}
 use Rattle.bq_explain.specs.Explained.{IsOfState, IsPlace}
 use Rattle.bq_explain.proofs.ExplainLemmas.{refused_here, refused_faultless, refusal_of_graph, refusal_of_state}
 use Rattle.bq_explain.proofs.refusal.refusal_of.Goals as goal

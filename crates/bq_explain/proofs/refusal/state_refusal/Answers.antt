@@ -1,7 +1,7 @@
 use Rattle.std.proofs.Common.{List, Option, sym, subst}
 use Rattle.bq_insn.specs.declared.Insn.{Insn}
-use Rattle.bq_graph.specs.Faults.{IsFaultless}
-use Rattle.bq_graph.proofs.SlotLemmas.{few_slots}
+use Rattle.bq_verify.specs.Faults.{IsFaultless}
+use Rattle.bq_verify.proofs.SlotLemmas.{few_slots}
 use Rattle.bq_verify.proofs.GraphLemmas.{faultless_sound}
 use Rattle.bq_explain.proofs.refusal.state_refusal.Goals as goal
 

@@ -1,6 +1,6 @@
 use Rattle.std.proofs.Common.{arith, below_more}
 use Rattle.std.proofs.lemmas.Result.{err_from_is_err_and}
-use Rattle.bq_graph.proofs.EdgeLemmas.{start_inside}
+use Rattle.bq_verify.proofs.EdgeLemmas.{start_inside}
 use Rattle.bq_import.proofs.SearchLemmas.{first_wrong}
 use Rattle.bq_import.proofs.linked.check.Goals as goal
 

@@ -2,7 +2,7 @@ use Rattle.std.proofs.Common.{◌≡◌, ℕ, sym, arith, rules, to_z, of_z, w64
 use mir.Val.{SFits}
 use Rattle.std.proofs.lemmas.Int.{ints}
 use Rattle.bq_bpf.specs.Steps.{LeadsTo}
-use Rattle.bq_graph.specs.Edges.{IsStart}
+use Rattle.bq_verify.specs.Edges.{IsStart}
 use Rattle.bq_import.proofs.linked.jump_slot.Goals as goal
 
 pub unreachable-requires : goal.unreachable-requires

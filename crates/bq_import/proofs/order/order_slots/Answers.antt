@@ -2,9 +2,9 @@ use Rattle.std.proofs.Common.{◌≡◌, ◌≤◌, ℕ, List, Option, length, t
 use Rattle.bq_insn.specs.declared.Insn.{Insn}
 use Rattle.bq_insn.specs.Slots.{spread}
 use Rattle.bq_insn.specs.Spelling.{is_well_formed}
-use Rattle.bq_graph.specs.Edges.{IsStart, IsWhole}
-use Rattle.bq_graph.proofs.SlotLemmas.{few_slots, some_slots}
-use Rattle.bq_graph.proofs.SpreadLemmas.{spread_begins}
+use Rattle.bq_verify.specs.Edges.{IsStart, IsWhole}
+use Rattle.bq_verify.proofs.SlotLemmas.{few_slots, some_slots}
+use Rattle.bq_verify.proofs.SpreadLemmas.{spread_begins}
 use Rattle.bq_import.specs.Copies.{IsCopy}
 use Rattle.bq_import.specs.Backward.{AreGood}
 use Rattle.bq_import.proofs.OrderLemmas.{is_copy}

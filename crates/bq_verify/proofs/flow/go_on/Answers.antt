@@ -17,9 +17,9 @@ use Rattle.std.proofs.lemmas.Result.{IfOk-weaker, IfErr-weaker, err_from_is_err_
 use Rattle.bq_insn.specs.Slots.{slots_of}
 use Rattle.bq_insn.specs.declared.Insn.TheVariants.{Branch, Goto, Goto32}
 use Rattle.bq_bpf.specs.Steps.{LeadsTo, instruction_at}
-use Rattle.bq_graph.specs.Edges.{IsEdge}
+use Rattle.bq_verify.specs.Edges.{IsEdge}
 use Rattle.bq_bpf.specs.Instructions.{Leaves}
-use Rattle.bq_graph.proofs.EdgeLemmas.{start_inside}
+use Rattle.bq_verify.proofs.EdgeLemmas.{start_inside}
 use Rattle.bq_verify.specs.Control.{IsKnown}
 use Rattle.bq_verify.proofs.PassLemmas.{goes_apart, goes_on, goes_there, goes_far}
 use Rattle.bq_verify.proofs.flow.go_on.Goals as goal

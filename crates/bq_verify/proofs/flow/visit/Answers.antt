@@ -3,7 +3,7 @@ use Rattle.std.proofs.lemmas.Bool.{false≢true}
 use Rattle.bq_insn.specs.declared.Insn.{Insn}
 use Rattle.bq_insn.specs.declared.Insn.TheVariants.{Call}
 use Rattle.bq_bpf.specs.Steps.{instruction_at}
-use Rattle.bq_graph.specs.Edges.{IsEdge}
+use Rattle.bq_verify.specs.Edges.{IsEdge}
 use Rattle.bq_transfer.specs.After.{After}
 use Rattle.bq_transfer.proofs.CertaintyLemmas.{has_answered}
 use Rattle.bq_verify.specs.Control.{IsKnown}

@@ -1,7 +1,7 @@
 use Rattle.std.proofs.Common.{◌≡◌, ◌<◌, List, Option, length, sym, ap, subst, ◌∙◌}
 use Rattle.bq_insn.specs.declared.Insn.{Insn}
 use Rattle.bq_insn.specs.Slots.{spread}
-use Rattle.bq_graph.specs.Faults.{IsFaultless}
+use Rattle.bq_verify.specs.Faults.{IsFaultless}
 use Rattle.bq_verify.proofs.GraphLemmas.{spread_whole, spread_first, faultless_sound}
 use Rattle.bq_verify.proofs.FrameLemmas.{spares_frame}
 use Rattle.bq_verify.specs.declared.refused.Refused.TheVariants.{OutOfMemory}

@@ -1,5 +1,5 @@
 use Rattle.bq_insn.proofs.LengthLemmas.{well_formed_in_range}
-use Rattle.bq_graph.proofs.SlotLemmas.{some_slots, few_slots}
+use Rattle.bq_verify.proofs.SlotLemmas.{some_slots, few_slots}
 use Rattle.bq_verify.proofs.known_at.state_at.Goals as goal
 
 pub known_in_slots-requires-clause-some : goal.known_in_slots-requires-clause-some

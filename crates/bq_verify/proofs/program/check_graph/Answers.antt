@@ -1,5 +1,5 @@
-use Rattle.bq_graph.specs.declared.cause.GraphCause.TheVariants.{Jump, NoExit}
-use Rattle.bq_graph.proofs.SoundLemmas.{sound_graph}
+use Rattle.bq_verify.specs.declared.graph_cause.GraphCause.TheVariants.{Jump, NoExit}
+use Rattle.bq_verify.proofs.SoundLemmas.{sound_graph}
 use Rattle.bq_verify.proofs.GraphLemmas.{most_calls_at, most_calls_are_made}
 use Rattle.bq_verify.proofs.program.check_graph.Goals as goal
 

@@ -1,5 +1,5 @@
 use Rattle.bq_insn.proofs.LengthLemmas.{well_formed_in_range}
-use Rattle.bq_graph.proofs.SlotLemmas.{some_slots, few_slots}
+use Rattle.bq_verify.proofs.SlotLemmas.{some_slots, few_slots}
 use Rattle.bq_verify.proofs.program.verify.Goals as goal
 
 pub verify_slots-requires-clause-some : goal.verify_slots-requires-clause-some

@@ -2,8 +2,8 @@ use Rattle.std.proofs.Common.{◌≡◌, ◌<◌, ℕ, List, Option, length, sym
 use Rattle.std.proofs.lemmas.Result.{err_from_is_err_and}
 use Rattle.bq_insn.specs.declared.Insn.{Insn}
 use Rattle.bq_insn.specs.Slots.{spread}
-use Rattle.bq_graph.specs.Faults.{IsFaultless}
-use Rattle.bq_graph.specs.Passes.{Measured}
+use Rattle.bq_verify.specs.Faults.{IsFaultless}
+use Rattle.bq_verify.specs.Passes.{Measured}
 use Rattle.bq_verify.proofs.GraphLemmas.{spread_whole, spread_first, faultless_sound, heights_are, first_height_is_longest}
 use Rattle.bq_verify.specs.Control.{AreMade}
 use Rattle.bq_verify.proofs.FrameLemmas.{spares_frame}

@@ -1,6 +1,6 @@
 use Rattle.std.proofs.Common.{◌≡◌, ◌-◌, length, arith, sym, ◌∙◌, Some, ℤ, pos, to_z, w16}
 use Rattle.std.proofs.lemmas.Int.{ints}
-use Rattle.bq_graph.proofs.EdgeLemmas.{start_inside}
+use Rattle.bq_verify.proofs.EdgeLemmas.{start_inside}
 use Rattle.bq_import.specs.Search.{place_at, JumpsTo}
 use Rattle.bq_import.proofs.SearchLemmas.{jumps_to, if_some}
 use Rattle.bq_import.proofs.backward.Backward.distance.Goals as goal

@@ -2,8 +2,8 @@ use Rattle.std.proofs.Common.{◌≡◌, ◌<◌, ◌+◌, ◌-◌, ℕ, arith, 
 use Rattle.std.specs.Prelude.{slice_set}
 use Rattle.std.proofs.lemmas.Result.{err_from_is_err_and}
 use Rattle.bq_import.specs.Search.{IsSearching, left_of}
-use Rattle.bq_graph.specs.Edges.{IsStart}
-use Rattle.bq_graph.proofs.EdgeLemmas.{start_inside}
+use Rattle.bq_verify.specs.Edges.{IsStart}
+use Rattle.bq_verify.proofs.EdgeLemmas.{start_inside}
 use Rattle.bq_import.proofs.RoomLemmas.{too_long}
 use Rattle.bq_import.proofs.StackLemmas.{after_leave, less_leave}
 use Rattle.bq_import.proofs.search.Search.leave.Goals as goal

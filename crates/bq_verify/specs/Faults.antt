@@ -1,0 +1,103 @@
+-- The faults that a program has by its control graph and by its single instructions, and which one is named.
+use Rattle.std.specs.Prelude.{Bool, true, false, ◌≡◌, ℕ, ◌+◌, ◌<◌, ◌≤◌, ℤ, List, Option, Some, None, length, ◌||◌}
+use Rattle.std.specs.Ordering.{int_eq}
+use Rattle.bq_insn.specs.declared.Insn.{Insn}
+use Rattle.bq_insn.specs.declared.Insn.TheVariants.{Call}
+use Rattle.bq_insn.specs.Slots.{slots_of}
+use Rattle.bq_bpf.specs.Instructions.{destination_of, distance_of, goes_on, asks_counter}
+use Rattle.bq_bpf.specs.Steps.{LeadsTo, instruction_at}
+use Rattle.bq_bpf.specs.Helpers.{number_of_helper}
+use Rattle.bq_bpf.specs.Safe.{most_calls}
+use Rattle.bq_bpf.specs.declared.helper.Helper.TheVariants.{Lookup, Update, Now, Processor, AddCounter, ReadCounter}
+use Rattle.bq_verify.specs.Edges.{IsStart}
+use Rattle.bq_verify.specs.Paths.{Path, CallsOnWay}
+use Rattle.bq_verify.specs.declared.graph_cause.GraphCause.{GraphCause}
+use Rattle.bq_verify.specs.declared.graph_cause.GraphCause.TheVariants.{Jump, NoExit, Unreached, Frame, Helper, Counters}
+
+-- a jump that leads to no later instruction
+pub record IsBadJump (slots : List (Option Insn)) (slot : ℕ) : Type 0 where
+  pub insn : Insn
+  pub here : instruction_at slots slot ≡ Some insn
+  pub distance : ℤ
+  pub jumps : distance_of insn ≡ Some distance
+  pub nowhere : (to : ℕ) → LeadsTo slot distance to → slot < to → IsStart slots to → ⊥
+
+-- an instruction from which control goes on past the end
+pub record RunsOut (slots : List (Option Insn)) (slot : ℕ) : Type 0 where
+  pub insn : Insn
+  pub here : instruction_at slots slot ≡ Some insn
+  pub on : goes_on insn ≡ true
+  pub past : length slots ≤ slot + slots_of insn
+
+-- an instruction that writes register 10, the address of the stack's end
+pub record WritesFrame (slots : List (Option Insn)) (slot : ℕ) : Type 0 where
+  pub insn : Insn
+  pub here : instruction_at slots slot ≡ Some insn
+  pub writes : destination_of insn ≡ Some 10
+
+-- whether a helper has that number
+abbrev pub is_helper : ℤ → Bool
+is_helper n =
+    int_eq n (number_of_helper Lookup) || int_eq n (number_of_helper Update) || int_eq n (number_of_helper Now) || int_eq n (number_of_helper Processor)
+    || int_eq n (number_of_helper AddCounter) || int_eq n (number_of_helper ReadCounter)
+
+-- a call of a helper that is not in the table
+pub record CallsUnknown (slots : List (Option Insn)) (slot : ℕ) : Type 0 where
+  pub helper : ℤ
+  pub here : instruction_at slots slot ≡ Some (Call helper)
+  pub unknown : is_helper helper ≡ false
+
+-- a counter call before which as many come on some path as a run may make, or more
+pub record IsLateCall (slots : List (Option Insn)) (slot : ℕ) : Type 0 where
+  pub insn : Insn
+  pub here : instruction_at slots slot ≡ Some insn
+  pub asks : asks_counter insn ≡ true
+  pub count : ℕ
+  pub way : CallsOnWay slots slot count
+  pub many : most_calls ≤ count
+
+-- an instruction to which no path leads
+pub record IsUnreached (slots : List (Option Insn)) (slot : ℕ) : Type 0 where
+  pub start : IsStart slots slot
+  pub none : Path slots 0 slot → ⊥
+
+-- the program has the fault at that slot
+abbrev pub HasFault : List (Option Insn) → GraphCause → ℕ → Type 0
+HasFault slots Jump slot = IsBadJump slots slot
+HasFault slots NoExit slot = RunsOut slots slot
+HasFault slots Unreached slot = IsUnreached slots slot
+HasFault slots Frame slot = WritesFrame slots slot
+HasFault slots Helper slot = CallsUnknown slots slot
+HasFault slots Counters slot = IsLateCall slots slot
+
+-- the least number of which the fact holds, or None where it holds of none
+abbrev pub IsLeast : (ℕ → Type 0) → Option ℕ → Type 0
+IsLeast P None = (k : ℕ) → P k → ⊥
+IsLeast P (Some k) = P k × ((j : ℕ) → j < k → P j → ⊥)
+
+-- the order of the checks
+abbrev pub place_of : GraphCause → ℕ
+place_of Jump = 1
+place_of NoExit = 2
+place_of Unreached = 3
+place_of Frame = 4
+place_of Helper = 5
+place_of Counters = 6
+
+-- no check that comes before that of the cause finds a fault
+abbrev pub EarlierPass : List (Option Insn) → GraphCause → Type 0
+EarlierPass slots cause = (other : GraphCause) → place_of other < place_of cause → IsLeast (HasFault slots other) None
+
+-- the fault that is named: the first check that finds one, at the least slot
+abbrev pub IsFirstFault : List (Option Insn) → GraphCause → ℕ → Type 0
+IsFirstFault slots cause slot = EarlierPass slots cause × IsLeast (HasFault slots cause) (Some slot)
+
+-- no check finds a fault
+abbrev pub IsFaultless : List (Option Insn) → Type 0
+IsFaultless slots = (cause : GraphCause) → IsLeast (HasFault slots cause) None
+
+-- the fault depends on the paths to a slot
+abbrev pub IsOnWay : GraphCause → Type 0
+IsOnWay Unreached = Unit {0}
+IsOnWay Counters = Unit {0}
+IsOnWay _ = ⊥

@@ -1,0 +1,46 @@
+-- What the two passes over the slots keep.
+use Rattle.std.specs.Prelude.{◌≡◌, ℕ, ◌+◌, ◌<◌, ◌≤◌, List, Option, Some, None, slice_index, slice_index_or, ◌⊎◌}
+use Rattle.bq_insn.specs.declared.Insn.{Insn}
+use Rattle.bq_insn.specs.declared.Insn.TheVariants.{Exit}
+use Rattle.bq_bpf.specs.Steps.{instruction_at}
+use Rattle.bq_verify.specs.Edges.{IsEdge, IsStart, IsForward}
+use Rattle.bq_verify.specs.Paths.{PathOut, CallsOnWay, IsGreatest, calls_of}
+use Rattle.bq_verify.specs.Faults.{IsBadJump}
+use Rattle.bq_verify.specs.declared.edges.Targets.{Targets}
+
+-- the graph may be walked: each edge leads to a later instruction, and each jump is an edge
+pub record IsSound (slots : List (Option Insn)) : Type 0 where
+  pub forward : IsForward slots
+  pub lands : (slot : ℕ) → IsBadJump slots slot → ⊥
+
+-- the slot is one of the targets
+abbrev pub IsOf : Targets → ℕ → Type 0
+IsOf targets to = (targets.next ≡ Some to) ⊎ (targets.jump ≡ Some to)
+
+-- the targets are those of the edges that leave the slot; only an EXIT has none
+pub record LeadsOut (slots : List (Option Insn)) (slot : ℕ) (targets : Targets) : Type 0 where
+  pub each : (to : ℕ) → IsEdge slots slot to → IsOf targets to
+  pub only : (to : ℕ) → IsOf targets to → IsEdge slots slot to
+  pub none : targets.next ≡ None → targets.jump ≡ None → instruction_at slots slot ≡ Some Exit
+
+-- the number at that slot, if there is one, is raised to the count, and no other changes
+pub record Raises (old : List (Option ℕ)) (to : Option ℕ) (count : ℕ) (new : List (Option ℕ)) : Type 0 where
+  pub kept : (k a : ℕ) → slice_index_or old k None ≡ Some a → (b : ℕ) × (slice_index_or new k None ≡ Some b) × (a ≤ b)
+  pub raised : (k : ℕ) → to ≡ Some k → (b : ℕ) × (slice_index_or new k None ≡ Some b) × (count ≤ b)
+  pub only : (k b : ℕ) → slice_index_or new k None ≡ Some b → (slice_index_or old k None ≡ Some b) ⊎ ((to ≡ Some k) × (b ≡ count))
+
+-- each number is of a path, and the edges from the slots below have been followed
+pub record CountsFollowed (slots : List (Option Insn)) (below : ℕ) (most : List (Option ℕ)) : Type 0 where
+  pub begins : (n : ℕ) × (slice_index_or most 0 None ≡ Some n)
+  pub way : (k n : ℕ) → slice_index_or most k None ≡ Some n → CallsOnWay slots k n
+  pub small : (k n : ℕ) → slice_index_or most k None ≡ Some n → n ≤ k
+  pub closed : (from to n : ℕ) → from < below → IsEdge slots from to → slice_index_or most from None ≡ Some n → (m : ℕ) × (slice_index_or most to None ≡ Some m) × (n + calls_of (instruction_at slots from) ≤ m)
+
+-- from that slot on each instruction has the number of the longest path out
+abbrev pub Measured : List (Option Insn) → ℕ → List ℕ → Type 0
+Measured slots from heights = (k : ℕ) → from ≤ k → IsStart slots k → IsGreatest (PathOut slots k) (slice_index heights k)
+
+-- the height at a target, or 0 where there is none
+abbrev pub height_to : List ℕ → Option ℕ → ℕ
+height_to heights None = 0
+height_to heights (Some to) = slice_index heights to
