@@ -2,8 +2,8 @@
 use Rattle.std.proofs.Common.{◌≡◌, ◌≢◌, ℕ, zero, suc, ◌+◌, ◌-◌, ◌<◌, ◌≤◌, List, [], ◌∷◌, ◌++◌, map, Bool, cond, eqb, eq-eqb, ne_eqb, refl, ap, ◌∙◌, arith}
 use mathlib.Core.Logic.{dite}
 use native.Mathlib.Decide.{ℕ_discrete}
-use Rattle.bq_tie.specs.Whole.{count, Each}
-use Rattle.bq_tie.proofs.MoveLemmas.{count-append, each-append}
+use Rattle.bq_history.specs.Whole.{count, Each}
+use Rattle.bq_history.proofs.MoveLemmas.{count-append, each-append}
 use Rattle.bq_history.specs.Items.{part_item}
 use Rattle.std.proofs.lemmas.List.{length-replicate}
 use Rattle.bq_parts.specs.Processors.{opening}

@@ -1,7 +1,7 @@
 -- The share of an event in the parts that it touches is a step of the world, and leaves the other parts.
 use Rattle.std.proofs.Common.{◌≡◌, ◌≢◌, ℕ, ◌<◌, List, [], ◌∷◌, length, Bool, true, cond, eqb, eq-eqb, refl, ap, ◌∙◌, arith}
 use Rattle.std.proofs.lemmas.List.{length-set, get_or-set_same, get_or-set_other}
-use Rattle.bq_tie.specs.Whole.{count}
+use Rattle.bq_history.specs.Whole.{count}
 use Rattle.bq_history.specs.Items.{Moves}
 use Rattle.bq_disc.specs.Tasks.{Task}
 use Rattle.bq_disc.specs.Discipline.{Discipline}

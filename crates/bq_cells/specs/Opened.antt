@@ -1,6 +1,6 @@
 -- What the holders have at the start.
 use Rattle.std.specs.Prelude.{ℕ, zero, suc, ◌+◌, List, [], ◌∷◌}
-use Rattle.bq_history.specs.declared.law.Item.{Item}
+use Rattle.bq_history.specs.declared.shared_state.Item.{Item}
 use Rattle.bq_history.specs.Items.{part_item}
 use Rattle.bq_parts.specs.Processors.{opening}
 use Rattle.bq_cells.specs.declared.law.JournalState.{JournalState}

@@ -3,10 +3,9 @@
 use crate::law::{JournalState, WorldPart};
 use crate::record::Record;
 use bq_disc::RunQueue;
-use bq_history::{AsPart, Locked};
+use bq_history::{AsPart, Holds, Locked, Placed};
 use bq_parts::{Cpu, Inbox, Lobby};
 use bq_policies::Scratch;
-use bq_tie::{Holds, Placed};
 
 /// What lies under a lock: content with the holder of its part.
 pub type UnderLock<A, N> = Locked<A, Record, WorldPart, JournalState, N>;

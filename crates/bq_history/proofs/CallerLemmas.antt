@@ -3,8 +3,8 @@ use Rattle.std.proofs.Common.{◌≡◌, ◌≢◌, ℕ, zero, suc, ◌+◌, ◌
 use mathlib.Core.Option.{some, some-ne-none, some-injective}
 use lib.ListN.{get_elem?}
 use Rattle.std.proofs.lemmas.Bool.Decides.{eqb_tells}
-use Rattle.bq_tie.specs.Whole.{count, total, Each}
-use Rattle.bq_history.specs.declared.law.Receipt.{Receipt}
+use Rattle.bq_history.specs.Whole.{count, total, Each}
+use Rattle.bq_history.specs.declared.shared_state.Receipt.{Receipt}
 use Rattle.bq_history.specs.History.{IsRising, Stands, SharesOutAmong, EachOnce, times_at, AreReceiptsOf}
 use Rattle.bq_history.proofs.RecordingLemmas.{each_map}
 use Rattle.bq_history.proofs.SharingLemmas.{shared_total, receipts_from}

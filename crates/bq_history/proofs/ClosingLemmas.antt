@@ -1,13 +1,13 @@
 -- What is known of the whole where one holder has the parts, the journal and the callers.
 use Rattle.std.proofs.Common.{◌≡◌, ℕ, List, [], ◌∷◌, ◌≤◌, ◌++◌, Bool, map, refl, sym, ap, subst, ◌∙◌, arith}
-use Rattle.bq_tie.specs.Whole.{count, Each, Has}
+use Rattle.bq_history.specs.Whole.{count, Each, Has}
 use Rattle.bq_history.specs.History.{Leaves, SharesOut, SharesOutAmong}
 use Rattle.bq_history.specs.Items.{part_item, journal_item, caller_of, parts_of, callers_of, IsGood, fits_item, same_item}
-use Rattle.bq_history.specs.declared.law.Receipt.{Receipt}
-use Rattle.bq_history.specs.declared.law.SharedState.{SharedState}
-use Rattle.bq_history.specs.declared.law.Item.{Item}
-use Rattle.bq_history.specs.declared.law.Item.TheVariants.{Part}
-use Rattle.bq_tie.proofs.MoveLemmas.{count-append}
+use Rattle.bq_history.specs.declared.shared_state.Receipt.{Receipt}
+use Rattle.bq_history.specs.declared.shared_state.SharedState.{SharedState}
+use Rattle.bq_history.specs.declared.shared_state.Item.{Item}
+use Rattle.bq_history.specs.declared.shared_state.Item.TheVariants.{Part}
+use Rattle.bq_history.proofs.MoveLemmas.{count-append}
 use Rattle.bq_history.proofs.RecordingLemmas.{count_parts}
 use lib.ListN.{get_elem?}
 use mathlib.Core.Option.{some}

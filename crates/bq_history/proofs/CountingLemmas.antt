@@ -4,8 +4,8 @@ use Rattle.std.specs.Prelude.{take}
 use lib.ListN.{get_or}
 use mir.Val.{bool_byte}
 use Rattle.std.proofs.lemmas.List.{take_more}
-use Rattle.bq_tie.specs.Whole.{count}
-use Rattle.bq_tie.proofs.MoveLemmas.{count-append}
+use Rattle.bq_history.specs.Whole.{count}
+use Rattle.bq_history.proofs.MoveLemmas.{count-append}
 
 as_byte : (b : Bool) → bool_byte b ≡ cond {A = ℕ} b 1 0
 as_byte true = refl

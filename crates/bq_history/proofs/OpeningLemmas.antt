@@ -4,14 +4,14 @@ use mathlib.Core.Option.{some, some-ne-none, some-injective}
 use mathlib.Core.Logic.{dite}
 use native.Mathlib.Decide.{ℕ_discrete}
 use lib.ListN.{get_elem?}
-use Rattle.bq_tie.specs.Whole.{count, Each, Has}
-use Rattle.bq_tie.proofs.MoveLemmas.{count-append, each-append}
+use Rattle.bq_history.specs.Whole.{count, Each, Has}
+use Rattle.bq_history.proofs.MoveLemmas.{count-append, each-append}
 use Rattle.bq_history.specs.History.{IsRising, Stands, SharesOut}
 use Rattle.bq_history.specs.Items.{part_item, same_item, callers_from, first_items, IsGood, fits_item}
-use Rattle.bq_history.specs.declared.law.Receipt.{Receipt}
-use Rattle.bq_history.specs.declared.law.SharedState.{SharedState}
-use Rattle.bq_history.specs.declared.law.Item.{Item}
-use Rattle.bq_history.specs.declared.law.Item.TheVariants.{Journal, Caller, Part}
+use Rattle.bq_history.specs.declared.shared_state.Receipt.{Receipt}
+use Rattle.bq_history.specs.declared.shared_state.SharedState.{SharedState}
+use Rattle.bq_history.specs.declared.shared_state.Item.{Item}
+use Rattle.bq_history.specs.declared.shared_state.Item.TheVariants.{Journal, Caller, Part}
 use Rattle.bq_history.proofs.RecordingLemmas.{count_parts, no_journal, no_caller}
 
 module _ (R : Type 0) {P : Type 0} (D : Type 0) (same : P → P → Bool) where

@@ -4,9 +4,9 @@ use denote.Struct.Field.{row_field}
 use denote.Param.Send.{IsSend, sendable, view_send}
 use denote.Param.SendFields.{declared_send, as_row_send}
 use Rattle.std.proofs.Crossing.{crosses}
-use Rattle.bq_tie.specs.declared.law.Naming as Naming
-use Rattle.bq_tie.proofs.holder.Holder.TheSendSync as holder
-use Rattle.bq_history.specs.contracts.law.Item as Item
+use Rattle.bq_history.specs.declared.law.Naming as Naming
+use Rattle.bq_history.proofs.holder.Holder.TheSendSync as holder
+use Rattle.bq_history.specs.contracts.shared_state.Item as Item
 use Rattle.bq_history.specs.contracts.chain.GrowingList
 use Rattle.bq_history.specs.contracts.chain.GrowingList.TheInside as chain
 use Rattle.bq_history.specs.contracts.chunk.Chunk as Chunk

@@ -5,8 +5,8 @@ use mathlib.Core.Option.{some, some-injective}
 use lib.ListN.{get_elem?}
 use Rattle.std.proofs.lemmas.Bool.Decides.{eqb_tells}
 use Rattle.std.proofs.lemmas.Option.{none-some, same_Some}
-use Rattle.bq_tie.specs.Whole.{total, Each}
-use Rattle.bq_history.specs.declared.law.Receipt.{Receipt}
+use Rattle.bq_history.specs.Whole.{total, Each}
+use Rattle.bq_history.specs.declared.shared_state.Receipt.{Receipt}
 use Rattle.bq_history.specs.History.{IsRising, HasPlace, Stands, SharesOut}
 use Rattle.bq_history.proofs.RecordingLemmas.{at_below}
 

@@ -4,8 +4,8 @@ ghost use Rattle.bq_history.specs.Items.{part_item};
 
 use crate::cell::{AsPart, Locked};
 use crate::commits::History;
-use crate::law::{Item, World};
-use bq_tie::{Holder, Naming};
+use crate::shared_state::{Item, World};
+use crate::{Holder, Naming};
 use std::sync::Mutex;
 
 /// Takes the contents out of their locks into a vector that is empty and has room for them; they come in any order. One

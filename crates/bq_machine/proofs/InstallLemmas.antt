@@ -2,7 +2,7 @@
 use Rattle.std.proofs.Common.{◌≡◌, ℕ, zero, suc, ◌+◌, List, [], ◌∷◌, ◌++◌, Option, subst, arith}
 use Rattle.bq_hooks.specs.declared.hook.Hook.{Hook}
 use Rattle.bq_verify.specs.Accepted.{Accepted}
-use Rattle.bq_history.specs.declared.law.Receipt.{Receipt}
+use Rattle.bq_history.specs.declared.shared_state.Receipt.{Receipt}
 use Rattle.bq_parts.specs.declared.event.Event.TheVariants.{Install}
 use Rattle.bq_cells.specs.declared.record.Record.{Record}
 use Rattle.bq_machine.specs.Calls.{AreInstalls}

@@ -1,6 +1,6 @@
 -- What the calls of a machine answer.
 use Rattle.std.specs.Prelude.{◌≡◌, ◌⊎◌, ℕ, zero, suc, ◌+◌, List, [], ◌∷◌, Option, None, Some}
-use Rattle.bq_history.specs.declared.law.Receipt.{Receipt}
+use Rattle.bq_history.specs.declared.shared_state.Receipt.{Receipt}
 use Rattle.bq_hooks.specs.declared.hook.Hook.{Hook}
 use Rattle.bq_verify.specs.Accepted.{Accepted}
 use Rattle.bq_parts.specs.declared.event.Event.{Event}

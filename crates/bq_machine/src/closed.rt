@@ -9,9 +9,9 @@ ghost use Rattle.bq_cells.specs.Parts.{RecordStep, told_calls};
 use crate::clock::Clock;
 use crate::locks::Machine;
 use bq_disc::RunQueue;
+use bq_history::Naming;
 use bq_recording::{Closed, Locks, Recorder, Seat};
 use bq_seats::Counting;
-use bq_tie::Naming;
 
 impl<Q: RunQueue + Drop, K: Clock + Drop, N: Naming + Counting, const P: usize> Machine<
     Q,

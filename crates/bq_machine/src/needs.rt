@@ -8,10 +8,9 @@ use crate::clock::Clock;
 use crate::locks::Machine;
 use bq_cells::{Record, call_rooms, record_room};
 use bq_disc::RunQueue;
-use bq_history::Room;
+use bq_history::{Naming, Room};
 use bq_parts::{Event, Refusal};
 use bq_seats::{CallRooms, Counting};
-use bq_tie::Naming;
 use std::alloc::Global;
 
 /// Room for the record of an event, and for the calls of counters that it may tell.

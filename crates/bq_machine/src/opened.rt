@@ -5,9 +5,9 @@ ghost use Rattle.bq_seats.specs.Calls.{fresh};
 use crate::clock::Clock;
 use crate::locks::Machine;
 use bq_disc::RunQueue;
+use bq_history::Naming;
 use bq_recording::{Opening, Prepared, Seat, no_tasks};
 use bq_seats::{Counting, UnnamedCounters};
-use bq_tie::Naming;
 use std::alloc::{AllocError, Global};
 
 impl<Q: RunQueue + Drop, K: Clock + Drop, N: Naming + Counting, const P: usize> Machine<

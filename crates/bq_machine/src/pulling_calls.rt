@@ -9,11 +9,10 @@ use crate::locks::{LockedProcessor, Machine};
 use crate::needs::rooms_of_event;
 use bq_cells::Record;
 use bq_disc::RunQueue;
-use bq_history::Receipt;
+use bq_history::{Naming, Receipt};
 use bq_parts::{Event, Refusal};
 use bq_recording::{EventRooms, Seat};
 use bq_seats::Counting;
-use bq_tie::Naming;
 use std::alloc::Global;
 use std::sync::Wait;
 

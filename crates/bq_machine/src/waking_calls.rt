@@ -15,11 +15,10 @@ use crate::locks::Machine;
 use crate::needs::rooms_of_event;
 use bq_cells::{Record, loads_room, record_room};
 use bq_disc::RunQueue;
-use bq_history::{Receipt, Room};
+use bq_history::{Naming, Receipt, Room};
 use bq_parts::{Event, Refusal, argument_refusal};
 use bq_recording::{BeginRooms, CpuCell, EventRooms, LoadRooms, Placing, Seat, WorkingSeat};
 use bq_seats::{CallRooms, Counting};
-use bq_tie::Naming;
 use std::alloc::Global;
 use std::sync::Wait;
 

@@ -3,8 +3,8 @@ use Rattle.std.proofs.Common.{◌≡◌, ℕ, zero, suc, ◌+◌, ◌*◌, ◌<�
 use Rattle.std.specs.List.{All, sum_by}
 use Rattle.std.proofs.lemmas.List.{map_push}
 use Rattle.std.proofs.lemmas.List.Sums.{sum_by-cons}
-use Rattle.bq_tie.specs.Whole.{total, Each}
-use Rattle.bq_history.specs.declared.law.Receipt.{Receipt}
+use Rattle.bq_history.specs.Whole.{total, Each}
+use Rattle.bq_history.specs.declared.shared_state.Receipt.{Receipt}
 use Rattle.bq_seats.specs.Calls.{fresh}
 
 module _ {A : Type 0} where

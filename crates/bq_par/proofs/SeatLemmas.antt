@@ -6,16 +6,16 @@ use Rattle.std.proofs.Crossing.{crosses, Vec-send}
 use Rattle.std.specs.contracts.option.Option as Option
 use Rattle.arrayvec.proofs.array_vec.ArrayVec.TheSendSync as list
 use Rattle.bq_bpf.proofs.board.Call.TheSendSync as call
-use Rattle.bq_tie.specs.declared.law.Naming as Naming
-use Rattle.bq_tie.proofs.holder.Holder.TheSendSync as holder
+use Rattle.bq_history.specs.declared.law.Naming as Naming
+use Rattle.bq_history.proofs.holder.Holder.TheSendSync as holder
 use Rattle.bq_seats.specs.declared.account.Counting as Counting
 use Rattle.bq_history.specs.contracts.chain.Slip as Slip
 use Rattle.bq_history.specs.contracts.chain.Slip.TheInside as slip
 use Rattle.bq_history.specs.contracts.chunk.Chunk as Chunk
 use Rattle.bq_history.specs.contracts.room.Room as Room
 use Rattle.bq_history.specs.contracts.room.Room.TheInside as room
-use Rattle.bq_history.specs.contracts.law.Receipt as Receipt
-use Rattle.bq_history.proofs.law.Receipt.TheSendSync as receipt
+use Rattle.bq_history.specs.contracts.shared_state.Receipt as Receipt
+use Rattle.bq_history.proofs.shared_state.Receipt.TheSendSync as receipt
 use Rattle.bq_history.proofs.SendLemmas.{chunk_send}
 use Rattle.bq_history.proofs.chain.Node.TheLaws.TheKnot as knot
 use Rattle.bq_seats.specs.contracts.calls.CallRooms as CallRooms

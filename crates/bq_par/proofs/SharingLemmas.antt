@@ -7,8 +7,8 @@ use Rattle.std.proofs.Crossing.{crosses, Vec-sync}
 use Rattle.std.specs.contracts.sync.Mutex as Mutex
 use Rattle.bq_disc.specs.declared.queue.RunQueue as Queue
 use Rattle.bq_disc.specs.declared.discipline.Discipline
-use Rattle.bq_tie.specs.declared.law.Naming as Naming
-use Rattle.bq_tie.proofs.owner.Owner.TheSendSync as owner
+use Rattle.bq_history.specs.declared.law.Naming as Naming
+use Rattle.bq_history.proofs.owner.Owner.TheSendSync as owner
 use Rattle.bq_seats.specs.declared.account.Counting as Counting
 use Rattle.bq_seats.proofs.counters.Counters.TheSendSync as counters
 use Rattle.bq_history.specs.contracts.cell.Locked as Locked

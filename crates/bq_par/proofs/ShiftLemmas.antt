@@ -1,8 +1,8 @@
 -- Shifts, as their receipts come, and how many ticks are in them.
 use Rattle.std.proofs.Common.{◌≡◌, ℕ, ◌+◌, ◌-◌, ◌^◌, ◌↔◌, pos, List, [], ◌∷◌, ◌++◌, length, Option, None, Some, IfSome, IsOk, IsSome, refl, sym, ap, ◌∙◌, add_assoc, append_assoc, append-nil, length-append, arith}
 use Rattle.std.specs.Option.{option_to_list}
-use Rattle.bq_tie.specs.Whole.{total, Each}
-use Rattle.bq_history.specs.declared.law.Receipt.{Receipt}
+use Rattle.bq_history.specs.Whole.{total, Each}
+use Rattle.bq_history.specs.declared.shared_state.Receipt.{Receipt}
 use Rattle.bq_history.proofs.RecordingLemmas.{each_more}
 use Rattle.bq_parts.specs.declared.event.Event.TheVariants.{Admit, BeginWake, EndWake, Drain}
 use Rattle.bq_cells.specs.declared.record.Record.{Record}

@@ -1,8 +1,8 @@
 -- What one thread of a parallel run does: the shift of its processor.
 use Rattle.std.specs.Prelude.{◌≡◌, ◌↔◌, ℕ, ◌-◌, ◌^◌, pos, List, [], ◌∷◌, ◌++◌, length, Option, IfSome, IsOk, IsSome}
 use Rattle.std.specs.Option.{option_to_list}
-use Rattle.bq_tie.specs.Whole.{Each}
-use Rattle.bq_history.specs.declared.law.Receipt.{Receipt}
+use Rattle.bq_history.specs.Whole.{Each}
+use Rattle.bq_history.specs.declared.shared_state.Receipt.{Receipt}
 use Rattle.bq_parts.specs.declared.event.Event.TheVariants.{Admit, BeginWake, EndWake, Drain, Tick}
 use Rattle.bq_cells.specs.declared.record.Record.{Record}
 

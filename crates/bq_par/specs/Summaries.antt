@@ -2,9 +2,9 @@
 use Rattle.std.specs.Prelude.{◌≡◌, ℕ, ◌*◌, List, ◌++◌, length, codes}
 use Rattle.std.specs.Fmt.{decimal}
 use Rattle.bq_disc.specs.Discipline.{Discipline}
-use Rattle.bq_tie.specs.Whole.{total, Each}
+use Rattle.bq_history.specs.Whole.{total, Each}
 use Rattle.bq_history.specs.History.{EachOnce, Leaves, AreReceiptsOf}
-use Rattle.bq_history.specs.declared.law.Receipt.{Receipt}
+use Rattle.bq_history.specs.declared.shared_state.Receipt.{Receipt}
 use Rattle.bq_parts.specs.World.{World, opening_world}
 use Rattle.bq_cells.specs.Parts.{RecordStep}
 use Rattle.bq_cells.specs.declared.record.Record.{Record}

@@ -1,6 +1,6 @@
 -- Ticks among what a history tells.
 use Rattle.std.specs.Prelude.{ℕ, List}
-use Rattle.bq_tie.specs.Whole.{total}
+use Rattle.bq_history.specs.Whole.{total}
 use Rattle.bq_parts.specs.declared.event.Event.{Event}
 use Rattle.bq_parts.specs.declared.event.Event.TheVariants.{Tick}
 use Rattle.bq_cells.specs.declared.record.Record.{Record}

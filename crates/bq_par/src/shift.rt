@@ -6,12 +6,11 @@ ghost use Rattle.bq_par.specs.Shifts.{IsShift, IsStart, TicksMore};
 use bq_cells::Record;
 use bq_disc::RunQueue;
 use bq_disc::limits::DEFAULT_SLICE;
-use bq_history::{Numbered, Receipt};
+use bq_history::{Naming, Numbered, Receipt};
 use bq_machine::{Clock, Machine, WakeReceipts};
 use bq_parts::Refusal;
 use bq_recording::{Admission, Seat};
 use bq_seats::Counting;
-use bq_tie::Naming;
 use std::alloc::Global;
 use std::sync::Wait;
 

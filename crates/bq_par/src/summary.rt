@@ -2,7 +2,7 @@
 ghost use Rattle.std.specs.Prelude.{◌≡◌, ◌↔◌, ◌<◌, ◌≤◌, ◌^◌, IfOk, IsTrue, map, length, vec_len, slice_get, string_bytes};
 ghost use Rattle.std.specs.List.{All, sum_by};
 ghost use Rattle.std.specs.Option.{option_map};
-ghost use Rattle.bq_tie.specs.Whole.{Each};
+ghost use Rattle.bq_history.specs.Whole.{Each};
 ghost use Rattle.bq_history.specs.History.{IsConfirmed, Stands};
 ghost use Rattle.bq_par.specs.Shifts.{IsShift};
 ghost use Rattle.bq_par.specs.Summaries.{IsSummary, summary_line};
@@ -11,12 +11,11 @@ ghost use Rattle.bq_par.specs.Ticks.{one_tick};
 use crate::shift::ReturnedSeat;
 use bq_cells::Record;
 use bq_disc::RunQueue;
-use bq_history::{Compared, Receipt};
+use bq_history::{Compared, Naming, Receipt};
 use bq_machine::{Clock, Machine};
 use bq_parts::{Event, Refusal};
 use bq_recording::Seat;
 use bq_seats::Counting;
-use bq_tie::Naming;
 use std::alloc::{AllocError, Global};
 
 /// How many events the history has, how many of them are ticks, and how many of the receipts stand in it.

@@ -2,12 +2,11 @@
 
 use bq_cells::Record;
 use bq_disc::RunQueue;
-use bq_history::Receipt;
+use bq_history::{Naming, Receipt};
 use bq_machine::{Clock, Machine};
 use bq_parts::Refusal;
 use bq_recording::{Admission, Seat};
 use bq_seats::Counting;
-use bq_tie::Naming;
 use std::alloc::Global;
 use std::sync::Wait;
 

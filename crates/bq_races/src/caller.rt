@@ -5,13 +5,12 @@ use crate::counting_clock::CountingClock;
 use crate::held_queue::HeldQueue;
 use crate::play::{Held, Play};
 use bq_cells::Record;
-use bq_history::Receipt;
+use bq_history::{Naming, Receipt};
 use bq_hooks::Hook;
 use bq_machine::Machine;
 use bq_parts::Refusal;
 use bq_recording::{Admission, Seat};
 use bq_seats::Counting;
-use bq_tie::Naming;
 use std::alloc::Global;
 use std::sync::Wait;
 

@@ -3,13 +3,13 @@
 use crate::asking::{Request, ask};
 use crate::images::{ADDS, COUNTING, IN_TURN, OWN_PULL};
 use bq_disc::RunQueue;
+use bq_history::Naming;
 use bq_hooks::Hook;
 use bq_load::LoadFault;
 use bq_machine::{Clock, LoadRefused, Machine};
 use bq_parts::Refusal;
 use bq_recording::{Admission, Seat};
 use bq_seats::Counting;
-use bq_tie::Naming;
 use std::alloc::{AllocError, Global};
 use std::sync::Wait;
 

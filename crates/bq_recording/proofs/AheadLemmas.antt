@@ -2,7 +2,7 @@
 use Rattle.std.proofs.Common.{◌≡◌, List, sym, ap, ◌∙◌}
 use Rattle.bq_bpf.specs.declared.board.Call.{Call}
 use Rattle.bq_bpf.specs.Counters.{Through}
-use Rattle.bq_history.specs.declared.law.Receipt.{Receipt}
+use Rattle.bq_history.specs.declared.shared_state.Receipt.{Receipt}
 use Rattle.bq_seats.specs.declared.account.Account.{Account}
 use Rattle.bq_seats.specs.Sums.{calling}
 use Rattle.bq_seats.specs.Calls.{account_of, ahead}

@@ -1,11 +1,11 @@
 -- What is known where one holder has all parts: they are the world that the history leaves.
 use Rattle.std.proofs.Common.{◌≡◌, ℕ, ◌+◌, ◌≤◌, cond, eqb, List, [], ◌∷◌, ◌++◌, map, refl, sym, ap, ◌∙◌, subst, arith}
-use Rattle.bq_tie.specs.Whole.{count, Each}
-use Rattle.bq_tie.proofs.MoveLemmas.{count-append}
+use Rattle.bq_history.specs.Whole.{count, Each}
+use Rattle.bq_history.proofs.MoveLemmas.{count-append}
 use Rattle.bq_history.specs.Items.{part_item, parts_of}
 use Rattle.bq_history.specs.History.{Leaves}
-use Rattle.bq_tie.specs.Places.{times}
-use Rattle.bq_tie.proofs.OrderedLemmas.{times_turned}
+use Rattle.bq_history.specs.Places.{times}
+use Rattle.bq_history.proofs.OrderedLemmas.{times_turned}
 use Rattle.bq_parts.specs.Processors.{Processor, opening}
 use Rattle.bq_parts.specs.World.{World, opening_world}
 use Rattle.bq_disc.specs.Tasks.{Task}

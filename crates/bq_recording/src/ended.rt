@@ -1,6 +1,6 @@
 //! The locks are opened for good, and what they have becomes the history and the core.
 ghost use Rattle.std.specs.Prelude.{◌≡◌, ◌≤◌, map, length, vec_len, vec_capacity};
-ghost use Rattle.bq_tie.specs.Whole.{count, Each};
+ghost use Rattle.bq_history.specs.Whole.{count, Each};
 ghost use Rattle.bq_history.specs.Items.{part_item};
 ghost use Rattle.bq_history.specs.History.{Leaves, EachOnce, AreReceiptsOf};
 ghost use Rattle.bq_seats.specs.Sums.{AreSumsOf};
@@ -18,10 +18,9 @@ use bq_cells::{
 };
 use bq_core::Core;
 use bq_disc::RunQueue;
-use bq_history::{Item, Journal, gather};
+use bq_history::{Holder, Item, Journal, Naming, contents_in_order, gather};
 use bq_parts::{Cpu, Inbox, Lobby};
 use bq_seats::{Counters, Counting, Seat};
-use bq_tie::{Holder, Naming, contents_in_order};
 use std::sync::Mutex;
 
 /// All that the threads of a machine share, and the room for its end.

@@ -10,12 +10,11 @@ use crate::recorder::{Recorder, WorkingSeat};
 use crate::told::{answer_twice, both_records, no_calls, quiet_twice};
 use bq_cells::{NumberedCpu, Record, UnderLock, policy_again};
 use bq_disc::RunQueue;
-use bq_history::{CommitDraft, Receipt, Room};
+use bq_history::{CommitDraft, Naming, Receipt, Room};
 use bq_hooks::Hook;
 use bq_parts::{Event, Reply};
 use bq_policies::{Installed, Policy};
 use bq_seats::Counting;
-use bq_tie::Naming;
 use std::alloc::{AllocError, Global};
 use std::sync::Wait;
 

@@ -9,10 +9,9 @@ use crate::recorder::{Recorder, WorkingSeat};
 use crate::told::quiet_twice;
 use bq_cells::{OneLobby, Record, UnderLock};
 use bq_disc::RunQueue;
-use bq_history::{CommitDraft, Receipt, Room};
+use bq_history::{CommitDraft, Naming, Receipt, Room};
 use bq_parts::{Event, Unlinked};
 use bq_seats::Counting;
-use bq_tie::Naming;
 use std::sync::Wait;
 
 /// What a new task comes with.

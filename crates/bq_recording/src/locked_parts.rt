@@ -8,10 +8,9 @@ use bq_cells::{
     JournalState, NumberedCpu, NumberedInbox, OneLobby, Record, Shared, UnderLock, WorldPart,
 };
 use bq_disc::RunQueue;
-use bq_history::{Item, Locked};
+use bq_history::{Holder, Item, Locked, Naming};
 use bq_parts::{Cpu, Inbox, Lobby};
 use bq_policies::Scratch;
-use bq_tie::{Holder, Naming};
 use std::alloc::{AllocError, Global};
 use std::sync::Mutex;
 

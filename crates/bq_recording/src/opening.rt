@@ -10,10 +10,9 @@ use crate::prepared::Prepared;
 use crate::{ClosingRoom, Recorder, Seat};
 use bq_cells::{JournalState, NumberedCpu, NumberedInbox, OneLobby, Record, UnderLock, WorldPart};
 use bq_disc::RunQueue;
-use bq_history::{Item, Journal};
+use bq_history::{Holder, Item, Journal, Naming};
 use bq_hooks::Loads;
 use bq_seats::{CounterTally, Counting, UnnamedCounters, seats};
-use bq_tie::{Holder, Naming};
 use std::alloc::{AllocError, Global};
 use std::sync::Mutex;
 

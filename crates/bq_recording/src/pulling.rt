@@ -8,10 +8,9 @@ use crate::rooms::EventRooms;
 use crate::told::told_twice;
 use bq_cells::{NumberedCpu, Record, UnderLock};
 use bq_disc::RunQueue;
-use bq_history::{CommitDraft, Receipt, look_at_both};
+use bq_history::{CommitDraft, Naming, Receipt, look_at_both};
 use bq_parts::Event;
 use bq_seats::{Counting, hold_calls};
-use bq_tie::Naming;
 use std::sync::Wait;
 
 impl<Q: RunQueue + Drop, N: Naming + Counting> Recorder<Q, N> {

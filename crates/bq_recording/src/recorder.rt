@@ -4,9 +4,8 @@ ghost use Rattle.std.specs.Sync.Mutex.{mutex_guard_value};
 
 use bq_cells::{JournalState, NumberedCpu, Record, Shared, WorldPart};
 use bq_disc::RunQueue;
-use bq_history::{Cell, Journal};
+use bq_history::{Cell, Journal, Naming};
 use bq_seats::{Counters, Counting, Working};
-use bq_tie::Naming;
 use std::sync::{Mutex, MutexGuard, Wait};
 
 /// A caller's end of a machine. Contracts see it as its number and its receipts, in order.

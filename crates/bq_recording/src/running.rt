@@ -8,10 +8,9 @@ use crate::rooms::EventRooms;
 use crate::told::{both_records, event_twice, quiet_twice, told_twice};
 use bq_cells::{NumberedCpu, NumberedInbox, OneLobby, PackedAnswer, Record, UnderLock};
 use bq_disc::RunQueue;
-use bq_history::{CommitDraft, Receipt, Room, look_at_both};
+use bq_history::{CommitDraft, Naming, Receipt, Room, look_at_both};
 use bq_parts::{Event, Reply};
 use bq_seats::{Counting, hold_calls};
-use bq_tie::Naming;
 use std::sync::Wait;
 
 impl<Q: RunQueue + Drop, N: Naming + Counting> Recorder<Q, N> {

@@ -16,10 +16,9 @@ use crate::rooms::{BeginRooms, EventRooms};
 use crate::told::{both_records, event_twice, no_calls, told_twice};
 use bq_cells::{NumberedCpu, NumberedInbox, OneLobby, PackedAnswer, Record, UnderLock};
 use bq_disc::RunQueue;
-use bq_history::{CommitDraft, Receipt};
+use bq_history::{CommitDraft, Naming, Receipt};
 use bq_parts::{Event, Placement, Reply};
 use bq_seats::{Counting, hold_calls};
-use bq_tie::Naming;
 use std::sync::{Mutex, MutexGuard, Wait};
 
 /// Which task in a hand is placed, and when.

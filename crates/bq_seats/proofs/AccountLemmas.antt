@@ -2,8 +2,8 @@
 use Rattle.std.proofs.Common.{◌≡◌, ℕ, ◌+◌, List, [], ◌∷◌, ◌++◌, length, map, refl, sym, ap, ◌∙◌, arith, append-nil, append_assoc, length-append}
 use Rattle.bq_bpf.specs.declared.board.Call.{Call}
 use Rattle.bq_bpf.specs.Counters.{sum_of, Through}
-use Rattle.bq_tie.specs.Whole.{total}
-use Rattle.bq_history.specs.declared.law.Receipt.{Receipt}
+use Rattle.bq_history.specs.Whole.{total}
+use Rattle.bq_history.specs.declared.shared_state.Receipt.{Receipt}
 use Rattle.bq_history.specs.History.{SharesOutAmong, EachOnce}
 use Rattle.bq_history.proofs.CallerLemmas.{callers_total}
 use Rattle.bq_history.proofs.SharingLemmas.{receipts_from}

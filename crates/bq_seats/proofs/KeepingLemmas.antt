@@ -8,8 +8,8 @@ use Rattle.atomic_table.proofs.Lists.{at_set, at_snoc, set_else}
 use Rattle.bq_bpf.specs.declared.board.Call.{Call}
 use Rattle.bq_bpf.specs.declared.board.Call.TheVariants.{Add, Read}
 use Rattle.bq_bpf.specs.Counters.{added, sum_of}
-use Rattle.bq_tie.specs.Whole.{total}
-use Rattle.bq_tie.proofs.MoveLemmas.{total_set, total_snoc, total_at}
+use Rattle.bq_history.specs.Whole.{total}
+use Rattle.bq_history.proofs.MoveLemmas.{total_set, total_snoc, total_at}
 use Rattle.bq_seats.specs.declared.account.Account.{Account}
 use Rattle.bq_seats.specs.Sums.{AreSums, AreSumsOf, spent, opened, calling, both, without_one}
 

@@ -5,7 +5,7 @@ use lib.ListN.{get_elem?}
 use Rattle.bq_bpf.specs.declared.board.Call.{Call}
 use Rattle.bq_bpf.specs.declared.board.TheConstants.{COUNTERS}
 use Rattle.bq_bpf.specs.Counters.{sum_of}
-use Rattle.bq_tie.specs.Whole.{total}
+use Rattle.bq_history.specs.Whole.{total}
 use Rattle.bq_seats.specs.declared.account.Account.{Account}
 
 -- an account of no seat, without calls

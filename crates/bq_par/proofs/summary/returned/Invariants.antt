@@ -1,6 +1,6 @@
 use Rattle.std.proofs.Common.{◌≡◌, ◌+◌, map, vec_len, IfOk}
 use Rattle.std.specs.List.{All}
-use Rattle.bq_tie.specs.Whole.{Each}
+use Rattle.bq_history.specs.Whole.{Each}
 use Rattle.bq_par.specs.Shifts.{IsShift}
 use Rattle.bq_par.proofs.summary.returned.Given as goal
 

@@ -1,7 +1,7 @@
 use Rattle.std.proofs.Common.{◌≡◌, ◌-◌, ◌++◌, ◌<◌, ◌∷◌, [], length, sym, rules, ap, ◌∙◌, arith, length-append}
 use Rattle.std.proofs.lemmas.Iterator.Adapters.{YieldsList-from_vec}
 use Rattle.std.proofs.lemmas.Iterator.Consumers.{YieldsList-turn, YieldsList-end}
-use Rattle.bq_tie.specs.Whole.{first_of, others_of}
+use Rattle.bq_history.specs.Whole.{first_of, others_of}
 use Rattle.bq_history.specs.Items.{part_item}
 use Rattle.bq_cells.specs.Parts.{cpu_part}
 use Rattle.bq_cells.specs.Opened.{cpu_items}

@@ -1,5 +1,5 @@
 use Rattle.std.proofs.Common.{◌≡◌, ◌-◌, ◌++◌, ◌<◌, ◌∷◌, [], sym, rules, ap, ◌∙◌, arith}
-use Rattle.bq_tie.specs.Whole.{first_of, others_of}
+use Rattle.bq_history.specs.Whole.{first_of, others_of}
 use Rattle.bq_history.specs.Items.{part_item}
 use Rattle.bq_cells.specs.Parts.{inbox_part}
 use Rattle.bq_cells.specs.Opened.{inbox_items}

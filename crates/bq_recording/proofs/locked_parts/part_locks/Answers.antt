@@ -1,5 +1,5 @@
 use Rattle.std.proofs.Common.{◌≡◌, ◌++◌, ℕ, map, ap, sym, ◌∙◌}
-use Rattle.bq_tie.specs.Whole.{others_of}
+use Rattle.bq_history.specs.Whole.{others_of}
 use Rattle.bq_history.specs.Items.{part_item, callers_from}
 use Rattle.bq_cells.specs.Parts.{cpus_from, inboxes_from}
 use Rattle.bq_cells.specs.Opened.{cpu_items, inbox_items}

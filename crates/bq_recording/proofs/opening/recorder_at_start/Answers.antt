@@ -1,5 +1,5 @@
 use Rattle.std.proofs.Common.{◌≡◌, ◌∷◌, [], List, ℕ, replicate, ap, sym, ◌∙◌, arith}
-use Rattle.bq_tie.specs.Whole.{first_of, others_of}
+use Rattle.bq_history.specs.Whole.{first_of, others_of}
 use Rattle.bq_history.specs.Items.{journal_item}
 use Rattle.bq_parts.specs.World.{opening_world}
 use Rattle.bq_cells.specs.declared.law.JournalState.{JournalState}

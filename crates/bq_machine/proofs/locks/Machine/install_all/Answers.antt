@@ -1,7 +1,7 @@
 use Rattle.std.proofs.Common.{◌≡◌, ◌∷◌, ◌++◌, ◌<◌, ◌+◌, ◌-◌, [], List, length, slice_index_or, vec_len, append_assoc, ap, sym, ◌∙◌, arith, rules, subst, ℕ}
 use Rattle.std.specs.Prelude.{unwrap_or}
 use Rattle.std.proofs.lemmas.List.Elements.{All-take}
-use Rattle.bq_history.specs.declared.law.Receipt.{Receipt}
+use Rattle.bq_history.specs.declared.shared_state.Receipt.{Receipt}
 use Rattle.bq_parts.specs.declared.event.Event.TheVariants.{Install}
 use Rattle.bq_cells.specs.declared.record.Record.{Record}
 use Rattle.bq_machine.specs.Calls.{AreInstalls}

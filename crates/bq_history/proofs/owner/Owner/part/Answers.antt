@@ -1,0 +1,10 @@
+use Rattle.std.proofs.Common.{sym, ◌∙◌, arith}
+use Rattle.bq_history.proofs.MoveLemmas.{cuts}
+use Rattle.bq_history.proofs.owner.Owner.part.Goals as goal
+
+pub split_seat-seat-requires : goal.split_seat-seat-requires
+split_seat-seat-requires g c = (
+  c.from.invariant.0 ∙ sym c.self.invariant.0,
+  omega (arith, c.self.invariant.1),
+  λ s k at. cuts g.L.Law.same (g.L.Law.good c.self.inside.table.shared.key) g.L.Law.fits s.views c.from.inside.seat.id c.from.inside.seat.me.0 k at,
+)

@@ -1,0 +1,44 @@
+//! What stands at places, taken out in the order of the places.
+ghost use Rattle.std.specs.Prelude.{◌≡◌, ◌≤◌, ◌<◌, ℕ, List, map, length, slice_index_or, vec_len, vec_capacity};
+ghost use Rattle.bq_history.specs.Whole.{Each};
+ghost use Rattle.bq_history.specs.Places.{times};
+
+use crate::order::{Placed, in_order};
+
+/// What has content apart from its place.
+pub trait Holds<C> {
+    ghost content: { Self → C };
+
+    /// The content.
+    fn into_content(self) -> C
+        ensures { result ≡ Self.content self };
+}
+
+/// The contents of items in the order of their places, where each place is below their number and no place is that of two.
+/// So they are any list that has each item's content at the item's place. They come into a vector that is empty and has room
+/// for them; no memory is taken.
+pub fn contents_in_order<C: Drop, T: Placed + Holds<C> + Drop>(
+    items: Vec<T>,
+    room: Vec<C>,
+) -> Vec<C>
+    requires below { Each (λ x. T.place x < length items.items) items.items }
+    requires few { (s : ℕ) → times T.place s items.items ≤ 1 }
+    requires room { (vec_len room ≡ 0) × (vec_len items ≤ vec_capacity room) }
+    ensures { (list : List C) (d : C) → length list ≡ length items.items → Each (λ x. (T.place x < length list) × (slice_index_or list (T.place x) d ≡ T.content x)) items.items → result.items ≡ list }
+{
+    let mut items = items;
+    in_order(&mut items);
+    contents(items, room)
+}
+
+/// The contents of items, in their order.
+fn contents<C: Drop, T: Holds<C> + Drop>(items: Vec<T>, room: Vec<C>) -> Vec<C>
+    requires { (vec_len room ≡ 0) × (vec_len items ≤ vec_capacity room) }
+    ensures { result.items ≡ map T.content items.items }
+{
+    let mut contents = room;
+    for item in items {
+        contents.push_reserved(item.into_content());
+    }
+    contents
+}

@@ -1,0 +1,153 @@
+//! What the holders share.
+ghost use Rattle.std.specs.Prelude.{◌≡◌, ◌++◌, IfOk, []};
+ghost use Rattle.bq_history.specs.Whole.{Changes, Has, first_of, others_of};
+
+use crate::holder::Holder;
+use crate::law::{Apart, Fact, Holding, Law, Look, Naming, Ruled, Step, Together, Whole};
+use atomic_table::{Seat, Table};
+use std::alloc::{AllocError, Global};
+use std::collections::LinkedList;
+use std::marker::{Brand, Model, PhantomData};
+
+/// A whole that has no name yet. Contracts see it as the table's name and what was fixed when it was made.
+#[derive(Drop)]
+pub struct Unnamed<E, T, K, L: Law<E, T, K>> {
+    table: Table<(), LinkedList<E>, K, Ruled<E, T, K, L>, Global>,
+    seat: Seat<(), LinkedList<E>>,
+}
+
+impl<E, T, K, L: Law<E, T, K>> Model for Unnamed<E, T, K, L> {
+    ghost use Rattle.std.specs.Prelude.{◌≡◌, []};
+    ghost use Rattle.atomic_table.specs.Seated.{TableId};
+
+    ghost Value = { TableId × K };
+
+    ghost view = { λ u. (u.table.shared.table_id, u.table.shared.key) };
+
+    ghost invariant = { λ u. (u.table.shared.table_id.words ≡ 1) × (u.table.shared.table_id.slots ≡ 0) × (u.seat.table_id ≡ u.table.shared.table_id) × (u.seat.me ≡ (L.first u.table.shared.key, [])) };
+}
+
+/// What the holders of one whole share. Contracts see it as what was fixed when it was made.
+#[derive(Drop)]
+pub struct Owner<E, T, K, L: Law<E, T, K>, N: Naming> {
+    table: Table<(), LinkedList<E>, K, Ruled<E, T, K, L>, Global>,
+    of: PhantomData<N>,
+}
+
+impl<E, T, K, L: Law<E, T, K>, N: Naming> Model for Owner<E, T, K, L, N> {
+    ghost Value = { K };
+
+    ghost view = { λ o. o.table.shared.key };
+
+    ghost invariant = { λ o. (o.table.shared.table_id ≡ N.table) × (o.table.shared.table_id.words ≡ 1) × (o.table.shared.table_id.slots ≡ 0) };
+}
+
+impl<E, T, K, L: Law<E, T, K>> Unnamed<E, T, K, L> {
+    /// The whole at the start. It takes the memory for the table that its holders share.
+    pub fn new(alloc: Global, about: &K) -> Result<Unnamed<E, T, K, L>, AllocError>
+        requires { Has L.same (L.good about.now) L.fits (L.first about.now) }
+        ensures { IfOk result (λ u. u.1 ≡ about.now) }
+    {
+        let (table, seat) = Table::of_words(alloc, &[0], about)?;
+        Ok(Unnamed { table, seat })
+    }
+
+    /// The whole under its name, with one holder of all items.
+    pub fn named<N: Naming>(self) -> (Owner<E, T, K, L, N>, Holder<E, N>)
+        requires { self.0 ≡ N.table }
+        ensures { (result.0 ≡ self.1) × (result.1 ≡ L.first self.1) }
+    {
+        let Unnamed { table, seat } = self;
+        (
+            Owner {
+                table,
+                of: PhantomData,
+            },
+            Holder {
+                seat,
+                of: PhantomData,
+            },
+        )
+    }
+}
+
+impl<E, T, K, L: Law<E, T, K>, N: Naming> Owner<E, T, K, L, N> {
+    /// All items go to a new holder.
+    pub fn take(&self, from: &mut Holder<E, N>) -> Holder<E, N>
+        ensures { (from.new ≡ []) × (result ≡ from.old) }
+    {
+        let seat = self.table.shared.split_seat::<Whole>(&mut from.seat);
+        Holder {
+            seat,
+            of: PhantomData,
+        }
+    }
+
+    /// The first item goes to a new holder.
+    pub fn part(&self, from: &mut Holder<E, N>) -> Holder<E, N>
+        ensures { (from.new ≡ others_of from.old) × (result ≡ first_of from.old) }
+    {
+        let seat = self.table.shared.split_seat::<Apart>(&mut from.seat);
+        Holder {
+            seat,
+            of: PhantomData,
+        }
+    }
+
+    /// One holder takes all that another has.
+    pub fn join(&self, to: &mut Holder<E, N>, other: Holder<E, N>)
+        ensures { to.new ≡ to.old ++ other }
+    {
+        let Holder { seat, of: _ } = other;
+        self.table.shared.join_seat::<Together>(&mut to.seat, seat);
+    }
+
+    /// The same, of a holder that is used again.
+    pub fn gather(&self, to: &mut Holder<E, N>, from: &mut Holder<E, N>)
+        ensures { (to.new ≡ to.old ++ from.old) × (from.new ≡ []) }
+    {
+        let all = self.take(from);
+        self.join(to, all);
+    }
+
+    /// The first item goes to a holder that is there.
+    pub fn deal(&self, from: &mut Holder<E, N>, to: &mut Holder<E, N>)
+        ensures { (from.new ≡ others_of from.old) × (to.new ≡ to.old ++ first_of from.old) }
+    {
+        let one = self.part(from);
+        self.join(to, one);
+    }
+
+    /// Changes the parts that one holder has, together.
+    pub fn change<C: Holding<E>>(&self, holder: &mut Holder<E, N>)
+        requires changes { Changes L.same (L.good self.now) L.fits holder.old C.items }
+        ensures { holder.new ≡ C.items }
+    {
+        self.table.shared.load::<Step<C>>(&mut holder.seat, 0);
+    }
+
+    fn look_for<F: Fact>(&self, holder: &mut Holder<E, N>)
+        requires { Has L.same (L.good self.now) L.fits holder.old → F.fact }
+        ensures same { holder.new ≡ holder.old }
+        ensures known { F.fact }
+    {
+        self.table.shared.load::<Look<F>>(&mut holder.seat, 0);
+    }
+
+    /// What the whole is just now, where one holder has these parts.
+    pub fn look(&self, holder: &mut Holder<E, N>)
+        ensures same { holder.new ≡ holder.old }
+        ensures known { Has L.same (L.good self.now) L.fits holder.old }
+    {
+        self.look_for::<Brand>(holder);
+    }
+
+    /// What the whole is, where one holder has these parts. No part is among them twice.
+    pub fn close(self, all: Holder<E, N>)
+        ensures { Has L.same (L.good self) L.fits all }
+    {
+        let Owner { table, of: _ } = self;
+        let Holder { seat, of: _ } = all;
+        table.close_with(seat).free();
+    }
+}
