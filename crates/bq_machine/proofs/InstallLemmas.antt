@@ -4,7 +4,7 @@ use Rattle.bq_hooks.specs.declared.hook.Hook.{Hook}
 use Rattle.bq_verify.specs.Accepted.{Accepted}
 use Rattle.bq_history.specs.declared.shared_state.Receipt.{Receipt}
 use Rattle.bq_parts.specs.declared.event.Event.TheVariants.{Install}
-use Rattle.bq_cells.specs.declared.record.Record.{Record}
+use Rattle.bq_shared.specs.declared.record.Record.{Record}
 use Rattle.bq_machine.specs.Calls.{AreInstalls}
 
 -- the receipt of the next processor comes behind

@@ -1,17 +1,17 @@
 //! The end of a machine: with its locks and all its seats in one hand again, all that happened is known.
 ghost use Rattle.std.specs.Prelude.{◌↔◌, IsTrue};
 ghost use Rattle.bq_history.specs.History.{Leaves, EachOnce, AreReceiptsOf};
-ghost use Rattle.bq_seats.specs.Sums.{AreSumsOf};
-ghost use Rattle.bq_seats.specs.Calls.{calls_in};
+ghost use Rattle.bq_shared.specs.Sums.{AreSumsOf};
+ghost use Rattle.bq_shared.specs.Calls.{calls_in};
 ghost use Rattle.bq_parts.specs.World.{opening_world};
-ghost use Rattle.bq_cells.specs.Parts.{RecordStep, told_calls};
+ghost use Rattle.bq_shared.specs.Parts.{RecordStep, told_calls};
 
 use crate::clock::Clock;
 use crate::locks::Machine;
 use bq_disc::RunQueue;
 use bq_history::Naming;
 use bq_recording::{Closed, Locks, Recorder, Seat};
-use bq_seats::Counting;
+use bq_shared::Counting;
 
 impl<Q: RunQueue + Drop, K: Clock + Drop, N: Naming + Counting, const P: usize> Machine<
     Q,

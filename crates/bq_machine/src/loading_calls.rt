@@ -2,16 +2,15 @@
 ghost use Rattle.std.specs.Prelude.{◌≡◌, ◌∷◌, ◌++◌, ◌<◌, ◌≤◌, ◌+◌, ℕ, [], true, None, Ok, Option, IfOk, IfErr, OnErr, All, vec_len, vec_capacity};
 ghost use Rattle.std.specs.Option.{option_map};
 ghost use Rattle.bq_verify.specs.Accepted.{Accepted};
-ghost use Rattle.bq_seats.specs.Calls.{account_of};
+ghost use Rattle.bq_shared.specs.Calls.{account_of};
 ghost use Rattle.bq_parts.specs.Refusals.{is_for};
 ghost use Rattle.bq_parts.specs.declared.reply.Reply.TheVariants.{Drawn};
-ghost use Rattle.bq_cells.specs.Parts.{told_calls};
+ghost use Rattle.bq_shared.specs.Parts.{told_calls};
 ghost use Rattle.bq_machine.specs.Calls.{AreInstalls};
 ghost use Rattle.bq_machine.specs.Loading.{IsPolicyOf, IsLoadRefused};
 
 use crate::clock::Clock;
 use crate::locks::Machine;
-use bq_cells::{Record, record_room};
 use bq_disc::RunQueue;
 use bq_history::{Naming, Receipt};
 use bq_hooks::Hook;
@@ -19,7 +18,7 @@ use bq_load::{LoadFault, load};
 use bq_parts::{Event, Refusal};
 use bq_policies::Policy;
 use bq_recording::{Seat, Spare, WorkingSeat, one_spare};
-use bq_seats::Counting;
+use bq_shared::{Counting, Record, record_room};
 use std::alloc::{AllocError, Global};
 use std::sync::Wait;
 use thiserror::Error;

@@ -6,12 +6,11 @@ ghost use Rattle.bq_machine.specs.Calls.{IsCallRefused};
 
 use crate::clock::Clock;
 use crate::locks::Machine;
-use bq_cells::{Record, record_room};
 use bq_disc::RunQueue;
 use bq_history::{Naming, Receipt, Room};
 use bq_parts::{Event, Refusal, Unlinked, argument_refusal, new_task};
 use bq_recording::{Admission, Seat};
-use bq_seats::Counting;
+use bq_shared::{Counting, Record, record_room};
 use std::alloc::Global;
 use std::sync::Wait;
 

@@ -3,11 +3,10 @@ ghost use Rattle.std.specs.Prelude.{◌≡◌, ◌≤◌, ◌<◌, vec_len};
 ghost use Rattle.std.specs.Sync.Mutex.{mutex_guard_value};
 
 use crate::clock::Clock;
-use bq_cells::{NumberedCpu, NumberedInbox, OneLobby, UnderLock};
 use bq_disc::RunQueue;
 use bq_history::Naming;
 use bq_recording::{ClosingRoom, Recorder, Seat, lock, need_own};
-use bq_seats::Counting;
+use bq_shared::{Counting, NumberedCpu, NumberedInbox, OneLobby, UnderLock};
 use std::sync::{Mutex, MutexGuard, Wait};
 
 /// A processor whose lock is held.

@@ -6,11 +6,10 @@ ghost use Rattle.bq_machine.specs.Calls.{IsCallRefused};
 
 use crate::clock::Clock;
 use crate::locks::Machine;
-use bq_cells::{Record, call_rooms, record_room};
 use bq_disc::RunQueue;
 use bq_history::{Naming, Room};
 use bq_parts::{Event, Refusal};
-use bq_seats::{CallRooms, Counting};
+use bq_shared::{CallRooms, Counting, Record, call_rooms, record_room};
 use std::alloc::Global;
 
 /// Room for the record of an event, and for the calls of counters that it may tell.

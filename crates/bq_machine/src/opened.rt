@@ -1,13 +1,13 @@
 //! A machine at the start.
 ghost use Rattle.std.specs.Prelude.{◌≡◌, ◌≤◌, ◌^◌, [], All, IfOk, length};
-ghost use Rattle.bq_seats.specs.Calls.{fresh};
+ghost use Rattle.bq_shared.specs.Calls.{fresh};
 
 use crate::clock::Clock;
 use crate::locks::Machine;
 use bq_disc::RunQueue;
 use bq_history::Naming;
 use bq_recording::{Opening, Prepared, Seat, no_tasks};
-use bq_seats::{Counting, UnnamedCounters};
+use bq_shared::{Counting, UnnamedCounters};
 use std::alloc::{AllocError, Global};
 
 impl<Q: RunQueue + Drop, K: Clock + Drop, N: Naming + Counting, const P: usize> Machine<

@@ -7,12 +7,11 @@ ghost use Rattle.bq_machine.specs.Calls.{IsCallRefused};
 use crate::clock::Clock;
 use crate::locks::{LockedProcessor, Machine};
 use crate::needs::rooms_of_event;
-use bq_cells::Record;
 use bq_disc::RunQueue;
 use bq_history::{Naming, Receipt};
 use bq_parts::{Event, Refusal};
 use bq_recording::{EventRooms, Seat};
-use bq_seats::Counting;
+use bq_shared::{Counting, Record};
 use std::alloc::Global;
 use std::sync::Wait;
 

@@ -4,12 +4,11 @@ ghost use Rattle.bq_machine.specs.Calls.{IsCallRefused};
 
 use crate::clock::Clock;
 use crate::locks::Machine;
-use bq_cells::{Record, record_room};
 use bq_disc::RunQueue;
 use bq_history::{Naming, Receipt};
 use bq_parts::{Event, Refusal};
 use bq_recording::{EventRooms, Seat};
-use bq_seats::Counting;
+use bq_shared::{Counting, Record, record_room};
 use std::alloc::Global;
 use std::sync::Wait;
 

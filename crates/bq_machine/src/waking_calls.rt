@@ -2,10 +2,10 @@
 ghost use Rattle.std.specs.Prelude.{◌≡◌, ◌∷◌, ◌++◌, ◌<◌, ◌⊎◌, ℕ, [], None, Some, IfOk, IfErr, IfSome, IsOk, IsSome, OnOk, OnErr, ◌↔◌, is_some, true};
 ghost use Rattle.std.specs.Option.{option_to_list, option_map};
 ghost use Rattle.bq_history.specs.Items.{part_item};
-ghost use Rattle.bq_seats.specs.Calls.{account_of};
+ghost use Rattle.bq_shared.specs.Calls.{account_of};
 ghost use Rattle.bq_parts.specs.Refusals.{argument_refusal};
 ghost use Rattle.bq_parts.specs.declared.refusal.Refusal.TheVariants as no;
-ghost use Rattle.bq_cells.specs.Parts.{cpu_part, told_calls};
+ghost use Rattle.bq_shared.specs.Parts.{cpu_part, told_calls};
 ghost use Rattle.bq_recording.specs.Placing.{IsPlaced};
 ghost use Rattle.bq_machine.specs.Calls.{IsCallRefused};
 ghost use Rattle.bq_machine.specs.Waking.{IsWake};
@@ -13,12 +13,11 @@ ghost use Rattle.bq_machine.specs.Waking.{IsWake};
 use crate::clock::Clock;
 use crate::locks::Machine;
 use crate::needs::rooms_of_event;
-use bq_cells::{Record, loads_room, record_room};
 use bq_disc::RunQueue;
 use bq_history::{Naming, Receipt, Room};
 use bq_parts::{Event, Refusal, argument_refusal};
 use bq_recording::{BeginRooms, CpuCell, EventRooms, LoadRooms, Placing, Seat, WorkingSeat};
-use bq_seats::{CallRooms, Counting};
+use bq_shared::{CallRooms, Counting, Record, loads_room, record_room};
 use std::alloc::Global;
 use std::sync::Wait;
 

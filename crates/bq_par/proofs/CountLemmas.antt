@@ -5,7 +5,7 @@ use Rattle.std.proofs.lemmas.List.{map_push}
 use Rattle.std.proofs.lemmas.List.Sums.{sum_by-cons}
 use Rattle.bq_history.specs.Whole.{total, Each}
 use Rattle.bq_history.specs.declared.shared_state.Receipt.{Receipt}
-use Rattle.bq_seats.specs.Calls.{fresh}
+use Rattle.bq_shared.specs.Calls.{fresh}
 
 module _ {A : Type 0} where
   -- one sum, in two words

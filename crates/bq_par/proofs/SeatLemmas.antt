@@ -8,7 +8,7 @@ use Rattle.arrayvec.proofs.array_vec.ArrayVec.TheSendSync as list
 use Rattle.bq_bpf.proofs.board.Call.TheSendSync as call
 use Rattle.bq_history.specs.declared.law.Naming as Naming
 use Rattle.bq_history.proofs.holder.Holder.TheSendSync as holder
-use Rattle.bq_seats.specs.declared.account.Counting as Counting
+use Rattle.bq_shared.specs.declared.account.Counting as Counting
 use Rattle.bq_history.specs.contracts.chain.Slip as Slip
 use Rattle.bq_history.specs.contracts.chain.Slip.TheInside as slip
 use Rattle.bq_history.specs.contracts.chunk.Chunk as Chunk
@@ -18,16 +18,16 @@ use Rattle.bq_history.specs.contracts.shared_state.Receipt as Receipt
 use Rattle.bq_history.proofs.shared_state.Receipt.TheSendSync as receipt
 use Rattle.bq_history.proofs.SendLemmas.{chunk_send}
 use Rattle.bq_history.proofs.chain.Node.TheLaws.TheKnot as knot
-use Rattle.bq_seats.specs.contracts.calls.CallRooms as CallRooms
-use Rattle.bq_seats.specs.contracts.seat.Seat as Seat
-use Rattle.bq_seats.specs.contracts.seat.Seat.TheInside as seat
-use Rattle.bq_seats.specs.contracts.working.Working as Working
-use Rattle.bq_seats.proofs.working.Working.TheSendSync as working
-use Rattle.bq_cells.specs.contracts.record.Record as Record
-use Rattle.bq_cells.specs.contracts.record.RecordTellsCalls.TheImpl as told
-use Rattle.bq_cells.specs.contracts.law.JournalState as JournalState
-use Rattle.bq_cells.specs.contracts.law.WorldPart as WorldPart
-use Rattle.bq_cells.proofs.SendLemmas.{record_send}
+use Rattle.bq_shared.specs.contracts.calls.CallRooms as CallRooms
+use Rattle.bq_shared.specs.contracts.seat.Seat as Seat
+use Rattle.bq_shared.specs.contracts.seat.Seat.TheInside as seat
+use Rattle.bq_shared.specs.contracts.working.Working as Working
+use Rattle.bq_shared.proofs.working.Working.TheSendSync as working
+use Rattle.bq_shared.specs.contracts.record.Record as Record
+use Rattle.bq_shared.specs.contracts.record.RecordTellsCalls.TheImpl as told
+use Rattle.bq_shared.specs.contracts.law.JournalState as JournalState
+use Rattle.bq_shared.specs.contracts.law.WorldPart as WorldPart
+use Rattle.bq_shared.proofs.SendLemmas.{record_send}
 use Rattle.bq_par.specs.contracts.shift.ReturnedSeat as ReturnedSeat
 
 slip_inside : (T : RattleType) → IsSend T → IsSend (slip.the_row T)

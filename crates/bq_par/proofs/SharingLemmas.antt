@@ -9,27 +9,27 @@ use Rattle.bq_disc.specs.declared.queue.RunQueue as Queue
 use Rattle.bq_disc.specs.declared.discipline.Discipline
 use Rattle.bq_history.specs.declared.law.Naming as Naming
 use Rattle.bq_history.proofs.owner.Owner.TheSendSync as owner
-use Rattle.bq_seats.specs.declared.account.Counting as Counting
-use Rattle.bq_seats.proofs.counters.Counters.TheSendSync as counters
+use Rattle.bq_shared.specs.declared.account.Counting as Counting
+use Rattle.bq_shared.proofs.counters.Counters.TheSendSync as counters
 use Rattle.bq_history.specs.contracts.cell.Locked as Locked
 use Rattle.bq_history.proofs.cell.Locked.TheSendSync as locked
 use Rattle.bq_history.specs.contracts.journal.Journal as Journal
 use Rattle.bq_history.proofs.SendLemmas.{journal_send}
-use Rattle.bq_cells.specs.contracts.cells.NumberedCpu as Numbered
-use Rattle.bq_cells.specs.contracts.cells.NumberedInbox as NumberedInbox
-use Rattle.bq_cells.specs.contracts.cells.OneLobby as OneLobby
-use Rattle.bq_cells.specs.contracts.cells.NumberedCpuAsPartWorldPart.TheImpl as cpu_part
-use Rattle.bq_cells.specs.contracts.cells.NumberedInboxAsPartWorldPart.TheImpl as inbox_part
-use Rattle.bq_cells.specs.contracts.cells.OneLobbyAsPartWorldPart.TheImpl as lobby_part
-use Rattle.bq_cells.specs.contracts.record.Record as Record
-use Rattle.bq_cells.specs.contracts.law.JournalState as JournalState
-use Rattle.bq_cells.specs.contracts.law.WorldPart as WorldPart
+use Rattle.bq_shared.specs.contracts.cells.NumberedCpu as Numbered
+use Rattle.bq_shared.specs.contracts.cells.NumberedInbox as NumberedInbox
+use Rattle.bq_shared.specs.contracts.cells.OneLobby as OneLobby
+use Rattle.bq_shared.specs.contracts.cells.NumberedCpuAsPartWorldPart.TheImpl as cpu_part
+use Rattle.bq_shared.specs.contracts.cells.NumberedInboxAsPartWorldPart.TheImpl as inbox_part
+use Rattle.bq_shared.specs.contracts.cells.OneLobbyAsPartWorldPart.TheImpl as lobby_part
+use Rattle.bq_shared.specs.contracts.record.Record as Record
+use Rattle.bq_shared.specs.contracts.law.JournalState as JournalState
+use Rattle.bq_shared.specs.contracts.law.WorldPart as WorldPart
 use Rattle.bq_disc.proofs.node.Node.TheLaws.TheKnot as knot
 use Rattle.bq_parts.specs.contracts.inbox.Inbox as Inbox
 use Rattle.bq_recording.specs.contracts.closing_room.ClosingRoom as ClosingRoom
 use Rattle.bq_recording.proofs.SendLemmas.{room_send}
 use Rattle.bq_parts.proofs.SendLemmas.{cpu_send}
-use Rattle.bq_cells.proofs.SendLemmas.{numbered_send, inbox_send, lobby_send, record_send, kept_send}
+use Rattle.bq_shared.proofs.SendLemmas.{numbered_send, inbox_send, lobby_send, record_send, kept_send}
 use Rattle.bq_recording.specs.contracts.recorder.Recorder as Recorder
 use Rattle.bq_machine.specs.contracts.locks.Machine as Machine
 use Rattle.bq_machine.specs.declared.clock.Clock as Clock

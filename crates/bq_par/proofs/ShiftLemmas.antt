@@ -5,7 +5,7 @@ use Rattle.bq_history.specs.Whole.{total, Each}
 use Rattle.bq_history.specs.declared.shared_state.Receipt.{Receipt}
 use Rattle.bq_history.proofs.RecordingLemmas.{each_more}
 use Rattle.bq_parts.specs.declared.event.Event.TheVariants.{Admit, BeginWake, EndWake, Drain}
-use Rattle.bq_cells.specs.declared.record.Record.{Record}
+use Rattle.bq_shared.specs.declared.record.Record.{Record}
 use Rattle.bq_par.specs.Shifts.{IsShift, IsStart, IsTickAt, TicksMore}
 use Rattle.bq_par.specs.Ticks.{one_tick, tick_of}
 

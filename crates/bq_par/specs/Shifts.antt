@@ -4,7 +4,7 @@ use Rattle.std.specs.Option.{option_to_list}
 use Rattle.bq_history.specs.Whole.{Each}
 use Rattle.bq_history.specs.declared.shared_state.Receipt.{Receipt}
 use Rattle.bq_parts.specs.declared.event.Event.TheVariants.{Admit, BeginWake, EndWake, Drain, Tick}
-use Rattle.bq_cells.specs.declared.record.Record.{Record}
+use Rattle.bq_shared.specs.declared.record.Record.{Record}
 
 -- the receipt is for a tick of that processor
 abbrev pub IsTickAt : ℕ → Receipt Record → Type 0

@@ -6,8 +6,8 @@ use Rattle.bq_history.specs.Whole.{total, Each}
 use Rattle.bq_history.specs.History.{EachOnce, Leaves, AreReceiptsOf}
 use Rattle.bq_history.specs.declared.shared_state.Receipt.{Receipt}
 use Rattle.bq_parts.specs.World.{World, opening_world}
-use Rattle.bq_cells.specs.Parts.{RecordStep}
-use Rattle.bq_cells.specs.declared.record.Record.{Record}
+use Rattle.bq_shared.specs.Parts.{RecordStep}
+use Rattle.bq_shared.specs.declared.record.Record.{Record}
 use Rattle.bq_par.specs.Shifts.{IsShift}
 use Rattle.bq_par.specs.Ticks.{ticks_in}
 use Rattle.bq_par.specs.declared.summary.HistorySummary.{HistorySummary}

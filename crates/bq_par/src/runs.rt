@@ -13,7 +13,7 @@ use bq_history::Naming;
 use bq_machine::Machine;
 use bq_parts::Refusal;
 use bq_recording::{Prepared, Seat, prepare};
-use bq_seats::{Counting, UnnamedCounters};
+use bq_shared::{Counting, UnnamedCounters};
 use bq_words::ProcessorCount;
 use std::alloc::{AllocError, Global};
 use std::marker::Brand;

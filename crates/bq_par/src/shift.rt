@@ -3,14 +3,13 @@ ghost use Rattle.std.specs.Prelude.{◌≡◌, ◌<◌, ◌++◌, ◌∷◌, [],
 ghost use Rattle.std.specs.Option.{option_to_list};
 ghost use Rattle.bq_par.specs.Shifts.{IsShift, IsStart, TicksMore};
 
-use bq_cells::Record;
 use bq_disc::RunQueue;
 use bq_disc::limits::DEFAULT_SLICE;
 use bq_history::{Naming, Numbered, Receipt};
 use bq_machine::{Clock, Machine, WakeReceipts};
 use bq_parts::Refusal;
 use bq_recording::{Admission, Seat};
-use bq_seats::Counting;
+use bq_shared::{Counting, Record};
 use std::alloc::Global;
 use std::sync::Wait;
 

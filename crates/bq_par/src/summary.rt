@@ -9,13 +9,12 @@ ghost use Rattle.bq_par.specs.Summaries.{IsSummary, summary_line};
 ghost use Rattle.bq_par.specs.Ticks.{one_tick};
 
 use crate::shift::ReturnedSeat;
-use bq_cells::Record;
 use bq_disc::RunQueue;
 use bq_history::{Compared, Naming, Receipt};
 use bq_machine::{Clock, Machine};
 use bq_parts::{Event, Refusal};
 use bq_recording::Seat;
-use bq_seats::Counting;
+use bq_shared::{Counting, Record};
 use std::alloc::{AllocError, Global};
 
 /// How many events the history has, how many of them are ticks, and how many of the receipts stand in it.

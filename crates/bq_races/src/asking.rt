@@ -1,12 +1,11 @@
 //! What is asked of a machine, as values.
 
-use bq_cells::Record;
 use bq_disc::RunQueue;
 use bq_history::{Naming, Receipt};
 use bq_machine::{Clock, Machine};
 use bq_parts::Refusal;
 use bq_recording::{Admission, Seat};
-use bq_seats::Counting;
+use bq_shared::{Counting, Record};
 use std::alloc::Global;
 use std::sync::Wait;
 

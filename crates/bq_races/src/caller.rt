@@ -4,13 +4,12 @@ use crate::asking::{Request, ask};
 use crate::counting_clock::CountingClock;
 use crate::held_queue::HeldQueue;
 use crate::play::{Held, Play};
-use bq_cells::Record;
 use bq_history::{Naming, Receipt};
 use bq_hooks::Hook;
 use bq_machine::Machine;
 use bq_parts::Refusal;
 use bq_recording::{Admission, Seat};
-use bq_seats::Counting;
+use bq_shared::{Counting, Record};
 use std::alloc::Global;
 use std::sync::Wait;
 

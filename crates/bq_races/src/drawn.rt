@@ -9,7 +9,7 @@ use bq_load::LoadFault;
 use bq_machine::{Clock, LoadRefused, Machine};
 use bq_parts::Refusal;
 use bq_recording::{Admission, Seat};
-use bq_seats::Counting;
+use bq_shared::Counting;
 use std::alloc::{AllocError, Global};
 use std::sync::Wait;
 

@@ -2,8 +2,8 @@
 
 use crate::play::{Play, Script};
 use crate::script::{AllPlayed, run_script};
-use bq_cells::PackedAnswer;
 use bq_parts::{Event, Reply};
+use bq_shared::PackedAnswer;
 use std::alloc::Global;
 use std::process::Abort;
 

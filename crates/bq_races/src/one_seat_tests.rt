@@ -2,7 +2,6 @@
 ghost use Rattle.std.specs.Prelude.{◌≡◌};
 
 use crate::asking::{Request, ask};
-use bq_cells::{PackedAnswer, Record};
 use bq_cfs::CfsQueue;
 use bq_history::{Naming, Receipt};
 use bq_hooks::{By, Hook};
@@ -10,7 +9,7 @@ use bq_load::LoadFault;
 use bq_machine::{Clock, LoadRefused, Machine};
 use bq_parts::{Refusal, Reply};
 use bq_recording::{Closed, Prepared, Seat, prepare};
-use bq_seats::{Counting, UnnamedCounters};
+use bq_shared::{Counting, PackedAnswer, Record, UnnamedCounters};
 use std::alloc::Global;
 use std::marker::Brand;
 use std::process::Abort;

@@ -10,7 +10,7 @@ use bq_history::Naming;
 use bq_machine::Machine;
 use bq_par::Metronome;
 use bq_recording::{Closed, Prepared, Seat, prepare};
-use bq_seats::{Counting, UnnamedCounters};
+use bq_shared::{Counting, UnnamedCounters};
 use std::alloc::Global;
 use std::marker::Brand;
 use std::process::Abort;

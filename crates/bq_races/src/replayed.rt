@@ -2,13 +2,13 @@
 ghost use Rattle.std.specs.Prelude.{◌≤◌};
 
 use bq_bpf::{Board, Call, Plain};
-use bq_cells::{event_again, is_same_answer};
 use bq_core::Core;
 use bq_disc::RunQueue;
 use bq_disc::clock::LATEST;
 use bq_hooks::Hook;
 use bq_parts::{Event, Refusal, Reply};
 use bq_recording::Closed;
+use bq_shared::{event_again, is_same_answer};
 use bq_trace::shows::write_processor;
 use std::alloc::Global;
 use std::process::Abort;

@@ -3,12 +3,12 @@ use Rattle.std.proofs.Common.{◌≡◌, List, sym, ap, ◌∙◌}
 use Rattle.bq_bpf.specs.declared.board.Call.{Call}
 use Rattle.bq_bpf.specs.Counters.{Through}
 use Rattle.bq_history.specs.declared.shared_state.Receipt.{Receipt}
-use Rattle.bq_seats.specs.declared.account.Account.{Account}
-use Rattle.bq_seats.specs.Sums.{calling}
-use Rattle.bq_seats.specs.Calls.{account_of, ahead}
-use Rattle.bq_seats.proofs.AccountLemmas.{goes_ahead}
-use Rattle.bq_cells.specs.declared.record.Record.{Record}
-use Rattle.bq_cells.specs.Parts.{told_calls}
+use Rattle.bq_shared.specs.declared.account.Account.{Account}
+use Rattle.bq_shared.specs.Sums.{calling}
+use Rattle.bq_shared.specs.Calls.{account_of, ahead}
+use Rattle.bq_shared.proofs.AccountLemmas.{goes_ahead}
+use Rattle.bq_shared.specs.declared.record.Record.{Record}
+use Rattle.bq_shared.specs.Parts.{told_calls}
 
 -- an account that went over a desk is ahead by the calls that were made there
 pub ahead_of : {B : Type 0} (account : B → Account) (b d : B) (xs ys : List (Receipt Record)) (made : List Call) (a : Account) → account b ≡ account_of told_calls xs →

@@ -1,6 +1,6 @@
 -- No event but the beginning of a wake is answered by loads.
 use Rattle.std.proofs.Common.{◌≡◌, ℕ, List, Result, Ok, Err, false, refl, ap}
-use Rattle.bq_cells.specs.Brief.{has_loads}
+use Rattle.bq_shared.specs.Brief.{has_loads}
 use Rattle.bq_disc.specs.Tasks.{Task}
 use Rattle.bq_disc.specs.Discipline.{Discipline}
 use Rattle.bq_parts.specs.declared.lobby_entry.LobbyEntry.{LobbyEntry}

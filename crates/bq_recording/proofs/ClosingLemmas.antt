@@ -11,14 +11,14 @@ use Rattle.bq_parts.specs.World.{World, opening_world}
 use Rattle.bq_disc.specs.Tasks.{Task}
 use Rattle.bq_disc.specs.Discipline.{Discipline}
 use Rattle.bq_parts.specs.declared.lobby_entry.LobbyEntry.{LobbyEntry}
-use Rattle.bq_cells.specs.Opened.{ItemOf}
+use Rattle.bq_shared.specs.Opened.{ItemOf}
 use Rattle.bq_recording.specs.AllParts.{all_parts}
-use Rattle.bq_cells.specs.Parts.{cpu_part, inbox_part, lobby_part, same_part, HasPart, RecordStep, kept_of}
-use Rattle.bq_cells.specs.declared.law.WorldPart.{WorldPart}
-use Rattle.bq_cells.specs.declared.law.JournalState.{JournalState}
-use Rattle.bq_cells.specs.declared.record.Record.{Record}
-use Rattle.bq_cells.proofs.ReachedLemmas.{IsSound, reached_sound}
-use Rattle.bq_cells.specs.declared.law.WorldPart.TheVariants as part
+use Rattle.bq_shared.specs.Parts.{cpu_part, inbox_part, lobby_part, same_part, HasPart, RecordStep, kept_of}
+use Rattle.bq_shared.specs.declared.law.WorldPart.{WorldPart}
+use Rattle.bq_shared.specs.declared.law.JournalState.{JournalState}
+use Rattle.bq_shared.specs.declared.record.Record.{Record}
+use Rattle.bq_shared.proofs.ReachedLemmas.{IsSound, reached_sound}
+use Rattle.bq_shared.specs.declared.law.WorldPart.TheVariants as part
 
 -- the parts of the items of some parts
 pub parts_back : (ps : List WorldPart) → let l : List ItemOf = map part_item ps in parts_of l ≡ ps

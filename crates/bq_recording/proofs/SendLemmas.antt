@@ -7,8 +7,8 @@ use Rattle.bq_disc.specs.declared.queue.RunQueue as Queue
 use Rattle.bq_disc.specs.declared.discipline.Discipline
 use Rattle.bq_parts.specs.contracts.cpu.Cpu as Cpu
 use Rattle.bq_parts.specs.contracts.inbox.Inbox as Inbox
-use Rattle.bq_cells.specs.contracts.cells.NumberedCpu as NumberedCpu
-use Rattle.bq_cells.specs.contracts.cells.NumberedInbox as NumberedInbox
+use Rattle.bq_shared.specs.contracts.cells.NumberedCpu as NumberedCpu
+use Rattle.bq_shared.specs.contracts.cells.NumberedInbox as NumberedInbox
 use Rattle.bq_recording.specs.contracts.closing_room.ClosingRoom as ClosingRoom
 
 -- each of its vectors crosses as its items do

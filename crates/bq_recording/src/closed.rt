@@ -5,11 +5,11 @@ ghost use Rattle.bq_history.specs.History.{IsConfirmed};
 
 use bq_bpf::Call;
 use bq_bpf::board::COUNTERS;
-use bq_cells::Record;
 use bq_core::Core;
 use bq_disc::RunQueue;
 use bq_history::{ClosedRecords as History, Receipt};
 use bq_parts::{Event, Refusal, Reply};
+use bq_shared::Record;
 
 /// The history of a machine, the world that it leaves, and its counters.
 #[derive(Drop)]

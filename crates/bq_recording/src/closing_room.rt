@@ -1,9 +1,9 @@
 //! Room for what the locks have, so that the end takes no memory.
 ghost use Rattle.std.specs.Prelude.{◌≡◌, ◌≤◌, vec_len, vec_capacity};
 
-use bq_cells::{NumberedCpu, NumberedInbox};
 use bq_disc::RunQueue;
 use bq_parts::{Cpu, Inbox};
+use bq_shared::{NumberedCpu, NumberedInbox};
 use std::alloc::{AllocError, Global};
 
 /// Room for the contents of the locks of `P` processors and their inboxes, and for the same without their numbers.

@@ -3,24 +3,24 @@ ghost use Rattle.std.specs.Prelude.{◌≡◌, ◌≤◌, map, length, vec_len, 
 ghost use Rattle.bq_history.specs.Whole.{count, Each};
 ghost use Rattle.bq_history.specs.Items.{part_item};
 ghost use Rattle.bq_history.specs.History.{Leaves, EachOnce, AreReceiptsOf};
-ghost use Rattle.bq_seats.specs.Sums.{AreSumsOf};
-ghost use Rattle.bq_seats.specs.Calls.{calls_in};
+ghost use Rattle.bq_shared.specs.Sums.{AreSumsOf};
+ghost use Rattle.bq_shared.specs.Calls.{calls_in};
 ghost use Rattle.bq_parts.specs.World.{World, opening_world, count_in};
 ghost use Rattle.bq_parts.specs.StandsOnce.{IsOrderly};
-ghost use Rattle.bq_cells.specs.Parts.{RecordStep, told_calls, cpu_part, inbox_part, same_part, HasPart};
-ghost use Rattle.bq_cells.specs.declared.law.WorldPart.{WorldPart as PartOf};
+ghost use Rattle.bq_shared.specs.Parts.{RecordStep, told_calls, cpu_part, inbox_part, same_part, HasPart};
+ghost use Rattle.bq_shared.specs.declared.law.WorldPart.{WorldPart as PartOf};
 ghost use Rattle.bq_recording.specs.AllParts.{all_parts};
 
 use crate::closed::Closed;
 use crate::closing_room::ClosingRoom;
-use bq_cells::{
-    JournalState, NumberedCpu, NumberedInbox, OneLobby, Record, Shared, UnderLock, WorldPart,
-};
 use bq_core::Core;
 use bq_disc::RunQueue;
 use bq_history::{Holder, Item, Journal, Naming, contents_in_order, gather};
 use bq_parts::{Cpu, Inbox, Lobby};
-use bq_seats::{Counters, Counting, Seat};
+use bq_shared::{
+    Counters, Counting, JournalState, NumberedCpu, NumberedInbox, OneLobby, Record, Seat, Shared,
+    UnderLock, WorldPart,
+};
 use std::sync::Mutex;
 
 /// All that the threads of a machine share, and the room for its end.
@@ -64,7 +64,7 @@ pub fn close<Q: RunQueue + Drop, N: Naming + Counting, const P: usize>(
     let (contents, all) = all_out(&history, cpus, inboxes, lobby, room);
     let journal = journal.into_inner();
     let drawn = journal.kept().drawn;
-    let (log, words) = bq_seats::close(history, journal, all, counters, seats);
+    let (log, words) = bq_shared::close(history, journal, all, counters, seats);
     Closed {
         history: log,
         core: core_of(contents, drawn),

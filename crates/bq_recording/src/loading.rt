@@ -1,20 +1,19 @@
 //! Numbers that are drawn for loads, and what is installed at a processor.
 ghost use Rattle.std.specs.Prelude.{◌≡◌, ◌∷◌, ◌++◌, ◌+◌, [], true, None, Ok, IfOk};
 ghost use Rattle.bq_policies.specs.Answers.{fresh_maps};
-ghost use Rattle.bq_seats.specs.Calls.{account_of};
+ghost use Rattle.bq_shared.specs.Calls.{account_of};
 ghost use Rattle.bq_parts.specs.Refusals.{argument_refusal};
 ghost use Rattle.bq_parts.specs.declared.reply.Reply.TheVariants.{Drawn};
-ghost use Rattle.bq_cells.specs.Parts.{told_calls};
+ghost use Rattle.bq_shared.specs.Parts.{told_calls};
 
 use crate::recorder::{Recorder, WorkingSeat};
 use crate::told::{answer_twice, both_records, no_calls, quiet_twice};
-use bq_cells::{NumberedCpu, Record, UnderLock, policy_again};
 use bq_disc::RunQueue;
 use bq_history::{CommitDraft, Naming, Receipt, Room};
 use bq_hooks::Hook;
 use bq_parts::{Event, Reply};
 use bq_policies::{Installed, Policy};
-use bq_seats::Counting;
+use bq_shared::{Counting, NumberedCpu, Record, UnderLock, policy_again};
 use std::alloc::{AllocError, Global};
 use std::sync::Wait;
 

@@ -1,17 +1,16 @@
 //! Events of the lobby alone: tasks come to the machine, and leave it.
 ghost use Rattle.std.specs.Prelude.{◌≡◌, ◌∷◌, ◌++◌, [], true, None};
-ghost use Rattle.bq_seats.specs.Calls.{account_of};
+ghost use Rattle.bq_shared.specs.Calls.{account_of};
 ghost use Rattle.bq_parts.specs.Refusals.{argument_refusal};
 ghost use Rattle.bq_parts.specs.Moves.{admitted};
-ghost use Rattle.bq_cells.specs.Parts.{told_calls};
+ghost use Rattle.bq_shared.specs.Parts.{told_calls};
 
 use crate::recorder::{Recorder, WorkingSeat};
 use crate::told::quiet_twice;
-use bq_cells::{OneLobby, Record, UnderLock};
 use bq_disc::RunQueue;
 use bq_history::{CommitDraft, Naming, Receipt, Room};
 use bq_parts::{Event, Unlinked};
-use bq_seats::Counting;
+use bq_shared::{Counting, OneLobby, Record, UnderLock};
 use std::sync::Wait;
 
 /// What a new task comes with.

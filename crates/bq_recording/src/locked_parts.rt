@@ -1,16 +1,16 @@
 //! A lock for each part of the world.
 ghost use Rattle.std.specs.Prelude.{◌≡◌, ◌≤◌, ◌^◌, ◌++◌, ℕ, [], List, All, IfOk, length, map, vec_len};
 ghost use Rattle.bq_history.specs.Items.{callers_from, part_item};
-ghost use Rattle.bq_cells.specs.Parts.{first_parts};
-ghost use Rattle.bq_cells.specs.Opened.{ItemOf, cpu_items, inbox_items};
+ghost use Rattle.bq_shared.specs.Parts.{first_parts};
+ghost use Rattle.bq_shared.specs.Opened.{ItemOf, cpu_items, inbox_items};
 
-use bq_cells::{
-    JournalState, NumberedCpu, NumberedInbox, OneLobby, Record, Shared, UnderLock, WorldPart,
-};
 use bq_disc::RunQueue;
 use bq_history::{Holder, Item, Locked, Naming};
 use bq_parts::{Cpu, Inbox, Lobby};
 use bq_policies::Scratch;
+use bq_shared::{
+    JournalState, NumberedCpu, NumberedInbox, OneLobby, Record, Shared, UnderLock, WorldPart,
+};
 use std::alloc::{AllocError, Global};
 use std::sync::Mutex;
 

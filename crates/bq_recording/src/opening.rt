@@ -1,18 +1,20 @@
 //! A machine's parts, its history, its counters and its seats at the start.
 ghost use Rattle.std.specs.Prelude.{◌≡◌, ◌≤◌, ◌^◌, ◌++◌, [], All, IfOk, length, map, vec_len, replicate};
 ghost use Rattle.bq_history.specs.Items.{callers_from, part_item};
-ghost use Rattle.bq_seats.specs.Calls.{fresh};
-ghost use Rattle.bq_seats.specs.Sums.{opened};
-ghost use Rattle.bq_cells.specs.Parts.{first_parts};
+ghost use Rattle.bq_shared.specs.Calls.{fresh};
+ghost use Rattle.bq_shared.specs.Sums.{opened};
+ghost use Rattle.bq_shared.specs.Parts.{first_parts};
 
 use crate::locked_parts::{PartLocks, part_locks};
 use crate::prepared::Prepared;
 use crate::{ClosingRoom, Recorder, Seat};
-use bq_cells::{JournalState, NumberedCpu, NumberedInbox, OneLobby, Record, UnderLock, WorldPart};
 use bq_disc::RunQueue;
 use bq_history::{Holder, Item, Journal, Naming};
 use bq_hooks::Loads;
-use bq_seats::{CounterTally, Counting, UnnamedCounters, seats};
+use bq_shared::{
+    CounterTally, Counting, JournalState, NumberedCpu, NumberedInbox, OneLobby, Record, UnderLock,
+    UnnamedCounters, WorldPart, seats,
+};
 use std::alloc::{AllocError, Global};
 use std::sync::Mutex;
 

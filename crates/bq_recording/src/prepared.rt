@@ -1,10 +1,9 @@
 //! The world at the start, before the machine has a name.
 ghost use Rattle.std.specs.Prelude.{◌≡◌, IfOk};
 
-use bq_cells::{JournalState, Record, Sched, WorldPart, WorldState};
 use bq_disc::RunQueue;
 use bq_history::{FixedAtStart, Opened, open};
-use bq_seats::UnnamedCounters;
+use bq_shared::{JournalState, Record, Sched, UnnamedCounters, WorldPart, WorldState};
 use std::alloc::{AllocError, Global};
 
 /// A world with an empty history, which has no name yet.

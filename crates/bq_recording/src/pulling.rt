@@ -1,16 +1,15 @@
 //! A processor takes a task from the queue of another.
 ghost use Rattle.std.specs.Prelude.{◌≡◌, ◌≢◌, ◌∷◌, ◌++◌, [], true, is_some};
-ghost use Rattle.bq_seats.specs.Calls.{account_of};
-ghost use Rattle.bq_cells.specs.Parts.{told_calls};
+ghost use Rattle.bq_shared.specs.Calls.{account_of};
+ghost use Rattle.bq_shared.specs.Parts.{told_calls};
 
 use crate::recorder::{Recorder, WorkingSeat};
 use crate::rooms::EventRooms;
 use crate::told::told_twice;
-use bq_cells::{NumberedCpu, Record, UnderLock};
 use bq_disc::RunQueue;
 use bq_history::{CommitDraft, Naming, Receipt, look_at_both};
 use bq_parts::Event;
-use bq_seats::{Counting, hold_calls};
+use bq_shared::{Counting, NumberedCpu, Record, UnderLock, hold_calls};
 use std::sync::Wait;
 
 impl<Q: RunQueue + Drop, N: Naming + Counting> Recorder<Q, N> {

@@ -2,14 +2,15 @@
 ghost use Rattle.std.specs.Prelude.{◌≡◌, ◌≤◌, ◌<◌, ◌+◌, ◌^◌, length};
 ghost use Rattle.std.specs.Sync.Mutex.{mutex_guard_value};
 
-use bq_cells::{JournalState, NumberedCpu, Record, Shared, WorldPart};
 use bq_disc::RunQueue;
 use bq_history::{Cell, Journal, Naming};
-use bq_seats::{Counters, Counting, Working};
+use bq_shared::{
+    Counters, Counting, JournalState, NumberedCpu, Record, Shared, Working, WorldPart,
+};
 use std::sync::{Mutex, MutexGuard, Wait};
 
 /// A caller's end of a machine. Contracts see it as its number and its receipts, in order.
-pub type Seat<N> = bq_seats::Seat<Record, WorldPart, JournalState, N>;
+pub type Seat<N> = bq_shared::Seat<Record, WorldPart, JournalState, N>;
 
 /// What a seat has while an event is under way.
 pub type WorkingSeat<N> = Working<Record, WorldPart, JournalState, N>;

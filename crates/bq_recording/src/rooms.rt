@@ -1,9 +1,8 @@
 //! Room for what an event is to tell. A caller makes it before any lock is taken, and lends it to the event.
 
-use bq_cells::Record;
 use bq_history::Room;
 use bq_hooks::Loads;
-use bq_seats::CallRooms;
+use bq_shared::{CallRooms, Record};
 
 /// Room for the record of an event, and for the calls of counters that it tells.
 #[derive(Drop)]

@@ -1,16 +1,17 @@
 //! Events of one processor: its clock ticks, its inbox's tasks enter, and its running task goes to sleep.
 ghost use Rattle.std.specs.Prelude.{◌≡◌, ◌∷◌, ◌++◌, [], true, is_some};
-ghost use Rattle.bq_seats.specs.Calls.{account_of};
-ghost use Rattle.bq_cells.specs.Parts.{told_calls};
+ghost use Rattle.bq_shared.specs.Calls.{account_of};
+ghost use Rattle.bq_shared.specs.Parts.{told_calls};
 
 use crate::recorder::{Recorder, WorkingSeat};
 use crate::rooms::EventRooms;
 use crate::told::{both_records, event_twice, quiet_twice, told_twice};
-use bq_cells::{NumberedCpu, NumberedInbox, OneLobby, PackedAnswer, Record, UnderLock};
 use bq_disc::RunQueue;
 use bq_history::{CommitDraft, Naming, Receipt, Room, look_at_both};
 use bq_parts::{Event, Reply};
-use bq_seats::{Counting, hold_calls};
+use bq_shared::{
+    Counting, NumberedCpu, NumberedInbox, OneLobby, PackedAnswer, Record, UnderLock, hold_calls,
+};
 use std::sync::Wait;
 
 impl<Q: RunQueue + Drop, N: Naming + Counting> Recorder<Q, N> {

@@ -1,11 +1,10 @@
 //! What is told of an event: a record for the history, and one for the receipt.
 ghost use Rattle.std.specs.Prelude.{◌≡◌, [], false};
-ghost use Rattle.bq_cells.specs.Brief.{has_loads};
-ghost use Rattle.bq_cells.specs.Events.{CarriesPolicy};
+ghost use Rattle.bq_shared.specs.Brief.{has_loads};
+ghost use Rattle.bq_shared.specs.Events.{CarriesPolicy};
 
-use bq_cells::{PackedAnswer, Record, event_again};
 use bq_parts::{Event, Refusal, Reply};
-use bq_seats::Calls;
+use bq_shared::{Calls, PackedAnswer, Record, event_again};
 
 /// Both records of an event, from what each of them tells.
 #[inline(always)]

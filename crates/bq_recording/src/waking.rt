@@ -4,21 +4,22 @@ ghost use Rattle.std.specs.Option.{option_map};
 ghost use Rattle.std.specs.Sync.Mutex.{mutex_guard_value};
 ghost use Rattle.bq_history.specs.Items.{part_item};
 ghost use Rattle.bq_hooks.specs.OwnPlace.{HasPlace};
-ghost use Rattle.bq_seats.specs.Calls.{account_of, ahead};
+ghost use Rattle.bq_shared.specs.Calls.{account_of, ahead};
 ghost use Rattle.bq_parts.specs.Choices.{policies};
 ghost use Rattle.bq_parts.specs.Shares.{Places};
 ghost use Rattle.bq_parts.specs.declared.refusal.Refusal.TheVariants as no;
-ghost use Rattle.bq_cells.specs.Parts.{cpu_part, told_calls};
+ghost use Rattle.bq_shared.specs.Parts.{cpu_part, told_calls};
 ghost use Rattle.bq_recording.specs.Placing.{IsPlaced};
 
 use crate::recorder::{CpuCell, Recorder, WorkingSeat, need_own};
 use crate::rooms::{BeginRooms, EventRooms};
 use crate::told::{both_records, event_twice, no_calls, told_twice};
-use bq_cells::{NumberedCpu, NumberedInbox, OneLobby, PackedAnswer, Record, UnderLock};
 use bq_disc::RunQueue;
 use bq_history::{CommitDraft, Naming, Receipt};
 use bq_parts::{Event, Placement, Reply};
-use bq_seats::{Counting, hold_calls};
+use bq_shared::{
+    Counting, NumberedCpu, NumberedInbox, OneLobby, PackedAnswer, Record, UnderLock, hold_calls,
+};
 use std::sync::{Mutex, MutexGuard, Wait};
 
 /// Which task in a hand is placed, and when.

@@ -1,6 +1,6 @@
 -- Each seat is fresh, and each comes back.
 use Rattle.std.proofs.Common.{length, arith, rules, ap}
-use Rattle.bq_cells.specs.declared.record.Record.{Record}
+use Rattle.bq_shared.specs.declared.record.Record.{Record}
 use Rattle.bq_par.proofs.CountLemmas.{fresh_many, fresh_at}
 use Rattle.bq_par.proofs.runs.run_machine.Goals as goal
 

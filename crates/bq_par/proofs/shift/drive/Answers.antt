@@ -1,7 +1,7 @@
 -- The shift is its beginning and its ticks.
 use Rattle.std.proofs.Common.{◌≡◌, ℕ, List, subst, sym, rules}
 use Rattle.bq_history.specs.declared.shared_state.Receipt.{Receipt}
-use Rattle.bq_cells.specs.declared.record.Record.{Record}
+use Rattle.bq_shared.specs.declared.record.Record.{Record}
 use Rattle.bq_par.specs.Shifts.{IsShift}
 use Rattle.bq_par.proofs.shift.drive.Goals as goal
 

@@ -9,7 +9,7 @@ use Rattle.bq_par.specs.contracts.metronome.MetronomeClock.TheImpl as metronome
 use Rattle.bq_par.proofs.SeatLemmas.{seat_send}
 use Rattle.bq_par.proofs.SharingLemmas.{machine_sync}
 use Rattle.bq_history.specs.declared.law.Naming as Naming
-use Rattle.bq_seats.specs.declared.account.Counting as Counting
+use Rattle.bq_shared.specs.declared.account.Counting as Counting
 use Rattle.bq_races.specs.contracts.drawn.Racer as Racer
 use Rattle.bq_races.proofs.race_tests.race_under.Goals as goal
 

@@ -11,12 +11,12 @@ use Rattle.bq_par.proofs.SendLemmas.{cfs_queue_send}
 use Rattle.bq_par.proofs.SeatLemmas.{seat_send}
 use Rattle.bq_par.proofs.SharingLemmas.{machine_sync}
 use Rattle.bq_history.specs.declared.law.Naming as Naming
-use Rattle.bq_seats.specs.declared.account.Counting as Counting
+use Rattle.bq_shared.specs.declared.account.Counting as Counting
 use Rattle.bq_history.specs.History.{EachOnce}
 use Rattle.bq_history.specs.contracts.shared_state.Receipt as Receipt
 use Rattle.bq_history.proofs.shared_state.Receipt.TheSendSync as receipt
-use Rattle.bq_cells.specs.contracts.record.Record as Record
-use Rattle.bq_cells.proofs.SendLemmas.{record_send}
+use Rattle.bq_shared.specs.contracts.record.Record as Record
+use Rattle.bq_shared.proofs.SendLemmas.{record_send}
 use Rattle.bq_races.specs.contracts.script.Job as Job
 use Rattle.bq_races.specs.contracts.script.Played as Played
 use Rattle.bq_races.proofs.gate.Gate.TheSendSync as gate

@@ -1,9 +1,9 @@
 use Rattle.std.proofs.Common.{◌∷◌, [], sym, ap, ◌∙◌}
 use Rattle.bq_history.specs.Items.{part_item}
-use Rattle.bq_cells.specs.Parts.{cpu_part, inbox_part, lobby_part}
-use Rattle.bq_cells.specs.declared.cells.NumberedCpu.{NumberedCpu}
-use Rattle.bq_cells.specs.declared.cells.NumberedInbox.{NumberedInbox}
-use Rattle.bq_cells.specs.declared.cells.OneLobby.{OneLobby}
+use Rattle.bq_shared.specs.Parts.{cpu_part, inbox_part, lobby_part}
+use Rattle.bq_shared.specs.declared.cells.NumberedCpu.{NumberedCpu}
+use Rattle.bq_shared.specs.declared.cells.NumberedInbox.{NumberedInbox}
+use Rattle.bq_shared.specs.declared.cells.OneLobby.{OneLobby}
 use Rattle.bq_recording.proofs.ClosingLemmas.{gathered}
 use Rattle.bq_recording.proofs.ended.all_out.Goals as goal
 

@@ -1,9 +1,9 @@
 use Rattle.std.proofs.Common.{◌≡◌, rules, arith, sym, ap, subst, ◌∙◌}
 use Rattle.bq_history.specs.History.{Leaves}
 use Rattle.bq_parts.specs.World.{World, opening_world}
-use Rattle.bq_cells.specs.Parts.{RecordStep, cpu_part, inbox_part}
-use Rattle.bq_cells.specs.declared.cells.NumberedCpu.{NumberedCpu}
-use Rattle.bq_cells.specs.declared.cells.NumberedInbox.{NumberedInbox}
+use Rattle.bq_shared.specs.Parts.{RecordStep, cpu_part, inbox_part}
+use Rattle.bq_shared.specs.declared.cells.NumberedCpu.{NumberedCpu}
+use Rattle.bq_shared.specs.declared.cells.NumberedInbox.{NumberedInbox}
 use Rattle.bq_recording.specs.AllParts.{all_parts}
 use Rattle.bq_recording.proofs.ClosingLemmas.{only_parts, once_known, world_has_parts}
 use Rattle.bq_recording.proofs.ended.close.Goals as goal

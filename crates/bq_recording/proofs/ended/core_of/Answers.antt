@@ -2,8 +2,8 @@ use Rattle.std.proofs.Common.{ℕ, List, [], length, rules, sym, ap, subst, ◌�
 use Rattle.bq_disc.specs.Tasks.{Task}
 use Rattle.bq_parts.specs.Processors.{Processor, opening}
 use Rattle.bq_parts.specs.StandsOnce.{IsOrderly}
-use Rattle.bq_cells.specs.declared.cells.NumberedCpu.{NumberedCpu}
-use Rattle.bq_cells.specs.declared.cells.NumberedInbox.{NumberedInbox}
+use Rattle.bq_shared.specs.declared.cells.NumberedCpu.{NumberedCpu}
+use Rattle.bq_shared.specs.declared.cells.NumberedInbox.{NumberedInbox}
 use Rattle.bq_history.proofs.OrderedLemmas.{below}
 use Rattle.bq_recording.proofs.ClosingLemmas.{cpus_there, inboxes_there, cpus_few, inboxes_few, is_world}
 use Rattle.bq_recording.proofs.ended.core_of.Goals as goal

@@ -3,9 +3,9 @@ use Rattle.std.proofs.lemmas.Iterator.Adapters.{YieldsList-from_vec}
 use Rattle.std.proofs.lemmas.Iterator.Consumers.{YieldsList-turn, YieldsList-end}
 use Rattle.bq_history.specs.Whole.{first_of, others_of}
 use Rattle.bq_history.specs.Items.{part_item}
-use Rattle.bq_cells.specs.Parts.{cpu_part}
-use Rattle.bq_cells.specs.Opened.{cpu_items}
-use Rattle.bq_cells.proofs.OpeningLemmas.{cpu_turn}
+use Rattle.bq_shared.specs.Parts.{cpu_part}
+use Rattle.bq_shared.specs.Opened.{cpu_items}
+use Rattle.bq_shared.proofs.OpenedLemmas.{cpu_turn}
 use Rattle.bq_recording.proofs.locked_parts.cpu_locks.Goals as goal
 
 pub over-requires-clause-empty : goal.over-requires-clause-empty

@@ -1,5 +1,5 @@
 use Rattle.std.proofs.Common.{◌≡◌, ◌++◌, ◌-◌, List, length, vec_len}
-use Rattle.bq_cells.specs.Opened.{ItemOf, cpu_items}
+use Rattle.bq_shared.specs.Opened.{ItemOf, cpu_items}
 use Rattle.bq_recording.proofs.locked_parts.cpu_locks.Given as goal
 
 abbrev pub invariant-loop-queue : goal.invariant-loop-queue

@@ -1,9 +1,9 @@
 use Rattle.std.proofs.Common.{◌≡◌, ◌-◌, ◌++◌, ◌<◌, ◌∷◌, [], sym, rules, ap, ◌∙◌, arith}
 use Rattle.bq_history.specs.Whole.{first_of, others_of}
 use Rattle.bq_history.specs.Items.{part_item}
-use Rattle.bq_cells.specs.Parts.{inbox_part}
-use Rattle.bq_cells.specs.Opened.{inbox_items}
-use Rattle.bq_cells.proofs.OpeningLemmas.{inbox_turn}
+use Rattle.bq_shared.specs.Parts.{inbox_part}
+use Rattle.bq_shared.specs.Opened.{inbox_items}
+use Rattle.bq_shared.proofs.OpenedLemmas.{inbox_turn}
 use Rattle.bq_recording.proofs.locked_parts.inbox_locks.Goals as goal
 
 pub open-requires-clause-item : goal.open-requires-clause-item

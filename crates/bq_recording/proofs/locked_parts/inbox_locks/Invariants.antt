@@ -1,5 +1,5 @@
 use Rattle.std.proofs.Common.{◌≡◌, ◌++◌, ◌-◌, List, vec_len}
-use Rattle.bq_cells.specs.Opened.{ItemOf, inbox_items}
+use Rattle.bq_shared.specs.Opened.{ItemOf, inbox_items}
 use Rattle.bq_recording.proofs.locked_parts.inbox_locks.Given as goal
 
 abbrev pub invariant-loop-number : goal.invariant-loop-number

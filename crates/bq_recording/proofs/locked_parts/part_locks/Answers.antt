@@ -1,9 +1,9 @@
 use Rattle.std.proofs.Common.{◌≡◌, ◌++◌, ℕ, map, ap, sym, ◌∙◌}
 use Rattle.bq_history.specs.Whole.{others_of}
 use Rattle.bq_history.specs.Items.{part_item, callers_from}
-use Rattle.bq_cells.specs.Parts.{cpus_from, inboxes_from}
-use Rattle.bq_cells.specs.Opened.{cpu_items, inbox_items}
-use Rattle.bq_cells.proofs.OpeningLemmas.{processors_then_inboxes}
+use Rattle.bq_shared.specs.Parts.{cpus_from, inboxes_from}
+use Rattle.bq_shared.specs.Opened.{cpu_items, inbox_items}
+use Rattle.bq_shared.proofs.OpenedLemmas.{processors_then_inboxes}
 use Rattle.bq_recording.proofs.locked_parts.part_locks.Goals as goal
 
 pub cpu_locks-requires-clause-items : goal.cpu_locks-requires-clause-items

@@ -1,4 +1,4 @@
-use Rattle.bq_cells.proofs.OpeningLemmas.{each_part_once, parts_there}
+use Rattle.bq_shared.proofs.OpenedLemmas.{each_part_once, parts_there}
 use Rattle.bq_recording.proofs.prepared.prepare.Goals as goal
 
 pub open-requires-clause-once : goal.open-requires-clause-once

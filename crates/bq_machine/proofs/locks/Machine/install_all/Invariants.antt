@@ -1,8 +1,8 @@
 use Rattle.std.proofs.Common.{◌≡◌, ◌+◌, ◌≤◌, ◌++◌, vec_len}
 use Rattle.std.specs.Prelude.{vec_capacity}
 use Rattle.std.specs.List.{All}
-use Rattle.bq_seats.specs.Calls.{account_of}
-use Rattle.bq_cells.specs.Parts.{told_calls}
+use Rattle.bq_shared.specs.Calls.{account_of}
+use Rattle.bq_shared.specs.Parts.{told_calls}
 use Rattle.bq_machine.specs.Calls.{AreInstalls}
 use Rattle.bq_machine.proofs.locks.Machine.install_all.Given as goal
 

@@ -1,5 +1,5 @@
-use Rattle.bq_cells.specs.Parts.{lobby_part}
-use Rattle.bq_cells.proofs.CallStepLemmas.{admit_moves}
+use Rattle.bq_shared.specs.Parts.{lobby_part}
+use Rattle.bq_shared.proofs.CallStepLemmas.{admit_moves}
 use Rattle.bq_recording.proofs.BriefLemmas.{admits_brief}
 use Rattle.bq_recording.proofs.recorder.Recorder.admit.Goals as goal
 

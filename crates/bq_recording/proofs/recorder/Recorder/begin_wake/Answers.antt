@@ -1,9 +1,9 @@
 use Rattle.std.proofs.Common.{◌∙◌}
 use Rattle.bq_parts.specs.Shares.{Begins}
-use Rattle.bq_cells.specs.Parts.{cpu_part, lobby_part}
-use Rattle.bq_cells.proofs.LookLemmas.{SeenLobby, seen_own}
-use Rattle.bq_cells.proofs.WakeLemmas.{begun_hand}
-use Rattle.bq_cells.proofs.CallStepLemmas.{begin_moves}
+use Rattle.bq_shared.specs.Parts.{cpu_part, lobby_part}
+use Rattle.bq_shared.proofs.LookLemmas.{SeenLobby, seen_own}
+use Rattle.bq_shared.proofs.WakeLemmas.{begun_hand}
+use Rattle.bq_shared.proofs.CallStepLemmas.{begin_moves}
 use Rattle.bq_recording.proofs.recorder.Recorder.begin_wake.Goals as goal
 
 pub commit_two-requires-clause-moves : goal.commit_two-requires-clause-moves

@@ -1,8 +1,8 @@
 use Rattle.std.proofs.Common.{◌≡◌, ◌∙◌}
 use Rattle.bq_history.specs.Items.{kept_after}
-use Rattle.bq_cells.specs.Parts.{cpu_part, lobby_part, kept_by_block}
-use Rattle.bq_cells.proofs.LookLemmas.{Seen, seen_ids}
-use Rattle.bq_cells.proofs.CallStepLemmas.{block_moves}
+use Rattle.bq_shared.specs.Parts.{cpu_part, lobby_part, kept_by_block}
+use Rattle.bq_shared.proofs.LookLemmas.{Seen, seen_ids}
+use Rattle.bq_shared.proofs.CallStepLemmas.{block_moves}
 use Rattle.bq_recording.proofs.BriefLemmas.{blocks_brief}
 use Rattle.bq_recording.proofs.recorder.Recorder.block.Goals as goal
 

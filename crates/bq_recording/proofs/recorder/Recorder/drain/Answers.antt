@@ -1,9 +1,9 @@
 use Rattle.std.proofs.Common.{Ok, ◌≡◌, ℕ, ap, sym, subst, ◌∙◌}
-use Rattle.bq_cells.specs.Parts.{cpu_part, inbox_part, HasPart}
-use Rattle.bq_cells.proofs.LookLemmas.{SeenBoth, both_once, both_ids}
-use Rattle.bq_cells.proofs.CallStepLemmas.{drain_moves}
+use Rattle.bq_shared.specs.Parts.{cpu_part, inbox_part, HasPart}
+use Rattle.bq_shared.proofs.LookLemmas.{SeenBoth, both_once, both_ids}
+use Rattle.bq_shared.proofs.CallStepLemmas.{drain_moves}
 use Rattle.bq_recording.proofs.AheadLemmas.{ahead_of}
-use Rattle.bq_cells.specs.Brief.{has_loads}
+use Rattle.bq_shared.specs.Brief.{has_loads}
 use Rattle.bq_recording.proofs.recorder.Recorder.drain.Goals as goal
 
 pub drain-reply-requires-clause-once : goal.drain-reply-requires-clause-once

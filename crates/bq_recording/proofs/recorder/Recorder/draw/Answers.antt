@@ -1,4 +1,4 @@
-use Rattle.bq_cells.proofs.CallStepLemmas.{draw_moves}
+use Rattle.bq_shared.proofs.CallStepLemmas.{draw_moves}
 use Rattle.bq_recording.proofs.recorder.Recorder.draw.Goals as goal
 
 pub commit-receipt-requires-clause-moves : goal.commit-receipt-requires-clause-moves

@@ -3,10 +3,10 @@ use Rattle.std.specs.Option.{option_map}
 use Rattle.bq_parts.specs.declared.carried.Carried.{Carried}
 use Rattle.bq_parts.specs.Choices.{policies}
 use Rattle.bq_parts.specs.Shares.{Places}
-use Rattle.bq_cells.specs.Parts.{cpu_part, inbox_part}
-use Rattle.bq_cells.proofs.LookLemmas.{Seen, SeenInbox, seen_usable, seen_few}
-use Rattle.bq_cells.proofs.WakeLemmas.{placed_own}
-use Rattle.bq_cells.proofs.CallStepLemmas.{place_moves}
+use Rattle.bq_shared.specs.Parts.{cpu_part, inbox_part}
+use Rattle.bq_shared.proofs.LookLemmas.{Seen, SeenInbox, seen_usable, seen_few}
+use Rattle.bq_shared.proofs.WakeLemmas.{placed_own}
+use Rattle.bq_shared.proofs.CallStepLemmas.{place_moves}
 use Rattle.bq_recording.proofs.recorder.Recorder.end_wake.Goals as goal
 
 pub place_task-woken-requires-clause-usable : goal.place_task-woken-requires-clause-usable

@@ -5,8 +5,8 @@ use Rattle.bq_parts.specs.declared.event.Event.TheVariants.{Install}
 use Rattle.bq_parts.specs.Refusals.{argument_refusal}
 use Rattle.bq_parts.specs.Shares.{Installs}
 use Rattle.bq_core.proofs.InstallLemmas.{install_suits}
-use Rattle.bq_cells.specs.Parts.{cpu_part}
-use Rattle.bq_cells.proofs.CallStepLemmas.{install_moves}
+use Rattle.bq_shared.specs.Parts.{cpu_part}
+use Rattle.bq_shared.proofs.CallStepLemmas.{install_moves}
 use Rattle.bq_recording.proofs.BriefLemmas.{installs_brief}
 use Rattle.bq_recording.proofs.recorder.Recorder.install.Goals as goal
 

@@ -1,11 +1,11 @@
 use Rattle.std.proofs.Common.{Ok, ◌≡◌, ◌≢◌, ap, ◌∙◌, arith}
 use Rattle.bq_history.specs.Items.{kept_after}
-use Rattle.bq_cells.specs.Parts.{cpu_part, kept_by_pull}
-use Rattle.bq_cells.proofs.ReachedLemmas.{reached_sound}
-use Rattle.bq_cells.proofs.LookLemmas.{SeenTwo, two_once, two_ids}
-use Rattle.bq_cells.proofs.PullStepLemmas.{pull_moves}
+use Rattle.bq_shared.specs.Parts.{cpu_part, kept_by_pull}
+use Rattle.bq_shared.proofs.ReachedLemmas.{reached_sound}
+use Rattle.bq_shared.proofs.LookLemmas.{SeenTwo, two_once, two_ids}
+use Rattle.bq_shared.proofs.PullStepLemmas.{pull_moves}
 use Rattle.bq_recording.proofs.AheadLemmas.{ahead_of}
-use Rattle.bq_cells.specs.Brief.{has_loads}
+use Rattle.bq_shared.specs.Brief.{has_loads}
 use Rattle.bq_recording.proofs.recorder.Recorder.pull.Goals as goal
 
 pub pull-reply-requires-clause-inside : goal.pull-reply-requires-clause-inside

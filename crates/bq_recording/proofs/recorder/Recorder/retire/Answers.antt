@@ -1,8 +1,8 @@
 use Rattle.std.proofs.Common.{◌<◌, None, leb-false}
 use Rattle.bq_parts.specs.declared.refusal.Refusal.TheVariants as no
 use Rattle.bq_core.proofs.OrderLemmas.{first_refusal_passed}
-use Rattle.bq_cells.specs.Parts.{lobby_part}
-use Rattle.bq_cells.proofs.CallStepLemmas.{retire_moves}
+use Rattle.bq_shared.specs.Parts.{lobby_part}
+use Rattle.bq_shared.proofs.CallStepLemmas.{retire_moves}
 use Rattle.bq_recording.proofs.BriefLemmas.{retires_brief}
 use Rattle.bq_recording.proofs.recorder.Recorder.retire.Goals as goal
 

@@ -1,7 +1,7 @@
 use Rattle.std.proofs.Common.{◌∙◌, sym, ap}
-use Rattle.bq_cells.specs.Parts.{cpu_part}
-use Rattle.bq_cells.proofs.LookLemmas.{Seen, seen_once, seen_ids}
-use Rattle.bq_cells.proofs.CallStepLemmas.{tick_moves}
+use Rattle.bq_shared.specs.Parts.{cpu_part}
+use Rattle.bq_shared.proofs.LookLemmas.{Seen, seen_once, seen_ids}
+use Rattle.bq_shared.proofs.CallStepLemmas.{tick_moves}
 use Rattle.bq_recording.proofs.AheadLemmas.{ahead_of}
 use Rattle.bq_recording.proofs.recorder.Recorder.tick.Goals as goal
 

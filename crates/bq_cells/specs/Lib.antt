@@ -1,4 +1,0 @@
-pub mod Parts
-pub mod Opened
-pub mod Brief
-pub mod Events

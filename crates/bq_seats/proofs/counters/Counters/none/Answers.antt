@@ -1,7 +1,0 @@
-use Rattle.std.proofs.Common.{refl, arith}
-use Rattle.bq_seats.specs.Sums.{spent}
-use Rattle.bq_seats.proofs.KeepingLemmas.{sums_with_one_more}
-use Rattle.bq_seats.proofs.counters.Counters.none.Goals as goal
-
-pub load_new_seat-seat-requires : goal.load_new_seat-seat-requires
-load_new_seat-seat-requires g c = (omega (arith, c.self.invariant.1), λ s rule homes small. (spent, sums_with_one_more c.self.inside.table.shared.key s.words s.views rule, (refl, refl)))

@@ -1,5 +1,0 @@
-use Rattle.bq_seats.proofs.KeepingLemmas.{sums_at_start}
-use Rattle.bq_seats.proofs.counters.UnnamedCounters.new.Goals as goal
-
-pub of_words-requires : goal.of_words-requires
-of_words-requires c = sums_at_start c.args.seats

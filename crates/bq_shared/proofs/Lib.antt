@@ -1,0 +1,14 @@
+pub mod AccountLemmas
+pub mod SeatLemmas
+pub mod SameCallLemmas
+pub mod KeepingLemmas
+pub mod ReachedLemmas
+pub mod LookLemmas
+pub mod WantLemmas
+pub mod LoadLemmas
+pub mod ShapeLemmas
+pub mod CallStepLemmas
+pub mod PullStepLemmas
+pub mod WakeLemmas
+pub mod OpenedLemmas
+pub mod SendLemmas

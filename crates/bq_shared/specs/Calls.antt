@@ -1,0 +1,39 @@
+-- The calls of counters in records.
+use Rattle.std.specs.Prelude.{ℕ, zero, suc, ◌+◌, List, [], ◌∷◌, ◌++◌, length}
+use Rattle.bq_bpf.specs.declared.board.Call.{Call}
+use Rattle.bq_history.specs.declared.shared_state.Receipt.{Receipt}
+use Rattle.bq_shared.specs.declared.account.Account.{Account}
+
+module _ {R : Type 0} (calls : R → List Call) where
+  -- the calls that the records tell
+  abbrev pub calls_in : List R → List Call
+  calls_in [] = []
+  calls_in (r ∷ rs) = calls r ++ calls_in rs
+
+  -- the calls that the receipts tell
+  abbrev pub calls_of : List (Receipt R) → List Call
+  calls_of [] = []
+  calls_of (x ∷ xs) = calls x.entry ++ calls_of xs
+
+  -- the account of a seat with these receipts
+  abbrev pub account_of : List (Receipt R) → Account
+  account_of xs = record { seats = 1; calls = calls_of xs }
+
+  -- the account of such a seat after further calls, which no receipt tells yet
+  abbrev pub ahead : List (Receipt R) → List Call → Account
+  ahead xs [] = account_of xs
+  ahead xs (c ∷ cs) = record { seats = 1; calls = calls_of xs ++ c ∷ cs }
+
+  -- the calls that all callers tell
+  abbrev pub calls_by : List (ℕ × List (Receipt R)) → List Call
+  calls_by [] = []
+  calls_by (c ∷ cs) = calls_of c.1 ++ calls_by cs
+
+  -- the account of all these callers
+  abbrev pub account_by : List (ℕ × List (Receipt R)) → Account
+  account_by callers = record { seats = length callers; calls = calls_by callers }
+
+-- n callers without receipts, numbered from s on
+abbrev pub fresh : {R : Type 0} → ℕ → ℕ → List (ℕ × List (Receipt R))
+fresh s zero = []
+fresh s (suc n) = (s, []) ∷ fresh (s + 1) n

@@ -1,0 +1,7 @@
+pub mod Calls
+pub mod Listed
+pub mod Sums
+pub mod Parts
+pub mod Opened
+pub mod Brief
+pub mod Events

@@ -1,0 +1,22 @@
+-- What the holders have at the start.
+use Rattle.std.specs.Prelude.{ℕ, zero, suc, ◌+◌, List, [], ◌∷◌}
+use Rattle.bq_history.specs.declared.shared_state.Item.{Item}
+use Rattle.bq_history.specs.Items.{part_item}
+use Rattle.bq_parts.specs.Processors.{opening}
+use Rattle.bq_shared.specs.declared.law.JournalState.{JournalState}
+use Rattle.bq_shared.specs.declared.law.WorldPart.{WorldPart}
+use Rattle.bq_shared.specs.declared.law.WorldPart.TheVariants as part
+use Rattle.bq_shared.specs.declared.record.Record.{Record}
+
+-- what a holder has
+abbrev pub ItemOf : Type 0
+ItemOf = Item Record WorldPart JournalState
+
+-- the items of processors from number c on, n of them
+abbrev pub cpu_items : ℕ → ℕ → List ItemOf
+cpu_items c zero = []
+cpu_items c (suc n) = part_item (part.Cpu c opening) ∷ cpu_items (c + 1) n
+
+abbrev pub inbox_items : ℕ → ℕ → List ItemOf
+inbox_items c zero = []
+inbox_items c (suc n) = part_item (part.Inbox c []) ∷ inbox_items (c + 1) n

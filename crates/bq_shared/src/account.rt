@@ -1,0 +1,127 @@
+//! Who called which counters.
+ghost use Rattle.atomic_table.specs.Seated.{TableId};
+
+use atomic_table::{Join, Play, Seat, Split, TableRule};
+use bq_bpf::Call;
+use std::collections::LinkedList;
+use std::marker::{Brand, Model, PhantomData};
+
+/// How many seats an account is of, and the calls that they made. No value of it is made.
+pub struct Account {
+    pub seats: u64,
+    pub calls: LinkedList<Call>,
+}
+
+/// Names the counters of one machine, so that types can say that they belong to them.
+pub trait Counting {
+    ghost counters: { TableId };
+}
+
+impl Counting for Brand {
+    ghost use Rattle.std.specs.Prelude.{[]};
+
+    ghost counters = { record { words = 0; slots = 0; views_name = 0; atom = 0; block = 0; offset = 0; slot_names = [] } };
+}
+
+/// An account of the counters that `N` names. It has no bytes.
+#[derive(Drop)]
+pub struct CounterTally<N: Counting> {
+    pub(crate) seat: Seat<(), Account>,
+    pub(crate) of: PhantomData<N>,
+}
+
+impl<N: Counting> Model for CounterTally<N> {
+    ghost use Rattle.std.specs.Prelude.{◌≡◌, []};
+    ghost use Rattle.bq_shared.specs.declared.account.Account.{Account as AccountOf};
+
+    ghost Value = { AccountOf };
+
+    ghost view = { λ t. t.seat.me.0 };
+
+    ghost invariant = { λ t. (t.seat.table_id ≡ N.counters) × (t.seat.me.1 ≡ []) };
+}
+
+/// The rule of the counters.
+pub struct Summed;
+
+impl TableRule<(), Account, u64> for Summed {
+    ghost use Rattle.bq_shared.specs.Sums.{AreSums, opened};
+
+    ghost holds = { λ seats s. AreSums seats s.words s.views };
+
+    ghost first = { λ seats. opened seats };
+}
+
+/// An add, which the account gets.
+pub struct Adding;
+
+impl Play<(), Account> for Adding {
+    ghost use Rattle.std.specs.Prelude.{◌≡◌};
+    ghost use Rattle.bq_bpf.specs.declared.board.Call.TheVariants.{Add};
+    ghost use Rattle.bq_shared.specs.Sums.{calling};
+
+    ghost then = { λ step v found w. (w.0 ≡ calling v.0 (Add step.word step.first found)) × (w.1 ≡ v.1) };
+}
+
+/// A read, which the account gets.
+pub struct Reading;
+
+impl Play<(), Account> for Reading {
+    ghost use Rattle.std.specs.Prelude.{◌≡◌};
+    ghost use Rattle.bq_bpf.specs.declared.board.Call.TheVariants.{Read};
+    ghost use Rattle.bq_shared.specs.Sums.{calling};
+
+    ghost then = { λ step v found w. (w.0 ≡ calling v.0 (Read step.word found)) × (w.1 ≡ v.1) };
+}
+
+/// A look, which no account gets.
+pub struct Looking;
+
+impl Play<(), Account> for Looking {
+    ghost use Rattle.std.specs.Prelude.{◌≡◌};
+
+    ghost then = { λ _ v _ w. (w.0 ≡ v.0) × (w.1 ≡ v.1) };
+}
+
+/// A look by nobody yet, whose account is of no seat.
+pub struct UnseatedLook;
+
+impl Play<(), Account> for UnseatedLook {
+    ghost use Rattle.std.specs.Prelude.{◌≡◌, []};
+    ghost use Rattle.bq_shared.specs.Sums.{spent};
+
+    ghost then = { λ _ _ _ w. (w.0 ≡ spent) × (w.1 ≡ []) };
+}
+
+/// One seat gets an account of its own.
+pub struct Apart;
+
+impl Split<Account> for Apart {
+    ghost use Rattle.bq_shared.specs.Sums.{without_one, opened};
+
+    ghost left = { without_one };
+
+    ghost right = { λ _. opened 1 };
+}
+
+/// The whole account goes to another tally.
+pub struct Whole;
+
+impl Split<Account> for Whole {
+    ghost use Rattle.bq_shared.specs.Sums.{spent};
+
+    ghost left = { λ _. spent };
+
+    ghost right = { λ v. v };
+}
+
+/// Two accounts become one.
+pub struct Together;
+
+impl Join<Account> for Together {
+    ghost use Rattle.bq_shared.specs.Sums.{both, spent as empty};
+
+    ghost both = { both };
+
+    ghost spent = { empty };
+}

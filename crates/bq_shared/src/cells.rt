@@ -1,0 +1,88 @@
+//! What lies under each lock.
+
+use crate::law::{JournalState, WorldPart};
+use crate::record::Record;
+use bq_disc::RunQueue;
+use bq_history::{AsPart, Holds, Locked, Placed};
+use bq_parts::{Cpu, Inbox, Lobby};
+use bq_policies::Scratch;
+
+/// What lies under a lock: content with the holder of its part.
+pub type UnderLock<A, N> = Locked<A, Record, WorldPart, JournalState, N>;
+
+/// A processor and its number, with the space in which its policies run.
+#[derive(Drop)]
+pub struct NumberedCpu<Q: RunQueue> {
+    pub number: u8,
+    pub state: Cpu<Q>,
+    pub scratch: Scratch,
+}
+
+/// An inbox and its number.
+#[derive(Drop)]
+pub struct NumberedInbox {
+    pub number: u8,
+    pub state: Inbox,
+}
+
+/// The lobby.
+#[derive(Drop)]
+pub struct OneLobby {
+    pub state: Lobby,
+}
+
+impl<Q: RunQueue> AsPart<WorldPart> for NumberedCpu<Q> {
+    ghost use Rattle.std.specs.Prelude.{◌≡◌, None};
+    ghost use Rattle.bq_shared.specs.Parts.{cpu_part};
+
+    ghost part = { λ c. cpu_part c.number c.state };
+
+    // While the lock is free the hand is empty.
+    ghost rests = { λ c. c.state.hand ≡ None };
+}
+
+impl AsPart<WorldPart> for NumberedInbox {
+    ghost use Rattle.bq_shared.specs.Parts.{inbox_part};
+
+    ghost part = { λ c. inbox_part c.number c.state };
+}
+
+impl AsPart<WorldPart> for OneLobby {
+    ghost use Rattle.bq_shared.specs.Parts.{lobby_part};
+
+    ghost part = { λ c. lobby_part c.state };
+}
+
+impl<Q: RunQueue> Placed for NumberedCpu<Q> {
+    ghost place = { λ c. c.number };
+
+    fn place(&self) -> u64 {
+        u64::from(self.number)
+    }
+}
+
+impl Placed for NumberedInbox {
+    ghost place = { λ c. c.number };
+
+    fn place(&self) -> u64 {
+        u64::from(self.number)
+    }
+}
+
+impl<Q: RunQueue> Holds<Cpu<Q>> for NumberedCpu<Q> {
+    ghost content = { λ c. c.state };
+
+    fn into_content(self) -> Cpu<Q> {
+        let NumberedCpu { state, .. } = self;
+        state
+    }
+}
+
+impl Holds<Inbox> for NumberedInbox {
+    ghost content = { λ c. c.state };
+
+    fn into_content(self) -> Inbox {
+        let NumberedInbox { state, .. } = self;
+        state
+    }
+}

@@ -1,0 +1,29 @@
+//! The counters as one program sees them.
+ghost use Rattle.std.specs.Prelude.{◌≡◌, ◌≤◌};
+
+use crate::account::{CounterTally, Counting};
+use crate::counters::Counters;
+use bq_bpf::{Board, Call};
+
+/// The counters of a machine, with the account of the seat that runs a program.
+#[derive(Drop)]
+pub struct Desk<'a, N: Counting> {
+    pub counters: &'a Counters<N>,
+    pub tally: CounterTally<N>,
+    ghost seated: { 1 ≤ tally.seats },
+}
+
+impl<'a, N: Counting> Board for Desk<'a, N> {
+    ghost use Rattle.std.specs.Prelude.{◌≡◌};
+    ghost use Rattle.bq_shared.specs.Sums.{calling};
+
+    ghost leads = { λ old call new. new.tally ≡ calling old.tally call };
+
+    fn add(&mut self, counter: u8, amount: u64) -> u64 {
+        self.counters.add(&mut self.tally, counter, amount)
+    }
+
+    fn read(&mut self, counter: u8) -> u64 {
+        self.counters.read(&mut self.tally, counter)
+    }
+}

@@ -1,0 +1,133 @@
+//! The world's parts as what the holders know.
+ghost use Rattle.std.specs.Prelude.{◌≡◌};
+ghost use Rattle.bq_history.specs.Items.{kept_after};
+ghost use Rattle.bq_shared.specs.Parts.{kept_by_block, kept_by_pull, one_less, one_more};
+
+use crate::record::Record;
+use bq_disc::RunQueue;
+use bq_history::{History, World};
+use bq_hooks::Loads;
+use bq_parts::{Inbox, Lobby, Refusal, Reply};
+use std::marker::{Model, PhantomData};
+
+/// A processor as the world sees it. No value of it is made.
+pub struct CpuState;
+
+impl Model for CpuState {
+    ghost use Rattle.bq_parts.specs.Processors.{Processor, opening};
+
+    ghost Value = { Processor };
+
+    ghost view = { λ _. opening };
+}
+
+/// The world. No value of it is made.
+pub struct WorldState;
+
+impl Model for WorldState {
+    ghost use Rattle.bq_parts.specs.World.{World, opening_world};
+
+    ghost Value = { World };
+
+    ghost view = { λ _. opening_world 0 };
+}
+
+/// A part of the world. No value of it is made.
+pub enum WorldPart {
+    Cpu(u8, CpuState),
+    Inbox(u8, Inbox),
+    Lobby(Lobby),
+}
+
+/// What the journal keeps of the world: the number drawn last, and the load of each processor.
+#[derive(Drop)]
+pub struct JournalState {
+    pub drawn: u64,
+    pub loads: Loads,
+}
+
+impl JournalState {
+    /// The same once more.
+    pub fn again(&self) -> JournalState
+        ensures { result ≡ self.now }
+    {
+        JournalState {
+            drawn: self.drawn,
+            loads: self.loads.copy(),
+        }
+    }
+
+    /// A task has come to a processor.
+    pub fn one_more(&mut self, processor: u8)
+        ensures { self.new ≡ one_more processor self.old }
+    {
+        let index = usize::from(processor);
+        let load = self.loads.get(index).saturating_add(1);
+        self.loads.set(index, load);
+    }
+
+    /// A task has left a processor.
+    pub fn one_less(&mut self, processor: u8)
+        ensures { self.new ≡ one_less processor self.old }
+    {
+        let index = usize::from(processor);
+        let load = self.loads.get(index).saturating_sub(1);
+        self.loads.set(index, load);
+    }
+
+    /// What is kept once a processor has answered a block, or nothing where that is the same: its task has left, unless that
+    /// was refused.
+    pub fn after_block(
+        &self,
+        processor: u8,
+        answer: &Result<Reply, Refusal>,
+    ) -> Option<JournalState>
+        ensures { kept_after self.now result ≡ kept_by_block processor answer.now self.now }
+    {
+        if answer.is_err() {
+            return None;
+        }
+        let mut kept = self.again();
+        kept.one_less(processor);
+        Some(kept)
+    }
+
+    /// What is kept once a processor has answered a pull from another, or nothing where that is the same: a task has gone from
+    /// the one to the other, or none has.
+    pub fn after_pull(&self, processor: u8, from: u8, reply: &Reply) -> Option<JournalState>
+        ensures { kept_after self.now result ≡ kept_by_pull processor from reply.now self.now }
+    {
+        let Reply::Pulled { task: Some(_), .. } = reply else {
+            return None;
+        };
+        let mut kept = self.again();
+        kept.one_less(from);
+        kept.one_more(processor);
+        Some(kept)
+    }
+}
+
+/// The law of the world under the discipline of a queue. Fixed is how many processors there are.
+pub struct Sched<Q> {
+    of: PhantomData<Q>,
+}
+
+/// The history, as all callers share it.
+pub type Shared<Q, N> = History<Record, WorldState, WorldPart, JournalState, u64, Sched<Q>, N>;
+
+impl<Q: RunQueue> World<Record, WorldState, WorldPart, JournalState, u64> for Sched<Q> {
+    ghost use Rattle.bq_parts.specs.World.{opening_world};
+    ghost use Rattle.bq_shared.specs.Parts.{RecordStep, kept_of, same_part, HasPart, first_parts};
+
+    ghost opening = { opening_world };
+
+    ghost step = { λ _. RecordStep Q.R.discipline };
+
+    ghost kept = { kept_of };
+
+    ghost same = { same_part };
+
+    ghost fits = { HasPart };
+
+    ghost first = { first_parts };
+}

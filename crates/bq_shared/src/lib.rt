@@ -1,0 +1,35 @@
+//! What threads share: the processors, inboxes and sleeping tasks under their locks, 64 counters without one, and a seat a caller.
+//! Promises that each event's share over the parts that it touches is a move of the history, that an answer kept in little
+//! room is the answer, and that at the end each counter is the sum of the adds that the history tells.
+//! Stands on bq_parts for the shares, on bq_core for the laws of worlds, and on bq_history for what a move is.
+#![tactic(auto)]
+
+mod account;
+pub mod again;
+pub mod answer;
+pub mod calls;
+pub mod cells;
+mod closed;
+mod counters;
+mod desk;
+pub mod law;
+mod opened;
+pub mod record;
+pub mod same;
+mod seat;
+mod working;
+
+pub use account::{Account, CounterTally, Counting};
+pub use again::{event_again, policy_again};
+pub use answer::PackedAnswer;
+pub use calls::{CallRooms, Calls, hold_calls};
+pub use cells::{NumberedCpu, NumberedInbox, OneLobby, UnderLock};
+pub use closed::close;
+pub use counters::{Counters, UnnamedCounters};
+pub use desk::Desk;
+pub use law::{CpuState, JournalState, Sched, Shared, WorldPart, WorldState};
+pub use opened::seats;
+pub use record::{Record, call_rooms, loads_room, record_room};
+pub use same::{is_same_answer, is_same_event, is_same_reply};
+pub use seat::{Seat, TellsCalls};
+pub use working::Working;

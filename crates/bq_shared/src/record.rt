@@ -1,0 +1,67 @@
+//! What the history tells of each event.
+ghost use Rattle.std.specs.Prelude.{◌≡◌, true, is_some, IfErr, OnOk};
+ghost use Rattle.bq_parts.specs.declared.refusal.Refusal.TheVariants as no;
+
+use crate::{CallRooms, Calls, PackedAnswer, TellsCalls, is_same_event};
+use bq_history::{Compared, Room};
+use bq_hooks::Loads;
+use bq_parts::{Event, Refusal};
+use std::alloc::Global;
+
+/// An event, what it was answered, and its calls of counters in their order.
+#[derive(Drop)]
+pub struct Record {
+    pub event: Event,
+    pub reply: PackedAnswer,
+    pub calls: Calls,
+}
+
+impl TellsCalls for Record {
+    ghost use Rattle.bq_shared.specs.Parts.{told_calls};
+
+    ghost calls = { told_calls };
+}
+
+/// Two records are alike where event, answer and calls are the same; policies are compared by their contents.
+impl Compared for Record {
+    ghost use Rattle.std.specs.Prelude.{◌≡◌};
+
+    ghost alike = { λ r s. r ≡ s };
+
+    fn is_alike(&self, other: &Record) -> bool {
+        is_same_event(&self.event, &other.event)
+            && self.reply.is_same(&other.reply)
+            && self.calls.is_same(&other.calls)
+    }
+}
+
+/// Room for a record, where there is none yet.
+#[inline(always)]
+pub fn record_room(alloc: Global, room: &mut Room<Record>) -> Result<(), Refusal>
+    ensures memory { IfErr result (λ refusal. refusal ≡ no.OutOfMemory) }
+    ensures ready { OnOk result (room.new ≡ true) }
+{
+    room.prepare(alloc).map_err(|_| Refusal::OutOfMemory)
+}
+
+/// Room for the calls of counters of an event, once for its record and once for its receipt, where there is none yet.
+#[inline(always)]
+pub fn call_rooms(alloc: Global, rooms: &mut Option<CallRooms>) -> Result<(), Refusal>
+    ensures memory { IfErr result (λ refusal. refusal ≡ no.OutOfMemory) }
+    ensures ready { OnOk result (is_some rooms.new ≡ true) }
+{
+    if rooms.is_none() {
+        match CallRooms::new(alloc) {
+            Ok(made) => *rooms = Some(made),
+            Err(_) => return Err(Refusal::OutOfMemory),
+        }
+    }
+    Ok(())
+}
+
+/// Room for the loads that a wake is told as it begins.
+pub fn loads_room(alloc: Global) -> Result<Box<Loads>, Refusal>
+    ensures memory { IfErr result (λ refusal. refusal ≡ no.OutOfMemory) }
+{
+    Box::new(alloc, Loads::new()).map_err(|_| Refusal::OutOfMemory)
+}

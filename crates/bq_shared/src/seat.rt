@@ -1,0 +1,94 @@
+//! A seat of both tables.
+ghost use Rattle.std.specs.Prelude.{◌≡◌, ◌<◌, ◌∷◌, ◌++◌, ℕ, List, []};
+ghost use Rattle.bq_bpf.specs.declared.board.Call.{Call};
+ghost use Rattle.bq_history.specs.declared.shared_state.Receipt.{Receipt as ReceiptOf};
+ghost use Rattle.bq_history.specs.Items.{caller_of};
+ghost use Rattle.bq_shared.specs.Sums.{both, opened};
+ghost use Rattle.bq_shared.specs.Calls.{account_of};
+
+use crate::calls::CallRooms;
+use crate::working::Working;
+use crate::{CounterTally, Counters, Counting};
+use bq_history::{Caller, History, Holder, Item, Naming, Numbered, Room, World};
+use std::marker::Model;
+
+/// A record that tells the calls of counters of its event.
+pub trait TellsCalls {
+    ghost calls: { Self → List Call };
+}
+
+/// A caller with its account of the counters. Contracts see it as its number and its receipts, in order; its account is
+/// of the calls in its own receipts.
+#[derive(Drop)]
+pub struct Seat<R: TellsCalls + Drop, P, D, N: Naming + Counting> {
+    pub working: Working<R, P, D, N>,
+    // Room for the record of the next event, and for that of the event after it, where two come together.
+    pub first: Room<R>,
+    pub second: Room<R>,
+    // Room for the calls of the next event that has some, or none yet.
+    pub rooms: Option<CallRooms>,
+}
+
+impl<R: TellsCalls + Drop, P, D, N: Naming + Counting> Model for Seat<R, P, D, N> {
+    ghost use Rattle.std.specs.Prelude.{◌≡◌, ℕ, List};
+    ghost use Rattle.bq_history.specs.declared.shared_state.Receipt.{Receipt as ReceiptOf};
+
+    ghost Value = { ℕ × List (ReceiptOf R) };
+
+    ghost use Rattle.bq_shared.specs.Calls.{account_of};
+
+    ghost view = { λ s. s.working.caller };
+
+    ghost invariant = { λ s. s.working.tally ≡ account_of R.calls s.working.caller.1 };
+}
+
+impl<R: TellsCalls + Drop, P, D, N: Naming + Counting> Seat<R, P, D, N> {
+    /// A seat that has called nothing.
+    pub fn new(caller: Caller<R, P, D, N>, tally: CounterTally<N>) -> Seat<R, P, D, N>
+        requires caller { caller.1 ≡ [] }
+        requires tally { tally ≡ opened 1 }
+        ensures { result ≡ caller }
+    {
+        Seat {
+            working: Working { caller, tally },
+            first: Room::new(),
+            second: Room::new(),
+            rooms: None,
+        }
+    }
+
+    /// What the seat has goes to a holder and to an account of all seats.
+    pub(crate) fn leave<W, K, M: World<R, W, P, D, K>>(
+        self,
+        history: &History<R, W, P, D, K, M, N>,
+        all: &mut Holder<Item<R, P, D>, N>,
+        counters: &Counters<N>,
+        account: &mut CounterTally<N>,
+    )
+        ensures caller { all.new ≡ all.old ++ caller_of self ∷ [] }
+        ensures tally { account.new ≡ both account.old (account_of R.calls self.1) }
+    {
+        let Seat { working, .. } = self;
+        let Working { caller, tally } = working;
+        caller.join(history, all);
+        counters.join(account, tally);
+    }
+
+    /// What a counter is. It takes no lock, and no record tells it.
+    pub fn counter(&mut self, counters: &Counters<N>, counter: u8) -> u64
+        requires { counter < 64 }
+        ensures { self.new ≡ self.old }
+    {
+        counters.counter(&mut self.working.tally, counter)
+    }
+}
+
+impl<R: TellsCalls + Drop, P, D, N: Naming + Counting> Numbered for Seat<R, P, D, N> {
+    ghost use Rattle.std.specs.Prelude.{◌≡◌};
+
+    ghost number = { λ s. s.0 };
+
+    fn number(&self) -> u64 {
+        self.working.caller.number()
+    }
+}

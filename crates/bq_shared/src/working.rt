@@ -1,0 +1,119 @@
+//! A seat while an event is under way.
+ghost use Rattle.std.specs.Prelude.{◌≡◌, ◌+◌, ◌<◌, ◌≤◌, ◌^◌, [], ◌∷◌, ◌++◌, length, true};
+ghost use Rattle.bq_history.specs.Items.{kept_after, part_item, Moves};
+ghost use Rattle.bq_shared.specs.Sums.{spent};
+ghost use Rattle.bq_shared.specs.Calls.{account_of, ahead};
+
+use crate::seat::TellsCalls;
+use crate::{CounterTally, Counters, Counting, Desk};
+use bq_history::{
+    AsPart, Caller, Cell, CommitDraft, History, Journal, Naming, Receipt, World, commit,
+    commit_one, commit_two,
+};
+
+/// What a seat holds: its caller, and its account of the counters. While an event is under way the account may be ahead of
+/// the receipts by the calls of that event, or lie on a desk.
+#[derive(Drop)]
+pub struct Working<R, P, D, N: Naming + Counting> {
+    pub caller: Caller<R, P, D, N>,
+    pub tally: CounterTally<N>,
+}
+
+impl<R: TellsCalls, P, D, N: Naming + Counting> Working<R, P, D, N> {
+    /// The account goes to a desk, on which a policy may run.
+    pub fn sit<'a>(&mut self, counters: &'a Counters<N>) -> Desk<'a, N>
+        requires { 1 ≤ self.old.tally.seats }
+        ensures desk { result.tally ≡ self.old.tally }
+        ensures caller { self.new.caller ≡ self.old.caller }
+        ensures tally { self.new.tally ≡ spent }
+    {
+        let tally = counters.take(&mut self.tally);
+        Desk { counters, tally }
+    }
+
+    /// The account comes back from the desk, with the calls that were made there.
+    pub fn stand(&mut self, desk: Desk<'_, N>)
+        requires { self.old.tally ≡ spent }
+        ensures caller { self.new.caller ≡ self.old.caller }
+        ensures tally { self.new.tally ≡ desk.entry.tally }
+    {
+        let Desk { counters, tally } = desk;
+        counters.join(&mut self.tally, tally);
+    }
+
+    /// Commits what changes no part. The record tells the calls by which the account is ahead.
+    pub fn commit<W, K, M: World<R, W, P, D, K>>(
+        &mut self,
+        history: &History<R, W, P, D, K, M, N>,
+        journal: &mut Journal<R, P, D, N>,
+        draft: CommitDraft<'_, R, D>,
+    ) -> Receipt<R>
+    where
+        R: Drop,
+        D: Drop,
+        requires fits { length journal.old.0 + 1 < 2 ^ 64 }
+        requires ready { draft.room.now ≡ true }
+        requires same { draft.logged ≡ draft.told }
+        requires told { self.old.tally ≡ ahead R.calls self.old.caller.1 (R.calls draft.told) }
+        requires moves { Moves (M.step history.now.about) (M.opening history.now.about) M.kept M.same M.fits journal.old.1 [] draft.told (kept_after journal.old.1 draft.kept) [] }
+        ensures receipt { (result.place ≡ length journal.old.0) × (result.entry ≡ draft.entry.told) }
+        ensures journal { journal.new ≡ (journal.old.0 ++ draft.entry.told ∷ [], kept_after journal.old.1 draft.entry.kept) }
+        ensures caller { self.new.caller ≡ (self.old.caller.0, self.old.caller.1 ++ result ∷ []) }
+        ensures tally { self.new.tally ≡ account_of R.calls self.new.caller.1 }
+    {
+        commit(history, journal, &mut self.caller, draft)
+    }
+
+    /// Commits a change of one part. Its cell is already changed, and its holder says what the part was.
+    #[inline(always)]
+    pub fn commit_one<W, K, M: World<R, W, P, D, K>, A: AsPart<P>>(
+        &mut self,
+        history: &History<R, W, P, D, K, M, N>,
+        journal: &mut Journal<R, P, D, N>,
+        a: &mut Cell<A, R, P, D, N>,
+        draft: CommitDraft<'_, R, D>,
+    ) -> Receipt<R>
+    where
+        R: Drop,
+        D: Drop,
+        requires fits { length journal.old.0 + 1 < 2 ^ 64 }
+        requires ready { draft.room.now ≡ true }
+        requires same { draft.logged ≡ draft.told }
+        requires told { self.old.tally ≡ ahead R.calls self.old.caller.1 (R.calls draft.told) }
+        requires moves { (p : P) × (a.old.holder ≡ part_item p ∷ []) × Moves (M.step history.now.about) (M.opening history.now.about) M.kept M.same M.fits journal.old.1 (p ∷ []) draft.told (kept_after journal.old.1 draft.kept) (A.part a.old.content ∷ []) }
+        ensures receipt { (result.place ≡ length journal.old.0) × (result.entry ≡ draft.entry.told) }
+        ensures journal { journal.new ≡ (journal.old.0 ++ draft.entry.told ∷ [], kept_after journal.old.1 draft.entry.kept) }
+        ensures caller { self.new.caller ≡ (self.old.caller.0, self.old.caller.1 ++ result ∷ []) }
+        ensures tally { self.new.tally ≡ account_of R.calls self.new.caller.1 }
+        ensures a { (a.new.content ≡ a.old.content) × (a.new.holder ≡ part_item (A.part a.old.content) ∷ []) }
+    {
+        commit_one(history, journal, &mut self.caller, a, draft)
+    }
+
+    /// Commits a change of two parts. Their cells are already changed, and their holders say what the parts were.
+    pub fn commit_two<W, K, M: World<R, W, P, D, K>, A: AsPart<P>, B: AsPart<P>>(
+        &mut self,
+        history: &History<R, W, P, D, K, M, N>,
+        journal: &mut Journal<R, P, D, N>,
+        a: &mut Cell<A, R, P, D, N>,
+        b: &mut Cell<B, R, P, D, N>,
+        draft: CommitDraft<'_, R, D>,
+    ) -> Receipt<R>
+    where
+        R: Drop,
+        D: Drop,
+        requires fits { length journal.old.0 + 1 < 2 ^ 64 }
+        requires ready { draft.room.now ≡ true }
+        requires same { draft.logged ≡ draft.told }
+        requires told { self.old.tally ≡ ahead R.calls self.old.caller.1 (R.calls draft.told) }
+        requires moves { (p : P) × (q : P) × (a.old.holder ≡ part_item p ∷ []) × (b.old.holder ≡ part_item q ∷ []) × Moves (M.step history.now.about) (M.opening history.now.about) M.kept M.same M.fits journal.old.1 (p ∷ q ∷ []) draft.told (kept_after journal.old.1 draft.kept) (A.part a.old.content ∷ B.part b.old.content ∷ []) }
+        ensures receipt { (result.place ≡ length journal.old.0) × (result.entry ≡ draft.entry.told) }
+        ensures journal { journal.new ≡ (journal.old.0 ++ draft.entry.told ∷ [], kept_after journal.old.1 draft.entry.kept) }
+        ensures caller { self.new.caller ≡ (self.old.caller.0, self.old.caller.1 ++ result ∷ []) }
+        ensures tally { self.new.tally ≡ account_of R.calls self.new.caller.1 }
+        ensures a { (a.new.content ≡ a.old.content) × (a.new.holder ≡ part_item (A.part a.old.content) ∷ []) }
+        ensures b { (b.new.content ≡ b.old.content) × (b.new.holder ≡ part_item (B.part b.old.content) ∷ []) }
+    {
+        commit_two(history, journal, &mut self.caller, a, b, draft)
+    }
+}
