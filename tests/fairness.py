@@ -1,10 +1,10 @@
 #!/usr/bin/env python3
-"""Tries the laws of crates/bq_fair on drawn histories of one processor, and says how near to its bound each of them comes.
+"""Tries the laws of crates/bq_fairness on drawn histories of one processor, and says how near to its bound each of them comes.
 
 Run it as    python3 tests/fairness.py [HISTORIES] [SEED]
 It needs nothing but Python 3, and a millisecond or so a history (20,000 where none are asked for). It is written from the
 definitions alone (bq_weights/specs/VirtualTime, bq_disc/specs/OneProcessor, bq_cfs/specs/Cfs, bq_eevdf/specs/Eevdf,
-bq_fair/specs) and shares no code with the product. A bound that is exceeded is an assertion that fails, with the seed of its
+bq_fairness/specs) and shares no code with the product. A bound that is exceeded is an assertion that fails, with the seed of its
 history. Then it shows the counterexamples of docs/FAIRNESS.md.
 """
 import random

@@ -9,9 +9,9 @@ use Rattle.bq_disc.specs.OneProcessor.{Running, present_at, reading, charge, ris
 use Rattle.bq_disc.proofs.SetLemmas.{with_id-Contains}
 use Rattle.bq_cfs.specs.Spread.{IsSound}
 use Rattle.bq_eevdf.specs.Eevdf.{eevdf}
-use Rattle.bq_fair.specs.Steps.{Step, Pass, Decide, Enter, Leave, Mark, stepped, after, DecidesWithin, EntersNew}
-use Rattle.bq_fair.proofs.SoundLemmas.{IsWellFormed, well_formed}
-use Rattle.bq_fair.proofs.StepLemmas.{well_formed_stepped}
+use Rattle.bq_fairness.specs.Steps.{Step, Pass, Decide, Enter, Leave, Mark, stepped, after, DecidesWithin, EntersNew}
+use Rattle.bq_fairness.proofs.SoundLemmas.{IsWellFormed, well_formed}
+use Rattle.bq_fairness.proofs.StepLemmas.{well_formed_stepped}
 use Rattle.bq_bounds.specs.declared.charge.Charge.{Charge}
 use Rattle.bq_bounds.specs.declared.lags.Effect.{Effect}
 use Rattle.bq_bounds.specs.declared.lags.Effect.TheVariants.{Passes, Decides}

@@ -11,11 +11,11 @@ use Rattle.bq_disc.proofs.SetLemmas.{with_id-Contains}
 use Rattle.bq_cfs.specs.Cfs.{cfs}
 use Rattle.bq_cfs.specs.Spread.{IsSound}
 use Rattle.bq_eevdf.specs.Eevdf.{eevdf}
-use Rattle.bq_fair.specs.Histories.{task_at}
-use Rattle.bq_fair.specs.Steps.{Decide, Pass, stepped, after}
-use Rattle.bq_fair.proofs.DecideLemmas.{keeps_present}
-use Rattle.bq_fair.proofs.PlaceLemmas.{current_present}
-use Rattle.bq_fair.proofs.SoundLemmas.{well_formed}
+use Rattle.bq_fairness.specs.Histories.{task_at}
+use Rattle.bq_fairness.specs.Steps.{Decide, Pass, stepped, after}
+use Rattle.bq_fairness.proofs.DecideLemmas.{keeps_present}
+use Rattle.bq_fairness.proofs.PlaceLemmas.{current_present}
+use Rattle.bq_fairness.proofs.SoundLemmas.{well_formed}
 use Rattle.bq_hooks.specs.declared.settled.By.{By}
 use Rattle.bq_hooks.specs.declared.settled.By.TheVariants as who
 use Rattle.bq_parts.specs.declared.event.Event.{Event}

@@ -12,11 +12,11 @@ use Rattle.bq_cfs.specs.Cfs.{cfs}
 use Rattle.bq_cfs.proofs.MoveLemmas.{each-with_id}
 use Rattle.bq_cfs.proofs.SpreadStayLemmas.{busy_processor}
 use Rattle.bq_eevdf.specs.Eevdf.{eevdf, is_eligible}
-use Rattle.bq_fair.specs.Steps.{Decide, Pass, stepped, after}
-use Rattle.bq_fair.proofs.ListLemmas.{of_some}
-use Rattle.bq_fair.proofs.CfsFairLemmas.{IsNearEach, runs_near_each}
-use Rattle.bq_fair.proofs.EligibleLemmas.{IsEarliestOf, runs_earliest, earliest_is_eligible}
-use Rattle.bq_fair.proofs.SumLemmas.{total_weight-decided, weighted_sum-decided}
+use Rattle.bq_fairness.specs.Steps.{Decide, Pass, stepped, after}
+use Rattle.bq_fairness.proofs.ListLemmas.{of_some}
+use Rattle.bq_fairness.proofs.CfsFairLemmas.{IsNearEach, runs_near_each}
+use Rattle.bq_fairness.proofs.EligibleLemmas.{IsEarliestOf, runs_earliest, earliest_is_eligible}
+use Rattle.bq_fairness.proofs.SumLemmas.{total_weight-decided, weighted_sum-decided}
 use Rattle.bq_bounds.specs.Nearness.{CfsStaysNear, EevdfStaysNear}
 use Rattle.bq_bounds.proofs.PassLemmas.{ran_at}
 

@@ -12,20 +12,20 @@ use Rattle.bq_disc.specs.Totals.{total_weight, weighted_sum}
 use Rattle.bq_disc.specs.Discipline.{charged}
 use Rattle.bq_disc.specs.OneProcessor.{Running, present_at, reading, charge, own_preempt, ticked, rise}
 use Rattle.bq_eevdf.specs.Eevdf.{eevdf}
-use Rattle.bq_fair.specs.Histories.{task_at}
-use Rattle.bq_fair.specs.Work.{weight_at, moment_at}
-use Rattle.bq_fair.specs.EevdfFairness.{most_ahead, IsBalanced}
-use Rattle.bq_fair.specs.Steps.{Step, Pass, Decide, Enter, Leave, Mark, stepped, after, DecidesWithin}
-use Rattle.bq_fair.proofs.TickLemmas.{Change, Stays, Runs, charge_came}
-use Rattle.bq_fair.proofs.SoundLemmas.{of_each, vdelta_of-le, IsWellFormed, well_formed, vdelta_of-add}
-use Rattle.bq_fair.proofs.SumLemmas.{total_weight-decided, weighted_sum-decided, total_weight-ticked, weighted_sum-busy}
-use Rattle.bq_fair.proofs.ListLemmas.{All-from_ids, of_some, weights_split}
-use Rattle.bq_fair.proofs.PlaceLemmas.{current_present}
-use Rattle.bq_fair.proofs.DecideLemmas.{keeps_present}
-use Rattle.bq_fair.proofs.StepLemmas.{well_formed_stepped}
-use Rattle.bq_fair.proofs.EligibleLemmas.{IsEarliestOf, runs_earliest, earliest_is_eligible}
-use Rattle.bq_fair.proofs.BalanceLemmas.{well_formed_is_sound, moment_up}
-use Rattle.bq_fair.proofs.OwedLemmas.{none_is_owed_long}
+use Rattle.bq_fairness.specs.Histories.{task_at}
+use Rattle.bq_fairness.specs.Work.{weight_at, moment_at}
+use Rattle.bq_fairness.specs.EevdfFairness.{most_ahead, IsBalanced}
+use Rattle.bq_fairness.specs.Steps.{Step, Pass, Decide, Enter, Leave, Mark, stepped, after, DecidesWithin}
+use Rattle.bq_fairness.proofs.TickLemmas.{Change, Stays, Runs, charge_came}
+use Rattle.bq_fairness.proofs.SoundLemmas.{of_each, vdelta_of-le, IsWellFormed, well_formed, vdelta_of-add}
+use Rattle.bq_fairness.proofs.SumLemmas.{total_weight-decided, weighted_sum-decided, total_weight-ticked, weighted_sum-busy}
+use Rattle.bq_fairness.proofs.ListLemmas.{All-from_ids, of_some, weights_split}
+use Rattle.bq_fairness.proofs.PlaceLemmas.{current_present}
+use Rattle.bq_fairness.proofs.DecideLemmas.{keeps_present}
+use Rattle.bq_fairness.proofs.StepLemmas.{well_formed_stepped}
+use Rattle.bq_fairness.proofs.EligibleLemmas.{IsEarliestOf, runs_earliest, earliest_is_eligible}
+use Rattle.bq_fairness.proofs.BalanceLemmas.{well_formed_is_sound, moment_up}
+use Rattle.bq_fairness.proofs.OwedLemmas.{none_is_owed_long}
 use Rattle.bq_bounds.specs.Lags.{mean_at, furthest, owed, allowed}
 use Rattle.bq_bounds.specs.Owing.{KeepsAll, EevdfOwesWithin}
 use Rattle.bq_bounds.proofs.NearnessLemmas.{eligible_at_most_mean, at_most_of_same}

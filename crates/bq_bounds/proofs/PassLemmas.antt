@@ -5,8 +5,8 @@ use Rattle.bq_disc.specs.Tasks.{Task}
 use Rattle.bq_disc.specs.Discipline.{Discipline, charged}
 use Rattle.bq_disc.specs.OneProcessor.{Running, reading}
 use Rattle.bq_cfs.proofs.SpreadStayLemmas.{busy_processor}
-use Rattle.bq_fair.specs.Steps.{Pass, after}
-use Rattle.bq_fair.proofs.SoundLemmas.{vdelta_of-le, vdelta_of-add}
+use Rattle.bq_fairness.specs.Steps.{Pass, after}
+use Rattle.bq_fairness.proofs.SoundLemmas.{vdelta_of-le, vdelta_of-add}
 
 -- a task that ran before the readings runs after them, by no more than the rise takes at its weight
 pub record Ran (d : Discipline) (p : Running) (a : Task) (nows : List ℕ) : Type 0 where

@@ -5,7 +5,7 @@ use Rattle.bq_disc.specs.OneProcessor.{Running, present_at, charge, rise}
 use Rattle.bq_cfs.specs.Cfs.{cfs}
 use Rattle.bq_cfs.specs.Spread.{IsSound}
 use Rattle.bq_eevdf.specs.Eevdf.{eevdf}
-use Rattle.bq_fair.specs.Steps.{Step, Pass, Decide, Enter, Leave, Mark, stepped, after}
+use Rattle.bq_fairness.specs.Steps.{Step, Pass, Decide, Enter, Leave, Mark, stepped, after}
 use Rattle.bq_hooks.specs.declared.settled.By.TheVariants as who
 use Rattle.bq_parts.specs.declared.event.Event.{Event}
 use Rattle.bq_parts.specs.declared.reply.Reply.{Reply}

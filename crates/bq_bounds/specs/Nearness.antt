@@ -8,8 +8,8 @@ use Rattle.bq_disc.specs.Discipline.{Discipline}
 use Rattle.bq_disc.specs.OneProcessor.{Running, present_at}
 use Rattle.bq_cfs.specs.Cfs.{cfs}
 use Rattle.bq_eevdf.specs.Eevdf.{eevdf}
-use Rattle.bq_fair.specs.Histories.{task_at}
-use Rattle.bq_fair.specs.Steps.{Decide, Pass, stepped, after}
+use Rattle.bq_fairness.specs.Histories.{task_at}
+use Rattle.bq_fairness.specs.Steps.{Decide, Pass, stepped, after}
 use Rattle.bq_bounds.specs.declared.charge.Charge.{Charge}
 use Rattle.bq_bounds.specs.Watches.{greatest_of}
 

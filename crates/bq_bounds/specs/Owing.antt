@@ -4,9 +4,9 @@ use Rattle.bq_disc.specs.Tasks.{Task}
 use Rattle.bq_disc.specs.OneProcessor.{Running, present_at}
 use Rattle.bq_cfs.specs.Spread.{IsSound}
 use Rattle.bq_eevdf.specs.Eevdf.{eevdf}
-use Rattle.bq_fair.specs.Histories.{task_at}
-use Rattle.bq_fair.specs.Steps.{Step, Pass, Decide, Enter, Leave, Mark, after, DecidesWithin}
-use Rattle.bq_fair.specs.Work.{weight_at}
+use Rattle.bq_fairness.specs.Histories.{task_at}
+use Rattle.bq_fairness.specs.Steps.{Step, Pass, Decide, Enter, Leave, Mark, after, DecidesWithin}
+use Rattle.bq_fairness.specs.Work.{weight_at}
 use Rattle.bq_bounds.specs.Lags.{mean_at, furthest, owed, allowed}
 
 -- no task comes and none goes

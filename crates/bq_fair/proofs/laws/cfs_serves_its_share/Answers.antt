@@ -1,6 +1,0 @@
--- Each task is served its share under CFS.
-use Rattle.bq_fair.proofs.CfsShareLemmas.{cfs_serves_its_share}
-use Rattle.bq_fair.proofs.laws.cfs_serves_its_share.Goals as goal
-
-pub returns : goal.returns
-returns c = cfs_serves_its_share

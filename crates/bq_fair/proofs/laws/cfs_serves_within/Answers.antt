@@ -1,6 +1,0 @@
--- Any two tasks are served within a bound of one another.
-use Rattle.bq_fair.proofs.TickStepLemmas.{cfs_serves_within}
-use Rattle.bq_fair.proofs.laws.cfs_serves_within.Goals as goal
-
-pub returns : goal.returns
-returns c = cfs_serves_within

@@ -1,6 +1,0 @@
--- Ticks keep a processor balanced, one after another.
-use Rattle.bq_fair.proofs.BalanceLemmas.{history_stays_balanced}
-use Rattle.bq_fair.proofs.laws.eevdf_history_stays_balanced.Goals as goal
-
-pub returns : goal.returns
-returns c = history_stays_balanced

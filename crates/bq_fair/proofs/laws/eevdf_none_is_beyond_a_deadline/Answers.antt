@@ -1,6 +1,0 @@
--- None is beyond another's deadline by more than one rise.
-use Rattle.bq_fair.proofs.DueLemmas.{none_is_beyond_a_deadline}
-use Rattle.bq_fair.proofs.laws.eevdf_none_is_beyond_a_deadline.Goals as goal
-
-pub returns : goal.returns
-returns c = none_is_beyond_a_deadline

@@ -1,6 +1,0 @@
--- Two tasks are served in proportion, but for a slice.
-use Rattle.bq_fair.proofs.TickStepLemmas.{eevdf_serves_by_slices}
-use Rattle.bq_fair.proofs.laws.eevdf_serves_by_slices.Goals as goal
-
-pub returns : goal.returns
-returns c = eevdf_serves_by_slices

@@ -1,6 +1,0 @@
--- Two tasks are served in proportion under EEVDF.
-use Rattle.bq_fair.proofs.EevdfShareLemmas.{eevdf_serves_in_proportion}
-use Rattle.bq_fair.proofs.laws.eevdf_serves_in_proportion.Goals as goal
-
-pub returns : goal.returns
-returns c = eevdf_serves_in_proportion

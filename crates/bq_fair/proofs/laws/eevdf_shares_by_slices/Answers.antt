@@ -1,6 +1,0 @@
--- Each task is served its share, but for a slice.
-use Rattle.bq_fair.proofs.EevdfSliceLemmas.{shares_by_slices}
-use Rattle.bq_fair.proofs.laws.eevdf_shares_by_slices.Goals as goal
-
-pub returns : goal.returns
-returns c = shares_by_slices

@@ -1,6 +1,0 @@
--- A task waits for a slice of each.
-use Rattle.bq_fair.proofs.EevdfSliceLemmas.{waits_by_slices}
-use Rattle.bq_fair.proofs.laws.eevdf_waits_by_slices.Goals as goal
-
-pub returns : goal.returns
-returns c = waits_by_slices

@@ -1,6 +1,0 @@
--- Each event of a processor is some steps.
-use Rattle.bq_fair.proofs.EventLemmas.{events_are_steps}
-use Rattle.bq_fair.proofs.laws.events_are_steps.Goals as goal
-
-pub returns : goal.returns
-returns c = events_are_steps

@@ -1,0 +1,6 @@
+-- Each task is served its share, but for a slice.
+use Rattle.bq_fairness.proofs.EevdfSliceLemmas.{shares_by_slices}
+use Rattle.bq_fairness.proofs.processor_laws.eevdf_shares_by_slices.Goals as goal
+
+pub returns : goal.returns
+returns c = shares_by_slices

@@ -1,0 +1,38 @@
+-- CFS is fair: what two tasks are served, each scaled by its weight, stays near.
+use Rattle.std.specs.Prelude.{◌≡◌, ℕ, ◌+◌, ◌*◌, ◌≤◌, max, List, length, Some, All, IsSome}
+use Rattle.bq_weights.specs.VirtualTime.{vdelta_of}
+use Rattle.bq_disc.specs.Tasks.{Task}
+use Rattle.bq_disc.specs.OneProcessor.{Running, present_at}
+use Rattle.bq_cfs.specs.Cfs.{cfs}
+use Rattle.bq_cfs.specs.Spread.{IsSound}
+use Rattle.bq_fairness.specs.Histories.{HasRoom, RisesByAtMost, task_at, served}
+use Rattle.bq_fairness.specs.Work.{weight_at, moment_at, booked, elapsed}
+
+-- Proportional service: of two tasks a and b, of ids i and j, a comes to no more virtual time than where it began, or than
+-- 1,000,000 beyond where b began, and what b was served, and one rise at its own weight
+abbrev pub CfsServesInProportion : Type 0
+CfsServesInProportion =
+    (r : ℕ) (p : Running) (nows : List ℕ) (i j : ℕ) (a b : Task) →
+    IsSound p → HasRoom p → RisesByAtMost r cfs p nows → task_at i p ≡ Some a → task_at j p ≡ Some b →
+    a.v + served i cfs p nows ≤ served j cfs p nows + max a.v (b.v + 1000000) + vdelta_of r a.weight
+
+-- So what any two are served differs by at most what lay between them at the start, the granularity, and one rise
+abbrev pub CfsServesWithin : Type 0
+CfsServesWithin =
+    (S r : ℕ) (p : Running) (nows : List ℕ) (i j : ℕ) (a b : Task) →
+    IsSound p → HasRoom p → RisesByAtMost r cfs p nows → task_at i p ≡ Some a → task_at j p ≡ Some b → b.v ≤ a.v + S →
+    served i cfs p nows ≤ served j cfs p nows + S + 1000000 + vdelta_of r a.weight
+
+-- Service by share: what a task is served, times the weights of all, is at least what is booked, but for a bound
+abbrev pub CfsServesItsShare : Type 0
+CfsServesItsShare =
+    (V r : ℕ) (p : Running) (nows : List ℕ) (j : ℕ) (b : Task) →
+    IsSound p → HasRoom p → All (λ t. t.v ≤ V) (present_at p) → RisesByAtMost r cfs p nows → task_at j p ≡ Some b →
+    moment_at p + booked cfs p nows ≤ weight_at p * (served j cfs p nows + max V (b.v + 1000000)) + 1024 * r * length (present_at p)
+
+-- Bounded waiting: while a task is served nothing the clock rises by no more than this
+abbrev pub CfsWaiting : Type 0
+CfsWaiting =
+    (L S r : ℕ) (p : Running) (nows : List ℕ) (j : ℕ) (b : Task) →
+    IsSound p → HasRoom p → All (λ t. (L ≤ t.v) × (t.v ≤ L + S)) (present_at p) → RisesByAtMost r cfs p nows → IsSome p.current → task_at j p ≡ Some b → served j cfs p nows ≡ 0 →
+    1024 * elapsed cfs p nows ≤ weight_at p * (S + 1000000) + 1024 * r * length (present_at p) + 88760 * length nows

@@ -1,0 +1,52 @@
+-- EEVDF, by slices: no task comes beyond another's deadline by more than one rise. So tasks stay as near each other as their
+-- slices say, however many they are.
+use Rattle.std.specs.Prelude.{◌≡◌, ℕ, ◌+◌, ◌*◌, ◌≤◌, max, List, length, Some, All, IsSome}
+use Rattle.bq_weights.specs.VirtualTime.{vdelta_of}
+use Rattle.bq_disc.specs.Tasks.{Task}
+use Rattle.bq_disc.specs.OneProcessor.{Running, present_at}
+use Rattle.bq_cfs.specs.Spread.{IsSound}
+use Rattle.bq_eevdf.specs.Eevdf.{eevdf}
+use Rattle.bq_fairness.specs.Histories.{HasRoom, RisesByAtMost, history, task_at, served}
+use Rattle.bq_fairness.specs.Work.{weight_at, moment_at, booked, elapsed}
+
+-- each task is due no earlier than it stands, and no later than one slice from there, as it is at each entry
+abbrev pub HasDeadlines : Running → Type 0
+HasDeadlines p = All (λ t. (t.v ≤ t.deadline) × (t.deadline ≤ t.v + vdelta_of t.slice t.weight)) (present_at p)
+
+-- Where no v is beyond V at the start, none is ever beyond V or another's deadline by more than one rise at its own weight
+abbrev pub NoneIsBeyondADeadline : Type 0
+NoneIsBeyondADeadline =
+    (V r : ℕ) (p : Running) (nows : List ℕ) →
+    IsSound p → HasDeadlines p → All (λ t. t.v ≤ V) (present_at p) → RisesByAtMost r eevdf p nows →
+    HasDeadlines (history eevdf p nows)
+    × ((i j : ℕ) (u t : Task) → task_at i (history eevdf p nows) ≡ Some u → task_at j (history eevdf p nows) ≡ Some t → u.v ≤ max V t.deadline + vdelta_of r u.weight)
+
+-- So the mean is beyond a task by no more than where all began or its slice, and its share of a rise of each: what a task is
+-- owed is bounded by its own slice, however many there are
+abbrev pub EevdfOwedBySlices : Type 0
+EevdfOwedBySlices =
+    (V r : ℕ) (p : Running) (nows : List ℕ) (j : ℕ) (b : Task) →
+    IsSound p → HasDeadlines p → All (λ t. t.v ≤ V) (present_at p) → RisesByAtMost r eevdf p nows → task_at j (history eevdf p nows) ≡ Some b →
+    (let q = history eevdf p nows in moment_at q ≤ weight_at q * max V (b.v + vdelta_of b.slice b.weight) + 1024 * r * length (present_at q))
+
+-- Proportional service: of two tasks a and b, a comes to no more virtual time than where it began, or than one slice beyond
+-- where b began, and what b was served, and one rise at its own weight
+abbrev pub EevdfServesBySlices : Type 0
+EevdfServesBySlices =
+    (r : ℕ) (p : Running) (nows : List ℕ) (i j : ℕ) (a b : Task) →
+    IsSound p → HasRoom p → HasDeadlines p → RisesByAtMost r eevdf p nows → task_at i p ≡ Some a → task_at j p ≡ Some b →
+    a.v + served i eevdf p nows ≤ served j eevdf p nows + max a.v (b.v + vdelta_of b.slice b.weight) + vdelta_of r a.weight
+
+-- Service by share
+abbrev pub EevdfSharesBySlices : Type 0
+EevdfSharesBySlices =
+    (V r : ℕ) (p : Running) (nows : List ℕ) (j : ℕ) (b : Task) →
+    IsSound p → HasRoom p → HasDeadlines p → All (λ t. t.v ≤ V) (present_at p) → RisesByAtMost r eevdf p nows → task_at j p ≡ Some b →
+    moment_at p + booked eevdf p nows ≤ weight_at p * (served j eevdf p nows + max V (b.v + vdelta_of b.slice b.weight)) + 1024 * r * length (present_at p)
+
+-- Bounded waiting: while a task is served nothing the clock rises by no more than this
+abbrev pub EevdfWaitsBySlices : Type 0
+EevdfWaitsBySlices =
+    (L S r : ℕ) (p : Running) (nows : List ℕ) (j : ℕ) (b : Task) →
+    IsSound p → HasRoom p → HasDeadlines p → All (λ t. (L ≤ t.v) × (t.v ≤ L + S)) (present_at p) → RisesByAtMost r eevdf p nows → IsSome p.current → task_at j p ≡ Some b → served j eevdf p nows ≡ 0 →
+    1024 * elapsed eevdf p nows ≤ weight_at p * (S + vdelta_of b.slice b.weight) + 1024 * r * length (present_at p) + 88760 * length nows

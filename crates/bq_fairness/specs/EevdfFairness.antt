@@ -1,0 +1,89 @@
+-- EEVDF is fair: no task is far ahead of the mean, so none is far behind it.
+-- With W the weights of all that are present together and M the sum of weight times v, the mean is M / W. A task is ahead of
+-- it by v - M / W, so by (W * v - M) / W; each law is stated times W, without a division.
+use Rattle.std.specs.Prelude.{◌≡◌, ℕ, ◌+◌, ◌-◌, ◌*◌, ◌≤◌, true, List, [], ◌∷◌, length, Some, All, IfSome, IsSome}
+use Rattle.bq_weights.specs.VirtualTime.{vdelta_of}
+use Rattle.bq_disc.specs.Tasks.{Task, without}
+use Rattle.bq_disc.specs.Queues.{HasDistinctIds}
+use Rattle.bq_disc.specs.OneProcessor.{Running, present_at, ticked, rise}
+use Rattle.bq_cfs.specs.Spread.{IsSound}
+use Rattle.bq_eevdf.specs.Eevdf.{eevdf, is_eligible}
+use Rattle.bq_fairness.specs.Histories.{HasRoom, RisesByAtMost, history, task_at, served}
+use Rattle.bq_fairness.specs.Work.{weight_at, moment_at, booked, elapsed}
+use Rattle.bq_fairness.specs.Steps.{Decide, stepped}
+
+-- the task that runs is eligible
+abbrev pub RunsEligible : Running → Type 0
+RunsEligible p = IfSome p.current (λ t. is_eligible (present_at p) t ≡ true)
+
+-- the task that runs after a decision is eligible
+abbrev pub DecideRunsEligible : Type 0
+DecideRunsEligible = (p : Running) → HasDistinctIds (present_at p) → RunsEligible (stepped eevdf p Decide)
+
+-- so is the one that runs after a Tick, which ends in a decision
+abbrev pub TickRunsEligible : Type 0
+TickRunsEligible = (p : Running) (now : ℕ) → IsSound p → RunsEligible (ticked eevdf p now)
+
+-- how far a task of a weight may come ahead of the mean, times W: by E, and by one rise, of which its own share moves the mean
+abbrev pub most_ahead : ℕ → ℕ → ℕ → ℕ → ℕ
+most_ahead E r W weight = E + (W - weight) * vdelta_of r weight
+
+-- the task that runs is ahead by at most E, and each task by at most E and one rise
+pub record IsBalanced (E r : ℕ) (p : Running) : Type 0 where
+  pub current : IfSome p.current (λ t. weight_at p * t.v ≤ moment_at p + E)
+  pub each : All (λ t. weight_at p * t.v ≤ moment_at p + most_ahead E r (weight_at p) t.weight) (present_at p)
+
+-- it is so where no task is ahead by more than E
+abbrev pub BeginsBalanced : Type 0
+BeginsBalanced = (E r : ℕ) (p : Running) → All (λ t. weight_at p * t.v ≤ moment_at p + E) (present_at p) → IsBalanced E r p
+
+-- a Tick at which the clock rises by at most r keeps it so
+abbrev pub StaysBalanced : Type 0
+StaysBalanced =
+    (E r : ℕ) (p : Running) (now : ℕ) → IsSound p → IsBalanced E r p → rise p now ≤ r →
+    IsSound (ticked eevdf p now) × IsBalanced E r (ticked eevdf p now)
+
+-- and so do any number of them
+abbrev pub HistoryStaysBalanced : Type 0
+HistoryStaysBalanced =
+    (E r : ℕ) (p : Running) (nows : List ℕ) → IsSound p → IsBalanced E r p → RisesByAtMost r eevdf p nows →
+    IsSound (history eevdf p nows) × IsBalanced E r (history eevdf p nows)
+
+-- what some tasks may be ahead by, each times its weight, together
+abbrev pub ahead_together : ℕ → ℕ → ℕ → List Task → ℕ
+ahead_together E r W [] = 0
+ahead_together E r W (t ∷ xs) = t.weight * most_ahead E r W t.weight + ahead_together E r W xs
+
+-- The lags of all add up to 0, so none is owed more than the others are ahead by together
+abbrev pub NoneIsOwedMore : Type 0
+NoneIsOwedMore =
+    (E r : ℕ) (p : Running) (j : ℕ) (b : Task) → IsSound p → IsBalanced E r p → task_at j p ≡ Some b →
+    b.weight * moment_at p ≤ b.weight * (weight_at p * b.v) + ahead_together E r (weight_at p) (without j (present_at p))
+
+-- In time, 1024 to one: where n are present, by E for the weight of the others, and by n - 2 rises and its own share of one
+abbrev pub NoneIsOwedLong : Type 0
+NoneIsOwedLong =
+    (E r : ℕ) (p : Running) (j : ℕ) (b : Task) → IsSound p → IsBalanced E r p → task_at j p ≡ Some b →
+    b.weight * moment_at p ≤ b.weight * (weight_at p * b.v) + (weight_at p - b.weight) * E + 1024 * r * ((length (present_at p) - 2) * weight_at p + b.weight)
+
+-- Service by share: what a task is served, times its weight and W, is at least its weight of what is booked, but for what it
+-- was ahead of the mean at the start and what one may be owed
+abbrev pub EevdfServesItsShare : Type 0
+EevdfServesItsShare =
+    (E r : ℕ) (p : Running) (nows : List ℕ) (j : ℕ) (b : Task) →
+    IsSound p → HasRoom p → IsBalanced E r p → RisesByAtMost r eevdf p nows → task_at j p ≡ Some b →
+    b.weight * (moment_at p + booked eevdf p nows) ≤ b.weight * (weight_at p * (b.v + served j eevdf p nows)) + (weight_at p - b.weight) * E + 1024 * r * ((length (present_at p) - 2) * weight_at p + b.weight)
+
+-- Proportional service: of two tasks a and b, a comes beyond b by no more than it may be ahead and b may be owed
+abbrev pub EevdfServesInProportion : Type 0
+EevdfServesInProportion =
+    (E r : ℕ) (p : Running) (nows : List ℕ) (i j : ℕ) (a b : Task) →
+    IsSound p → HasRoom p → IsBalanced E r p → RisesByAtMost r eevdf p nows → task_at i p ≡ Some a → task_at j p ≡ Some b →
+    b.weight * (weight_at p * (a.v + served i eevdf p nows)) ≤ b.weight * (weight_at p * (b.v + served j eevdf p nows)) + b.weight * most_ahead E r (weight_at p) a.weight + (weight_at p - b.weight) * E + 1024 * r * ((length (present_at p) - 2) * weight_at p + b.weight)
+
+-- Bounded waiting: while a task is served nothing the clock rises by no more than this
+abbrev pub EevdfWaiting : Type 0
+EevdfWaiting =
+    (E r : ℕ) (p : Running) (nows : List ℕ) (j : ℕ) (b : Task) →
+    IsSound p → HasRoom p → IsBalanced E r p → RisesByAtMost r eevdf p nows → IsSome p.current → task_at j p ≡ Some b → served j eevdf p nows ≡ 0 →
+    b.weight * (moment_at p + 1024 * elapsed eevdf p nows) ≤ b.weight * (weight_at p * b.v + 88760 * length nows) + (weight_at p - b.weight) * E + 1024 * r * ((length (present_at p) - 2) * weight_at p + b.weight)

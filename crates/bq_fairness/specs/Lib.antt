@@ -1,0 +1,10 @@
+pub mod Histories
+pub mod Work
+pub mod CfsFairness
+pub mod EevdfFairness
+pub mod EevdfDeadlines
+pub mod Steps
+pub mod Events
+pub mod Passing
+pub mod Seen
+pub mod WorldFairness

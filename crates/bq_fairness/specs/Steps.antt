@@ -1,0 +1,126 @@
+-- Histories in which tasks come and go. What happens at a processor is made of few steps: time passes and is charged, the rule
+-- decides, a task enters the queue, a task leaves, the mark is computed anew. So a Tick is the first two; a Block has a Leave
+-- between them, and a Drain its entries; the end of a wake and a pull pass time and decide nothing (specs/Events).
+use Rattle.std.specs.Prelude.{◌≡◌, ℕ, ◌+◌, ◌≤◌, ◌^◌, max, Bool, false, ◌==◌, if◌then◌else◌, List, [], ◌∷◌, Option, None, Some}
+use Rattle.bq_weights.specs.VirtualTime.{IsWeight, vdelta_of}
+use Rattle.bq_disc.specs.Tasks.{Task, has_id, place, without}
+use Rattle.bq_disc.specs.Discipline.{Discipline}
+use Rattle.bq_disc.specs.OneProcessor.{Running, marked, charge, decided, own_preempt, rise}
+use Rattle.bq_cfs.specs.Cfs.{cfs}
+use Rattle.bq_cfs.specs.Spread.{IsSound}
+use Rattle.bq_eevdf.specs.Eevdf.{eevdf}
+use Rattle.bq_fairness.specs.Histories.{HasRoom, task_at, charge_of}
+use Rattle.bq_fairness.specs.EevdfDeadlines.{HasDeadlines}
+
+-- one thing that comes to a processor
+pub data Step : Type 0 where
+  -- the clock is read, and what has passed is charged
+  Pass : ℕ → Step
+  -- the rule alone decides
+  Decide : Step
+  -- a task enters the queue, wherever it stands in virtual time
+  Enter : Task → Step
+  -- the task of an id leaves, from the queue or from running
+  Leave : ℕ → Step
+  -- the mark is computed anew, as before another processor pulls
+  Mark : Step
+
+-- the current task, unless it has that id
+abbrev pub kept_current : ℕ → Option Task → Option Task
+kept_current id None = None
+kept_current id (Some t) = if has_id id t then None else Some t
+
+-- the processor that a step leaves
+abbrev pub stepped : Discipline → Running → Step → Running
+stepped d p (Pass now) = charge d p now
+stepped d p Decide = decided d p p.current (own_preempt d p.queue p.current)
+stepped d p (Enter t) = record p { queue = place t p.queue }
+stepped d p (Leave id) = record p { current = kept_current id p.current; queue = without id p.queue }
+stepped d p Mark = marked d p
+
+-- the one that steps leave, one after another
+abbrev pub after : Discipline → Running → List Step → Running
+after d p [] = p
+after d p (s ∷ ss) = after d (stepped d p s) ss
+
+-- what a step charges the task of an id
+abbrev pub charged_by : ℕ → Running → Step → ℕ
+charged_by id p (Pass now) = charge_of id p now
+charged_by id p Decide = 0
+charged_by id p (Enter t) = 0
+charged_by id p (Leave k) = 0
+charged_by id p Mark = 0
+
+-- the virtual time that a task is served
+abbrev pub served_by : ℕ → Discipline → Running → List Step → ℕ
+served_by id d p [] = 0
+served_by id d p (s ∷ ss) = charged_by id p s + served_by id d (stepped d p s) ss
+
+-- how far the clock has risen since the rule last decided
+abbrev pub since : ℕ → Running → Step → ℕ
+since n p (Pass now) = n + rise p now
+since n p Decide = 0
+since n p (Enter t) = n
+since n p (Leave id) = n
+since n p Mark = n
+
+-- between two decisions the clock rises by at most r
+abbrev pub DecidesWithin : ℕ → Discipline → ℕ → Running → List Step → Type 0
+DecidesWithin r d n p [] = Unit {0}
+DecidesWithin r d n p (s ∷ ss) = (since n p s ≤ r) × DecidesWithin r d (since n p s) (stepped d p s) ss
+
+-- a task that enters has an id that none has who is present, a weight of the table's range and a v of at most 2^62
+pub record IsNew (p : Running) (t : Task) : Type 0 where
+  pub id : task_at t.id p ≡ None
+  pub weight : IsWeight t.weight
+  pub ends : t.v ≤ 2 ^ 62
+
+abbrev pub EntersNew : Running → Step → Type 0
+EntersNew p (Enter t) = IsNew p t
+EntersNew p (Pass now) = Unit {0}
+EntersNew p Decide = Unit {0}
+EntersNew p (Leave id) = Unit {0}
+EntersNew p Mark = Unit {0}
+
+-- each that enters is so
+abbrev pub EachEntersNew : Discipline → Running → List Step → Type 0
+EachEntersNew d p [] = Unit {0}
+EachEntersNew d p (s ∷ ss) = EntersNew p s × EachEntersNew d (stepped d p s) ss
+
+-- each that enters is due no earlier than it stands, and no later than one slice from there
+abbrev pub EntersDue : List Step → Type 0
+EntersDue [] = Unit {0}
+EntersDue (Enter t ∷ ss) = ((t.v ≤ t.deadline) × (t.deadline ≤ t.v + vdelta_of t.slice t.weight)) × EntersDue ss
+EntersDue (Pass now ∷ ss) = EntersDue ss
+EntersDue (Decide ∷ ss) = EntersDue ss
+EntersDue (Leave id ∷ ss) = EntersDue ss
+EntersDue (Mark ∷ ss) = EntersDue ss
+
+abbrev pub leaves : ℕ → Step → Bool
+leaves id (Leave k) = k == id
+leaves id (Pass now) = false
+leaves id Decide = false
+leaves id (Enter t) = false
+leaves id Mark = false
+
+-- the task of an id does not leave
+abbrev pub StaysThroughout : ℕ → List Step → Type 0
+StaysThroughout id [] = Unit {0}
+StaysThroughout id (s ∷ ss) = (leaves id s ≡ false) × StaysThroughout id ss
+
+-- CFS: of two tasks that are present throughout a comes to no more virtual time than where it began, or than 1,000,000 beyond
+-- where b began, and what b was served, and one rise at its own weight; whatever others are there, come and go
+abbrev pub CfsServesThroughout : Type 0
+CfsServesThroughout =
+    (r : ℕ) (p : Running) (ss : List Step) (i j : ℕ) (a b : Task) →
+    IsSound p → HasRoom p → EachEntersNew cfs p ss → DecidesWithin r cfs 0 p ss →
+    task_at i p ≡ Some a → task_at j p ≡ Some b → StaysThroughout i ss → StaysThroughout j ss →
+    a.v + served_by i cfs p ss ≤ served_by j cfs p ss + max a.v (b.v + 1000000) + vdelta_of r a.weight
+
+-- EEVDF: so too, by one slice of b's in place of 1,000,000
+abbrev pub EevdfServesThroughout : Type 0
+EevdfServesThroughout =
+    (r : ℕ) (p : Running) (ss : List Step) (i j : ℕ) (a b : Task) →
+    IsSound p → HasRoom p → HasDeadlines p → EachEntersNew eevdf p ss → EntersDue ss → DecidesWithin r eevdf 0 p ss →
+    task_at i p ≡ Some a → task_at j p ≡ Some b → StaysThroughout i ss → StaysThroughout j ss →
+    a.v + served_by i eevdf p ss ≤ served_by j eevdf p ss + max a.v (b.v + vdelta_of b.slice b.weight) + vdelta_of r a.weight

@@ -1,0 +1,41 @@
+-- What a processor books: the virtual time of its charges, each times the weight. 1024 of it stand for one nanosecond.
+use Rattle.std.specs.Prelude.{◌≡◌, ℕ, ◌+◌, ◌-◌, ◌*◌, ◌≤◌, List, [], ◌∷◌, length, IsSome}
+use Rattle.std.specs.Option.{option_map_or}
+use Rattle.bq_weights.specs.VirtualTime.{vdelta_of}
+use Rattle.bq_disc.specs.Discipline.{Discipline}
+use Rattle.bq_disc.specs.Totals.{total_weight, weighted_sum}
+use Rattle.bq_disc.specs.OneProcessor.{Running, present_at, ticked, rise}
+use Rattle.bq_cfs.specs.Spread.{IsSound}
+use Rattle.bq_fairness.specs.Histories.{history, HasRoom}
+
+-- the weights of all that are present, and the sum of weight times v
+abbrev pub weight_at : Running → ℕ
+weight_at p = total_weight (present_at p)
+
+abbrev pub moment_at : Running → ℕ
+moment_at p = weighted_sum (present_at p)
+
+-- what a Tick books
+abbrev pub booked_at : Running → ℕ → ℕ
+booked_at p now = option_map_or (λ t. t.weight * vdelta_of (rise p now) t.weight) p.current 0
+
+-- what Ticks book together
+abbrev pub booked : Discipline → Running → List ℕ → ℕ
+booked d p [] = 0
+booked d p (now ∷ nows) = booked_at p now + booked d (ticked d p now) nows
+
+-- how far the clock rises in a history
+abbrev pub elapsed : Discipline → Running → List ℕ → ℕ
+elapsed d p nows = (history d p nows).last - p.last
+
+-- Where a task runs, what is booked is the time that passes, but for less than a weight lost at each Tick
+abbrev pub BooksTheTime : Type 0
+BooksTheTime =
+    (d : Discipline) (p : Running) (nows : List ℕ) → IsSound p → IsSome p.current →
+    (booked d p nows ≤ 1024 * elapsed d p nows) × (1024 * elapsed d p nows ≤ booked d p nows + 88760 * length nows)
+
+-- and it is what the sum of weight times v rises by, however the rule decides
+abbrev pub MovesTheSum : Type 0
+MovesTheSum =
+    (d : Discipline) (p : Running) (nows : List ℕ) → IsSound p → HasRoom p →
+    (moment_at (history d p nows) ≡ moment_at p + booked d p nows) × (weight_at (history d p nows) ≡ weight_at p)

@@ -1,3 +1,0 @@
-pub mod Passing
-pub mod Seen
-pub mod WorldFairness
