@@ -104,7 +104,7 @@ DEFINED = [
 
 # What may stand in two places, and why.
 ALLOWED = {
-    'the same lemma: bq_comparison/proofs/RangeLemmas.antt: flat_map-range_more, bq_one_run/proofs/ChangeLemmas.antt: flat_map-range_more': 'a fact of the library\'s ranges, which it has no lemma for; neither crate stands on the other',
+    'the same lemma: bq_comparison/proofs/RangeLemmas.antt: flat_map-range_more, bq_policy_run/proofs/ChangeLemmas.antt: flat_map-range_more': 'a fact of the library\'s ranges, which it has no lemma for; neither crate stands on the other',
     'the list of the helpers: bq_explain/src/summary.rt': 'the order in which a summary names helpers; a helper that it lacked would only not be named',
     'which helpers are of counters: bq_interp/src/counters.rt': 'asked at each call of a run, of the number alone, by a function that stands in its loop',
     'the word of a hook: bq_pictures/src/perfetto.rt': 'the category of a mark in a Perfetto file: the event, not the hook',

@@ -8,7 +8,7 @@ use crate::answer::written_answer;
 use crate::policy_words::policy_words;
 use bq_console::{all_words, is_set, whole_input, word};
 use bq_policy_commands::{RunWords, TellingWords};
-use bq_policy_runs::run;
+use bq_policy_run::run;
 use clap::ArgMatches;
 use std::alloc::{AllocError, Global};
 use std::process::ExitCode;

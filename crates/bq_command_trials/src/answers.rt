@@ -4,7 +4,7 @@ use crate::done::holds;
 use bq_policy_commands::{
     Answered, CheckWords, ListWords, PolicyWords, RunWords, TellingWords, check, list,
 };
-use bq_policy_runs::run;
+use bq_policy_run::run;
 use std::alloc::{AllocError, Global};
 use std::cell::Cell;
 use std::io;

@@ -2,7 +2,7 @@
 //! options of `asm`, by themselves and beside the marks of its text, and what these leave of the marks.
 //!
 //! A command's words come as text, its file as bytes, and its answer goes back as text. So what a command does is a function of
-//! both, with a contract: the verdict, the listing. `run` is in bq_policy_runs.
+//! both, with a contract: the verdict, the listing. `run` is in bq_policy_run.
 #![tactic(auto)]
 
 mod answered;

@@ -1,6 +1,0 @@
-use Rattle.bq_one_run.specs.Fields.{row_of}
-use Rattle.bq_one_run.proofs.FieldLemmas.{none_by_name, none_then}
-use Rattle.bq_one_run.proofs.fields.by_name.Goals as goal
-
-pub returns-clause-none : goal.returns-clause-none
-returns-clause-none c = none_then c.single.result c.single.ensures.none (none_by_name c.args.hook c.args.name.now (row_of c.in_ok-row.row) c.in_ok-row.ensures.some)

@@ -1,0 +1,129 @@
+-- The law of the fields: where the context is that of a choice, each field holds what its name says of that choice.
+use Rattle.std.specs.Prelude.{◌≡◌, ℕ, ◌+◌, ◌^◌, ◌%◌, ◌<◌, ◌⊎◌, min, List, [], ◌∷◌, length, slice_get, slice_index, slice_range, Option, Some, codes}
+use Rattle.std.specs.List.{find}
+use Rattle.std.specs.Option.{option_map_or}
+use Rattle.std.specs.Str.{bytes_eq}
+use Rattle.bq_console.specs.Words.{IsCut, IsNumber}
+use Rattle.bq_disc.specs.Tasks.{Task, id_of}
+use Rattle.bq_hooks.specs.Contexts.{PlaceFacts, PreemptFacts, PullFacts, place_bytes_first, place_bytes_second, preempt_bytes, pull_bytes, as_number, if_any_shown, if_shown, or_nobody, u32_bytes, u64_bytes}
+use Rattle.bq_hooks.specs.Hooks.{context_length_of}
+use Rattle.bq_hooks.specs.declared.hook.Hook.{Hook}
+use Rattle.bq_hooks.specs.declared.hook.Hook.TheVariants.{Place, Preempt, Pull}
+use Rattle.bq_hooks.specs.declared.hook.Version.{Version}
+use Rattle.bq_hooks.specs.declared.hook.Version.TheVariants.{First, Second}
+use Rattle.bq_policy_run.specs.declared.fields.Field.{Field}
+use Rattle.bq_policy_run.specs.declared.fields.FieldWidth.{FieldWidth}
+use Rattle.bq_policy_run.specs.Fields.{IsField, bytes_in}
+
+-- what there is where a policy of the hook is asked
+abbrev pub FactsOf : Hook → Type 0
+FactsOf Place = PlaceFacts
+FactsOf Preempt = PreemptFacts
+FactsOf Pull = PullFacts
+
+-- the context that the policy is shown there
+abbrev pub context_of : (hook : Hook) → Version → FactsOf hook → List ℕ
+context_of Place First f = place_bytes_first f
+context_of Place Second f = place_bytes_second f
+context_of Preempt version f = preempt_bytes f
+context_of Pull version f = pull_bytes f
+
+-- a name, how many fields go by it, and the bytes of what it says: where several go by it, of each by its number
+pub record Meaning : Type 0 where
+  pub name : List ℕ
+  pub count : ℕ
+  pub bytes : ℕ → List ℕ
+
+abbrev pub one : List ℕ → List ℕ → Meaning
+one name bytes = record { name = name; count = 1; bytes = λ number. bytes }
+
+abbrev pub each : List ℕ → ℕ → (ℕ → List ℕ) → Meaning
+each name count bytes = record { name = name; count = count; bytes = bytes }
+
+-- of a place context that shows the processors below a limit
+abbrev pub place_meanings : ℕ → PlaceFacts → List Meaning
+place_meanings limit f =
+    one (codes "task") (u32_bytes f.task.id)
+    ∷ one (codes "weight") (u32_bytes f.task.weight)
+    ∷ one (codes "mask") (u64_bytes (f.task.mask % 2 ^ min f.processors limit))
+    ∷ one (codes "slice") (u64_bytes f.task.slice)
+    ∷ one (codes "waker") (u32_bytes (if_shown limit f.waking))
+    ∷ one (codes "previous") (u32_bytes (if_any_shown limit f.task.prev))
+    ∷ one (codes "processors") (u32_bytes (min f.processors limit))
+    ∷ one (codes "own") (u32_bytes (if_shown limit f.own))
+    ∷ each (codes "load") limit (λ processor. u32_bytes (slice_index f.loads processor))
+    ∷ []
+
+abbrev pub preempt_meanings : PreemptFacts → List Meaning
+preempt_meanings f =
+    one (codes "processor") (u32_bytes f.processor)
+    ∷ one (codes "queued") (u32_bytes (length f.queue))
+    ∷ one (codes "task") (u32_bytes f.current.id)
+    ∷ one (codes "weight") (u32_bytes f.current.weight)
+    ∷ one (codes "v") (u64_bytes f.current.v)
+    ∷ one (codes "deadline") (u64_bytes f.current.deadline)
+    ∷ one (codes "next") (u32_bytes (or_nobody (id_of f.choice)))
+    ∷ one (codes "next_weight") (u32_bytes (option_map_or (λ (t : Task). t.weight) f.choice 0))
+    ∷ one (codes "next_v") (u64_bytes (option_map_or (λ (t : Task). t.v) f.choice 0))
+    ∷ one (codes "own") (u32_bytes (as_number f.own))
+    ∷ []
+
+abbrev pub pull_meanings : PullFacts → List Meaning
+pull_meanings f =
+    one (codes "puller") (u32_bytes f.puller)
+    ∷ one (codes "other") (u32_bytes f.source)
+    ∷ one (codes "size") (u32_bytes f.puller_size)
+    ∷ one (codes "other_size") (u32_bytes f.source_size)
+    ∷ one (codes "movable") (u32_bytes (length f.movable))
+    ∷ one (codes "shown") (u32_bytes (min (length f.movable) 8))
+    ∷ one (codes "own") (u32_bytes (or_nobody f.own))
+    ∷ each (codes "task") 8 (λ place. u32_bytes (option_map_or (λ (t : Task). t.id) (slice_get f.movable place) 0))
+    ∷ each (codes "weight") 8 (λ place. u32_bytes (option_map_or (λ (t : Task). t.weight) (slice_get f.movable place) 0))
+    ∷ each (codes "v") 8 (λ place. u64_bytes (option_map_or (λ (t : Task). t.v) (slice_get f.movable place) 0))
+    ∷ []
+
+abbrev pub meanings_of : (hook : Hook) → Version → FactsOf hook → List Meaning
+meanings_of Place First f = place_meanings 16 f
+meanings_of Place Second f = place_meanings 64 f
+meanings_of Preempt version f = preempt_meanings f
+meanings_of Pull version f = pull_meanings f
+
+-- the first meaning of that name
+abbrev pub meaning_named : List Meaning → List ℕ → Option Meaning
+meaning_named meanings name = find (λ m. bytes_eq m.name name) meanings
+
+-- by itself the name says these bytes
+pub record SaysByName (meanings : List Meaning) (name bytes : List ℕ) : Type 0 where
+  pub meaning : Meaning
+  pub named : meaning_named meanings name ≡ Some meaning
+  pub single : meaning.count ≡ 1
+  pub is : bytes ≡ meaning.bytes 0
+
+-- by what stands before its first dot, and the number behind that
+pub record SaysByNumber (meanings : List Meaning) (name bytes : List ℕ) : Type 0 where
+  pub stem : List ℕ
+  pub digits : List ℕ
+  pub splits : IsCut 46 name stem digits
+  pub number : ℕ
+  pub is_number : IsNumber digits number
+  pub meaning : Meaning
+  pub named : meaning_named meanings stem ≡ Some meaning
+  pub several : 1 < meaning.count
+  pub below : number < meaning.count
+  pub is : bytes ≡ meaning.bytes number
+
+abbrev pub Says : List Meaning → List ℕ → List ℕ → Type 0
+Says meanings name bytes = SaysByName meanings name bytes ⊎ SaysByNumber meanings name bytes
+
+-- the field there has these bytes and no more
+abbrev pub Holds : List ℕ → ℕ → FieldWidth → List ℕ → Type 0
+Holds context at width bytes = slice_range context at (at + bytes_in width) ≡ bytes
+
+-- whatever the choice, the field of a name holds what the name says; each name that says something has a field; and the context is as
+-- long as its hook and version say
+pub record FieldsAreAsNamed : Type 0 where
+  pub holds : (hook : Hook) (version : Version) (f : FactsOf hook) (name : List ℕ) (field : Field) → IsField hook version name field →
+      (bytes : List ℕ) × Says (meanings_of hook version f) name bytes × Holds (context_of hook version f) field.at field.width bytes
+  pub there : (hook : Hook) (version : Version) (f : FactsOf hook) (name bytes : List ℕ) → Says (meanings_of hook version f) name bytes →
+      (field : Field) × IsField hook version name field
+  pub long : (hook : Hook) (version : Version) (f : FactsOf hook) → length (context_of hook version f) ≡ context_length_of hook version

@@ -1,0 +1,10 @@
+pub mod Changes
+pub mod Fields
+pub mod FieldsLaw
+pub mod Naming
+pub mod Permitting
+pub mod PermittingLaw
+pub mod Runs
+pub mod Judging
+pub mod Running
+pub mod Tracing

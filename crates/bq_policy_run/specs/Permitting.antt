@@ -1,0 +1,54 @@
+-- What the rule says of an answer, by what the context of a hook shows.
+use Rattle.std.specs.Prelude.{ℕ, ◌+◌, ◌*◌, Bool, ◌==◌, ◌||◌, ◌&&◌, min, nat_lt, List, map, slice_range, if◌then◌else◌}
+use Rattle.std.specs.List.{list_any, range_with_len}
+use Rattle.byteorder.specs.Endian.{little_number}
+use Rattle.bq_hooks.specs.Contexts.{nobody}
+use Rattle.bq_disc.specs.Masks.{allows}
+use Rattle.bq_hooks.specs.Permitted.{may_preempt}
+use Rattle.bq_hooks.specs.declared.hook.Hook.{Hook}
+use Rattle.bq_hooks.specs.declared.hook.Hook.TheVariants.{Place, Preempt, Pull}
+use Rattle.bq_policy_run.specs.declared.permitted.Word.{Word}
+use Rattle.bq_policy_run.specs.declared.permitted.Word.TheVariants.{Permitted, NotPermitted, NotShown}
+
+-- the number of the four bytes that stand there
+abbrev pub number_at : List ℕ → ℕ → ℕ
+number_at context at = little_number 4 (slice_range context at (at + 4))
+
+-- one of as many processors as the context says, in the mask that it shows; a mask has 64 bits
+abbrev pub place_permits : List ℕ → ℕ → Bool
+place_permits context r0 =
+    nat_lt r0 (number_at context 32) && (nat_lt r0 64 && allows (little_number 8 (slice_range context 8 16)) r0)
+
+-- the id of the task that is shown at that place
+abbrev pub shown_id : List ℕ → ℕ → ℕ
+shown_id context place = number_at context (32 + 16 * place)
+
+-- the ids of the movable tasks that the context shows: as many as it says, eight at most
+abbrev pub shown_ids : List ℕ → List ℕ
+shown_ids context = map (shown_id context) (range_with_len 0 (min (number_at context 20) 8))
+
+abbrev pub shows_task : List ℕ → ℕ → Bool
+shows_task context r0 = list_any (λ id. id == r0) (shown_ids context)
+
+-- more tasks are movable than are shown
+abbrev pub hides_tasks : List ℕ → Bool
+hides_tasks context = nat_lt (number_at context 20) (number_at context 16)
+
+-- a processor that the context shows, in the mask
+abbrev pub place_word : List ℕ → ℕ → Word
+place_word context r0 = if place_permits context r0 then Permitted else NotPermitted
+
+-- the answer alone tells
+abbrev pub preempt_word : ℕ → Word
+preempt_word r0 = if may_preempt r0 then Permitted else NotPermitted
+
+-- nobody, or a task that is shown; another may be movable only where not all that are movable are shown
+abbrev pub pull_word : List ℕ → ℕ → Word
+pull_word context r0 =
+    if r0 == nobody || shows_task context r0 then Permitted else if hides_tasks context then NotShown else NotPermitted
+
+-- the word on an answer, where the hook's context is this
+abbrev pub word_of : Hook → List ℕ → ℕ → Word
+word_of Place context r0 = place_word context r0
+word_of Preempt context r0 = preempt_word r0
+word_of Pull context r0 = pull_word context r0

@@ -1,0 +1,171 @@
+-- What `run` answers to a policy's file.
+use Rattle.std.specs.Prelude.{◌≡◌, ℕ, ◌+◌, ◌^◌, Bool, false, List, [], ◌++◌, is_some, length, replicate, ◌⊎◌, Option, Some, None, String, codes, string_bytes}
+use Rattle.std.specs.declared.alloc.Global.{Global}
+use Rattle.std.specs.Fmt.{decimal, digits}
+use Rattle.bq_insn.specs.Slots.{spread}
+use Rattle.bq_bpf.specs.declared.board.Call.{Call as Asked}
+use Rattle.bq_bpf.specs.declared.board.TheConstants.{COUNTERS}
+use Rattle.bq_explain.specs.declared.verdict.Verdict.{Verdict}
+use Rattle.bq_explain.specs.declared.verdict.Verdict.TheVariants as verdict
+use Rattle.bq_explain.specs.Verdicts.{IsRefusedPolicy, IsSafePolicy, verdict_line}
+use Rattle.bq_policy_run.specs.declared.inputs.Inputs.{Inputs}
+use Rattle.bq_maps.specs.Arrays.{Arrays}
+use Rattle.bq_bpf.specs.Runs.{start}
+use Rattle.bq_interp.specs.declared.env.Env.{Env}
+use Rattle.bq_interp.specs.declared.traced.Snapshot.{Snapshot}
+use Rattle.bq_interp.specs.Progress.{setting_of}
+use Rattle.bq_interp.specs.Snapshots.{AreSnapshots}
+use Rattle.bq_policy_run.specs.Changes.{calls_text, changes_text, with_all}
+use Rattle.bq_policy_run.specs.Naming.{IsClean, IsContextNamed, SetsCounter, SetsEntry, SetsFields, TextsInTurn}
+use Rattle.bq_policy_run.specs.Permitting.{word_of}
+use Rattle.bq_policy_run.specs.Runs.{AreRuns, IsRun, PersistentState, kept_in}
+use Rattle.bq_verify.specs.declared.cause.Cause.{Cause}
+use Rattle.bq_verify.specs.Accepted.{Accepted}
+use Rattle.bq_hooks.specs.Hooks.{context_length_of}
+use Rattle.bq_hooks.specs.declared.hook.Hook.{Hook}
+use Rattle.bq_program.specs.declared.head.Head.{Head}
+use Rattle.bq_program.specs.declared.policy_source.PolicySource.{PolicySource}
+use Rattle.bq_program.specs.Files.{IsPolicy}
+use Rattle.bq_policy_commands.specs.declared.answered.Answered.{Answered}
+use Rattle.bq_policy_commands.specs.declared.answered.Answered.TheVariants.{Done, Refused}
+use Rattle.bq_policy_commands.specs.declared.words.RunWords.{RunWords}
+use Rattle.bq_policy_run.specs.Judging.{TellsWord}
+use Rattle.bq_policy_commands.specs.Refusing.{IsRefusedFile}
+use Rattle.bq_policy_run.specs.Tracing.{TellsSteps}
+use Rattle.bq_words.specs.Durations.{duration_of}
+use Rattle.bq_policy_commands.specs.Saying.{IsNumberBelow, IsWordsFault, SaysHead, option_bytes}
+
+-- without a word the number is 0, and it is below that limit
+abbrev pub IsNumberOrZero : ℕ → Option (List ℕ) → ℕ → Type 0
+IsNumberOrZero limit None n = n ≡ 0
+IsNumberOrZero limit (Some word) n = IsNumberBelow limit word n
+
+-- the word writes so many nanoseconds: a number, or one with a unit, and it is below 2^64
+abbrev pub WritesTime : List ℕ → ℕ → Type 0
+WritesTime word n = IsNumberBelow (2 ^ 64) word n ⊎ (duration_of word ≡ Some n)
+
+-- without a word the time is 0
+abbrev pub IsTime : Option (List ℕ) → ℕ → Type 0
+IsTime None n = n ≡ 0
+IsTime (Some word) n = WritesTime word n
+
+-- the time, of 64 bits, and the processor, of 32, are those that the words name
+pub record HasClock (w : RunWords) (env : Env) : Type 0 where
+  pub now : IsTime (option_bytes w.time) env.now
+  pub processor : IsNumberOrZero (2 ^ 32) (option_bytes w.processor) env.processor
+
+-- the context is all 0, or the bytes that a word names, with each field that words name in its turn
+pub record HasContext (w : RunWords) (program : Accepted) (context : List ℕ) : Type 0 where
+  pub first : List ℕ
+  pub begins : IsContextNamed (option_bytes w.context) (context_length_of program.hook program.version) first
+  pub fields : TextsInTurn (SetsFields program.hook program.version) w.fields.items first context
+
+-- the maps are all 0, with each entry that words name in its turn
+pub record HasMaps (w : RunWords) (program : Accepted) (maps : Arrays) : Type 0 where
+  pub clean : Arrays
+  pub is_clean : IsClean program.shapes clean
+  pub entries : TextsInTurn SetsEntry w.entries.items clean maps
+
+-- each field, entry and counter that words name leads in its turn from the one to the other
+pub record SetsParts (w : RunWords) (program : Accepted) (before after : Inputs) : Type 0 where
+  pub fields : TextsInTurn (SetsFields program.hook program.version) w.fields.items before.context.items after.context.items
+  pub entries : TextsInTurn SetsEntry w.entries.items before.maps after.maps
+  pub counters : TextsInTurn SetsCounter w.counters.items before.board after.board
+
+-- the inputs are those that the words name
+pub record HasInputs (w : RunWords) (program : Accepted) (inputs : Inputs) : Type 0 where
+  pub clock : HasClock w inputs.env
+  pub context : HasContext w program inputs.context.items
+  pub maps : HasMaps w program inputs.maps
+  pub counters : TextsInTurn SetsCounter w.counters.items (replicate COUNTERS 0) inputs.board
+
+-- the line that tells an answer: in decimal and in hex, then what is said of it, and how many steps of the budget the run took
+abbrev pub answer_line : ℕ → List ℕ → ℕ → ℕ → List ℕ
+answer_line answer judged steps budget =
+    codes "r0 " ++ (decimal answer ++ (codes " (0x" ++ (digits 16 false answer ++ (codes ")  " ++ (judged
+    ++ (codes "  steps " ++ (decimal steps ++ (codes " of " ++ (decimal budget ++ codes "\n")))))))))
+
+-- a line for each entry of these maps whose bytes are other now, and then one for each call of a counter
+abbrev pub changed_text : Arrays → List (List ℕ) → List Asked → List ℕ
+changed_text maps now calls = changes_text maps (with_all maps now) ++ calls_text calls
+
+-- the first line tells the answer of a run on that context, with the rule's word on it; then the steps are told, and what changed; how
+-- long runs take stands last
+pub record TellsRun (program : Accepted) (context : List ℕ) (answer steps : ℕ) (executed changed timing text : List ℕ) : Type 0 where
+  pub judged : List ℕ
+  pub word : TellsWord (word_of program.hook context answer) judged
+  pub text_is : text ≡ answer_line answer judged steps program.budget ++ (executed ++ (changed ++ timing))
+
+-- of so many runs as the word says, all but the last
+abbrev pub IsBefore : Option (List ℕ) → ℕ → Type 0
+IsBefore None n = n ≡ 0
+IsBefore (Some word) n = IsNumberBelow (2 ^ 32) word (n + 1)
+
+-- so many runs of the program on those inputs, one after another, lead to maps and counters from which there is a run more, whose steps, with its
+-- own calls of counters, begin from these snapshots of the machine: its answer is told, its steps where that is asked for, each entry of
+-- the maps that all these runs changed, and its calls; and nothing of how long runs take where no number of them is asked for
+pub record HasRun (traced timed : Bool) (others : ℕ) (program : Accepted) (inputs : Inputs) (told_as : Answered) : Type 0 where
+  pub steps : ℕ
+  pub calls : List Asked
+  pub answer : ℕ
+  pub before : PersistentState
+  pub after : PersistentState
+  pub snapshots : List Snapshot
+  pub runs : AreRuns program inputs.context.items inputs.env.now inputs.env.processor others (kept_in inputs) before
+  pub run : IsRun program inputs.context.items inputs.env.now inputs.env.processor before steps calls answer after
+  pub are : AreSnapshots (setting_of program inputs.context.items inputs.env.now inputs.env.processor) (start before.maps) calls 0 snapshots
+  pub each : length snapshots ≡ steps
+  pub text : String Global
+  pub is : told_as ≡ Done text
+  pub executed : List ℕ
+  pub steps_told : TellsSteps traced program snapshots executed
+  pub timing : List ℕ
+  pub untimed : timed ≡ false → timing ≡ []
+  pub told : TellsRun program inputs.context.items answer steps executed (changed_text inputs.maps after.maps calls) timing (string_bytes text)
+
+-- on inputs that the words name; where they name none they are refused
+abbrev pub RunsInputs : RunWords → Accepted → ℕ → Answered → Type 0
+RunsInputs w program others told_as =
+    IsWordsFault (HasInputs w program) told_as ⊎ ((inputs : Inputs) × HasInputs w program inputs × HasRun w.telling.is_traced (is_some w.telling.repeat) others program inputs told_as)
+
+-- after as many others as the words name; where they name no number of runs they are refused
+abbrev pub RunsProgram : RunWords → Accepted → Answered → Type 0
+RunsProgram w program told_as =
+    IsWordsFault (IsBefore (option_bytes w.telling.repeat)) told_as ⊎ ((others : ℕ) × IsBefore (option_bytes w.telling.repeat) others × RunsInputs w program others told_as)
+
+-- the program is that of the policy
+pub record IsProgramOf (p : PolicySource) (program : Accepted) : Type 0 where
+  pub slots : program.slots ≡ spread p.insns.items
+  pub shapes : program.shapes ≡ p.shapes.items
+  pub hook : program.hook ≡ p.hook
+  pub version : program.version ≡ p.version
+
+-- the text begins with the line that tells the verdict
+abbrev pub TellsVerdict : Hook → Verdict → List ℕ → Type 0
+TellsVerdict hook named text = (reason : List ℕ) × (text ≡ verdict_line hook named ++ reason)
+
+-- the verifier refuses the policy, which it does to no straight program, and the text begins with the line that says so
+pub record IsUnaccepted (p : PolicySource) (told_as : Answered) : Type 0 where
+  pub slot : ℕ
+  pub cause : Cause
+  pub refusal : IsRefusedPolicy p slot cause
+  pub text : String Global
+  pub is : told_as ≡ Refused text
+  pub told : TellsVerdict p.hook (verdict.Refused slot cause) (string_bytes text)
+
+-- the policy's program is safe within its budget, which is the longest path, and runs
+pub record RunsAccepted (w : RunWords) (p : PolicySource) (told_as : Answered) : Type 0 where
+  pub program : Accepted
+  pub of : IsProgramOf p program
+  pub safe : IsSafePolicy p program.budget
+  pub runs : RunsProgram w program told_as
+
+abbrev pub RunsPolicy : RunWords → PolicySource → Answered → Type 0
+RunsPolicy w p told_as = IsUnaccepted p told_as ⊎ RunsAccepted w p told_as
+
+abbrev pub RunsFile : RunWords → List ℕ → Head → Answered → Type 0
+RunsFile w bytes h told_as = IsRefusedFile bytes h told_as ⊎ ((p : PolicySource) × IsPolicy bytes h p × RunsPolicy w p told_as)
+
+-- by the head that the words say; words that say none are refused
+abbrev pub RunsTo : RunWords → List ℕ → Answered → Type 0
+RunsTo w bytes told_as = IsWordsFault (SaysHead w.policy) told_as ⊎ ((h : Head) × SaysHead w.policy h × RunsFile w bytes h told_as)

@@ -1,0 +1,84 @@
+//! Counters from the words of a command.
+ghost use Rattle.std.specs.Prelude.{◌≡◌, ◌<◌, ◌^◌, ℕ, [], IfErr, IfNone, IfSome, IsOk, slice_set};
+ghost use Rattle.std.specs.Result.{OnErr, OnOk};
+ghost use Rattle.bq_console.specs.Words.{SaysNone};
+ghost use Rattle.bq_policy_run.specs.Naming.{NamesCounter, SetsCounter, TextsInTurn};
+
+use crate::faults::refused;
+use crate::inputs::Inputs;
+use bq_bpf::board::COUNTERS;
+use bq_bpf::{Board, Plain, with_counters};
+use bq_console::WordsFault;
+use bq_console::words::{cut, decimal, value};
+use std::alloc::Global;
+
+impl Inputs {
+    /// Sets the counters that texts name, one after another. Texts are refused only where one of them names none, and where there are
+    /// none nothing is. What texts before a refused one set stands.
+    pub fn set_all_counters(&mut self, alloc: Global, texts: &[String]) -> Result<(), WordsFault>
+        ensures board { OnOk result (TextsInTurn SetsCounter texts.now self.old.board self.new.board) }
+        ensures refused { IfErr result (SaysNone (TextsInTurn SetsCounter texts.now self.old.board)) }
+        ensures context { self.new.context ≡ self.old.context }
+        ensures maps { self.new.maps ≡ self.old.maps }
+        ensures env { self.new.env ≡ self.old.env }
+        ensures none { texts.now ≡ [] → IsOk result }
+    {
+        for text in texts {
+            self.set_counter(alloc, text.as_str())?;
+        }
+        Ok(())
+    }
+
+    /// Sets a counter, as `3=10` does. A text is refused only where it names none.
+    pub fn set_counter(&mut self, alloc: Global, text: &str) -> Result<(), WordsFault>
+        ensures board { OnOk result (SetsCounter text.now self.old.board self.new.board) }
+        ensures refused { IfErr result (SaysNone (SetsCounter text.now self.old.board)) }
+        ensures left { OnErr result (self.new ≡ self.old) }
+        ensures context { self.new.context ≡ self.old.context }
+        ensures maps { self.new.maps ≡ self.old.maps }
+        ensures env { self.new.env ≡ self.old.env }
+    {
+        let Some((number, word)) = counter_named(text) else {
+            return Err(refused(alloc, "counter", text, flaw_of(text)));
+        };
+        if number >= COUNTERS {
+            return Err(refused(
+                alloc,
+                "counter",
+                text,
+                with_counters!("there are the counters ", ""),
+            ));
+        }
+        set(&mut self.board, number as u8, word);
+        Ok(())
+    }
+}
+
+/// The counter that a text names, and its value.
+fn counter_named(text: &str) -> Option<(usize, u64)>
+    ensures some { IfSome result (λ named. NamesCounter text.now named.0 named.1) }
+    ensures none { IfNone result ((counter word : ℕ) → counter < 2 ^ 64 → word < 2 ^ 64 → ¬ NamesCounter text.now counter word) }
+{
+    let (number, word) = cut(text, '=')?;
+    decimal(number).zip(value(word))
+}
+
+/// What is wrong with a text that names no counter and value.
+fn flaw_of(text: &str) -> &'static str {
+    match cut(text, '=') {
+        None => "a counter is set as 3=10",
+        Some((number, _)) if decimal(number).is_none() => {
+            "what is before = is no number; a counter is set as 3=10"
+        }
+        Some(_) => "what is behind = is no number of 64 bits; a counter is set as 3=10",
+    }
+}
+
+/// Makes a counter that word, whatever it was.
+fn set(board: &mut Plain, counter: u8, word: u64)
+    requires { counter < COUNTERS }
+    ensures { board.new ≡ slice_set board.old counter word }
+{
+    let before = board.value(counter);
+    let _ = board.add(counter, word.wrapping_sub(before));
+}

@@ -1,0 +1,93 @@
+//! Entries of maps from the words of a command.
+ghost use Rattle.std.specs.Prelude.{◌≡◌, ◌<◌, ◌^◌, ℕ, [], IfErr, IfNone, IfSome, IsOk};
+ghost use Rattle.std.specs.Result.{OnErr, OnOk};
+ghost use Rattle.bq_console.specs.Words.{SaysNone};
+ghost use Rattle.bq_policy_run.specs.Naming.{NamesEntry, SetsEntry, TextsInTurn, padded};
+
+use crate::faults::refused;
+use crate::inputs::{Inputs, bytes_named};
+use bq_console::WordsFault;
+use bq_console::words::{cut, decimal};
+use bq_maps::Maps;
+use std::alloc::{AllocError, Global};
+
+impl Inputs {
+    /// Sets the entries that texts name, one after another. Texts are refused only where one of them names none, or no value of its
+    /// map, and where there are none nothing is. What texts before a refused one set stands.
+    pub fn set_all_entries(&mut self, alloc: Global, texts: &[String]) -> Result<(), WordsFault>
+        ensures maps { OnOk result (TextsInTurn SetsEntry texts.now self.old.maps self.new.maps) }
+        ensures refused { IfErr result (SaysNone (TextsInTurn SetsEntry texts.now self.old.maps)) }
+        ensures context { self.new.context ≡ self.old.context }
+        ensures env { self.new.env ≡ self.old.env }
+        ensures board { self.new.board ≡ self.old.board }
+        ensures none { texts.now ≡ [] → IsOk result }
+    {
+        for text in texts {
+            self.set_entry(alloc, text.as_str())?;
+        }
+        Ok(())
+    }
+
+    /// Sets an entry of a map, as `0:0=0a00` does; bytes that are left out are 0. A text is refused only where it names none, or no
+    /// value of its map.
+    pub fn set_entry(&mut self, alloc: Global, text: &str) -> Result<(), WordsFault>
+        ensures maps { OnOk result (SetsEntry text.now self.old.maps self.new.maps) }
+        ensures refused { IfErr result (SaysNone (SetsEntry text.now self.old.maps)) }
+        ensures left { OnErr result (self.new ≡ self.old) }
+        ensures context { self.new.context ≡ self.old.context }
+        ensures env { self.new.env ≡ self.old.env }
+        ensures board { self.new.board ≡ self.old.board }
+    {
+        put_entry(&mut self.maps, alloc, text)
+    }
+}
+
+/// Puts the bytes that a text names into the entry that it names.
+fn put_entry(maps: &mut Maps, alloc: Global, text: &str) -> Result<(), WordsFault>
+    ensures maps { OnOk result (SetsEntry text.now maps.old maps.new) }
+    ensures refused { IfErr result (SaysNone (SetsEntry text.now maps.old)) }
+    ensures left { OnErr result (maps.new ≡ maps.old) }
+{
+    let Some((place, value)) = cut(text, '=') else {
+        return Err(refused(alloc, "map", text, "an entry is set as 0:0=0a00"));
+    };
+    let Some((map, entry)) = entry_named(place) else {
+        let why = "an entry is named by its map and its number, as 0:0";
+        return Err(refused(alloc, "map", text, why));
+    };
+    let Some(mut bytes) = bytes_named(alloc, value)? else {
+        return Err(refused(alloc, "map", text, "the value is no hex"));
+    };
+    if !maps.lookup(map, entry) {
+        return Err(refused(alloc, "map", text, "there is no such entry"));
+    }
+    let size = usize::from(maps.shape(map).value_size);
+    if bytes.len() > size {
+        return Err(refused(alloc, "map", text, "the value is longer than the map's"));
+    }
+    pad(alloc, &mut bytes, size)?;
+    maps.put(map, entry, 0, bytes.as_slice());
+    Ok(())
+}
+
+/// The map and the entry that a text names, as `0:2`.
+fn entry_named(place: &str) -> Option<(usize, u32)>
+    ensures some { IfSome result (λ named. NamesEntry place.now named.0 named.1) }
+    ensures none { IfNone result ((m entry : ℕ) → entry < 2 ^ 32 → ¬ NamesEntry place.now m entry) }
+{
+    let (map, entry) = cut(place, ':')?;
+    let map = decimal(map)?;
+    let entry = decimal(entry)?;
+    match u32::try_from(entry) {
+        Ok(entry) => Some((map, entry)),
+        Err(_) => None,
+    }
+}
+
+/// Puts zeros behind the bytes until there are so many.
+fn pad(alloc: Global, bytes: &mut Vec<u8>, size: usize) -> Result<(), AllocError>
+    ensures { OnOk result (bytes.new.items ≡ padded size bytes.old.items) }
+{
+    let zeros = vec![in alloc; 0; size.saturating_sub(bytes.len())]?;
+    bytes.extend_from_slice(zeros.as_slice())
+}

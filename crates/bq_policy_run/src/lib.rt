@@ -1,0 +1,29 @@
+//! Runs of an accepted policy by hand, and what `run` answers to a policy's file.
+//!
+//! Inputs go by the names of their fields; what came of a run is told in words. The words come as they were given, the file as
+//! bytes, and the answer goes back as text. So what the command does is a function of both, with a contract.
+#![tactic(auto)]
+
+mod changes;
+mod counters;
+mod entries;
+mod faults;
+mod fields;
+mod inputs;
+pub mod laws;
+mod naming;
+mod one_run;
+mod permitted;
+mod repeats;
+mod running;
+mod settings;
+mod timing;
+mod traces;
+mod word_text;
+
+pub use changes::{copied, write_calls, write_changes};
+pub use fields::{Field, FieldWidth};
+pub use inputs::{Inputs, inputs_of};
+pub use one_run::{RunOutcome, run_often, run_once, trace_once};
+pub use permitted::{PLACE_SHOWN, Word, place_shown, word_on};
+pub use running::run;

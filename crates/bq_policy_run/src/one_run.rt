@@ -1,0 +1,106 @@
+//! Runs, and what came of them.
+ghost use Rattle.std.specs.Prelude.{◌≡◌, ◌<◌, ◌↔◌, [], length, IfNone, IfOk, IfSome, IsTrue};
+ghost use Rattle.bq_interp.specs.Progress.{setting_of};
+ghost use Rattle.bq_hooks.specs.Hooks.{context_length_of};
+ghost use Rattle.bq_interp.specs.Snapshots.{AreSnapshots};
+ghost use Rattle.bq_bpf.specs.Runs.{start};
+ghost use Rattle.bq_policy_run.specs.Runs.{AreRuns, Fits, IsRun, kept_in};
+
+use crate::inputs::Inputs;
+use bq_bpf::same_shapes;
+use bq_hooks::context_length;
+use bq_interp::{Ran, Snapshot, Stack, run, run_traced};
+use bq_verify::Verified;
+use std::alloc::AllocError;
+
+/// What a run answered and took.
+pub type RunOutcome = Ran;
+
+/// Whether the context has the length of the program's hook and version, and the maps have its shapes.
+fn fits(verified: &Verified, inputs: &Inputs) -> bool
+    ensures { IsTrue result ↔ Fits verified.now inputs.now }
+{
+    let length = context_length(verified.hook(), verified.version());
+    inputs.context.len() == length && same_shapes(inputs.maps.shapes(), verified.shapes())
+}
+
+/// The one run of the program on the inputs, whose maps and counters it leaves as the run does. None where the context has
+/// not the length of the program's hook and version, or the maps are of other shapes: then all is left as it was.
+pub fn run_once(verified: &Verified, inputs: &mut Inputs) -> Option<RunOutcome>
+    ensures run { IfSome result (λ r. IsRun verified.now inputs.old.context.items inputs.old.env.now inputs.old.env.processor (kept_in inputs.old) r.steps r.calls.items r.r0 (kept_in inputs.new)) }
+    ensures fits { IfSome result (λ _. Fits verified.now inputs.old) }
+    ensures none { IfNone result (¬ Fits verified.now inputs.old) }
+    ensures left { IfNone result (inputs.new ≡ inputs.old) }
+    ensures shapes { inputs.new.maps.shapes ≡ inputs.old.maps.shapes }
+    ensures context { inputs.new.context ≡ inputs.old.context }
+    ensures env { inputs.new.env ≡ inputs.old.env }
+{
+    if !fits(verified, inputs) {
+        return None;
+    }
+    let mut stack = Stack::new();
+    Some(run(
+        verified,
+        inputs.context.as_slice(),
+        &mut inputs.maps,
+        &mut stack,
+        inputs.env,
+        &mut inputs.board,
+    ))
+}
+
+/// So many runs, one after another: each begins with the maps and counters that the one before it left. None where there is none,
+/// which is for the same causes: then all is left as it was.
+pub fn run_often(verified: &Verified, inputs: &mut Inputs, count: u32) -> Option<()>
+    ensures runs { IfSome result (λ _. AreRuns verified.now inputs.old.context.items inputs.old.env.now inputs.old.env.processor count (kept_in inputs.old) (kept_in inputs.new)) }
+    ensures fits { IfSome result (λ _. 0 < count → Fits verified.now inputs.old) }
+    ensures none { IfNone result ((0 < count) × ¬ Fits verified.now inputs.old) }
+    ensures left { IfNone result (inputs.new ≡ inputs.old) }
+    ensures shapes { inputs.new.maps.shapes ≡ inputs.old.maps.shapes }
+    ensures context { inputs.new.context ≡ inputs.old.context }
+    ensures env { inputs.new.env ≡ inputs.old.env }
+{
+    let mut done: u32 = 0;
+    while done < count {
+        run_once(verified, inputs)?;
+        done += 1;
+    }
+    Some(())
+}
+
+/// The same as `run_once`, with what each instruction of the run began from, put into a list that is empty: as many as steps, and
+/// the machine's chain of as many steps, with the run's calls as far as it has come, leads to each. Where memory is wanted the context, the time and the processor are left as they
+/// were; of maps and counters nothing is said.
+pub fn trace_once(
+    verified: &Verified,
+    inputs: &mut Inputs,
+    snapshots: &mut Vec<Snapshot>,
+) -> Result<Option<RunOutcome>, AllocError>
+    requires { snapshots.old.items ≡ [] }
+    ensures run { IfOk result (λ o. IfSome o (λ r. IsRun verified.now inputs.old.context.items inputs.old.env.now inputs.old.env.processor (kept_in inputs.old) r.steps r.calls.items r.r0 (kept_in inputs.new))) }
+    ensures snapshots { IfOk result (λ o. IfSome o (λ r. AreSnapshots (setting_of verified.now inputs.old.context.items inputs.old.env.now inputs.old.env.processor) (start inputs.old.maps.bytes) r.calls.items 0 snapshots.new.items)) }
+    ensures each { IfOk result (λ o. IfSome o (λ r. length snapshots.new.items ≡ r.steps)) }
+    ensures whole { IfOk result (λ o. IfSome o (λ _. length inputs.old.context.items ≡ context_length_of verified.now.hook verified.now.version)) }
+    ensures none { IfOk result (λ o. IfNone o (¬ Fits verified.now inputs.old)) }
+    ensures left { IfOk result (λ o. IfNone o (inputs.new ≡ inputs.old)) }
+    ensures shapes { IfOk result (λ _. inputs.new.maps.shapes ≡ inputs.old.maps.shapes) }
+    ensures kept { IfOk result (λ o. IfNone o (snapshots.new ≡ snapshots.old)) }
+    ensures context { inputs.new.context ≡ inputs.old.context }
+    ensures env { inputs.new.env ≡ inputs.old.env }
+{
+    if !fits(verified, inputs) {
+        return Ok(None);
+    }
+    let mut stack = Stack::new();
+    let env = inputs.env;
+    let ran = run_traced(
+        verified,
+        inputs.context.as_slice(),
+        &mut inputs.maps,
+        &mut stack,
+        env,
+        &mut inputs.board,
+        snapshots,
+    )?;
+    Ok(Some(ran))
+}

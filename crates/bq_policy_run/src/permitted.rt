@@ -1,0 +1,134 @@
+//! Whether the rule permits an answer, by what the context shows.
+ghost use Rattle.std.specs.Prelude.{◌≡◌, ◌≤◌, ◌+◌, length, slice_range};
+ghost use Rattle.byteorder.specs.Endian.{little_number};
+ghost use Rattle.bq_policy_run.specs.Permitting.{hides_tasks, number_at, place_permits, place_word, preempt_word, pull_word, shows_task, word_of};
+ghost use Rattle.bq_hooks.specs.Hooks.{context_length_of};
+ghost use Rattle.bq_hooks.specs.declared.hook.Version.{Version as OfVersion};
+
+use bq_disc::limits::PROCESSORS;
+use bq_disc::mask::allows;
+use bq_hooks::place::{MASK_AT, PROCESSORS_AT};
+use bq_hooks::pull::{MOVABLE_AT, SHOWN_AT, TASK_LENGTH, TASKS_AT};
+use bq_hooks::{Hook, PULL_LENGTH};
+use byteorder::{ByteOrder, LittleEndian};
+
+/// The answer of a pull policy that takes no task.
+const NOBODY: u64 = bq_hooks::NOBODY as u64;
+
+/// How many movable tasks a pull context has room for.
+const SHOWN: u32 = bq_hooks::SHOWN as u32;
+
+/// How many bytes of a place context say where the task may go: up to the number of processors.
+pub const PLACE_SHOWN: usize = PROCESSORS_AT + 4;
+
+/// What the rule says of an answer.
+#[derive(Clone, Copy)]
+pub enum Word {
+    Permitted,
+    NotPermitted,
+    /// A task that the context does not show: it may be movable, or not.
+    NotShown,
+}
+
+/// What the rule says of the answer, where the context was this one, of the length that the hook's contexts have.
+pub fn word_on(hook: Hook, context: &[u8], r0: u64) -> Word
+    ensures { (version : OfVersion) → length context.now ≡ context_length_of hook version → result ≡ word_of hook context.now r0 }
+{
+    match hook {
+        Hook::Place => place_word(context, r0),
+        Hook::Preempt => preempt_word(r0),
+        Hook::Pull => pull_word(context, r0),
+    }
+}
+
+fn place_word(context: &[u8], r0: u64) -> Word
+    ensures { 36 ≤ length context.now → result ≡ place_word context.now r0 }
+{
+    if context.len() >= PLACE_SHOWN && place_permits(context, r0) {
+        Word::Permitted
+    } else {
+        Word::NotPermitted
+    }
+}
+
+/// Whether the answer is a processor of the machine, in the task's mask.
+fn place_permits(context: &[u8], r0: u64) -> bool
+    requires { 36 ≤ length context.now }
+    ensures { result ≡ place_permits context.now r0 }
+{
+    let (count, mask) = place_shown(context);
+    r0 < u64::from(count) && r0 < u64::from(PROCESSORS) && allows(mask, r0 as u8)
+}
+
+/// How many processors a place context shows, and the task's mask.
+pub fn place_shown(context: &[u8]) -> (u32, u64)
+    requires { 36 ≤ length context.now }
+    ensures count { result.0 ≡ number_at context.now 32 }
+    ensures mask { result.1 ≡ little_number 8 (slice_range context.now 8 16) }
+{
+    let mask = &context[MASK_AT..MASK_AT + 8];
+    (
+        number_at(context, PROCESSORS_AT),
+        LittleEndian::read_u64(mask),
+    )
+}
+
+fn preempt_word(r0: u64) -> Word
+    ensures { result ≡ preempt_word r0 }
+{
+    if r0 < 2 {
+        Word::Permitted
+    } else {
+        Word::NotPermitted
+    }
+}
+
+fn pull_word(context: &[u8], r0: u64) -> Word
+    ensures { 160 ≤ length context.now → result ≡ pull_word context.now r0 }
+{
+    if r0 == NOBODY {
+        return Word::Permitted;
+    }
+    if context.len() < PULL_LENGTH {
+        return Word::NotPermitted;
+    }
+    if shows_task(context, r0) {
+        return Word::Permitted;
+    }
+    if hides_tasks(context) {
+        Word::NotShown
+    } else {
+        Word::NotPermitted
+    }
+}
+
+/// The number of the four bytes at that place.
+fn number_at(context: &[u8], at: usize) -> u32
+    requires { at + 4 ≤ length context.now }
+    ensures { result ≡ number_at context.now at }
+{
+    LittleEndian::read_u32(&context[at..at + 4])
+}
+
+/// Whether one of the tasks that are shown has that number.
+fn shows_task(context: &[u8], r0: u64) -> bool
+    requires { 160 ≤ length context.now }
+    ensures { result ≡ shows_task context.now r0 }
+{
+    let shown = number_at(context, SHOWN_AT).min(SHOWN);
+    for place in 0..shown {
+        let id = number_at(context, TASKS_AT + TASK_LENGTH * place as usize);
+        if u64::from(id) == r0 {
+            return true;
+        }
+    }
+    false
+}
+
+/// Whether more tasks are movable than are shown.
+fn hides_tasks(context: &[u8]) -> bool
+    requires { 160 ≤ length context.now }
+    ensures { result ≡ hides_tasks context.now }
+{
+    number_at(context, MOVABLE_AT) > number_at(context, SHOWN_AT)
+}

@@ -1,0 +1,224 @@
+//! `run` of a policy's file.
+ghost use Rattle.std.specs.Prelude.{◌≡◌, ◌++◌, [], IfOk, IsNone, is_some, length, map, string_bytes};
+ghost use Rattle.bq_hooks.specs.Hooks.{context_length_of};
+ghost use Rattle.bq_policy_run.specs.Changes.{calls_text, changes_text, with_all};
+ghost use Rattle.bq_policy_run.specs.Runs.{Fits};
+ghost use Rattle.bq_policy_run.specs.Running.{HasRun, RunsFile, RunsPolicy, RunsProgram, RunsTo, TellsRun, TellsVerdict, answer_line};
+
+use crate::naming::inputs_named;
+use crate::repeats::runs_before;
+use crate::timing::time_line;
+use crate::traces::executed_text;
+use crate::word_text::word_text;
+use crate::{Inputs, RunOutcome, copied, run_often, trace_once, write_calls, write_changes};
+use bq_console::WordsFault;
+use bq_explain::{Verdict, verdict_line};
+use bq_policy_commands::{Answered, RunWords, refused_file, said_by};
+use bq_program::{Head, PolicySource, read_policy};
+use bq_verify::{Program, Refused, Verified, verify};
+use std::alloc::{AllocError, Global};
+use std::time::Clock;
+
+/// The one run of the policy whose file has these bytes, on the inputs that the words name, or why there is none. Where they say how
+/// often it is run, the clock tells how long that takes.
+pub fn run<C: Clock>(
+    alloc: Global,
+    clock: &C,
+    words: &RunWords,
+    bytes: &[u8],
+) -> Result<Answered, AllocError>
+    ensures { IfOk result (RunsTo words.now bytes.now) }
+{
+    match said_by(alloc, &words.policy) {
+        Ok(head) => run_file(alloc, clock, words, bytes, &head),
+        Err(WordsFault::Words(why)) => Ok(Answered::Words(why)),
+        Err(WordsFault::OutOfMemory) => Err(AllocError),
+    }
+}
+
+fn run_file<C: Clock>(
+    alloc: Global,
+    clock: &C,
+    words: &RunWords,
+    bytes: &[u8],
+    head: &Head,
+) -> Result<Answered, AllocError>
+    ensures { IfOk result (RunsFile words.now bytes.now head.now) }
+{
+    match read_policy(alloc, bytes, head) {
+        Ok(policy) => run_policy(alloc, clock, words, &policy),
+        Err(fault) => {
+            let text = refused_file(alloc, &words.policy.file, bytes, fault)?;
+            Ok(Answered::Refused(text))
+        }
+    }
+}
+
+fn run_policy<C: Clock>(
+    alloc: Global,
+    clock: &C,
+    words: &RunWords,
+    policy: &PolicySource,
+) -> Result<Answered, AllocError>
+    ensures { IfOk result (RunsPolicy words.now policy.now) }
+{
+    let program = Program {
+        insns: Vec::from_slice(alloc, policy.insns.as_slice())?,
+        shapes: Vec::from_slice(alloc, policy.shapes.as_slice())?,
+        hook: policy.hook,
+        version: policy.version,
+    };
+    match verify(alloc, program) {
+        Ok(verified) => run_verified(alloc, clock, words, policy, &verified),
+        Err(Refused::OutOfMemory) => Err(AllocError),
+        Err(Refused::At { slot, cause }) => {
+            let text = unaccepted_text(alloc, policy, Verdict::Refused { slot, cause })?;
+            Ok(Answered::Refused(text))
+        }
+    }
+}
+
+/// The line that tells the verdict on a policy that is not accepted, and what tells more.
+fn unaccepted_text(
+    alloc: Global,
+    policy: &PolicySource,
+    verdict: Verdict,
+) -> Result<String, AllocError>
+    ensures { IfOk result (λ text. TellsVerdict policy.now.hook verdict (string_bytes text)) }
+{
+    let line = verdict_line(alloc, policy.hook, verdict)?;
+    format!(in alloc; "{line}the program is not accepted; check --explain says why\n")
+}
+
+/// The run of a program that is accepted.
+fn run_verified<C: Clock>(
+    alloc: Global,
+    clock: &C,
+    words: &RunWords,
+    policy: &PolicySource,
+    verified: &Verified,
+) -> Result<Answered, AllocError>
+    ensures { IfOk result (RunsProgram words.now verified.now) }
+{
+    let before = match runs_before(alloc, &words.telling.repeat) {
+        Ok(before) => before,
+        Err(WordsFault::Words(why)) => return Ok(Answered::Words(why)),
+        Err(WordsFault::OutOfMemory) => return Err(AllocError),
+    };
+    match inputs_named(alloc, words, verified) {
+        Ok(inputs) => {
+            let line = time_line(alloc, clock, words, verified)?;
+            let mut series = Series { inputs, before };
+            run_on(alloc, words, policy, verified, &mut series, &line)
+        }
+        Err(WordsFault::Words(why)) => Ok(Answered::Words(why)),
+        Err(WordsFault::OutOfMemory) => Err(AllocError),
+    }
+}
+
+/// Runs one after another, on the same maps and counters.
+#[derive(Drop)]
+struct Series {
+    /// The inputs of the first.
+    inputs: Inputs,
+    /// How many go before the one that is told.
+    before: u32,
+}
+
+/// The last run of a series, on inputs of the program's hook; the line that says how long runs take stands last.
+fn run_on(
+    alloc: Global,
+    words: &RunWords,
+    policy: &PolicySource,
+    verified: &Verified,
+    series: &mut Series,
+    line: &String,
+) -> Result<Answered, AllocError>
+    requires fits { Fits verified.now series.old.inputs }
+    requires untimed { IsNone words.now.telling.repeat → string_bytes line.now ≡ [] }
+    ensures { IfOk result (HasRun words.now.telling.is_traced (is_some words.now.telling.repeat) series.old.before verified.now series.old.inputs) }
+{
+    let mut snapshots = Vec::new(alloc);
+    let first = copied(alloc, &series.inputs.maps)?;
+    let others = run_often(verified, &mut series.inputs, series.before);
+    let last = trace_once(verified, &mut series.inputs, &mut snapshots)?;
+    let (Some(()), Some(ran)) = (others, last) else {
+        return Ok(Answered::Words(String::from_str(
+            alloc,
+            "the inputs are not those of the hook",
+        )?));
+    };
+    let inputs = &series.inputs;
+    let is_traced = words.telling.is_traced;
+    let executed = executed_text(alloc, is_traced, policy, verified, snapshots.as_slice())?;
+    let changes = changed_text(alloc, first.as_slice(), inputs, &ran)?;
+    let behind = Behind {
+        executed: &executed,
+        changes: &changes,
+        line,
+    };
+    let text = told(alloc, verified, inputs, &ran, &behind)?;
+    Ok(Answered::Done(text))
+}
+
+/// What runs changed of the bytes of maps that were there first, and the calls of the last of them.
+fn changed_text(
+    alloc: Global,
+    first: &[Vec<u8>],
+    inputs: &Inputs,
+    ran: &RunOutcome,
+) -> Result<String, AllocError>
+    ensures { IfOk result (λ text. string_bytes text ≡ changes_text (with_all inputs.now.maps (map (λ v. v.items) first.now)) inputs.now.maps ++ calls_text ran.now.calls.items) }
+{
+    let mut changes = String::new(alloc);
+    write_changes(alloc, first, inputs, &mut changes)?;
+    write_calls(ran.calls.as_slice(), &mut changes)?;
+    Ok(changes)
+}
+
+/// What is told behind the answer of a run.
+#[derive(Clone, Copy)]
+struct Behind<'a> {
+    /// Which instructions it took, where that is asked for.
+    executed: &'a String,
+    /// What it changed.
+    changes: &'a String,
+    /// How long runs take, where that is asked for.
+    line: &'a String,
+}
+
+/// What the run answered, what the rule says of that, and how many instructions it took; and what is told behind that.
+fn told(
+    alloc: Global,
+    verified: &Verified,
+    inputs: &Inputs,
+    ran: &RunOutcome,
+    behind: &Behind,
+) -> Result<String, AllocError>
+    requires { length inputs.now.context.items ≡ context_length_of verified.now.hook verified.now.version }
+    ensures { IfOk result (λ text. TellsRun verified.now inputs.now.context.items ran.now.r0 ran.now.steps (string_bytes behind.now.executed.now) (string_bytes behind.now.changes.now) (string_bytes behind.now.line.now) (string_bytes text)) }
+{
+    let r0 = ran.r0;
+    let word = word_text(alloc, verified.hook(), inputs.context.as_slice(), r0)?;
+    let first = answer_line(alloc, verified, r0, ran.steps, &word)?;
+    let Behind {
+        executed,
+        changes,
+        line,
+    } = behind;
+    format!(in alloc; "{first}{executed}{changes}{line}")
+}
+
+/// What the run answered, that word on it, and how many instructions it took.
+fn answer_line(
+    alloc: Global,
+    verified: &Verified,
+    r0: u64,
+    steps: u32,
+    word: &String,
+) -> Result<String, AllocError>
+    ensures { IfOk result (λ text. string_bytes text ≡ answer_line r0 (string_bytes word.now) steps verified.now.budget) }
+{
+    let budget = verified.budget();
+    format!(in alloc; "r0 {r0} (0x{r0:x})  {word}  steps {steps} of {budget}\n")
+}

@@ -1,0 +1,142 @@
+//! Fields of the context from the words of a command.
+ghost use Rattle.std.specs.Prelude.{◌≡◌, ◌<◌, ◌↔◌, ◌^◌, ℕ, [], IfErr, IfNone, IfSome, IsOk, IsTrue, codes, true};
+ghost use Rattle.std.specs.Result.{OnOk};
+ghost use Rattle.bq_console.specs.Words.{SaysNone};
+ghost use Rattle.bq_policy_run.specs.Naming.{IsFieldWord, SetsField, SetsFields, TextsInTurn, shows_nobody};
+
+use crate::faults::refused;
+use crate::fields::{field_named, field_names, put};
+use crate::inputs::Inputs;
+use bq_console::words::{cut, value};
+use bq_console::{WordsFault, words_fault};
+use bq_hooks::{Hook, NOBODY, Version};
+use std::alloc::Global;
+
+impl Inputs {
+    /// Sets the fields that texts name, one after another. Texts are refused only where one of them names no fields, or what does not
+    /// fit, and where there are none nothing is. What texts before a refused one set stands, and so do its own fields before the
+    /// refused one.
+    pub fn set_all_fields(
+        &mut self,
+        alloc: Global,
+        hook: Hook,
+        version: Version,
+        texts: &[String],
+    ) -> Result<(), WordsFault>
+        ensures context { OnOk result (TextsInTurn (SetsFields hook version) texts.now self.old.context.items self.new.context.items) }
+        ensures refused { IfErr result (SaysNone (TextsInTurn (SetsFields hook version) texts.now self.old.context.items)) }
+        ensures maps { self.new.maps ≡ self.old.maps }
+        ensures env { self.new.env ≡ self.old.env }
+        ensures board { self.new.board ≡ self.old.board }
+        ensures none { texts.now ≡ [] → IsOk result }
+    {
+        for text in texts {
+            self.set_fields(alloc, hook, version, text.as_str())?;
+        }
+        Ok(())
+    }
+
+    /// Sets the fields that a text names, as `task=3,mask=0x6,load.1=2` does. A text is refused only where it names none. What its
+    /// fields before a refused one set stands.
+    pub fn set_fields(
+        &mut self,
+        alloc: Global,
+        hook: Hook,
+        version: Version,
+        text: &str,
+    ) -> Result<(), WordsFault>
+        ensures context { OnOk result (SetsFields hook version text.now self.old.context.items self.new.context.items) }
+        ensures refused { IfErr result (SaysNone (SetsFields hook version text.now self.old.context.items)) }
+        ensures maps { self.new.maps ≡ self.old.maps }
+        ensures env { self.new.env ≡ self.old.env }
+        ensures board { self.new.board ≡ self.old.board }
+    {
+        for part in text.split(',') {
+            self.set_field(alloc, hook, version, part)?;
+        }
+        Ok(())
+    }
+
+    fn set_field(
+        &mut self,
+        alloc: Global,
+        hook: Hook,
+        version: Version,
+        part: &str,
+    ) -> Result<(), WordsFault>
+        ensures context { OnOk result (SetsField hook version part.now self.old.context.items self.new.context.items) }
+        ensures refused { IfErr result (SaysNone (SetsField hook version part.now self.old.context.items)) }
+        ensures maps { self.new.maps ≡ self.old.maps }
+        ensures env { self.new.env ≡ self.old.env }
+        ensures board { self.new.board ≡ self.old.board }
+    {
+        put_field(self.context.as_mut_slice(), alloc, hook, version, part)
+    }
+}
+
+/// Puts the word that a part names into the field that it names.
+fn put_field(
+    context: &mut [u8],
+    alloc: Global,
+    hook: Hook,
+    version: Version,
+    part: &str,
+) -> Result<(), WordsFault>
+    ensures context { OnOk result (SetsField hook version part.now context.old context.new) }
+    ensures refused { IfErr result (SaysNone (SetsField hook version part.now context.old)) }
+{
+    let Some((name, text)) = cut(part, '=') else {
+        return Err(refused(alloc, "set", part, "a field is set as task=3"));
+    };
+    let Some(word) = field_word(hook, name, text) else {
+        return Err(unfit(alloc, part, text, "is no number of 64 bits"));
+    };
+    let Some(field) = field_named(hook, version, name) else {
+        return Err(unknown(alloc, part, name, hook));
+    };
+    if !put(context, field, word) {
+        return Err(unfit(alloc, part, text, "does not fit the field"));
+    }
+    Ok(())
+}
+
+/// The word that a text writes for the field of that name: a number, or `none` where the field may show that there is nobody.
+fn field_word(hook: Hook, name: &str, text: &str) -> Option<u64>
+    ensures some { IfSome result (IsFieldWord hook name.now text.now) }
+    ensures none { IfNone result ((word : ℕ) → word < 2 ^ 64 → ¬ IsFieldWord hook name.now text.now word) }
+{
+    match value(text) {
+        Some(word) => Some(word),
+        None if is_nobody(hook, name, text) => Some(u64::from(NOBODY)),
+        None => None,
+    }
+}
+
+/// Whether a text is `none`, and the field of that name may show that there is nobody.
+fn is_nobody(hook: Hook, name: &str, text: &str) -> bool
+    ensures { IsTrue result ↔ ((text.now ≡ codes "none") × (shows_nobody hook name.now ≡ true)) }
+{
+    text == "none" && shows_nobody(hook, name)
+}
+
+/// Whether the field of that name may show that there is nobody.
+fn shows_nobody(hook: Hook, name: &str) -> bool
+    ensures { result ≡ shows_nobody hook name.now }
+{
+    match hook {
+        Hook::Place => name == "waker" || name == "previous" || name == "own",
+        Hook::Preempt => name == "next",
+        Hook::Pull => name == "own",
+    }
+}
+
+/// The fault of a part whose value is of no use, with what is wrong with that.
+fn unfit(alloc: Global, part: &str, value: &str, why: &str) -> WordsFault {
+    words_fault(format!(in alloc; "--set {part}: {value} {why}"))
+}
+
+/// The fault of a part that names no field of the hook, with the names that there are.
+fn unknown(alloc: Global, part: &str, name: &str, hook: Hook) -> WordsFault {
+    let names = field_names(hook);
+    words_fault(format!(in alloc; "--set {part}: there is no field {name}; the fields are {names}"))
+}

@@ -1,0 +1,78 @@
+//! The rule's word on the answer of a run.
+ghost use Rattle.std.specs.Prelude.{◌≡◌, ◌≢◌, ◌≤◌, length, IfOk, string_bytes};
+ghost use Rattle.bq_policy_run.specs.Permitting.{word_of};
+ghost use Rattle.bq_policy_run.specs.declared.permitted.Word.TheVariants.{NotPermitted, NotShown, Permitted};
+ghost use Rattle.bq_policy_run.specs.Judging.{TellsWord};
+ghost use Rattle.bq_hooks.specs.Hooks.{context_length_of};
+ghost use Rattle.bq_hooks.specs.declared.hook.Version.{Version};
+
+use crate::{PLACE_SHOWN, Word, place_shown, word_on};
+use bq_hooks::Hook;
+use std::alloc::{AllocError, Global};
+
+/// What the rule says of the answer, where the context was this one, and why.
+pub(crate) fn word_text(
+    alloc: Global,
+    hook: Hook,
+    context: &[u8],
+    r0: u64,
+) -> Result<String, AllocError>
+    ensures { IfOk result (λ text. (version : Version) → length context.now ≡ context_length_of hook version → TellsWord (word_of hook context.now r0) (string_bytes text)) }
+{
+    let word = word_on(hook, context, r0);
+    match hook {
+        Hook::Place => place_text(alloc, context, r0, word),
+        Hook::Preempt => String::from_str(alloc, preempt_text(word)),
+        Hook::Pull => String::from_str(alloc, pull_text(word)),
+    }
+}
+
+/// Of a place, which the context shows or does not.
+fn place_text(alloc: Global, context: &[u8], r0: u64, word: Word) -> Result<String, AllocError>
+    ensures { IfOk result (λ text. 36 ≤ length context.now → word ≢ NotShown → TellsWord word (string_bytes text)) }
+{
+    if context.len() < PLACE_SHOWN {
+        return String::from_str(alloc, "not permitted: the context shows no processors");
+    }
+    let (count, mask) = place_shown(context);
+    match word {
+        Word::Permitted => in_mask_text(alloc, r0, mask),
+        Word::NotPermitted | Word::NotShown => no_place_text(alloc, r0, count, mask),
+    }
+}
+
+/// Of a place in the mask.
+fn in_mask_text(alloc: Global, r0: u64, mask: u64) -> Result<String, AllocError>
+    ensures { IfOk result (λ text. TellsWord Permitted (string_bytes text)) }
+{
+    format!(in alloc; "permitted: processor {r0} is in mask 0x{mask:x}")
+}
+
+/// Of a place that is none of so many processors, or none of the mask.
+fn no_place_text(alloc: Global, r0: u64, count: u32, mask: u64) -> Result<String, AllocError>
+    ensures { IfOk result (λ text. TellsWord NotPermitted (string_bytes text)) }
+{
+    if r0 >= u64::from(count) {
+        return format!(in alloc; "not permitted: the machine has {count} processors");
+    }
+    format!(in alloc; "not permitted: processor {r0} is not in mask 0x{mask:x}")
+}
+
+fn preempt_text(word: Word) -> &'static str
+    ensures { word ≢ NotShown → TellsWord word result.now }
+{
+    match word {
+        Word::Permitted => "permitted: 0 stays, 1 gives way",
+        Word::NotPermitted | Word::NotShown => "not permitted: an answer is 0 or 1",
+    }
+}
+
+fn pull_text(word: Word) -> &'static str
+    ensures { TellsWord word result.now }
+{
+    match word {
+        Word::Permitted => "permitted: none, or a movable task that is shown",
+        Word::NotShown => "permitted only if it is a movable task that the context does not show",
+        Word::NotPermitted => "not permitted: no movable task",
+    }
+}

@@ -1,5 +1,0 @@
-mod AcceptedLemmas
-mod JudgeLemmas
-mod TraceLemmas
-mod NamingLemmas
-mod RunLemmas

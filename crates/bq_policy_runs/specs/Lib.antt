@@ -1,3 +1,0 @@
-pub mod Judging
-pub mod Running
-pub mod Tracing
