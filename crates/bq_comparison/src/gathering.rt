@@ -8,9 +8,9 @@ ghost use Rattle.bq_simulate.specs.Faults.{flaw_told};
 ghost use Rattle.bq_simulate.specs.Simulations.{with_seed};
 
 use bq_actions::Workload;
+use bq_installed::Policy;
 use bq_load::LoadFault;
 use bq_parts::{Event, Refusal, Reply};
-use bq_policies::Policy;
 use bq_schedule::{Schedule, WakeLatencies};
 use bq_simulate::{SimulateFault, simulate_seed};
 use bq_trace::{AnyCore, Sink};

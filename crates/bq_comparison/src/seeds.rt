@@ -9,7 +9,7 @@ use crate::fault::SeedsFault;
 use crate::gathering::gather;
 use crate::{Figure, FigureRow, RunFigures, rows, run_of};
 use bq_actions::Workload;
-use bq_policies::Policy;
+use bq_installed::Policy;
 use bq_simulate::SimulateFault;
 use std::alloc::{AllocError, Global};
 use std::thread::{Threads, available_parallelism, map_indices};

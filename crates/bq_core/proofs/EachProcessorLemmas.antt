@@ -11,9 +11,9 @@ use Rattle.bq_hooks.specs.declared.hook.Hook.{Hook}
 use Rattle.bq_hooks.specs.declared.hook.Hook.TheVariants.{Place, Preempt, Pull}
 use Rattle.bq_hooks.specs.declared.hook.Version.{Version}
 use Rattle.bq_verify.specs.Accepted.{Accepted}
-use Rattle.bq_policies.specs.Attachments.{Attached, Attachments, none_attached, with_attached}
+use Rattle.bq_installed.specs.Attachments.{Attached, Attachments, none_attached, with_attached}
 use Rattle.bq_hooks.specs.Permitted.{task_numbered}
-use Rattle.bq_policies.specs.Standing.{IsEquipped, MayStand, AreReady}
+use Rattle.bq_installed.specs.Standing.{IsEquipped, MayStand, AreReady}
 use Rattle.bq_parts.specs.declared.event.Event.{Event}
 use Rattle.bq_parts.specs.declared.event.Event.TheVariants as event
 use Rattle.bq_parts.specs.declared.reply.Reply.{Reply}

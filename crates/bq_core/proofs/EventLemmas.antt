@@ -13,7 +13,7 @@ use Rattle.bq_parts.specs.Processors.{Processor, opening, count_of, in_hand}
 use Rattle.bq_parts.specs.World.{World, processor_at, inbox, entry, with_processor, with_inbox}
 use Rattle.bq_parts.specs.Refusals.{is_absent, is_away}
 use Rattle.bq_disc.specs.Movable.{is_movable_to}
-use Rattle.bq_policies.specs.Attachments.{Attachments}
+use Rattle.bq_installed.specs.Attachments.{Attachments}
 use Rattle.bq_hooks.specs.Contexts.{as_number}
 use Rattle.bq_disc.specs.Masks.{allows}
 use Rattle.bq_hooks.specs.OwnPlace.{HasPlace}

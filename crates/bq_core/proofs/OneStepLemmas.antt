@@ -13,7 +13,7 @@ use Rattle.bq_interp.proofs.OneRunLemmas.{one_run}
 use Rattle.bq_hooks.specs.declared.hook.Version.{Version}
 use Rattle.bq_hooks.specs.declared.hook.Version.TheVariants.{First, Second}
 use Rattle.bq_verify.specs.Accepted.{Accepted}
-use Rattle.bq_policies.specs.Attachments.{Attached}
+use Rattle.bq_installed.specs.Attachments.{Attached}
 use Rattle.bq_hooks.specs.Contexts.{PlaceFacts, PreemptFacts, PullFacts, preempt_bytes, pull_bytes, as_number, or_nobody}
 use Rattle.bq_hooks.specs.OwnPlace.{own_place}
 use Rattle.bq_hooks.specs.Permitted.{may_place, may_preempt, may_pull}

@@ -8,8 +8,8 @@ use Rattle.bq_parts.specs.declared.carried.Carried.{Carried}
 use Rattle.bq_bpf.specs.declared.board.Call.{Call as Asked}
 use Rattle.bq_hooks.specs.declared.hook.Hook.{Hook}
 use Rattle.bq_verify.specs.Accepted.{Accepted}
-use Rattle.bq_policies.specs.Answers.{fresh_maps}
-use Rattle.bq_policies.specs.Attachments.{Attached, with_attached}
+use Rattle.bq_installed.specs.Answers.{fresh_maps}
+use Rattle.bq_installed.specs.Attachments.{Attached, with_attached}
 use Rattle.bq_hooks.specs.Contexts.{or_nobody}
 use Rattle.bq_hooks.specs.OwnPlace.{own_place, HasPlace}
 use Rattle.bq_hooks.specs.Permitted.{may_place, may_pull, task_numbered}

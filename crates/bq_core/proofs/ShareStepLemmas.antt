@@ -23,7 +23,7 @@ use Rattle.bq_parts.specs.Steps.{WorldStep}
 use Rattle.bq_parts.specs.Shares.{Admits, Retires, Ticks, Drains, Blocks, Begins, Places, Installs, Pulls}
 use Rattle.bq_hooks.specs.declared.hook.Hook.{Hook}
 use Rattle.bq_verify.specs.Accepted.{Accepted}
-use Rattle.bq_policies.specs.Answers.{fresh_maps}
+use Rattle.bq_installed.specs.Answers.{fresh_maps}
 use Rattle.bq_core.proofs.StepLemmas.{in_range_not_refused, still_runs, block_idle}
 
 -- the lobby's share of an admission, done or refused, is the world's step, where no argument is refused

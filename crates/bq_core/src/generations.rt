@@ -8,8 +8,8 @@ ghost use Rattle.bq_parts.specs.Steps.{WorldStep};
 use crate::parts::Parts;
 use bq_disc::RunQueue;
 use bq_hooks::Hook;
+use bq_installed::{Installed, Policy};
 use bq_parts::{Event, Refusal, Reply};
-use bq_policies::{Installed, Policy};
 use std::alloc::Global;
 
 impl<Q: RunQueue> Parts<Q> {

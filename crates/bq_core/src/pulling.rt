@@ -12,8 +12,8 @@ ghost use Rattle.bq_parts.specs.StandsOnce.{IsOrderly};
 use crate::parts::Parts;
 use bq_bpf::Board;
 use bq_disc::RunQueue;
+use bq_installed::Scratch;
 use bq_parts::{Cpu, Event, Refusal, Reply};
-use bq_policies::Scratch;
 
 impl<Q: RunQueue> Parts<Q> {
     /// A processor takes a task from the queue of another: the one that its policy names, or that of the discipline, where

@@ -9,8 +9,8 @@ ghost use Rattle.bq_parts.specs.StandsOnce.{IsOrderly};
 use crate::parts::Parts;
 use bq_bpf::Board;
 use bq_disc::RunQueue;
+use bq_installed::Scratch;
 use bq_parts::{Event, Refusal, Reply};
-use bq_policies::Scratch;
 
 impl<Q: RunQueue> Parts<Q> {
     /// The clock of a processor ticks.

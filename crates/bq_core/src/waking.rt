@@ -11,8 +11,8 @@ use crate::parts::Parts;
 use bq_bpf::Board;
 use bq_disc::RunQueue;
 use bq_hooks::Loads;
+use bq_installed::Scratch;
 use bq_parts::{Cpu, Event, Inbox, Placement, Refusal, Reply};
-use bq_policies::Scratch;
 
 impl<Q: RunQueue> Parts<Q> {
     /// A sleeping task comes into the hand of a processor, with the loads of that moment.

@@ -12,8 +12,8 @@ ghost use Rattle.bq_core.specs.Laws.{StaysOrderly};
 use crate::parts::Parts;
 use bq_bpf::Board;
 use bq_disc::RunQueue;
+use bq_installed::Scratch;
 use bq_parts::{Cpu, Event, Inbox, Lobby, Refusal, Reply, argument_refusal};
-use bq_policies::Scratch;
 use std::alloc::{AllocError, Global};
 use std::marker::Model;
 

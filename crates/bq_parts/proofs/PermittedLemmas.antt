@@ -11,7 +11,7 @@ use Rattle.bq_disc.specs.Pulls.{movable, pulled_before}
 use Rattle.bq_disc.specs.Movable.{is_movable_to}
 use Rattle.bq_hooks.specs.declared.hook.Version.{Version}
 use Rattle.bq_verify.specs.Accepted.{Accepted}
-use Rattle.bq_policies.specs.Attachments.{Attached}
+use Rattle.bq_installed.specs.Attachments.{Attached}
 use Rattle.bq_hooks.specs.Contexts.{nobody, or_nobody}
 use Rattle.bq_disc.specs.Masks.{allows}
 use Rattle.bq_hooks.specs.Permitted.{may_place, may_pull, task_numbered}

@@ -9,7 +9,7 @@ use Rattle.bq_disc.proofs.node.Node.TheLaws.TheKnot as knot
 use Rattle.bq_disc.specs.declared.queue.RunQueue as Queue
 use Rattle.bq_disc.specs.declared.discipline.Discipline
 use Rattle.bq_hooks.proofs.loads.Loads.TheSendSync as loads
-use Rattle.bq_policies.proofs.hooks.Hooks.TheSendSync as hooks
+use Rattle.bq_installed.proofs.hooks.Hooks.TheSendSync as hooks
 use Rattle.bq_parts.specs.contracts.unlinked.Unlinked as Unlinked
 use Rattle.bq_parts.specs.contracts.carried.Carried as Carried
 use Rattle.bq_parts.specs.contracts.cpu.Cpu as Cpu

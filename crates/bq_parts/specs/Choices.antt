@@ -10,8 +10,8 @@ use Rattle.bq_hooks.specs.declared.hook.Version.{Version}
 use Rattle.bq_hooks.specs.declared.hook.Version.TheVariants.{First, Second}
 use Rattle.bq_verify.specs.Accepted.{Accepted}
 use Rattle.bq_bpf.specs.Memory.{HaveShapes}
-use Rattle.bq_policies.specs.Answers.{Answers, IsWithin}
-use Rattle.bq_policies.specs.Attachments.{Attached}
+use Rattle.bq_installed.specs.Answers.{Answers, IsWithin}
+use Rattle.bq_installed.specs.Attachments.{Attached}
 use Rattle.bq_hooks.specs.declared.settled.By.{By}
 use Rattle.bq_hooks.specs.declared.settled.By.TheVariants as who
 use Rattle.bq_hooks.specs.Contexts.{PlaceFacts, place_bytes_first, place_bytes_second, preempt_bytes, pull_bytes, as_number, or_nobody}

@@ -3,7 +3,7 @@ use Rattle.std.specs.Prelude.{◌≡◌, ℕ, ◌+◌, ◌≤◌, List, [], ◌�
 use Rattle.std.specs.Option.{option_map, option_to_list}
 use Rattle.bq_disc.specs.Tasks.{Task, has_id}
 use Rattle.bq_disc.specs.OneProcessor.{Running, at_rest, present_at}
-use Rattle.bq_policies.specs.Attachments.{Attachments, none_attached}
+use Rattle.bq_installed.specs.Attachments.{Attachments, none_attached}
 use Rattle.bq_parts.specs.declared.carried.Carried.{Carried}
 
 -- a processor: its tasks, the woken task that it is to place, and what stands at its hooks

@@ -15,8 +15,8 @@ use Rattle.bq_parts.specs.declared.carried.Carried.{Carried}
 use Rattle.bq_parts.specs.declared.wakes.Placement.{Placement}
 use Rattle.bq_parts.specs.Refusals.{is_absent, retire_refusal, begin_refusal, install_refusal}
 use Rattle.bq_hooks.specs.declared.hook.Hook.{Hook}
-use Rattle.bq_policies.specs.Attachments.{Attached, at_hook, with_attached}
-use Rattle.bq_policies.specs.Standing.{MayStand}
+use Rattle.bq_installed.specs.Attachments.{Attached, at_hook, with_attached}
+use Rattle.bq_installed.specs.Standing.{MayStand}
 use Rattle.bq_hooks.specs.Permitted.{task_numbered}
 use Rattle.bq_parts.specs.Choices.{Regime, Decision, SettlesPlace, SettlesPreempt, SettlesPull, decided_by}
 use Rattle.bq_parts.specs.Moves.{after_leaving, as_it_leaves, taken_from, without_task, with_pulled, started_if_idle}

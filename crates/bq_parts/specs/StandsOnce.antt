@@ -7,7 +7,7 @@ use Rattle.bq_disc.specs.Rising.{IsRising}
 use Rattle.bq_disc.specs.OneProcessor.{present_at}
 use Rattle.bq_hooks.specs.Contexts.{as_number}
 use Rattle.bq_hooks.specs.OwnPlace.{HasPlace}
-use Rattle.bq_policies.specs.Standing.{AreReady}
+use Rattle.bq_installed.specs.Standing.{AreReady}
 use Rattle.bq_parts.specs.declared.carried.Carried.{Carried}
 use Rattle.bq_parts.specs.declared.lobby_entry.LobbyEntry.TheVariants.{Blocked}
 use Rattle.bq_parts.specs.Processors.{Processor, held_by, count_of}

@@ -5,7 +5,7 @@ ghost use Rattle.bq_parts.specs.Refusals.{argument_refusal};
 use crate::{Event, Refusal};
 use bq_disc::limits::{GREATEST_SLICE, LEAST_SLICE, TASKS};
 use bq_hooks::{Hook, low_bits};
-use bq_policies::Policy;
+use bq_installed::Policy;
 use bq_weights::is_nice;
 
 /// The refusal that an event's arguments have in any world of so many processors; the first by number, where there are

@@ -3,7 +3,7 @@ ghost use Rattle.std.specs.Prelude.{◌≡◌, ◌≤◌, ◌<◌, ◌^◌, ℕ,
 ghost use Rattle.std.specs.Option.{option_map};
 ghost use Rattle.bq_bpf.specs.Counters.{Through};
 ghost use Rattle.bq_bpf.specs.Memory.{HaveShapes};
-ghost use Rattle.bq_policies.specs.Answers.{Answers, IsWithin};
+ghost use Rattle.bq_installed.specs.Answers.{Answers, IsWithin};
 ghost use Rattle.bq_hooks.specs.Contexts.{as_number};
 ghost use Rattle.bq_hooks.specs.OwnPlace.{HasPlace};
 ghost use Rattle.bq_hooks.specs.Permitted.{task_numbered};
@@ -19,8 +19,8 @@ use bq_hooks::place::{PLACE_LENGTH, Place, WIDE_PLACE_LENGTH, place_ctx, wide_pl
 use bq_hooks::preempt::{PREEMPT_LENGTH, Preempt, preempt_ctx};
 use bq_hooks::pull::{PULL_LENGTH, Pull, pull_ctx};
 use bq_hooks::{By, Choice, Hook, Version, own_place, settle_place, settle_preempt, settle_pull};
+use bq_installed::Scratch;
 use bq_interp::{Done, Env};
-use bq_policies::Scratch;
 
 impl<T> Decision<T> {
     /// What the discipline chose where no policy was asked.

@@ -8,8 +8,8 @@ ghost use Rattle.bq_disc.specs.Pulls.{pull_of};
 ghost use Rattle.bq_disc.specs.Discipline.{left_at};
 ghost use Rattle.bq_disc.specs.Chains.{task_of, chain_behind, IsStraightBehind};
 ghost use Rattle.bq_disc.specs.OneProcessor.{charge, marked, start, switched, enter_all, entered, present_at};
-ghost use Rattle.bq_policies.specs.Attachments.{at_hook, with_attached, IsFor};
-ghost use Rattle.bq_policies.specs.Standing.{WasAnswered};
+ghost use Rattle.bq_installed.specs.Attachments.{at_hook, with_attached, IsFor};
+ghost use Rattle.bq_installed.specs.Standing.{WasAnswered};
 ghost use Rattle.bq_parts.specs.Processors.{opening, load_of, size_of, count_of, HasEachOnce};
 ghost use Rattle.bq_parts.specs.Moves.{taken_from, without_task, with_pulled, started_if_idle};
 
@@ -18,8 +18,8 @@ use bq_disc::clock::LATEST;
 use bq_disc::node::{self, Link};
 use bq_disc::{Entry, Node, RunQueue};
 use bq_hooks::Hook;
+use bq_installed::{Hooks, Installed};
 use bq_interp::Done;
-use bq_policies::{Hooks, Installed};
 use std::marker::Model;
 
 /// A processor. Each of its calls is its share of an event's step.

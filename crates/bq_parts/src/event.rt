@@ -3,7 +3,7 @@ ghost use Rattle.std.specs.Prelude.{◌≡◌, None};
 ghost use Rattle.bq_parts.specs.Events.{with_policy};
 
 use bq_hooks::Hook;
-use bq_policies::Policy;
+use bq_installed::Policy;
 
 /// One event. Processors are numbered from 0, tasks from 0 to 1023; `now` is a reading of the processor's clock, in
 /// nanoseconds.

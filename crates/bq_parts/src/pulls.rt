@@ -11,7 +11,7 @@ ghost use Rattle.bq_parts.specs.Shares.{Pulls};
 use crate::{Cpu, Reply};
 use bq_bpf::Board;
 use bq_disc::RunQueue;
-use bq_policies::Scratch;
+use bq_installed::Scratch;
 
 impl<Q: RunQueue> Cpu<Q> {
     /// The processor takes a task from the queue of another: the one that its policy names, where that is permitted, and else

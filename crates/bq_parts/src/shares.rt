@@ -12,7 +12,7 @@ use crate::{Cpu, Event, Inbox, Lobby, Refusal, Reply, Unlinked};
 use bq_bpf::Board;
 use bq_disc::{Node, RunQueue};
 use bq_hooks::low_bits;
-use bq_policies::Scratch;
+use bq_installed::Scratch;
 use std::alloc::{AllocError, Global};
 
 /// A task as it is admitted among so many processors. It takes memory for the task.

@@ -2,7 +2,7 @@
 ghost use Rattle.std.specs.Prelude.{◌≡◌, ◌≤◌, ◌<◌, [], IfSome};
 ghost use Rattle.bq_bpf.specs.Counters.{Through};
 ghost use Rattle.bq_hooks.specs.OwnPlace.{HasPlace};
-ghost use Rattle.bq_policies.specs.Attachments.{IsFor};
+ghost use Rattle.bq_installed.specs.Attachments.{IsFor};
 ghost use Rattle.bq_parts.specs.Refusals.{install_refusal};
 ghost use Rattle.bq_parts.specs.Choices.{policies};
 ghost use Rattle.bq_parts.specs.Shares.{Begins, Installs, Places};
@@ -11,7 +11,7 @@ use crate::{Carried, Cpu, Lobby, Refusal, Reply, Unlinked};
 use bq_bpf::Board;
 use bq_disc::RunQueue;
 use bq_hooks::{By, Hook, Loads};
-use bq_policies::{Installed, Scratch};
+use bq_installed::{Installed, Scratch};
 
 /// A task that left a hand, and where it goes: to a processor that a policy chose in so many steps, or the discipline.
 #[derive(Drop)]

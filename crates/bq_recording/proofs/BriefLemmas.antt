@@ -8,7 +8,7 @@ use Rattle.bq_parts.specs.declared.reply.Reply.{Reply}
 use Rattle.bq_parts.specs.declared.refusal.Refusal.{Refusal}
 use Rattle.bq_parts.specs.Processors.{Processor}
 use Rattle.bq_parts.specs.Shares.{Admits, Retires, Blocks, Installs}
-use Rattle.bq_policies.specs.Attachments.{Attached}
+use Rattle.bq_installed.specs.Attachments.{Attached}
 use Rattle.bq_hooks.specs.declared.hook.Hook.{Hook}
 
 -- no admission is answered by loads

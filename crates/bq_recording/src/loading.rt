@@ -1,6 +1,6 @@
 //! Numbers that are drawn for loads, and what is installed at a processor.
 ghost use Rattle.std.specs.Prelude.{◌≡◌, ◌∷◌, ◌++◌, ◌+◌, [], true, None, Ok, IfOk};
-ghost use Rattle.bq_policies.specs.Answers.{fresh_maps};
+ghost use Rattle.bq_installed.specs.Answers.{fresh_maps};
 ghost use Rattle.bq_shared.specs.Calls.{account_of};
 ghost use Rattle.bq_parts.specs.Refusals.{argument_refusal};
 ghost use Rattle.bq_parts.specs.declared.reply.Reply.TheVariants.{Drawn};
@@ -11,8 +11,8 @@ use crate::told::{answer_twice, both_records, no_calls, quiet_twice};
 use bq_disc::RunQueue;
 use bq_history::{CommitDraft, Naming, Receipt, Room};
 use bq_hooks::Hook;
+use bq_installed::{Installed, Policy};
 use bq_parts::{Event, Reply};
-use bq_policies::{Installed, Policy};
 use bq_shared::{Counting, NumberedCpu, Record, UnderLock, policy_again};
 use std::alloc::{AllocError, Global};
 use std::sync::Wait;

@@ -6,8 +6,8 @@ ghost use Rattle.bq_shared.specs.Opened.{ItemOf, cpu_items, inbox_items};
 
 use bq_disc::RunQueue;
 use bq_history::{Holder, Item, Locked, Naming};
+use bq_installed::Scratch;
 use bq_parts::{Cpu, Inbox, Lobby};
-use bq_policies::Scratch;
 use bq_shared::{
     JournalState, NumberedCpu, NumberedInbox, OneLobby, Record, Shared, UnderLock, WorldPart,
 };

@@ -8,8 +8,8 @@ use Rattle.bq_disc.specs.OneProcessor.{present_at, charge, enter_all}
 use Rattle.bq_bpf.specs.declared.board.Call.{Call as Asked}
 use Rattle.bq_hooks.specs.declared.hook.Hook.{Hook}
 use Rattle.bq_verify.specs.Accepted.{Accepted}
-use Rattle.bq_policies.specs.Answers.{fresh_maps}
-use Rattle.bq_policies.specs.Attachments.{Attached}
+use Rattle.bq_installed.specs.Answers.{fresh_maps}
+use Rattle.bq_installed.specs.Attachments.{Attached}
 use Rattle.bq_parts.specs.declared.event.Event.TheVariants.{Admit, Retire, Draw, Install, BeginWake, EndWake, Tick, Drain, Block}
 use Rattle.bq_parts.specs.declared.reply.Reply.{Reply}
 use Rattle.bq_parts.specs.declared.reply.Reply.TheVariants.{Drawn, Placed}

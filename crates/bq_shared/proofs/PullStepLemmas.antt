@@ -9,7 +9,7 @@ use Rattle.bq_disc.specs.Movable.{is_movable_to}
 use Rattle.bq_disc.specs.Discipline.{Discipline, left_at}
 use Rattle.bq_disc.specs.OneProcessor.{Running, present_at}
 use Rattle.bq_bpf.specs.declared.board.Call.{Call as Asked}
-use Rattle.bq_policies.specs.Attachments.{Attachments}
+use Rattle.bq_installed.specs.Attachments.{Attachments}
 use Rattle.bq_hooks.specs.declared.settled.By.{By}
 use Rattle.bq_hooks.specs.Contexts.{or_nobody}
 use Rattle.bq_hooks.specs.Permitted.{may_pull, task_numbered}

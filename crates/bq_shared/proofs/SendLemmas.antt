@@ -9,7 +9,7 @@ use Rattle.bq_disc.specs.declared.queue.RunQueue as Queue
 use Rattle.bq_disc.specs.declared.discipline.Discipline
 use Rattle.bq_bpf.proofs.board.Call.TheSendSync as call
 use Rattle.bq_hooks.proofs.loads.Loads.TheSendSync as loads
-use Rattle.bq_policies.proofs.scratch.Scratch.TheSendSync as scratch
+use Rattle.bq_installed.proofs.scratch.Scratch.TheSendSync as scratch
 use Rattle.bq_parts.proofs.SendLemmas.{cpu_send}
 use Rattle.bq_shared.proofs.answer.PackedAnswer.TheSendSync as answer
 use Rattle.bq_parts.proofs.event.Event.TheSendSync as event

@@ -2,8 +2,8 @@
 ghost use Rattle.std.specs.Prelude.{◌≡◌, IfOk, OnErr, IsTrue, is_some};
 ghost use Rattle.bq_shared.specs.Events.{CarriesPolicy};
 
+use bq_installed::Policy;
 use bq_parts::Event;
-use bq_policies::Policy;
 use std::alloc::AllocError;
 
 /// The same event once more. There is an error only where its policy would then stand in more places than can be

@@ -4,8 +4,8 @@ use crate::law::{JournalState, WorldPart};
 use crate::record::Record;
 use bq_disc::RunQueue;
 use bq_history::{AsPart, Holds, Locked, Placed};
+use bq_installed::Scratch;
 use bq_parts::{Cpu, Inbox, Lobby};
-use bq_policies::Scratch;
 
 /// What lies under a lock: content with the holder of its part.
 pub type UnderLock<A, N> = Locked<A, Record, WorldPart, JournalState, N>;

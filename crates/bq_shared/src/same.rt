@@ -1,8 +1,8 @@
 //! Whether two events, replies or answers are the same by their contents.
 ghost use Rattle.std.specs.Prelude.{◌≡◌, ◌↔◌, IsTrue};
 
+use bq_installed::Policy;
 use bq_parts::{Event, Refusal, Reply};
-use bq_policies::Policy;
 
 /// Whether both are the same event; policies are the same where what was accepted of them is: instructions, shapes of maps, hook,
 /// version and budget.

@@ -9,8 +9,8 @@ ghost use Rattle.bq_trace.specs.News.{Gets};
 use crate::drive_fault::DriveFault;
 use crate::driver::Driver;
 use bq_hooks::Hook;
+use bq_installed::Policy;
 use bq_parts::{Event, Reply};
-use bq_policies::Policy;
 use bq_trace::Sink;
 use std::alloc::Global;
 

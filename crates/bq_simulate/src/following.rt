@@ -16,7 +16,7 @@ use crate::fault::SimulateFault;
 use crate::simulation::Simulation;
 use crate::tally::Tally;
 use bq_actions::{Pace, Roster, Setup, Workload, most_steps, soundness};
-use bq_policies::Policy;
+use bq_installed::Policy;
 use bq_trace::Sink;
 use std::alloc::Global;
 

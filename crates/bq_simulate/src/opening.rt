@@ -11,7 +11,7 @@ ghost use Rattle.bq_words.specs.Sizes.{processors_in};
 use crate::fault::SimulateFault;
 use crate::simulation::Simulation;
 use bq_actions::{Course, Due, Stream, TaskKind, Workload, first_of_mask};
-use bq_policies::Policy;
+use bq_installed::Policy;
 use bq_trace::Sink;
 use std::alloc::Global;
 

@@ -9,8 +9,8 @@ ghost use Rattle.bq_study.specs.Standing.{Adds, AreOfTheirImages, image_for};
 ghost use Rattle.bq_study.specs.Taking.{IsNone, IsRead, IsTold, IsToldOf, IsToldOfImage, Takes};
 
 use bq_hooks::Hook;
+use bq_installed::Policy;
 use bq_load::{LoadFault, load};
-use bq_policies::Policy;
 use bq_policy_commands::{HOOK_UNSAID, fault_reason};
 use bq_program::{Head, read_policy};
 use bq_simulate::Images;

@@ -7,10 +7,10 @@ use crate::any_core::AnyCore;
 use crate::sink::Sink;
 use crate::telling;
 use bq_hooks::Hook;
+use bq_installed::Policy;
 use bq_lines::HexWord;
 use bq_load::{LoadFault, load};
 use bq_parts::Event;
-use bq_policies::Policy;
 use std::alloc::{AllocError, Global};
 
 /// An image that is to be installed, spelled in hex: the processor, the hook and the number under which it comes there.

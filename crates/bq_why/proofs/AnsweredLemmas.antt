@@ -2,7 +2,7 @@
 use Rattle.std.proofs.Common.{◌≡◌, ℕ, Option, Some, None, refl, subst}
 use Rattle.bq_verify.specs.Accepted.{Accepted}
 use Rattle.bq_interp.specs.declared.runs.Done.{Done}
-use Rattle.bq_policies.specs.Standing.{HasAnswered, WasAnswered}
+use Rattle.bq_installed.specs.Standing.{HasAnswered, WasAnswered}
 
 -- what is remembered of a policy that stands is an answer which it gave, in so many steps
 pub answered_by : (p : Option Accepted) (d : Done) (steps : ℕ) → d.steps ≡ steps → WasAnswered p (Some d) → (policy : Accepted) × (p ≡ Some policy) × HasAnswered policy (record { r0 = d.r0; steps = steps })

@@ -4,8 +4,8 @@ use Rattle.std.proofs.lemmas.List.{length-set}
 use Rattle.bq_hooks.specs.declared.hook.Hook.{Hook}
 use Rattle.bq_disc.specs.Discipline.{Discipline}
 use Rattle.bq_verify.specs.Accepted.{Accepted}
-use Rattle.bq_policies.specs.Answers.{fresh_maps}
-use Rattle.bq_policies.specs.Attachments.{Attached, IsFor}
+use Rattle.bq_installed.specs.Answers.{fresh_maps}
+use Rattle.bq_installed.specs.Attachments.{Attached, IsFor}
 use Rattle.bq_parts.specs.declared.event.Event.TheVariants.{Install}
 use Rattle.bq_parts.specs.declared.reply.Reply.{Reply}
 use Rattle.bq_parts.specs.declared.refusal.Refusal.{Refusal}

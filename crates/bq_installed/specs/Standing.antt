@@ -1,0 +1,54 @@
+-- What may stand at a hook: nothing, or a policy that was accepted for it, with maps of its shapes.
+use Rattle.std.specs.Prelude.{◌≡◌, ℕ, ◌^◌, ◌<◌, List, length, slice_index, Option, Some, None}
+use Rattle.bq_bpf.specs.Memory.{HaveShapes}
+use Rattle.bq_hooks.specs.declared.hook.Hook.{Hook}
+use Rattle.bq_verify.specs.Accepted.{Accepted, IsAccepted}
+use Rattle.bq_hooks.specs.Hooks.{context_length_of}
+use Rattle.bq_bpf.specs.declared.board.Call.{Call as Asked}
+use Rattle.bq_interp.specs.declared.runs.Done.{Done}
+use Rattle.bq_installed.specs.Answers.{Answers, IsWithin}
+use Rattle.bq_installed.specs.Attachments.{Attached, Attachments, at_hook, IsFor}
+
+-- the policy is within the limits of images, and safe within its budget
+abbrev pub WasAccepted : Accepted → Type 0
+WasAccepted policy = IsAccepted policy.slots policy.shapes (context_length_of policy.hook policy.version) policy.budget
+
+-- there is no policy; or it was accepted, and these maps are of its shapes
+abbrev pub IsEquipped : Option Accepted → List (List ℕ) → Type 0
+IsEquipped None maps = Unit {0}
+IsEquipped (Some policy) maps = WasAccepted policy × HaveShapes policy.shapes maps
+
+-- and it was accepted for that hook
+abbrev pub MayStand : Hook → Attached → Type 0
+MayStand hook attached = IsFor hook attached.policy × IsEquipped attached.policy attached.maps
+
+-- whatever stands at the hooks of a processor may stand there
+abbrev pub AreReady : Attachments → Type 0
+AreReady hooks = (hook : Hook) → MayStand hook (at_hook hook hooks)
+
+-- a policy was accepted, and is shown a context of its length, maps of its shapes, a clock reading and a processor's number
+pub record IsAsked (policy : Accepted) (context : List ℕ) (maps : List (List ℕ)) (now processor : ℕ) : Type 0 where
+  pub accepted : WasAccepted policy
+  pub long : length context ≡ context_length_of policy.hook policy.version
+  pub bytes : (i : ℕ) → slice_index context i < 256
+  pub shapes : HaveShapes policy.shapes maps
+  pub now_fits : now < 2 ^ 64
+  pub processor_fits : processor < 2 ^ 32
+
+-- a run of the policy on what it is shown gives that answer, in so many steps
+pub record HasAnswered (policy : Accepted) (done : Done) : Type 0 where
+  pub context : List ℕ
+  pub maps : List (List ℕ)
+  pub left : List (List ℕ)
+  pub now : ℕ
+  pub processor : ℕ
+  pub calls : List Asked
+  pub asked : IsAsked policy context maps now processor
+  pub answers : Answers policy context maps now processor done.r0 left done.steps calls
+  pub within : IsWithin policy done.steps calls
+
+-- what is remembered of a policy is an answer of that policy; where none stands, nothing is
+abbrev pub WasAnswered : Option Accepted → Option Done → Type 0
+WasAnswered policy None = Unit {0}
+WasAnswered None (Some done) = ⊥
+WasAnswered (Some policy) (Some done) = HasAnswered policy done

@@ -1,0 +1,219 @@
+//! What stands at one hook.
+ghost use Rattle.std.specs.Prelude.{◌≡◌, true, length, Some, None, IfErr, IfOk, IfSome, is_some};
+ghost use Rattle.std.specs.Option.{option_map};
+ghost use Rattle.bq_bpf.specs.Counters.{Through};
+ghost use Rattle.bq_hooks.specs.Hooks.{context_length_of};
+ghost use Rattle.bq_bpf.specs.Memory.{HaveShapes};
+ghost use Rattle.bq_installed.specs.Answers.{Answers, IsWithin, fresh_maps};
+ghost use Rattle.bq_installed.specs.Standing.{IsEquipped, WasAnswered};
+ghost use Rattle.bq_installed.specs.Attachments.{nothing_attached};
+
+use crate::{Policy, Scratch};
+use bq_bpf::Board;
+use bq_hooks::Version;
+use bq_interp::{Done, Env, run_into};
+use bq_maps::Maps;
+use std::alloc::{AllocError, Global};
+use std::marker::Model;
+
+/// A policy or none, its generation, and the policy's own maps. The generation is 0 where nothing was installed yet. It also
+/// remembers what the policy answered last; contracts see no state in that.
+#[derive(Drop)]
+pub struct Installed {
+    equipped: Option<Equipped>,
+    generation: u64,
+    answered: Option<Done>,
+}
+
+impl Model for Installed {
+    ghost use Rattle.bq_installed.specs.Attachments.{Attached, policy_in, maps_in};
+    ghost use Rattle.bq_installed.specs.Standing.{IsEquipped, WasAnswered};
+
+    ghost Value = { Attached };
+
+    ghost view = { λ i. record { policy = policy_in i.equipped; generation = i.generation; maps = maps_in i.equipped } };
+
+    ghost invariant = { λ i. IsEquipped (policy_in i.equipped) (maps_in i.equipped) × WasAnswered (policy_in i.equipped) i.answered };
+}
+
+impl Installed {
+    /// Nothing.
+    pub fn nothing() -> Installed
+        ensures { result ≡ nothing_attached }
+    {
+        Installed {
+            equipped: None,
+            generation: 0,
+            answered: None,
+        }
+    }
+
+    /// A policy or none, as this generation, with maps of zeros. Want of memory for the maps is the only error, so nothing that
+    /// is no policy is refused.
+    pub fn new(
+        alloc: Global,
+        policy: Option<Policy>,
+        generation: u64,
+    ) -> Result<Installed, AllocError>
+        ensures installed { IfOk result (λ i. i ≡ record { policy = policy; generation = generation; maps = fresh_maps policy }) }
+        ensures want { IfErr result (λ e. is_some policy ≡ true) }
+    {
+        let equipped = match policy {
+            None => None,
+            Some(policy) => Some(Equipped::new(alloc, policy)?),
+        };
+        Ok(Installed {
+            equipped,
+            generation,
+            answered: None,
+        })
+    }
+
+    /// Its generation.
+    pub fn generation(&self) -> u64
+        ensures value { result ≡ self.now.generation }
+        ensures equipped { IsEquipped self.now.policy self.now.maps }
+    {
+        self.generation
+    }
+
+    /// It is this generation from now on. So its maps can be made before the number is drawn.
+    pub fn set_generation(&mut self, generation: u64)
+        ensures { self.new ≡ record self.old { generation = generation } }
+    {
+        self.generation = generation;
+    }
+
+    /// What stands here is gone, and this stands here instead.
+    pub(crate) fn give_way_to(&mut self, installed: Installed)
+        ensures { self.new ≡ installed }
+    {
+        *self = installed;
+    }
+
+    /// The policy, if one stands here.
+    pub fn policy(&self) -> Option<&Policy>
+        ensures { option_map (λ p. p.now) result ≡ self.now.policy }
+    {
+        match &self.equipped {
+            None => None,
+            Some(equipped) => Some(equipped.policy()),
+        }
+    }
+
+    /// The version of the policy's image; `None` where no policy stands.
+    #[inline(always)]
+    pub fn version(&self) -> Option<Version>
+        ensures { result ≡ option_map (λ p. p.version) self.now.policy }
+    {
+        match &self.equipped {
+            None => None,
+            Some(equipped) => Some(equipped.version()),
+        }
+    }
+
+    /// What the policy answered when it was asked last: a run of it on some context gives so, in so many steps. `None` where it
+    /// was not asked since it was installed.
+    pub fn answered(&self) -> Option<Done>
+        ensures { WasAnswered self.now.policy result }
+    {
+        self.answered
+    }
+
+    /// What the policy answers on a context, and in how many steps. Its maps are then as it left them, and the list of
+    /// the scratch space holds its calls of counters. It takes no memory, and ends within the policy's budget.
+    pub fn ask<B: Board>(
+        &mut self,
+        context: &[u8],
+        env: Env,
+        scratch: &mut Scratch,
+        board: &mut B,
+    ) -> Done
+        requires there { is_some self.old.policy ≡ true }
+        requires context { IfSome self.old.policy (λ p. length context.now ≡ context_length_of p.hook p.version) }
+        ensures answers { IfSome self.old.policy (λ p. Answers p context.now self.old.maps env.now env.processor result.r0 self.new.maps result.steps scratch.new) }
+        ensures within { IfSome self.old.policy (λ p. IsWithin p result.steps scratch.new) }
+        ensures shapes { IfSome self.old.policy (λ p. HaveShapes p.shapes self.new.maps) }
+        ensures stays { self.new ≡ record self.old { maps = self.new.maps } }
+        ensures board { Through B.leads board.old scratch.new board.new }
+    {
+        let Some(equipped) = &mut self.equipped else {
+            unreachable!()
+        };
+        let done = equipped.ask(context, env, scratch, board);
+        self.answered = Some(done);
+        done
+    }
+}
+
+/// A policy with maps of its own.
+#[derive(Drop)]
+pub struct Equipped {
+    policy: Policy,
+    maps: Maps,
+}
+
+impl Model for Equipped {
+    ghost use Rattle.std.specs.Prelude.{◌≡◌, List, ℕ};
+    ghost use Rattle.bq_verify.specs.Accepted.{Accepted};
+
+    ghost Value = { Accepted × List (List ℕ) };
+
+    ghost view = { λ e. (e.policy, e.maps.bytes) };
+
+    ghost invariant = { λ e. e.maps.shapes ≡ e.policy.shapes };
+}
+
+impl Equipped {
+    /// The policy, with maps of zeros.
+    fn new(alloc: Global, policy: Policy) -> Result<Equipped, AllocError>
+        ensures policy { IfOk result (λ e. e.0 ≡ policy) }
+        ensures maps { IfOk result (λ e. e.1 ≡ fresh_maps (Some policy)) }
+        ensures equipped { IfOk result (λ e. IsEquipped (Some e.0) e.1) }
+    {
+        let maps = Maps::new(alloc, policy.program().shapes())?;
+        let _sizes = maps.shapes();
+        Ok(Equipped { policy, maps })
+    }
+
+    fn policy(&self) -> &Policy
+        ensures { result.now ≡ self.now.0 }
+    {
+        &self.policy
+    }
+
+    fn version(&self) -> Version
+        ensures { result ≡ self.now.0.version }
+    {
+        self.policy.version()
+    }
+
+    /// What the policy answers.
+    fn ask<B: Board>(
+        &mut self,
+        context: &[u8],
+        env: Env,
+        scratch: &mut Scratch,
+        board: &mut B,
+    ) -> Done
+        requires context { length context.now ≡ context_length_of self.old.0.hook self.old.0.version }
+        ensures answers { Answers self.old.0 context.now self.old.1 env.now env.processor result.r0 self.new.1 result.steps scratch.new }
+        ensures within { IsWithin self.old.0 result.steps scratch.new }
+        ensures equipped { IsEquipped (Some self.new.0) self.new.1 }
+        ensures policy { self.new.0 ≡ self.old.0 }
+        ensures board { Through B.leads board.old scratch.new board.new }
+    {
+        let done = run_into(
+            self.policy.program(),
+            context,
+            &mut self.maps,
+            &mut scratch.stack,
+            env,
+            board,
+            &mut scratch.calls,
+        );
+        let _few = scratch.calls();
+        let _sizes = self.maps.shapes();
+        done
+    }
+}
