@@ -5,8 +5,8 @@ use Rattle.std.proofs.Common.{Global}
 use Rattle.bq_comparison.specs.declared.naming.Figure.{Figure}
 use Rattle.bq_comparison.specs.declared.naming.Figure.TheVariants.{Task, Latency, Processor, Hook}
 use Rattle.bq_comparison.specs.declared.summing.FigureRow.{FigureRow}
-use Rattle.bq_forms.specs.declared.window.Window.{Window}
-use Rattle.bq_forms.specs.Windows.{ShowsProcessor, ShowsTask}
+use Rattle.bq_report.specs.declared.window.Window.{Window}
+use Rattle.bq_report.specs.Windows.{ShowsProcessor, ShowsTask}
 use Rattle.bq_comparison.specs.declared.line.FigureLine.{FigureLine}
 
 abbrev pub row_at : Option (Vec FigureRow Global) → ℕ → Option FigureRow

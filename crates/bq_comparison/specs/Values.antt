@@ -3,7 +3,7 @@ use Rattle.std.specs.Prelude.{◌≡◌, ℕ, List, Option, Some, IsPermutation,
 use Rattle.std.specs.Ordering.{nat_cmp}
 use Rattle.bq_hooks.specs.declared.hook.Hook.{Hook}
 use Rattle.bq_hooks.specs.declared.hook.Hook.TheVariants as hook
-use Rattle.bq_forms.specs.Columns.{nearest}
+use Rattle.bq_report.specs.Columns.{nearest}
 use Rattle.bq_schedule.specs.declared.figures.HookFigures.{HookFigures}
 use Rattle.bq_schedule.specs.Figures.{Figures, processor_of, task_of}
 use Rattle.bq_schedule.specs.Passing.{idle_of}

@@ -4,7 +4,7 @@ ghost use Rattle.bq_comparison.specs.Lines.{IsShown, Selects, beside, is_nothing
 
 use crate::sides::Sides;
 use crate::{Figure, FigureRow};
-use bq_forms::Window;
+use bq_report::Window;
 use std::alloc::{AllocError, Global};
 
 /// What the runs say of a figure, and what those under the other policies say, if there are any.

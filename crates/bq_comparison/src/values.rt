@@ -4,8 +4,8 @@ ghost use Rattle.bq_schedule.specs.WakeLatencies.{latencies_of};
 ghost use Rattle.bq_comparison.specs.Values.{AreReordered, IsPercentile, IsValue, hook_value, percentile_value, processor_value, task_value};
 
 use crate::naming::{Figure, HookFigure, LatencyFigure, ProcessorFigure, TaskFigure};
-use bq_forms::tables::nanoseconds;
 use bq_hooks::Hook;
+use bq_report::tables::nanoseconds;
 use bq_schedule::{Percentiles, Schedule, WakeLatencies};
 
 /// The value of a figure in a schedule in which tasks had these latencies. A latency of a task that had none has no value. It

@@ -2,7 +2,7 @@
 use Rattle.std.specs.Prelude.{ℕ, ◌-◌, List, ◌++◌, codes}
 use Rattle.std.specs.Fmt.{decimal}
 use Rattle.bq_schedule.specs.declared.slice.Slice.{Slice}
-use Rattle.bq_forms.specs.Amounts.{micros_text}
+use Rattle.bq_report.specs.Amounts.{micros_text}
 
 -- a complete event (X) on the track of its processor, from its beginning on and as long as it, with this name and these
 -- arguments, each JSON already

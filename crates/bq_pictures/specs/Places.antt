@@ -1,7 +1,7 @@
 -- Where a moment lies in the picture.
 use Rattle.std.specs.Prelude.{ℕ, ◌+◌, ◌-◌, ◌*◌, ◌/◌, ◌%◌, max, min, List, ◌++◌, codes}
 use Rattle.std.specs.Fmt.{decimal}
-use Rattle.bq_forms.specs.declared.extent.Extent.{Extent}
+use Rattle.bq_report.specs.declared.extent.Extent.{Extent}
 
 -- how far from the left edge, in hundredths: 72, and of 1080 so much as of the extent has passed; the end for what is later
 abbrev pub place_of : Extent → ℕ → ℕ

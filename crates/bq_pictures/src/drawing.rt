@@ -11,7 +11,7 @@ use crate::shapes::{
     BAND, DrawnRun, LANE, LEVEL, write_row_name, write_run, write_wait, write_wake,
 };
 use crate::unit::TimeUnit;
-use bq_forms::{Extent, Names, Roster, Window, round_step};
+use bq_report::{Extent, Names, Roster, Window, round_step};
 use bq_schedule::{Slice, Start, Wake};
 use std::alloc::{AllocError, Global};
 use std::collections::{BTreeMap, BTreeSet};

@@ -2,7 +2,7 @@
 ghost use Rattle.std.specs.Prelude.{◌≡◌, IfOk, string_bytes};
 ghost use Rattle.bq_pictures.specs.Events.{run_event};
 
-use bq_forms::Micros;
+use bq_report::Micros;
 use bq_schedule::{ClockReading, Decision, Slice};
 use std::alloc::{AllocError, Global};
 

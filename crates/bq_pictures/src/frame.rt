@@ -4,7 +4,7 @@ use crate::colours::COLOURS;
 use crate::escaped::Escaped;
 use crate::scale::Scale;
 use crate::unit::{Amount, TimeUnit};
-use bq_forms::{Names, Roster};
+use bq_report::{Names, Roster};
 use std::alloc::AllocError;
 
 /// What the shapes of a picture share: where a moment lies, the unit of each time, and the colours and the names of tasks.

@@ -4,7 +4,7 @@ use crate::events::{
     write_overruled, write_tracks,
 };
 use bq_disc::limits::PROCESSORS;
-use bq_forms::{Label, Names, ScheduleForm, Window};
+use bq_report::{Label, Names, ScheduleForm, Window};
 use bq_schedule::{Change, ClockReading, Decision, PulledTask, Schedule, Slice, Start, Wake};
 use serde_json::{Value, json};
 use std::alloc::{AllocError, Global};

@@ -2,7 +2,7 @@
 ghost use Rattle.std.specs.Prelude.{◌≡◌, Some};
 ghost use Rattle.bq_pictures.specs.Places.{place_of, width_of, hundredths};
 
-use bq_forms::Extent;
+use bq_report::Extent;
 use std::fmt;
 
 /// Hundredths of a unit of the picture.

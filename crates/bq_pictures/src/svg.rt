@@ -11,7 +11,7 @@ use crate::scale::PAGE;
 use crate::sheet::{write_hatches, write_styles};
 use crate::theme::Theme;
 use bq_disc::limits::{PROCESSORS, TASKS};
-use bq_forms::{Extent, Names, Roster, ScheduleForm, Window};
+use bq_report::{Extent, Names, Roster, ScheduleForm, Window};
 use bq_schedule::{Change, PulledTask, Schedule, Slice, Start, Stop, Wake};
 use bq_words::Rule;
 use std::alloc::{AllocError, Global};

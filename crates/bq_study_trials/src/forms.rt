@@ -2,7 +2,7 @@
 
 use crate::cases::holds;
 use crate::steps::{Step, shown_between, shows};
-use bq_forms::{Csv, Json, Map, Names, Report, Timehist, Window};
+use bq_report::{Csv, Json, Map, Names, Report, Timehist, Window};
 use std::alloc::{AllocError, Global};
 use std::process::Abort;
 

@@ -2,9 +2,9 @@
 
 use crate::cases::holds;
 use crate::steps::{Step, shown, shown_all};
-use bq_forms::{ScheduleForm, Window};
 use bq_hooks::By;
 use bq_pictures::{Look, Perfetto, Svg, Theme};
+use bq_report::{ScheduleForm, Window};
 use bq_words::Rule;
 use std::alloc::{AllocError, Global};
 use std::test::Fail;

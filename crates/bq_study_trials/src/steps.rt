@@ -1,9 +1,9 @@
 //! The steps of small traces, each an event and its answer, and what a form shows of one.
 
 use crate::cases::holds;
-use bq_forms::{Names, ScheduleForm};
 use bq_hooks::By;
 use bq_parts::{Event, Refusal, Reply};
+use bq_report::{Names, ScheduleForm};
 use bq_schedule::{Change, Schedule};
 use std::alloc::{AllocError, Global};
 use std::process::Abort;

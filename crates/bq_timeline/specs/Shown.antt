@@ -1,6 +1,6 @@
 -- The form in which a schedule is shown.
 use Rattle.std.specs.Prelude.{◌≡◌, Bool, true, false, Option, Some, None, IfSome}
-use Rattle.bq_forms.specs.declared.window.Window.{Window}
+use Rattle.bq_report.specs.declared.window.Window.{Window}
 use Rattle.bq_timeline.specs.declared.form_names.FormName.{FormName}
 use Rattle.bq_timeline.specs.declared.form_names.FormName.TheVariants as named
 use Rattle.bq_timeline.specs.declared.settings.Settings.{Settings}

@@ -2,8 +2,8 @@
 ghost use Rattle.bq_timeline.specs.Shown.{IsShown};
 
 use crate::form_names::FormName;
-use bq_forms::{Csv, Json, Map, Names, Report, ScheduleForm, Timehist, Window};
 use bq_pictures::{Look, Perfetto, Svg};
+use bq_report::{Csv, Json, Map, Names, Report, ScheduleForm, Timehist, Window};
 use bq_schedule::{Change, Schedule};
 use bq_why::Why;
 use bq_words::Rule;

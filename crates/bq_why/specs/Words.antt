@@ -2,7 +2,7 @@
 use Rattle.std.specs.Prelude.{◌^◌, ◌-◌, ℕ, min, nat_lt, if◌then◌else◌, Bool, true, false, List, ◌++◌, Option, Some, None, codes}
 use Rattle.bq_parts.specs.declared.event.Event.{Event}
 use Rattle.bq_parts.specs.declared.event.Event.TheVariants.{EndWake, Drain, Tick, Block, Pull}
-use Rattle.bq_forms.specs.Amounts.{millis_text}
+use Rattle.bq_report.specs.Amounts.{millis_text}
 use Rattle.bq_words.specs.declared.rule.Rule.{Rule}
 use Rattle.bq_words.specs.declared.rule.Rule.TheVariants.{Cfs, Eevdf}
 use Rattle.bq_why.specs.declared.table.TaskRow.{TaskRow}

@@ -2,7 +2,7 @@
 //! form `why`, which says so in words. And why a line of a trace is bad.
 //! Promises that what it calls eligible is eligible by the definition, that the choice, the mean and the task passed over that it
 //! names are the definition's, that a pull's sizes and tasks are, and that it names a policy exactly where the answer does.
-//! Stands on the definitions of the two disciplines, on a trace's machine, and on the words of bq_forms.
+//! Stands on the definitions of the two disciplines, on a trace's machine, and on the words of bq_report.
 #![tactic(auto)]
 
 pub mod answers;

@@ -3,8 +3,8 @@
 use crate::asked::Asked;
 use crate::pulling::{OwnPull, PullSight};
 use crate::words_of::Who;
-use bq_forms::Names;
 use bq_hooks::{By, Hook};
+use bq_report::Names;
 use std::alloc::AllocError;
 
 /// Adds where a woken task is placed, and why.

@@ -5,7 +5,7 @@ use crate::reasons::with_number;
 use crate::rivals::{passed_over, tied_with};
 use crate::words_of::{Virtual, Who};
 use bq_disc::Entity;
-use bq_forms::{Millis, Names};
+use bq_report::{Millis, Names};
 use bq_words::Rule;
 use std::alloc::AllocError;
 

@@ -4,7 +4,7 @@ ghost use Rattle.bq_why.specs.Words.{lag_text, sign_of, eligibility, standing_te
 
 use crate::table::TaskRow;
 use bq_disc::limits::FIRST_MARK;
-use bq_forms::{Millis, Names};
+use bq_report::{Millis, Names};
 use bq_words::Rule;
 use std::fmt;
 

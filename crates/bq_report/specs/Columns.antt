@@ -1,0 +1,105 @@
+-- Text in columns, as `{:>9}` and the like write it.
+use Rattle.std.specs.Prelude.{ℕ, ◌-◌, ◌*◌, ◌/◌, ◌%◌, ◌^◌, ◌==◌, min, ℤ, List, [], ◌++◌, if◌then◌else◌, Option, Some, None, unwrap_or, codes}
+use Rattle.std.specs.Fmt.{format_spec, styled_decimal, styled_signed_decimal, styled_text}
+use Rattle.bq_schedule.specs.declared.change.Start.{Start}
+use Rattle.bq_schedule.specs.declared.figures.TaskFigures.{TaskFigures}
+use Rattle.bq_schedule.specs.declared.figures.HookFigures.{HookFigures}
+use Rattle.bq_schedule.specs.declared.figures.ProcessorFigures.{ProcessorFigures}
+use Rattle.bq_parts.specs.Counts.{counted}
+use Rattle.bq_schedule.specs.Counts.{counted_wide, parts}
+use Rattle.bq_schedule.specs.Passing.{idle_of}
+use Rattle.bq_schedule.specs.declared.percentiles.Percentiles.{Percentiles}
+use Rattle.bq_report.specs.Amounts.{three_decimals}
+
+-- a number at the right end of so many columns
+abbrev pub right : ℕ → ℕ → List ℕ
+right width n = styled_decimal (format_spec 32 3 0 width (2 ^ 64 - 1)) n
+
+abbrev pub right_signed : ℕ → ℤ → List ℕ
+right_signed width z = styled_signed_decimal (format_spec 32 3 0 width (2 ^ 64 - 1)) z
+
+-- the same with zeros before it
+abbrev pub zeros : ℕ → ℕ → List ℕ
+zeros width n = styled_decimal (format_spec 32 0 4 width (2 ^ 64 - 1)) n
+
+-- a text at the left end of so many columns, and cut where it has more characters
+abbrev pub left : ℕ → List ℕ → List ℕ
+left width text = styled_text (format_spec 32 1 0 width width) text
+
+-- thousandths, as a number with three decimals, its whole part at the right end of so many columns
+abbrev pub thousandths_in : ℕ → ℕ → List ℕ
+thousandths_in width n = right width (n / 1000) ++ (codes "." ++ three_decimals n)
+
+-- the same in a cell: a space stands before it, so cells stay apart however long the number is
+abbrev pub cell : ℕ → ℕ → List ℕ
+cell width n = codes " " ++ right width n
+
+abbrev pub thousandths_cell : ℕ → ℕ → List ℕ
+thousandths_cell width n = codes " " ++ thousandths_in width n
+
+-- a task by its number and its name
+abbrev pub task_columns : ℕ → List ℕ → List ℕ
+task_columns task name = right 5 task ++ (codes " " ++ left 14 name)
+
+-- a time in nanoseconds, in milliseconds
+abbrev pub millis_column : ℕ → List ℕ
+millis_column time = thousandths_cell 8 (time / 1000)
+
+-- a latency in nanoseconds, in microseconds
+abbrev pub latency_column : Option ℕ → List ℕ
+latency_column None = codes "           -"
+latency_column (Some latency) = thousandths_cell 7 latency
+
+-- the line of a task: its nice value, its time, its fair time, and how often it began to run, gave way and migrated
+abbrev pub task_line : ℕ → List ℕ → TaskFigures → ℕ → List ℕ
+task_line task name figures fair =
+    task_columns task name ++ (right_signed 5 figures.nice ++ (millis_column figures.time ++ (millis_column fair
+    ++ (cell 8 figures.switches ++ (cell 9 figures.preemptions ++ (cell 8 figures.migrations ++ codes "\n"))))))
+
+abbrev pub latency_columns : Percentiles → List ℕ
+latency_columns p = latency_column p.p50 ++ (latency_column p.p95 ++ (latency_column p.p99 ++ (latency_column p.greatest ++ codes "\n")))
+
+-- the line of a task's latencies
+abbrev pub latency_line : ℕ → List ℕ → ℕ → Percentiles → List ℕ
+latency_line task name wakes p = task_columns task name ++ (cell 9 wakes ++ latency_columns p)
+
+-- the line of a hook of a processor
+abbrev pub hook_line : ℕ → List ℕ → HookFigures → List ℕ
+hook_line processor name h =
+    right 5 processor ++ (codes " " ++ (left 8 name ++ (cell 12 h.asked ++ (cell 10 h.overruled ++ (cell 14 h.steps ++ codes "\n")))))
+
+-- how much of a whole a part is, in hundredths of a percent: of nothing every part is 0
+abbrev pub hundredths_of : ℕ → ℕ → ℕ
+hundredths_of part whole = if whole == 0 then 0 else part * 10000 / whole
+
+abbrev pub percent_text : ℕ → ℕ → List ℕ
+percent_text part whole = right 3 (hundredths_of part whole / 100) ++ (codes "." ++ zeros 2 (hundredths_of part whole % 100))
+
+-- the line of a processor: how much of its time a task ran
+abbrev pub processor_line : ℕ → ProcessorFigures → List ℕ
+processor_line processor p =
+    right 5 processor ++ (codes "  " ++ (percent_text p.busy (counted p.busy (idle_of p))
+    ++ (millis_column p.busy ++ (millis_column (idle_of p) ++ (cell 8 p.switches ++ codes "\n")))))
+
+-- the lines of the hooks of a processor at which a policy was asked
+abbrev pub hook_line_if : ℕ → List ℕ → HookFigures → List ℕ
+hook_line_if processor name h = if h.asked == 0 then [] else hook_line processor name h
+
+abbrev pub hook_lines : ℕ → ProcessorFigures → List ℕ
+hook_lines processor p =
+    hook_line_if processor (codes "place") p.place ++ (hook_line_if processor (codes "preempt") p.preempt ++ hook_line_if processor (codes "pull") p.pull)
+
+-- parts of a nanosecond as the nearest number of nanoseconds
+abbrev pub nearest : ℕ → ℕ
+nearest n = min (counted_wide n 500000000000 / parts) (2 ^ 64 - 1)
+
+-- a moment in nanoseconds, in seconds, and a processor
+abbrev pub moment_columns : ℕ → ℕ → List ℕ
+moment_columns at processor =
+    right 8 (at / 1000000000) ++ (codes "." ++ (zeros 6 (at / 1000 % 1000000) ++ (codes " [" ++ (zeros 4 processor ++ codes "]  "))))
+
+-- a run that began so and ends at this moment: how long it had waited, its latency where it has one, how long it is
+abbrev pub run_columns : Start → ℕ → List ℕ → List ℕ
+run_columns start at name =
+    moment_columns at start.processor ++ (task_columns start.task name
+    ++ (thousandths_cell 6 (start.waited / 1000) ++ (thousandths_cell 6 (unwrap_or start.latency 0 / 1000) ++ thousandths_cell 6 ((at - start.at) / 1000))))

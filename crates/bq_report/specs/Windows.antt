@@ -1,0 +1,41 @@
+-- What is shown of a schedule.
+use Rattle.std.specs.Prelude.{◌≡◌, ℕ, ◌<◌, ◌≤◌, max, min, ◌⊎◌, [], Contains, Option, Some, None, IsTrue}
+use Rattle.std.specs.Option.{SomeIff}
+use Rattle.bq_disc.specs.Masks.{allows}
+use Rattle.bq_schedule.specs.declared.slice.Slice.{Slice}
+use Rattle.bq_report.specs.declared.window.Window.{Window}
+
+-- a processor is among some that are given by bits
+pub record IsIn (processors p : ℕ) : Type 0 where
+  pub is_number : p < 64
+  pub is_chosen : IsTrue (allows processors p)
+
+-- a processor is shown
+abbrev pub ShowsProcessor : Window → ℕ → Type 0
+ShowsProcessor w p = IsIn w.processors p
+
+-- a task is shown: it is named, or none is
+abbrev pub ShowsTask : Window → ℕ → Type 0
+ShowsTask w t = (w.tasks.items ≡ []) ⊎ Contains w.tasks.items t
+
+-- something is shown that happens to a task at a processor at a moment
+pub record Shows (w : Window) (p t at : ℕ) : Type 0 where
+  pub begun : w.from ≤ at
+  pub not_over : at ≤ w.to
+  pub processor : ShowsProcessor w p
+  pub task : ShowsTask w t
+
+-- the part of a run that lies in the window
+abbrev pub part_of : Window → Slice → Slice
+part_of w s = record s { from = max s.from w.from; to = min s.to w.to }
+
+-- a part of a run is shown
+pub record ShowsPart (w : Window) (s : Slice) : Type 0 where
+  pub lasts : (part_of w s).from < (part_of w s).to
+  pub processor : ShowsProcessor w s.processor
+  pub task : ShowsTask w s.task
+
+-- the part of a slice that is shown, where there is a slice and any of it is shown
+abbrev pub IsShownPart : Window → Option Slice → Option Slice → Type 0
+IsShownPart w None part = part ≡ None
+IsShownPart w (Some s) part = SomeIff part (ShowsPart w s) (part_of w s)

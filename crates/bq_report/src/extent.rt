@@ -1,0 +1,47 @@
+//! The stretch of time that a picture is drawn over.
+ghost use Rattle.std.specs.Prelude.{◌≡◌, ◌-◌, ◌≤◌, IfSome, IfNone};
+ghost use Rattle.bq_report.specs.declared.extent.Extent.{Extent};
+ghost use Rattle.bq_report.specs.Extents.{IsInWindow, Spans};
+
+use crate::window::Window;
+use bq_disc::limits::PROCESSORS;
+use bq_schedule::Schedule;
+
+/// The stretch of time that a picture is drawn over: from the first reading of a clock to the last, of the processors that are
+/// shown, as far as the window goes. It is not empty.
+#[derive(Clone, Copy)]
+pub struct Extent {
+    pub from: u64,
+    pub to: u64,
+}
+
+impl Extent {
+    /// That of a schedule in a window. `None` where no time passes, or no clock is shown that was read.
+    pub fn of(schedule: &Schedule, window: &Window) -> Option<Extent>
+        ensures window { IfSome result (IsInWindow window.now) }
+        ensures extent { IfSome result (Spans window.now schedule.now) }
+        ensures none { IfNone result ((extent : Extent) → Spans window.now schedule.now extent → extent.to ≤ extent.from) }
+    {
+        let mut first = u64::MAX;
+        let mut last = 0;
+        for number in 0..PROCESSORS {
+            let figures = schedule.processor(number);
+            if let Some(reading) = figures.first {
+                if window.shows_processor(number) {
+                    first = first.min(reading);
+                    last = last.max(figures.last);
+                }
+            }
+        }
+        let from = first.max(window.from);
+        let to = last.min(window.to);
+        (from < to).then_some(Extent { from, to })
+    }
+
+    /// How long it is, in nanoseconds.
+    pub fn length(&self) -> u64
+        ensures { result ≡ self.now.to - self.now.from }
+    {
+        self.to.saturating_sub(self.from)
+    }
+}

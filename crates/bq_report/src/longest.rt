@@ -1,0 +1,57 @@
+//! Who ran longest between two moments.
+ghost use Rattle.std.specs.Prelude.{◌≡◌, ℕ, ◌<◌, length, slice_index, vec_len, IfOk, IfSome, IfNone};
+ghost use Rattle.bq_report.specs.Longest.{time_of, IsFirstGreatest, IsLongest};
+
+use bq_disc::limits::TASKS;
+use bq_schedule::Slice;
+use std::alloc::{AllocError, Global};
+
+/// The task that ran longest from one moment to another, of these runs; of equal ones the one of the least number. `None`
+/// where none ran.
+pub fn longest_in(
+    alloc: Global,
+    runs: &[Slice],
+    from: u64,
+    to: u64,
+) -> Result<Option<u16>, AllocError>
+    ensures longest { IfOk result (λ found. IfSome found (IsLongest from to runs.now)) }
+    ensures none { IfOk result (λ found. IfNone found ((task : ℕ) → task < 1024 → time_of from to runs.now task ≡ 0)) }
+{
+    let times = times_in(alloc, runs, from, to)?;
+    Ok(greatest(times.as_slice()))
+}
+
+/// How long each task ran from one moment to another, of these runs, at the place of its number.
+fn times_in(alloc: Global, runs: &[Slice], from: u64, to: u64) -> Result<Vec<u128>, AllocError>
+    ensures length { IfOk result (λ v. vec_len v ≡ 1024) }
+    ensures times { IfOk result (λ v. (task : ℕ) → task < 1024 → slice_index v.items task ≡ time_of from to runs.now task) }
+{
+    let mut times = vec![in alloc; 0u128; TASKS as usize]?;
+    for run in runs {
+        let time = run.to.min(to).saturating_sub(run.from.max(from));
+        let task = usize::from(run.task);
+        if task < times.len() {
+            let before = times[task];
+            times[task] = before + u128::from(time);
+        }
+    }
+    Ok(times)
+}
+
+/// The place of the greatest time, of equal ones the first. `None` where all are 0.
+fn greatest(times: &[u128]) -> Option<u16>
+    requires { length times.now ≡ 1024 }
+    ensures greatest { IfSome result (IsFirstGreatest 1024 (λ task. slice_index times.now task)) }
+    ensures none { IfNone result ((task : ℕ) → task < 1024 → slice_index times.now task ≡ 0) }
+{
+    let mut greatest = None;
+    let mut most = 0;
+    for task in 0..TASKS {
+        let time = times[usize::from(task)];
+        if time > most {
+            greatest = Some(task);
+            most = time;
+        }
+    }
+    greatest
+}

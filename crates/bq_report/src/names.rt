@@ -1,0 +1,100 @@
+//! The names that a trace's comments give to its tasks.
+ghost use Rattle.std.specs.Prelude.{◌≡◌, ℕ, List, IfSome, IfNone, OnOk, OnErr, option_map};
+ghost use Rattle.bq_report.specs.Names.{IsNaming, Learns, name_of, task_number};
+
+use bq_words::number;
+use std::alloc::{AllocError, Global};
+use std::collections::BTreeMap;
+use std::marker::Model;
+use std::{fmt, str};
+
+/// The names that a trace's comments give to its tasks.
+///
+/// After the comment `# task 4 server` task 4 is named `server`. The latest name counts.
+#[derive(Drop)]
+pub struct Names {
+    alloc: Global,
+    names: BTreeMap<u16, String>,
+}
+
+impl Model for Names {
+    ghost use Rattle.std.specs.Prelude.{ℕ, List, map, string_bytes};
+
+    ghost Value = { List (ℕ × List ℕ) };
+
+    ghost view = { λ n. map (λ e. (e.0, string_bytes e.1)) n.names.entries };
+}
+
+impl Names {
+    /// No task has a name.
+    pub fn new(alloc: Global) -> Names
+        ensures { (task : ℕ) → name_of result task ≡ None }
+    {
+        Names {
+            alloc,
+            names: BTreeMap::new(alloc),
+        }
+    }
+
+    /// Reads a comment as it stands in the trace. One that names no task is let be. Where there is no memory nothing changes.
+    pub fn learn(&mut self, comment: &[u8]) -> Result<(), AllocError>
+        ensures ok { OnOk result (Learns comment.now self.old self.new) }
+        ensures err { OnErr result ((task : ℕ) → name_of self.new task ≡ name_of self.old task) }
+    {
+        if let Some((task, name)) = naming(comment) {
+            let name = String::from_str(self.alloc, name)?;
+            self.names.insert(task, name)?;
+        }
+        Ok(())
+    }
+
+    /// The name of a task.
+    pub fn of(&self, task: u16) -> Option<&str>
+        ensures { option_map (λ name. name.now) result ≡ name_of self.now task }
+    {
+        match self.names.get(&task) {
+            Some(name) => Some(name.as_str()),
+            None => None,
+        }
+    }
+}
+
+/// The task that a comment names, and its name.
+fn naming(comment: &[u8]) -> Option<(u16, &str)>
+    ensures named { IfSome result (λ naming. IsNaming comment.now naming.0 naming.1.now) }
+    ensures none { IfNone result ((task : ℕ) (name : List ℕ) → ¬ (IsNaming comment.now task name)) }
+{
+    let rest = comment.trim_ascii().strip_prefix(b"#")?;
+    let rest = rest.trim_ascii().strip_prefix(b"task ")?;
+    let rest = rest.trim_ascii();
+    let end = rest.iter().position(|byte| *byte == b' ')?;
+    let task = task_number(&rest[..end])?;
+    let name = str::from_utf8(&rest[end..]).ok()?.trim();
+    Some((task, name))
+}
+
+/// The number of a task, in decimal.
+fn task_number(word: &[u8]) -> Option<u16>
+    ensures { result ≡ task_number word.now }
+{
+    u16::try_from(number(word, 10)?).ok()
+}
+
+/// A task by its name, or by its number where it has none.
+#[derive(Clone, Copy)]
+pub struct Label<'a> {
+    pub names: &'a Names,
+    pub task: u16,
+}
+
+impl fmt::Display for Label<'_> {
+    fn fmt<W: fmt::Write>(&self, f: &mut fmt::Formatter<W>) -> fmt::Result {
+        match self.names.of(self.task) {
+            Some(name) => write!(f, "{name}"),
+            None => {
+                let task = self.task;
+                write!(f, "task {task}")
+            }
+        }
+    }
+}

@@ -1,0 +1,161 @@
+//! The tables of a report, of at most 80 columns.
+ghost use Rattle.std.specs.Prelude.{◌≡◌, ◌++◌, OnOk, string_bytes};
+ghost use Rattle.bq_report.specs.Columns.{task_columns, millis_column, latency_column, latency_columns, task_line, latency_line, processor_line, hook_line_if, hook_lines, nearest};
+
+use crate::amounts::Decimals;
+use crate::percent::Percent;
+use bq_schedule::{HookFigures, PARTS, Percentiles, ProcessorFigures, TaskFigures};
+use std::alloc::AllocError;
+
+/// Above the lines of the tasks.
+pub const TASK_HEAD: &str =
+    " task name            nice       cpu ms      fair ms switches preempted migrated\n";
+
+/// Above the lines of the latencies.
+pub const LATENCY_HEAD: &str =
+    " task name               wakes      p50 us      p95 us      p99 us      max us\n";
+
+/// Above the lines of the processors.
+pub const PROCESSOR_HEAD: &str = "  cpu  busy %      busy ms      idle ms switches\n";
+
+/// Above the lines of the hooks at which a policy was asked.
+pub const HOOK_HEAD: &str = "  cpu hook            asked  overruled          steps\n";
+
+/// A task by its number and its name, in 20 columns.
+pub fn write_task(text: &mut String, task: u16, name: &str) -> Result<(), AllocError>
+    ensures { OnOk result (string_bytes text.new ≡ string_bytes text.old ++ task_columns task name.now) }
+{
+    write!(text, "{task:>5} {name:<14.14}")
+}
+
+/// A time in milliseconds, in 13 columns: more where it is longer, with a space before it at all times.
+pub fn write_millis(text: &mut String, time: u64) -> Result<(), AllocError>
+    ensures { OnOk result (string_bytes text.new ≡ string_bytes text.old ++ millis_column time) }
+{
+    let thousandths = time / 1000;
+    let whole = thousandths / 1000;
+    let decimals = Decimals(thousandths);
+    write!(text, " {whole:>8}.{decimals}")
+}
+
+/// A latency in microseconds, in 12 columns, so too; `-` where there is none.
+fn write_latency(text: &mut String, latency: Option<u64>) -> Result<(), AllocError>
+    ensures { OnOk result (string_bytes text.new ≡ string_bytes text.old ++ latency_column latency) }
+{
+    match latency {
+        Some(latency) => {
+            let whole = latency / 1000;
+            let decimals = Decimals(latency);
+            write!(text, " {whole:>7}.{decimals}")
+        }
+        None => text.push_str("           -"),
+    }
+}
+
+/// Parts of a nanosecond as the nearest number of nanoseconds. It stops at its type's greatest number.
+pub fn nanoseconds(parts: u128) -> u64
+    ensures { result ≡ nearest parts }
+{
+    u64::try_from(parts.saturating_add(PARTS / 2) / PARTS).unwrap_or(u64::MAX)
+}
+
+/// The line of a task: its nice value, its time and its fair time, and how often it began to run, gave way and migrated.
+pub fn write_task_line(
+    text: &mut String,
+    task: u16,
+    name: &str,
+    figures: &TaskFigures,
+    fair: u64,
+) -> Result<(), AllocError>
+    ensures { OnOk result (string_bytes text.new ≡ string_bytes text.old ++ task_line task name.now figures.now fair) }
+{
+    write_task(text, task, name)?;
+    let nice = figures.nice;
+    write!(text, "{nice:>5}")?;
+    write_millis(text, figures.time)?;
+    write_millis(text, fair)?;
+    let switches = figures.switches;
+    let preemptions = figures.preemptions;
+    let migrations = figures.migrations;
+    write!(text, " {switches:>8} {preemptions:>9} {migrations:>8}\n")
+}
+
+/// The line of a task's latencies, from wake to run.
+pub fn write_latency_line(
+    text: &mut String,
+    task: u16,
+    name: &str,
+    wakes: u64,
+    percentiles: &Percentiles,
+) -> Result<(), AllocError>
+    ensures { OnOk result (string_bytes text.new ≡ string_bytes text.old ++ latency_line task name.now wakes percentiles.now) }
+{
+    write_task(text, task, name)?;
+    write!(text, " {wakes:>9}")?;
+    write_latencies(text, percentiles)
+}
+
+/// A task's latencies, to the end of the line.
+fn write_latencies(text: &mut String, percentiles: &Percentiles) -> Result<(), AllocError>
+    ensures { OnOk result (string_bytes text.new ≡ string_bytes text.old ++ latency_columns percentiles.now) }
+{
+    write_latency(text, percentiles.p50)?;
+    write_latency(text, percentiles.p95)?;
+    write_latency(text, percentiles.p99)?;
+    write_latency(text, percentiles.greatest)?;
+    text.push_str("\n")
+}
+
+/// The line of a processor: how much of its time a task ran.
+pub fn write_processor_line(
+    text: &mut String,
+    processor: u8,
+    figures: &ProcessorFigures,
+) -> Result<(), AllocError>
+    ensures { OnOk result (string_bytes text.new ≡ string_bytes text.old ++ processor_line processor figures.now) }
+{
+    let idle = figures.idle();
+    let busy = Percent {
+        part: figures.busy,
+        whole: figures.busy.saturating_add(idle),
+    };
+    write!(text, "{processor:>5}  {busy}")?;
+    write_millis(text, figures.busy)?;
+    write_millis(text, idle)?;
+    let switches = figures.switches;
+    write!(text, " {switches:>8}\n")
+}
+
+/// The lines of a processor's hooks at which a policy was asked.
+pub fn write_hook_lines(
+    text: &mut String,
+    processor: u8,
+    figures: &ProcessorFigures,
+) -> Result<(), AllocError>
+    ensures { OnOk result (string_bytes text.new ≡ string_bytes text.old ++ hook_lines processor figures.now) }
+{
+    write_hook_line(text, processor, "place", &figures.place)?;
+    write_hook_line(text, processor, "preempt", &figures.preempt)?;
+    write_hook_line(text, processor, "pull", &figures.pull)
+}
+
+/// The line of a hook, where a policy was asked.
+fn write_hook_line(
+    text: &mut String,
+    processor: u8,
+    name: &str,
+    figures: &HookFigures,
+) -> Result<(), AllocError>
+    ensures { OnOk result (string_bytes text.new ≡ string_bytes text.old ++ hook_line_if processor name.now figures.now) }
+{
+    if figures.asked == 0 {
+        return Ok(());
+    }
+    let asked = figures.asked;
+    let overruled = figures.overruled;
+    let steps = figures.steps;
+    write!(
+        text,
+        "{processor:>5} {name:<8.8} {asked:>12} {overruled:>10} {steps:>14}\n"
+    )
+}

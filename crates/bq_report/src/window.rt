@@ -1,0 +1,105 @@
+//! What is shown of a schedule.
+ghost use Rattle.std.specs.Prelude.{◌≡◌, ◌-◌, ◌^◌, ◌↔◌, [], IsTrue};
+ghost use Rattle.std.specs.Option.{SomeIff};
+ghost use Rattle.bq_report.specs.Windows.{ShowsProcessor, ShowsTask, Shows, ShowsPart, IsShownPart, part_of};
+
+use bq_disc::limits::PROCESSORS;
+use bq_disc::mask::allows;
+use bq_schedule::Slice;
+use std::alloc::Global;
+
+/// What is shown of a schedule: a stretch of time, processors and tasks. A run is cut at the window's edges; what happens at a
+/// moment is shown if it happens in the window, edges included.
+#[derive(Drop)]
+pub struct Window {
+    /// The first moment, in nanoseconds.
+    pub from: u64,
+    /// The last moment; `u64::MAX` is no end.
+    pub to: u64,
+    /// The processors: number p is shown if bit p is set.
+    pub processors: u64,
+    /// The tasks; none named is every task.
+    pub tasks: Vec<u16>,
+}
+
+impl Window {
+    /// All of a schedule.
+    pub fn whole(alloc: Global) -> Window
+        ensures tasks { result.tasks.items ≡ [] }
+        ensures rest { (result.from ≡ 0) × (result.to ≡ 2 ^ 64 - 1) × (result.processors ≡ 2 ^ 64 - 1) }
+    {
+        Window {
+            from: 0,
+            to: u64::MAX,
+            processors: u64::MAX,
+            tasks: Vec::new(alloc),
+        }
+    }
+
+    /// The same stretch of time and the same processors, of every task.
+    pub fn with_every_task(&self, alloc: Global) -> Window
+        ensures tasks { result.tasks.items ≡ [] }
+        ensures rest { (result.from ≡ self.now.from) × (result.to ≡ self.now.to) × (result.processors ≡ self.now.processors) }
+    {
+        Window {
+            from: self.from,
+            to: self.to,
+            processors: self.processors,
+            tasks: Vec::new(alloc),
+        }
+    }
+
+    /// Whether a processor is shown.
+    pub fn shows_processor(&self, processor: u8) -> bool
+        ensures { IsTrue result ↔ ShowsProcessor self.now processor }
+    {
+        processor < PROCESSORS && allows(self.processors, processor)
+    }
+
+    /// Whether the row of a processor is shown, by its number among all rows.
+    pub fn shows_row(&self, number: usize) -> bool
+        ensures { IsTrue result ↔ ShowsProcessor self.now number }
+    {
+        match u8::try_from(number) {
+            Ok(number) => self.shows_processor(number),
+            Err(_) => false,
+        }
+    }
+
+    /// Whether a task is shown.
+    pub fn shows_task(&self, task: u16) -> bool
+        ensures { IsTrue result ↔ ShowsTask self.now task }
+    {
+        self.tasks.is_empty() || self.tasks.contains(&task)
+    }
+
+    /// Whether something is shown that happens to a task at a processor at a moment.
+    pub fn shows(&self, processor: u8, task: u16, at: u64) -> bool
+        ensures { IsTrue result ↔ Shows self.now processor task at }
+    {
+        self.from <= at && at <= self.to && self.shows_processor(processor) && self.shows_task(task)
+    }
+
+    /// The part of a run or a slice that is shown, if any of it is.
+    pub fn clip(&self, slice: &Slice) -> Option<Slice>
+        ensures { SomeIff result (ShowsPart self.now slice.now) (part_of self.now slice.now) }
+    {
+        let from = slice.from.max(self.from);
+        let to = slice.to.min(self.to);
+        if from < to && self.shows_processor(slice.processor) && self.shows_task(slice.task) {
+            Some(Slice { from, to, ..*slice })
+        } else {
+            None
+        }
+    }
+
+    /// The same of a slice that may be there.
+    pub fn shown_part(&self, slice: Option<Slice>) -> Option<Slice>
+        ensures { IsShownPart self.now slice result }
+    {
+        match slice {
+            Some(slice) => self.clip(&slice),
+            None => None,
+        }
+    }
+}
