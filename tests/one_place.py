@@ -83,7 +83,7 @@ FACTS = [
     ('what a wrong hook or version is said to be', r'no such (?:hook|format)|is no hook|is no format|hooks are|formats are', {'bq_hooks/src/hook.rt'}),
     ('how often a processor ticks in `par`', r'0 to 1000000\b', {'bq_cli/src/par.rt'}),
     ('how many seeds there may be', r'1 to 1000\b', set()),
-    ('how many waits of a processor are drawn', r'LANES: usize', {'bq_pictures/src/lanes.rt'}),
+    ('how many waits of a processor are drawn', r'LANES: usize', {'bq_drawing/src/lanes.rt'}),
 ]
 
 # The same of definitions.
@@ -107,7 +107,7 @@ ALLOWED = {
     'the same lemma: bq_comparison/proofs/RangeLemmas.antt: flat_map-range_more, bq_policy_run/proofs/ChangeLemmas.antt: flat_map-range_more': 'a fact of the library\'s ranges, which it has no lemma for; neither crate stands on the other',
     'the list of the helpers: bq_explain/src/summary.rt': 'the order in which a summary names helpers; a helper that it lacked would only not be named',
     'which helpers are of counters: bq_interp/src/counters.rt': 'asked at each call of a run, of the number alone, by a function that stands in its loop',
-    'the word of a hook: bq_pictures/src/perfetto.rt': 'the category of a mark in a Perfetto file: the event, not the hook',
+    'the word of a hook: bq_drawing/src/perfetto.rt': 'the category of a mark in a Perfetto file: the event, not the hook',
     'the word of a hook: bq_report/src/summary.rt': 'keys of a form in JSON, which stay what they are whatever traces call a hook',
     'the word of a hook: bq_report/src/tables.rt': 'the column of a report, which stays what it is whatever traces call a hook',
     'the word of a hook: bq_cli/src/tables.rt': 'names of options in a table, which only literals can be; the words of `simulate` are read by `Hook::word`, and the contract holds the two together',

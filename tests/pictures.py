@@ -3,7 +3,7 @@
 
     tests/pictures.py [SVG..]      without a file: those of docs/pictures
 
-The colours stand in crates/bq_pictures/src/colours.rt. In each palette, by the formula of WCAG 2 (contrast ratio, relative luminance):
+The colours stand in crates/bq_drawing/src/colours.rt. In each palette, by the formula of WCAG 2 (contrast ratio, relative luminance):
 - each task's colour stands out from the page and from the band by 3 to 1;
 - each text stands out by 4.5 to 1 from what is behind it: the page, or its task's colour;
 - no two of the tasks' colours look alike (CIEDE2000 of at least 9), also to readers without one of the three kinds of cones (by the
@@ -78,7 +78,7 @@ def distance(one, other):
 
 
 def palettes():
-    text = (TOP / "crates/bq_pictures/src/colours.rt").read_text()
+    text = (TOP / "crates/bq_drawing/src/colours.rt").read_text()
     found = {}
     for name, body in re.findall(r"pub const (LIGHT|DARK): Palette = Palette \{(.*?)\n\};", text, re.S):
         found[name] = {

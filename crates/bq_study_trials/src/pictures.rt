@@ -2,8 +2,8 @@
 
 use crate::cases::holds;
 use crate::steps::{Step, shown, shown_all};
+use bq_drawing::{Look, Perfetto, Svg, Theme};
 use bq_hooks::By;
-use bq_pictures::{Look, Perfetto, Svg, Theme};
 use bq_report::{ScheduleForm, Window};
 use bq_words::Rule;
 use std::alloc::{AllocError, Global};

@@ -8,9 +8,9 @@ use Rattle.bq_words.specs.Numbers.{below}
 use Rattle.bq_words.specs.Units.{unit_of}
 use Rattle.bq_words.specs.Quantities.{decimal_of, task_of}
 use Rattle.bq_words.specs.ProcessorSets.{is_comma, is_dash, processors_of}
-use Rattle.bq_pictures.specs.Themes.{theme_of}
-use Rattle.bq_pictures.specs.declared.theme.Theme.{Theme}
-use Rattle.bq_pictures.specs.declared.theme.Theme.TheVariants.{Light}
+use Rattle.bq_drawing.specs.Themes.{theme_of}
+use Rattle.bq_drawing.specs.declared.theme.Theme.{Theme}
+use Rattle.bq_drawing.specs.declared.theme.Theme.TheVariants.{Light}
 use Rattle.bq_timeline.specs.declared.form_names.FormName.{FormName}
 use Rattle.bq_timeline.specs.declared.form_names.FormName.TheVariants.{Report, Map, Timehist, Why, Csv, Json, Svg, Perfetto}
 use Rattle.bq_timeline.specs.declared.numbers.TheConstants.{GREATEST_WIDTH, LEAST_WIDTH}

@@ -1,7 +1,7 @@
 //! What a timeline is to show, by the words of its options.
 ghost use Rattle.std.specs.Prelude.{◌≡◌, IfErr, IfOk};
 ghost use Rattle.bq_words.specs.ProcessorSets.{processors_of};
-ghost use Rattle.bq_pictures.specs.Themes.{theme_of};
+ghost use Rattle.bq_drawing.specs.Themes.{theme_of};
 ghost use Rattle.bq_timeline.specs.Settings.{AsksFor, IsNoSettings, asked_or, form_of, text_of, time_of, width_of};
 ghost use Rattle.bq_timeline.specs.declared.settings.SettingsFault.TheVariants.{OutOfMemory};
 
@@ -9,7 +9,7 @@ use crate::form_names::FormName;
 use crate::numbers::{GREATEST_WIDTH, LEAST_WIDTH};
 use crate::{numbers, with_forms};
 use bq_disc::limits::LAST_PROCESSOR;
-use bq_pictures::{Look, Theme, with_themes};
+use bq_drawing::{Look, Theme, with_themes};
 use bq_report::Window;
 use bq_words::processor_sets::processors;
 use bq_words::{with_tasks, with_units};

@@ -2,7 +2,7 @@
 ghost use Rattle.bq_timeline.specs.Shown.{IsShown};
 
 use crate::form_names::FormName;
-use bq_pictures::{Look, Perfetto, Svg};
+use bq_drawing::{Look, Perfetto, Svg};
 use bq_report::{Csv, Json, Map, Names, Report, ScheduleForm, Timehist, Window};
 use bq_schedule::{Change, Schedule};
 use bq_why::Why;

@@ -1,6 +1,6 @@
 -- Stretches of time side by side: lanes are given by the moments from which they are free.
 use Rattle.std.specs.Prelude.{ℕ, List, [], ◌∷◌, ◌++◌, Option, Some, None, length, position, nat_le, nat_lt, slice_set, if◌then◌else◌}
-use Rattle.bq_pictures.specs.declared.lanes.Stretch.{Stretch}
+use Rattle.bq_drawing.specs.declared.lanes.Stretch.{Stretch}
 
 -- the first lane that is free at a moment
 abbrev pub first_free : ℕ → List ℕ → Option ℕ

@@ -1,6 +1,6 @@
 //! Stretches of time side by side.
 ghost use Rattle.std.specs.Prelude.{◌≡◌, ◌<◌, IfOk, IfSome, [], length, nat_le};
-ghost use Rattle.bq_pictures.specs.Lanes.{first_free, lane_of, taken};
+ghost use Rattle.bq_drawing.specs.Lanes.{first_free, lane_of, taken};
 
 use std::alloc::{AllocError, Global};
 use std::marker::Model;

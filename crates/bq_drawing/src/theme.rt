@@ -1,6 +1,6 @@
 //! Whether a picture is light or dark.
 ghost use Rattle.std.specs.Prelude.{◌≡◌};
-ghost use Rattle.bq_pictures.specs.Themes.{theme_of};
+ghost use Rattle.bq_drawing.specs.Themes.{theme_of};
 
 /// Whether a picture is light or dark.
 #[derive(Clone, Copy, PartialEq, Eq)]

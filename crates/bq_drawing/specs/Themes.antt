@@ -1,7 +1,7 @@
 -- The themes of pictures by their names.
 use Rattle.std.specs.Prelude.{ℕ, List, Option, Some, None, bytes_eq, codes, if◌then◌else◌}
-use Rattle.bq_pictures.specs.declared.theme.Theme.{Theme}
-use Rattle.bq_pictures.specs.declared.theme.Theme.TheVariants.{Light, Dark, Auto}
+use Rattle.bq_drawing.specs.declared.theme.Theme.{Theme}
+use Rattle.bq_drawing.specs.declared.theme.Theme.TheVariants.{Light, Dark, Auto}
 
 -- the theme of that name
 abbrev pub theme_of : List ℕ → Option Theme

@@ -1,6 +1,6 @@
 //! The events of a trace in the format that ui.perfetto.dev and chrome://tracing open, as text.
 ghost use Rattle.std.specs.Prelude.{◌≡◌, IfOk, string_bytes};
-ghost use Rattle.bq_pictures.specs.Events.{run_event};
+ghost use Rattle.bq_drawing.specs.Events.{run_event};
 
 use bq_report::Micros;
 use bq_schedule::{ClockReading, Decision, Slice};

@@ -1,6 +1,6 @@
 //! Where a moment lies in the picture.
 ghost use Rattle.std.specs.Prelude.{◌≡◌, Some};
-ghost use Rattle.bq_pictures.specs.Places.{place_of, width_of, hundredths};
+ghost use Rattle.bq_drawing.specs.Places.{place_of, width_of, hundredths};
 
 use bq_report::Extent;
 use std::fmt;
