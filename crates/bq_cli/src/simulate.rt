@@ -24,7 +24,7 @@ use bq_study::{
     run_as,
 };
 use bq_timeline::SettingsFault;
-use bq_workload::{Changes, Fault, read};
+use bq_workload_file::{Changes, Fault, read};
 use clap::ArgMatches;
 use std::alloc::{AllocError, Global};
 use std::process::ExitCode;

@@ -8,7 +8,7 @@ use Rattle.bq_timeline.specs.Settings.{AsksFor, IsNoSettings, asked_or, form_ask
 use Rattle.bq_timeline.specs.declared.settings.Words.{Words}
 use Rattle.bq_words.specs.Sizes.{rule_of}
 use Rattle.bq_words.specs.Durations.{duration_of}
-use Rattle.bq_workload.specs.declared.changes.Changes.{Changes}
+use Rattle.bq_workload_file.specs.declared.changes.Changes.{Changes}
 use Rattle.bq_study.specs.declared.asked.ShownAs.{ShownAs}
 use Rattle.bq_study.specs.declared.asked.ShownAs.TheVariants.{Trace, Timeline}
 use Rattle.bq_study.specs.declared.asked.AskedFault.{AskedFault}

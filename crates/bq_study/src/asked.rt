@@ -10,7 +10,7 @@ use bq_actions::limits::LONGEST;
 use bq_timeline::{Settings, SettingsFault, Words, with_forms};
 use bq_words::quantities::{decimal, size};
 use bq_words::{ProcessorCount, Rule, duration, with_rules, with_sizes, with_units};
-use bq_workload::Changes;
+use bq_workload_file::Changes;
 use std::alloc::Global;
 use thiserror::Error;
 

@@ -2,7 +2,7 @@
 // what is no TOML are those that Python's tomllib names.
 
 use crate::cases::holds;
-use bq_workload::{Changes, read};
+use bq_workload_file::{Changes, read};
 use std::alloc::Global;
 use std::test::Fail;
 

@@ -10,7 +10,7 @@ use bq_actions::Workload;
 use bq_cli::{Command, job};
 use bq_comparison::{Comparing, ComparingFault, asked_comparison, compare, comparison_text};
 use bq_study::{Policies, ShownAs, StudyWords};
-use bq_workload::{Changes, read};
+use bq_workload_file::{Changes, read};
 use std::alloc::Global;
 use std::test::Fail;
 use std::thread::Threads;

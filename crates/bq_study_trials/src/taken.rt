@@ -3,7 +3,7 @@
 use crate::cases::holds;
 use bq_actions::{Action, Length, Setup, TaskKind, Workload};
 use bq_words::{ProcessorCount, Rule};
-use bq_workload::{Changes, read};
+use bq_workload_file::{Changes, read};
 use std::alloc::Global;
 use std::process::Abort;
 use std::test::Fail;

@@ -1,0 +1,41 @@
+-- The keys that mean something in the tables of a document.
+use Rattle.std.specs.Prelude.{ℕ, Bool, List, [], ◌∷◌, Option, Some, None, codes, if◌then◌else◌}
+use Rattle.std.specs.List.{list_any}
+use Rattle.std.specs.Str.{bytes_eq}
+use Rattle.toml.specs.Data.{Members, no_members, member}
+use Rattle.bq_workload_file.specs.declared.blame.Trouble.{Trouble}
+use Rattle.bq_workload_file.specs.declared.blame.Trouble.TheVariants.{At, OutOfMemory}
+use Rattle.bq_workload_file.specs.declared.why.Why.{Why}
+use Rattle.bq_workload_file.specs.declared.why.Why.TheVariants.{UnknownKey}
+
+-- those of a document
+abbrev pub document_keys : List (List ℕ)
+document_keys = codes "machine" ∷ codes "task" ∷ []
+
+-- those of its machine
+abbrev pub machine_keys : List (List ℕ)
+machine_keys = codes "discipline" ∷ codes "processors" ∷ codes "duration" ∷ codes "tick" ∷ codes "balance" ∷ codes "migration_cost" ∷ codes "seed" ∷ []
+
+-- those of a kind of tasks
+abbrev pub task_keys : List (List ℕ)
+task_keys =
+    codes "name" ∷ codes "count" ∷ codes "nice" ∷ codes "cpus" ∷ codes "slice" ∷ codes "start" ∷ codes "loops" ∷ codes "run" ∷ codes "sleep" ∷ codes "do" ∷ []
+
+-- a key is one of these words
+abbrev pub is_one_of : List (List ℕ) → List ℕ → Bool
+is_one_of words key = list_any (λ word. bytes_eq word key) words
+
+-- the first key of a table that is none of these words
+abbrev pub first_unknown : List (List ℕ) → Members → Option (List ℕ)
+first_unknown words no_members = None
+first_unknown words (member key value more) = if is_one_of words key then first_unknown words more else Some key
+
+-- the key of which it is told that it means nothing
+abbrev pub unknown_key : Why → Option (List ℕ)
+unknown_key (UnknownKey key known) = Some key.now
+unknown_key why = None
+
+-- the same, of what is told with its place
+abbrev pub unknown_there : Trouble → Option (List ℕ)
+unknown_there (At place why) = unknown_key why
+unknown_there OutOfMemory = None

@@ -1,0 +1,141 @@
+-- What a document says of a machine and of its tasks.
+use Rattle.std.specs.Prelude.{◌≡◌, ℕ, ◌-◌, ◌^◌, ◌<◌, ◌≤◌, ℤ, pos, true, List, [], ◌∷◌, ◌++◌, sum_by, Option, Some, None, IsSome, unwrap_or, length, option_map, option_and_then, codes, String, string_bytes}
+use Rattle.std.specs.List.{list_any}
+use Rattle.std.specs.Option.{IsSomeAnd}
+use Rattle.std.specs.declared.alloc.Global.{Global}
+use Rattle.toml.specs.Data.{Data, Items, no_items, item, Members, no_members, get_member, as_array, as_table}
+use Rattle.toml.specs.Parse.{parse_document}
+use Rattle.bq_disc.specs.declared.limits.TheConstants.{DEFAULT_SLICE, GREATEST_SLICE, LEAST_SLICE}
+use Rattle.bq_words.specs.Sizes.{processors_in}
+use Rattle.bq_words.specs.declared.rule.Rule.TheVariants.{Cfs}
+use Rattle.bq_words.specs.declared.processor_count.ProcessorCount.{ProcessorCount}
+use Rattle.bq_words.specs.declared.processor_count.ProcessorCount.TheVariants.{One}
+use Rattle.bq_actions.specs.Lengths.{longest, takes_time}
+use Rattle.bq_actions.specs.declared.action.Action.{Action}
+use Rattle.bq_actions.specs.declared.action.Action.TheVariants.{Run, Sleep}
+use Rattle.bq_actions.specs.declared.setup.Setup.{Setup}
+use Rattle.bq_actions.specs.declared.workload.TaskKind.{TaskKind}
+use Rattle.bq_actions.specs.declared.workload.Workload.{Workload}
+use Rattle.bq_workload_file.specs.declared.changes.Changes.{Changes}
+use Rattle.bq_workload_file.specs.declared.fault.Fault.{Fault}
+use Rattle.bq_workload_file.specs.declared.fault.Fault.TheVariants.{Syntax, Meaning, OutOfMemory}
+use Rattle.bq_workload_file.specs.Fields.{or_default, span_in, number_in, rule_in, size_in, loops_of, nice_of, mask_of, name_of}
+use Rattle.bq_workload_file.specs.Keys.{document_keys, first_unknown, machine_keys, task_keys}
+use Rattle.bq_workload_file.specs.Lengths.{length_of}
+use Rattle.bq_workload_file.specs.Actions.{actions_of, named_at}
+use Rattle.bq_workload_file.specs.Positions.{IsPlace}
+
+-- a duration that takes time, at a key or else the default
+abbrev pub time_at : ℕ → List ℕ → Members → Option ℕ
+time_at default key ms = or_default default (span_in 1 longest) (get_member key ms)
+
+-- the machine that a table describes, each of whose keys means something
+pub record IsSetup (ms : Members) (s : Setup) : Type 0 where
+  pub known : first_unknown machine_keys ms ≡ None
+  pub rule : or_default Cfs rule_in (get_member (codes "discipline") ms) ≡ Some s.rule
+  pub size : or_default One size_in (get_member (codes "processors") ms) ≡ Some s.size
+  pub duration : time_at 100000000 (codes "duration") ms ≡ Some s.duration
+  pub tick : time_at 4000000 (codes "tick") ms ≡ Some s.tick
+  pub balance : time_at 16000000 (codes "balance") ms ≡ Some s.balance
+  pub migration_cost : or_default 0 (span_in 0 longest) (get_member (codes "migration_cost") ms) ≡ Some s.migration_cost
+  pub seed : or_default 1 (number_in 0 9223372036854775807) (get_member (codes "seed") ms) ≡ Some s.seed
+
+-- the machine with what is put in its place
+abbrev pub changed_by : Changes → Setup → Setup
+changed_by c s = record s {
+  rule = unwrap_or c.rule s.rule;
+  size = unwrap_or c.size s.size;
+  duration = unwrap_or c.duration s.duration;
+  seed = unwrap_or c.seed s.seed;
+}
+
+-- a run, and a sleep where there is one
+abbrev pub short_of : Option Data → Option Data → Option (List Action)
+short_of None sleep = None
+short_of (Some run) None = option_map (λ r. Run r ∷ []) (length_of run)
+short_of (Some run) (Some sleep) = option_and_then (λ r. option_map (λ s. Run r ∷ Sleep s ∷ []) (length_of sleep)) (length_of run)
+
+-- what a task does: its `do`, alone, or `run` and `sleep`
+abbrev pub doing : List (String Global) → Option Data → Option Data → Option Data → Option (List Action)
+doing names None run sleep = short_of run sleep
+doing names (Some list) None None = option_and_then (actions_of names []) (as_array list)
+doing names (Some list) run sleep = None
+
+-- the numbers of a kind, on a machine with all these processors
+pub record HasNumbers (all : ℕ) (ms : Members) (count : ℕ) (nice : ℤ) (mask slice start : ℕ) (loops : Option ℕ) : Type 0 where
+  pub count_is : or_default 1 (number_in 1 1024) (get_member (codes "count") ms) ≡ Some count
+  pub nice_is : or_default (pos 0) nice_of (get_member (codes "nice") ms) ≡ Some nice
+  pub mask_is : or_default all (mask_of all) (get_member (codes "cpus") ms) ≡ Some mask
+  pub slice_is : or_default DEFAULT_SLICE (span_in LEAST_SLICE GREATEST_SLICE) (get_member (codes "slice") ms) ≡ Some slice
+  pub start_is : or_default 0 (span_in 0 longest) (get_member (codes "start") ms) ≡ Some start
+  pub loops_is : loops_of (get_member (codes "loops") ms) ≡ Some loops
+
+-- the kind of tasks that a table describes, each of whose keys means something
+pub record IsKind (names : List (String Global)) (all : ℕ) (ms : Members) (k : TaskKind) : Type 0 where
+  pub known : first_unknown task_keys ms ≡ None
+  pub name : option_and_then name_of (get_member (codes "name") ms) ≡ Some (string_bytes k.name)
+  pub numbers : HasNumbers all ms k.count k.nice k.mask k.slice k.start k.loops
+  pub actions : doing names (get_member (codes "do") ms) (get_member (codes "run") ms) (get_member (codes "sleep") ms) ≡ Some k.actions.items
+  pub takes_time : list_any takes_time k.actions.items ≡ true
+
+-- each table describes its kind
+abbrev pub AreKinds : List (String Global) → ℕ → Items → List TaskKind → Type 0
+AreKinds names all no_items [] = Unit {0}
+AreKinds names all (item d ds) (k ∷ ks) = ((ms : Members) × (as_table d ≡ Some ms) × IsKind names all ms k) × AreKinds names all ds ks
+AreKinds names all other kinds = ⊥
+
+-- the name that a task's table has
+abbrev pub name_in : Data → Option (List ℕ)
+name_in d = option_and_then (λ ms. option_and_then name_of (get_member (codes "name") ms)) (as_table d)
+
+-- each table has its name
+abbrev pub AreNames : Items → List (String Global) → Type 0
+AreNames no_items [] = Unit {0}
+AreNames (item d ds) (name ∷ names) = (name_in d ≡ Some (string_bytes name)) × AreNames ds names
+AreNames other names = ⊥
+
+-- no name is one of those before it
+abbrev pub AreOthers : List (String Global) → List (String Global) → Type 0
+AreOthers before [] = Unit {0}
+AreOthers before (name ∷ names) = (named_at before (string_bytes name) ≡ None) × AreOthers (before ++ name ∷ []) names
+
+-- the table of the machine; one without entries where the document has none
+abbrev pub machine_table : Option Data → Option Members
+machine_table None = Some no_members
+machine_table (Some d) = as_table d
+
+abbrev pub IsMachine : Members → Setup → Type 0
+IsMachine document s = IsSomeAnd (machine_table (get_member (codes "machine") document)) (λ ms. IsSetup ms s)
+
+-- the tables of the tasks
+abbrev pub tasks_of : Members → Option Items
+tasks_of document = option_and_then as_array (get_member (codes "task") document)
+
+-- the bits of all processors of a machine
+abbrev pub all_of : ProcessorCount → ℕ
+all_of size = 2 ^ processors_in size - 1
+
+-- the tasks that a document describes, on a machine of this size; no two kinds have one name
+abbrev pub HasTasks : ProcessorCount → Members → List TaskKind → Type 0
+HasTasks size document kinds =
+    (items : Items) × (names : List (String Global)) × (tasks_of document ≡ Some items) × AreNames items names × AreOthers [] names × AreKinds names (all_of size) items kinds
+
+-- the workload that a document describes, each of whose keys means something, on its machine with what is put in its place: it has
+-- one task at least, and at most 1,024
+pub record IsWorkload (c : Changes) (document : Members) (w : Workload) : Type 0 where
+  pub known : first_unknown document_keys document ≡ None
+  pub machine : (s : Setup) × IsMachine document s × (w.machine ≡ changed_by c s)
+  pub tasks : HasTasks w.machine.size document w.tasks.items
+  pub some : 0 < length w.tasks.items
+  pub few : sum_by (λ k. k.count) w.tasks.items ≤ 1024
+
+-- the workload that a text describes
+abbrev pub Describes : List ℕ → Changes → Workload → Type 0
+Describes text c w = (document : Members) × (parse_document text ≡ Some document) × IsWorkload c document w
+
+-- a text is called no TOML only where it is none, at the place of one of its bytes or of its end, and to say no workload only where
+-- it is TOML
+abbrev pub IsReadFault : List ℕ → Fault → Type 0
+IsReadFault text (Syntax line column message) = (parse_document text ≡ None) × IsPlace text line column
+IsReadFault text (Meaning words) = IsSome (parse_document text)
+IsReadFault text OutOfMemory = Unit {0}

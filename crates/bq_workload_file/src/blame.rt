@@ -1,0 +1,103 @@
+//! Where something is wrong in a document.
+ghost use Rattle.std.specs.Prelude.{◌≡◌, option_and_then};
+ghost use Rattle.std.specs.Result.{result_err, result_ok};
+ghost use Rattle.bq_workload_file.specs.Keys.{unknown_key, unknown_there};
+
+use crate::why::Why;
+use std::alloc::{AllocError, AllocFailed};
+use std::fmt;
+
+/// A part of a document.
+#[derive(Clone, Copy)]
+pub(crate) enum Location<'a> {
+    /// The document itself.
+    Document,
+    /// The table of the machine.
+    Machine,
+    /// A task by its number, from 1, and its name, if it has one.
+    Task {
+        number: usize,
+        name: Option<&'a str>,
+    },
+    /// An action by its number, from 1, among those of a task.
+    Action {
+        number: usize,
+        name: Option<&'a str>,
+        action: usize,
+    },
+}
+
+impl fmt::Display for Location<'_> {
+    fn fmt<W: fmt::Write>(&self, f: &mut fmt::Formatter<W>) -> fmt::Result {
+        match self {
+            Location::Document => Ok(()),
+            Location::Machine => f.write_str("machine: "),
+            Location::Task { number, name } => task(f, *number, *name),
+            Location::Action {
+                number,
+                name,
+                action,
+            } => {
+                task(f, *number, *name)?;
+                write!(f, "do {action}: ")
+            }
+        }
+    }
+}
+
+/// Writes a task by its number and its name.
+fn task<W: fmt::Write>(
+    f: &mut fmt::Formatter<W>,
+    number: usize,
+    name: Option<&str>,
+) -> fmt::Result {
+    match name {
+        Some(name) => write!(f, "task {number} ({}): ", name.escape_debug()),
+        None => write!(f, "task {number}: "),
+    }
+}
+
+/// Why a document is no workload, with what it lends.
+#[derive(Clone, Copy)]
+pub(crate) enum Trouble<'a> {
+    /// Something is wrong in it.
+    At { place: Location<'a>, why: Why<'a> },
+    OutOfMemory,
+}
+
+impl From<AllocError> for Trouble<'_> {
+    fn from(_e: AllocError) -> Self {
+        Trouble::OutOfMemory
+    }
+}
+
+impl<T: Drop> From<AllocFailed<T>> for Trouble<'_> {
+    fn from(_e: AllocFailed<T>) -> Self {
+        Trouble::OutOfMemory
+    }
+}
+
+impl<'a> Location<'a> {
+    /// An action of this task, by its number from 1.
+    pub(crate) fn action(self, action: usize) -> Location<'a> {
+        match self {
+            Location::Task { number, name } => Location::Action {
+                number,
+                name,
+                action,
+            },
+            other => other,
+        }
+    }
+
+    /// What was read here, or what is wrong here.
+    pub(crate) fn says<T: Drop>(self, read: Result<T, Why<'a>>) -> Result<T, Trouble<'a>>
+        ensures read { result_ok result ≡ result_ok read.entry }
+        ensures unknown { option_and_then unknown_there (result_err result) ≡ option_and_then unknown_key (result_err read.entry) }
+    {
+        match read {
+            Ok(value) => Ok(value),
+            Err(why) => Err(Trouble::At { place: self, why }),
+        }
+    }
+}

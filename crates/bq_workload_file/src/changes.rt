@@ -1,0 +1,41 @@
+//! What is asked for beside a workload's text.
+ghost use Rattle.std.specs.Prelude.{◌≡◌};
+
+use bq_actions::Setup;
+use bq_words::{ProcessorCount, Rule};
+
+/// What the words of a command put in the place of a machine's own.
+#[derive(Clone, Copy)]
+pub struct Changes {
+    pub rule: Option<Rule>,
+    pub size: Option<ProcessorCount>,
+    pub duration: Option<u64>,
+    pub seed: Option<u64>,
+}
+
+impl Changes {
+    /// None.
+    pub const NONE: Changes = Changes {
+        rule: None,
+        size: None,
+        duration: None,
+        seed: None,
+    };
+
+    ghost use Rattle.bq_workload_file.specs.Workloads.{changed_by};
+
+    /// The machine with these changes.
+    pub(crate) fn made(self, machine: Setup) -> Setup
+        ensures { result ≡ changed_by self machine }
+    {
+        Setup {
+            rule: self.rule.unwrap_or(machine.rule),
+            size: self.size.unwrap_or(machine.size),
+            duration: self.duration.unwrap_or(machine.duration),
+            tick: machine.tick,
+            balance: machine.balance,
+            migration_cost: machine.migration_cost,
+            seed: self.seed.unwrap_or(machine.seed),
+        }
+    }
+}

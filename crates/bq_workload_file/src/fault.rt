@@ -1,0 +1,113 @@
+//! Why a text is no workload, as its reader tells it.
+ghost use Rattle.std.specs.Prelude.{◌≡◌, ◌<◌, ◌-◌, ◌^◌, ℕ, List, [], ◌∷◌, ◌++◌, None, IfOk, IsSome};
+ghost use Rattle.std.specs.Fmt.{is_char_start};
+ghost use Rattle.toml.specs.Errors.{IsMemory};
+ghost use Rattle.toml.specs.Parse.{parse_document};
+ghost use Rattle.bq_workload_file.specs.Positions.{column_after, line_after};
+ghost use Rattle.bq_workload_file.specs.Workloads.{IsReadFault};
+
+use crate::blame::Location;
+use crate::near::{nearest_name, nearest_word};
+use crate::why::Why;
+use std::alloc::{AllocError, Global};
+use std::fmt::Write;
+use thiserror::Error;
+
+/// Why a text is no workload. After the name of its file, as `w.toml:14:9: ..` or `w.toml: task 2 (server): ..`.
+#[derive(Debug, Drop, Error)]
+pub enum Fault {
+    /// It is no TOML: the line and the column, both from 1, and what is wrong there.
+    #[error(":{line}:{column}: {message}")]
+    Syntax {
+        line: usize,
+        column: usize,
+        message: String,
+    },
+    /// It is TOML, and says no workload: where, and what is wrong.
+    #[error(": {0}")]
+    Meaning(String),
+    #[error(": out of memory")]
+    OutOfMemory,
+}
+
+impl From<AllocError> for Fault {
+    fn from(_e: AllocError) -> Fault {
+        Fault::OutOfMemory
+    }
+}
+
+/// Where a text is no TOML, and why.
+pub(crate) fn syntax(alloc: Global, text: &str, error: &toml::de::Error) -> Fault
+    requires { ¬ IsMemory error.now → parse_document text.now ≡ None }
+    ensures { IsReadFault text.now result }
+{
+    let at = match error.span() {
+        Some(span) => span.start.min(text.len()),
+        None => return Fault::OutOfMemory,
+    };
+    let (line, column) = position(&text.as_bytes()[..at]);
+    match String::from_str(alloc, error.message()) {
+        Ok(message) => Fault::Syntax {
+            line,
+            column,
+            message,
+        },
+        Err(_) => Fault::OutOfMemory,
+    }
+}
+
+/// The line and the column, both from 1, of what comes after these bytes. A column counts characters.
+fn position(before: &[u8]) -> (usize, usize)
+    ensures line { result.0 ≡ line_after before.now }
+    ensures column { result.1 ≡ column_after before.now }
+{
+    let mut place = (1, 1);
+    for byte in before {
+        place = passed(place.0, place.1, *byte);
+    }
+    place
+}
+
+/// The line and the column of what comes after one more byte.
+fn passed(line: usize, column: usize, byte: u8) -> (usize, usize)
+    requires line { line < 2 ^ 64 - 1 }
+    requires column { column < 2 ^ 64 - 1 }
+    ensures line { (before : List ℕ) → line ≡ line_after before → result.0 ≡ line_after (before ++ byte ∷ []) }
+    ensures column { (before : List ℕ) → column ≡ column_after before → result.1 ≡ column_after (before ++ byte ∷ []) }
+{
+    if byte == b'\n' {
+        (line + 1, 1)
+    } else if is_char_start(byte) {
+        (line, column + 1)
+    } else {
+        (line, column)
+    }
+}
+
+/// Whether a byte is the first of a character.
+fn is_char_start(byte: u8) -> bool
+    ensures { result ≡ is_char_start byte }
+{
+    byte < 0x80 || byte >= 0xC0
+}
+
+/// What is wrong, with its place and the word that was perhaps meant.
+pub(crate) fn meaning(
+    alloc: Global,
+    place: &Location<'_>,
+    why: &Why<'_>,
+) -> Result<Fault, AllocError>
+    ensures { IfOk result (λ fault. (text : List ℕ) → IsSome (parse_document text) → IsReadFault text fault) }
+{
+    let mut text = String::new(alloc);
+    write!(text, "{place}{why}")?;
+    let near = match why {
+        Why::UnknownKey { key, known } => nearest_word(alloc, key, known)?,
+        Why::UnknownTask { name, names } => nearest_name(alloc, name, names)?,
+        _ => None,
+    };
+    if let Some(near) = near {
+        write!(text, ", did you mean {near:?}?")?;
+    }
+    Ok(Fault::Meaning(text))
+}

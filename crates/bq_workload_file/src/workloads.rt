@@ -1,0 +1,186 @@
+//! Whole workloads.
+ghost use Rattle.std.specs.Prelude.{◌≡◌, ◌<◌, ◌≤◌, ℕ, true, List, [], Some, None, IfErr, IfOk, IfSome, IsSome, length, option_and_then, sum_by};
+ghost use Rattle.std.specs.Result.{result_err};
+ghost use Rattle.toml.specs.Data.{as_table};
+ghost use Rattle.toml.specs.Parse.{parse_document};
+ghost use Rattle.toml.specs.View.{view, items_view, table_view};
+ghost use Rattle.bq_actions.specs.Lengths.{is_long};
+ghost use Rattle.bq_actions.specs.Soundness.{first_flaw};
+ghost use Rattle.bq_workload_file.specs.Keys.{document_keys, first_unknown, unknown_there};
+ghost use Rattle.bq_workload_file.specs.Workloads.{AreKinds, AreNames, AreOthers, Describes, IsMachine, IsReadFault, tasks_of};
+
+use crate::actions;
+use crate::blame::{Location, Trouble};
+use crate::changes::Changes;
+use crate::fault::{Fault, meaning, syntax};
+use crate::fields::name;
+use crate::kinds::{Processors, kind};
+use crate::setup::{absent, setup};
+use crate::tables::{all_known, at};
+use crate::why::{Wanted, Why};
+use bq_actions::{Setup, TaskKind, Workload};
+use bq_disc::limits::TASKS;
+use std::alloc::Global;
+use toml::{Table, Value};
+
+/// The keys of a document.
+static DOCUMENT: [&str; 2] = ["machine", "task"];
+
+/// The workload that a text describes, on its machine with these changes. A text is called no TOML only where it is none.
+/// The loop can follow it to its end, unless a changed duration is none that a machine may have.
+pub fn read(alloc: Global, text: &str, changes: Changes) -> Result<Workload, Fault>
+    ensures describes { IfOk result (Describes text.now changes) }
+    ensures sound { IfSome changes.duration (λ d. is_long d ≡ true) → IfOk result (λ w. first_flaw w ≡ None) }
+    ensures fault { IfErr result (IsReadFault text.now) }
+{
+    let document = match toml::table_from_str(alloc, text) {
+        Ok(document) => document,
+        Err(error) => return Err(syntax(alloc, text, &error)),
+    };
+    let (machine, tables) = match outline(&document) {
+        Ok(parts) => parts,
+        Err(trouble) => return Err(told(alloc, &trouble)),
+    };
+    let machine = changes.made(machine);
+    let names = match names(alloc, tables) {
+        Ok(names) => names,
+        Err(trouble) => return Err(told(alloc, &trouble)),
+    };
+    match kinds(
+        alloc,
+        tables,
+        names.as_slice(),
+        Processors::of(machine.size),
+    ) {
+        Ok(tasks) => Ok(Workload { machine, tasks }),
+        Err(trouble) => Err(told(alloc, &trouble)),
+    }
+}
+
+/// The fault that a trouble is told as.
+fn told(alloc: Global, trouble: &Trouble<'_>) -> Fault
+    ensures { (text : List ℕ) → IsSome (parse_document text) → IsReadFault text result }
+{
+    match trouble {
+        Trouble::OutOfMemory => Fault::OutOfMemory,
+        Trouble::At { place, why } => match meaning(alloc, place, why) {
+            Ok(fault) => fault,
+            Err(_) => Fault::OutOfMemory,
+        },
+    }
+}
+
+/// The machine of a document, and the tables of its tasks.
+fn outline(document: &Table) -> Result<(Setup, &[Value]), Trouble<'_>>
+    ensures known { IfOk result (λ _. first_unknown document_keys (table_view document.now) ≡ None) }
+    ensures unknown { (key : List ℕ) → first_unknown document_keys (table_view document.now) ≡ Some key → option_and_then unknown_there (result_err result) ≡ Some key }
+    ensures machine { IfOk result (λ p. IsMachine (table_view document.now) p.0) }
+    ensures tasks { IfOk result (λ p. tasks_of (table_view document.now) ≡ Some (items_view p.1.now)) }
+    ensures some { IfOk result (λ p. 0 < length p.1.now) }
+{
+    Location::Document.says(all_known(document, &DOCUMENT))?;
+    let machine = machine(document)?;
+    let tables = Location::Document.says(tables(document))?;
+    Ok((machine, tables))
+}
+
+/// The machine of a document.
+fn machine(document: &Table) -> Result<Setup, Trouble<'_>>
+    ensures { IfOk result (IsMachine (table_view document.now)) }
+{
+    match at(document, "machine") {
+        None => Ok(absent()),
+        Some(value) => {
+            let table = Location::Document.says(table_at("machine", value))?;
+            Location::Machine.says(setup(table))
+        }
+    }
+}
+
+/// The table that a value is.
+fn table_at<'a>(key: &'static str, value: &'a Value) -> Result<&'a Table, Why<'a>>
+    ensures { IfOk result (λ t. as_table (view value.now) ≡ Some (table_view t.now)) }
+{
+    match value.as_table() {
+        Some(table) => Ok(table),
+        None => Err(Why::NoSuch {
+            key,
+            value,
+            wanted: Wanted::Table,
+        }),
+    }
+}
+
+/// The tables of the tasks, at least one.
+fn tables(document: &Table) -> Result<&[Value], Why<'_>>
+    ensures tasks { IfOk result (λ t. tasks_of (table_view document.now) ≡ Some (items_view t.now)) }
+    ensures some { IfOk result (λ t. 0 < length t.now) }
+{
+    let value = match at(document, "task") {
+        None => return Err(Why::Missing("[[task]]")),
+        Some(value) => value,
+    };
+    match value.as_array() {
+        None => Err(Why::NoSuch {
+            key: "task",
+            value,
+            wanted: Wanted::Tables,
+        }),
+        Some(tables) if tables.is_empty() => Err(Why::Missing("[[task]]")),
+        Some(tables) => Ok(tables.as_slice()),
+    }
+}
+
+/// The names of the tasks, of which no two are the same.
+fn names<'a>(alloc: Global, tables: &'a [Value]) -> Result<Vec<String>, Trouble<'a>>
+    ensures names { IfOk result (λ v. AreNames (items_view tables.now) v.items) }
+    ensures others { IfOk result (λ v. AreOthers [] v.items) }
+{
+    let mut names = Vec::new(alloc);
+    for (index, value) in tables.iter().enumerate() {
+        let place = Location::Task {
+            number: index + 1,
+            name: None,
+        };
+        let table = place.says(table_at("task", value))?;
+        let name = place.says(name(table))?;
+        if let Some(first) = actions::place(names.as_slice(), name) {
+            return Err(Trouble::At {
+                place,
+                why: Why::TwoOfName {
+                    name,
+                    first: first + 1,
+                },
+            });
+        }
+        names.push(String::from_str(alloc, name)?)?;
+    }
+    Ok(names)
+}
+
+/// The kinds of tasks, which have at most 1,024 tasks together.
+fn kinds<'a>(
+    alloc: Global,
+    tables: &'a [Value],
+    names: &'a [String],
+    processors: Processors,
+) -> Result<Vec<TaskKind>, Trouble<'a>>
+    ensures kinds { IfOk result (λ v. AreKinds names.now processors.all (items_view tables.now) v.items) }
+    ensures few { IfOk result (λ v. sum_by (λ k. k.count) v.items ≤ 1024) }
+{
+    let mut kinds = Vec::new(alloc);
+    let mut tasks: u16 = 0;
+    for (index, value) in tables.iter().enumerate() {
+        let table = Location::Document.says(table_at("task", value))?;
+        let kind = kind(alloc, table, index + 1, names, processors)?;
+        tasks = match tasks.checked_add(kind.count) {
+            Some(tasks) if tasks <= TASKS => tasks,
+            _ => return Err(Trouble::At {
+                place: Location::Document,
+                why: Why::TooMany,
+            }),
+        };
+        kinds.push(kind)?;
+    }
+    Ok(kinds)
+}
