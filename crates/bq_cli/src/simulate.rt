@@ -5,7 +5,6 @@ ghost use Rattle.bq_cli.specs.Simulating.{AskToSimulate, IsShown};
 ghost use Rattle.bq_cli.specs.Words.{AreHookWords, AreMachineWords, AreSimulateWords};
 
 use crate::timeline::timeline_words;
-use bq_actions::Workload;
 use bq_comparison::{
     Comparing, ComparingFault, MachineSize, SeedsFault, asked_comparison, compare, comparison_text,
     size_of_machine,
@@ -24,6 +23,7 @@ use bq_study::{
     run_as,
 };
 use bq_timeline::SettingsFault;
+use bq_workload::Workload;
 use bq_workload_file::{Changes, Fault, read};
 use clap::ArgMatches;
 use std::alloc::{AllocError, Global};

@@ -1,7 +1,7 @@
 -- What is gathered of all news.
 use Rattle.std.proofs.Common.{◌≡◌, ℕ, List, [], ◌∷◌, ◌++◌, None, sym, ap, ◌∙◌, append_assoc, append-nil}
 use Rattle.bq_trace.specs.News.{News, Told, TakesAll, Gets}
-use Rattle.bq_actions.specs.declared.workload.Workload.{Workload}
+use Rattle.bq_workload.specs.declared.workload.Workload.{Workload}
 use Rattle.bq_schedule.specs.WakeLatencies.{TakesStart, latencies_of}
 use Rattle.bq_simulate.specs.Simulations.{Accepted, IsSimulation}
 use Rattle.bq_comparison.specs.declared.gathering.Gatherer.{Gatherer}

@@ -1,6 +1,6 @@
 -- What is kept of the news of a simulation: its schedule, and the latencies of each task, from a wake until it ran.
 use Rattle.std.specs.Prelude.{◌≡◌, ℕ, ◌==◌, List, [], ◌∷◌, ◌++◌, Option, Some, None, if◌then◌else◌}
-use Rattle.bq_actions.specs.declared.workload.Workload.{Workload}
+use Rattle.bq_workload.specs.declared.workload.Workload.{Workload}
 use Rattle.bq_trace.specs.News.{News, Told, Answered}
 use Rattle.bq_schedule.specs.declared.change.Start.{Start}
 use Rattle.bq_schedule.specs.Figures.{Figures}

@@ -1,6 +1,6 @@
 -- Runs of one workload with several seeds.
 use Rattle.std.specs.Prelude.{◌≡◌, ℕ, ◌+◌, List, [], ◌∷◌, ◌++◌, Some, Result, Ok, IfErr, IfOk, map, length, slice_get}
-use Rattle.bq_actions.specs.declared.workload.Workload.{Workload}
+use Rattle.bq_workload.specs.declared.workload.Workload.{Workload}
 use Rattle.bq_schedule.specs.Figures.{Figures}
 use Rattle.bq_schedule.specs.WakeLatencies.{Tasks}
 use Rattle.bq_comparison.specs.declared.naming.Figure.{Figure}

@@ -2,7 +2,7 @@
 use Rattle.std.specs.Prelude.{◌≡◌, ℕ, min, List, Option, Some, None, option_map, sum_by}
 use Rattle.std.specs.Option.{IsSomeAnd}
 use Rattle.bq_words.specs.Sizes.{processors_in}
-use Rattle.bq_actions.specs.declared.workload.Workload.{Workload}
+use Rattle.bq_workload.specs.declared.workload.Workload.{Workload}
 use Rattle.bq_comparison.specs.declared.all.MachineSize.{MachineSize}
 use Rattle.bq_comparison.specs.Report.{figures_of_report}
 use Rattle.bq_simulate.specs.Simulations.{Accepted}

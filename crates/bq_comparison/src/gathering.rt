@@ -1,13 +1,12 @@
 //! What is kept of one simulation.
 ghost use Rattle.std.specs.Prelude.{◌≡◌, ℕ, [], IfErr, IfOk, None};
-ghost use Rattle.bq_actions.specs.Soundness.{first_flaw};
+ghost use Rattle.bq_workload.specs.Soundness.{first_flaw};
 ghost use Rattle.bq_comparison.specs.Gathering.{IsGathered, start_told};
 ghost use Rattle.bq_schedule.specs.WakeLatencies.{TakesStart, latencies_of};
 ghost use Rattle.bq_timeline.specs.Watching.{watched};
 ghost use Rattle.bq_simulate.specs.Faults.{flaw_told};
 ghost use Rattle.bq_simulate.specs.Simulations.{with_seed};
 
-use bq_actions::Workload;
 use bq_installed::Policy;
 use bq_load::LoadFault;
 use bq_parts::{Event, Refusal, Reply};
@@ -15,6 +14,7 @@ use bq_schedule::{Schedule, WakeLatencies};
 use bq_simulate::{SimulateFault, simulate_seed};
 use bq_trace::{AnyCore, Sink};
 use bq_words::{ProcessorCount, Rule};
+use bq_workload::Workload;
 use std::alloc::{AllocError, Global};
 
 /// A simulation as far as it has come: its schedule, once it has a machine, and the latencies of each task, from a wake until it

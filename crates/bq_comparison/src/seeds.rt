@@ -8,9 +8,9 @@ ghost use Rattle.bq_simulate.specs.Simulations.{with_seed};
 use crate::fault::SeedsFault;
 use crate::gathering::gather;
 use crate::{Figure, FigureRow, RunFigures, rows, run_of};
-use bq_actions::Workload;
 use bq_installed::Policy;
 use bq_simulate::SimulateFault;
+use bq_workload::Workload;
 use std::alloc::{AllocError, Global};
 use std::thread::{Threads, available_parallelism, map_indices};
 

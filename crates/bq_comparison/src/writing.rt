@@ -6,8 +6,8 @@ use crate::json_text::json_text;
 use crate::line::lines;
 use crate::sides::Sides;
 use crate::table::table_text;
-use bq_actions::Workload;
 use bq_study::{plain, task_names};
+use bq_workload::Workload;
 use std::alloc::{AllocError, Global};
 
 /// What is shown of the two sides of a workload's comparison, as it is asked for. A table has the head of both sides just where

@@ -4,10 +4,10 @@ use Rattle.std.specs.Prelude.{slice_get, sum_by}
 use Rattle.std.proofs.lemmas.List.{take_more}
 use Rattle.std.proofs.lemmas.List.Sums.{sum_by-append}
 use Rattle.std.proofs.lemmas.Option.{get_or_from_slice_get, slice_get_within}
-use Rattle.bq_actions.specs.declared.workload.TaskKind.{TaskKind}
-use Rattle.bq_actions.specs.Soundness.{IsFirstAllowed}
+use Rattle.bq_workload.specs.declared.workload.TaskKind.{TaskKind}
+use Rattle.bq_workload.specs.Soundness.{IsFirstAllowed}
 use Rattle.bq_parts.specs.declared.event.Event.TheVariants.{Admit}
-use Rattle.bq_actions.specs.Kinds.{tasks_in}
+use Rattle.bq_workload.specs.Kinds.{tasks_in}
 use Rattle.bq_simulate.specs.Actions.{first_of}
 use Rattle.bq_simulate.specs.Chronicles.{Deed, Happens}
 use Rattle.bq_simulate.specs.Steps.{AreAdmitted, AreAllAdmitted, AreJust, IsAdmission, IsJoin}

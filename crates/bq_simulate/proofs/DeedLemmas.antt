@@ -9,17 +9,17 @@ use Rattle.bq_trace.specs.News.{News, Told, Gets}
 use Rattle.bq_trace.proofs.TakingLemmas.{TakesAll-append}
 use Rattle.bq_simulate.specs.declared.driver.Driver.{Driver}
 use Rattle.bq_simulate.specs.Drives.{Did, Drives, Drove, Places}
-use Rattle.bq_actions.specs.Streams.{stream_of_task}
-use Rattle.bq_actions.specs.declared.action.Action.{Action}
-use Rattle.bq_actions.specs.declared.workload.TaskKind.{TaskKind}
-use Rattle.bq_actions.specs.declared.course.Course.{Course}
-use Rattle.bq_actions.specs.declared.roster.Pace.{Pace}
-use Rattle.bq_actions.specs.Accounts.{Accounts, IsDone, LooksAt, TicksAt, accounts_of, beaten, charged, looked, of_task}
-use Rattle.bq_actions.specs.Courses.{fresh, woken}
-use Rattle.bq_actions.specs.Dues.{IsSource}
-use Rattle.bq_actions.specs.Next.{IsAgreed, StaysAgreed}
-use Rattle.bq_actions.proofs.AgreedLemmas.{both}
-use Rattle.bq_actions.proofs.DueLemmas.{same-accounts}
+use Rattle.bq_workload.specs.Streams.{stream_of_task}
+use Rattle.bq_workload.specs.declared.action.Action.{Action}
+use Rattle.bq_workload.specs.declared.workload.TaskKind.{TaskKind}
+use Rattle.bq_workload.specs.declared.course.Course.{Course}
+use Rattle.bq_workload.specs.declared.roster.Pace.{Pace}
+use Rattle.bq_workload.specs.Accounts.{Accounts, IsDone, LooksAt, TicksAt, accounts_of, beaten, charged, looked, of_task}
+use Rattle.bq_workload.specs.Courses.{fresh, woken}
+use Rattle.bq_workload.specs.Dues.{IsSource}
+use Rattle.bq_workload.specs.Next.{IsAgreed, StaysAgreed}
+use Rattle.bq_workload.proofs.AgreedLemmas.{both}
+use Rattle.bq_workload.proofs.DueLemmas.{same-accounts}
 use Rattle.bq_simulate.specs.declared.simulation.Simulation.{Simulation}
 use Rattle.bq_simulate.specs.Actions.{IsOfKind, acted, aim_of, asked_by, first_of, next_action, start_of}
 use Rattle.bq_simulate.specs.Chronicles.{Acts, Beats, Book, Deed, Happens, IsDue, IsWoken, Joins, Lives, Looks, Misses, Reaches, Rings, after_act, after_answer, after_beat, after_event, after_look, drawn_with, events_of, joined, length_taken}

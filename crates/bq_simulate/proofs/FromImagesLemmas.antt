@@ -1,13 +1,13 @@
 -- What a simulation installs: the policies that it was given, and nothing beside them.
 use Rattle.std.proofs.Common.{◌≡◌, ℕ, ◌+◌, zero, suc, List, [], ◌∷◌, ◌++◌, Option, None, Some, map, sym, subst, inl, inr}
 use Rattle.std.specs.List.{AllByRecursion}
-use Rattle.bq_actions.specs.declared.action.Action.{Action}
-use Rattle.bq_actions.specs.declared.action.Action.TheVariants.{Run, Wake}
-use Rattle.bq_actions.specs.declared.due.Due.{Due}
-use Rattle.bq_actions.specs.declared.due.Due.TheVariants as due
-use Rattle.bq_actions.specs.declared.roster.Pace.{Pace}
-use Rattle.bq_actions.specs.declared.workload.TaskKind.{TaskKind}
-use Rattle.bq_actions.specs.declared.workload.Workload.{Workload}
+use Rattle.bq_workload.specs.declared.action.Action.{Action}
+use Rattle.bq_workload.specs.declared.action.Action.TheVariants.{Run, Wake}
+use Rattle.bq_workload.specs.declared.due.Due.{Due}
+use Rattle.bq_workload.specs.declared.due.Due.TheVariants as due
+use Rattle.bq_workload.specs.declared.roster.Pace.{Pace}
+use Rattle.bq_workload.specs.declared.workload.TaskKind.{TaskKind}
+use Rattle.bq_workload.specs.declared.workload.Workload.{Workload}
 use Rattle.bq_parts.specs.declared.event.Event.{Event}
 use Rattle.bq_parts.specs.declared.event.Event.TheVariants.{Block, Install, Tick}
 use Rattle.bq_trace.specs.News.{Told}

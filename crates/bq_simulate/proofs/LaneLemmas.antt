@@ -7,10 +7,10 @@ use Rattle.std.proofs.lemmas.List.Elements.{filter-append}
 use Rattle.std.proofs.lemmas.List.{map-append}
 use Rattle.bq_parts.specs.declared.event.Event.{Event}
 use Rattle.bq_parts.specs.declared.event.Event.TheVariants.{Tick}
-use Rattle.bq_actions.specs.declared.lane.Lane.{Lane}
-use Rattle.bq_actions.specs.declared.roster.Pace.{Pace}
-use Rattle.bq_actions.specs.Accounts.{Accounts, charged, charged_by, idled, is_same, occupied, of_processor, switched, taken_over}
-use Rattle.bq_actions.proofs.AgreeLemmas.{changed_at-others}
+use Rattle.bq_workload.specs.declared.lane.Lane.{Lane}
+use Rattle.bq_workload.specs.declared.roster.Pace.{Pace}
+use Rattle.bq_workload.specs.Accounts.{Accounts, charged, charged_by, idled, is_same, occupied, of_processor, switched, taken_over}
+use Rattle.bq_workload.proofs.AgreeLemmas.{changed_at-others}
 use Rattle.bq_simulate.specs.Chronicles.{is_busy}
 use Rattle.bq_simulate.specs.Steps.{all_processors, last_ticks}
 

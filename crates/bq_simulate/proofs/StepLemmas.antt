@@ -1,11 +1,11 @@
 -- Deeds of one form after another.
 use Rattle.std.proofs.Common.{◌≡◌, ℕ, ◌+◌, ◌≤◌, List, [], ◌∷◌, ◌++◌, refl, sym, ap, ◌∙◌, subst, arith, append-nil, length-append}
 use Rattle.std.proofs.lemmas.Grind.{flat_map-append}
-use Rattle.bq_actions.specs.declared.due.Due.{Due}
+use Rattle.bq_workload.specs.declared.due.Due.{Due}
 use Rattle.bq_parts.specs.declared.event.Event.{Event}
-use Rattle.bq_actions.specs.declared.roster.Pace.{Pace}
-use Rattle.bq_actions.specs.declared.workload.TaskKind.{TaskKind}
-use Rattle.bq_actions.specs.Next.{IsNext}
+use Rattle.bq_workload.specs.declared.roster.Pace.{Pace}
+use Rattle.bq_workload.specs.declared.workload.TaskKind.{TaskKind}
+use Rattle.bq_workload.specs.Next.{IsNext}
 use Rattle.bq_simulate.specs.Chronicles.{Book, Deed, after_deed, after_deeds}
 use Rattle.bq_simulate.specs.Steps.{AreInOrder, AreJust, AreMet, Meet, Rise, Step, deeds_of}
 

@@ -3,9 +3,9 @@ use Rattle.std.proofs.Common.{◌≡◌, ℕ, ◌+◌, List, [], ◌∷◌, ◌+
 use Rattle.std.specs.Prelude.{slice_get, slice_set, is_some, unwrap_or}
 use Rattle.std.specs.Option.{option_map_or}
 use Rattle.rand_pcg.specs.Lcg.{Lcg}
-use Rattle.bq_actions.specs.declared.action.Length.{Length}
-use Rattle.bq_actions.specs.Streams.{stream_of_task, after_draw, after_draws}
-use Rattle.bq_actions.specs.Accounts.{changed_at}
+use Rattle.bq_workload.specs.declared.action.Length.{Length}
+use Rattle.bq_workload.specs.Streams.{stream_of_task, after_draw, after_draws}
+use Rattle.bq_workload.specs.Accounts.{changed_at}
 use Rattle.bq_simulate.specs.declared.simulation.Simulation.{Simulation}
 use Rattle.bq_simulate.specs.Actions.{length_of, next_length}
 use Rattle.bq_simulate.specs.Chronicles.{draws_of, drawn_with, length_taken}

@@ -1,20 +1,20 @@
 -- A simulation from its beginning to its end.
 use Rattle.std.proofs.Common.{◌≡◌, ℕ, List, [], ◌++◌, ap, refl, sym, ◌∙◌, subst, true≢false}
 use Rattle.std.specs.Prelude.{is_some, slice_get}
-use Rattle.bq_actions.specs.declared.workload.TaskKind.{TaskKind}
-use Rattle.bq_actions.specs.declared.workload.Workload.{Workload}
+use Rattle.bq_workload.specs.declared.workload.TaskKind.{TaskKind}
+use Rattle.bq_workload.specs.declared.workload.Workload.{Workload}
 use Rattle.bq_trace.specs.News.{News, Gets}
 use Rattle.bq_trace.proofs.TakingLemmas.{TakesAll-append}
 use Rattle.bq_verify.specs.Accepted.{Accepted}
 use Rattle.bq_words.specs.Sizes.{processors_in}
 use Rattle.bq_simulate.specs.declared.driver.Driver.{Driver}
 use Rattle.bq_simulate.specs.Drives.{Starts}
-use Rattle.bq_actions.specs.Accounts.{Accounts, accounts_of}
-use Rattle.bq_actions.specs.declared.roster.Pace.{Pace}
+use Rattle.bq_workload.specs.Accounts.{Accounts, accounts_of}
+use Rattle.bq_workload.specs.declared.roster.Pace.{Pace}
 use Rattle.bq_simulate.specs.declared.simulation.Simulation.{Simulation}
-use Rattle.bq_actions.specs.Bounds.{most_steps}
+use Rattle.bq_workload.specs.Bounds.{most_steps}
 use Rattle.bq_simulate.specs.Chronicles.{Book, Deed, Lives}
-use Rattle.bq_actions.specs.Next.{IsAgreed, NothingComes}
+use Rattle.bq_workload.specs.Next.{IsAgreed, NothingComes}
 use Rattle.bq_simulate.specs.Simulations.{HasFirsts, IsSimulation, Lived, LivedFrom, Proceeds, Runs, book_of, opening_book, pace_of}
 use Rattle.bq_simulate.specs.Steps.{AreAllAdmitted, AreInstalled, AreMet, Opens}
 use Rattle.bq_simulate.proofs.DeedLemmas.{Goes-join, Lives-append, drives-of-lives}

@@ -2,18 +2,18 @@
 use Rattle.std.specs.Prelude.{◌≡◌, ℕ, ◌+◌, ◌≤◌, ◌<◌, if◌then◌else◌, nat_lt, List, Option, Some, None, length, slice_get, min, sum_by, take, option_and_then}
 use Rattle.std.specs.Option.{option_map_or}
 use Rattle.rand_pcg.specs.Lcg.{Lcg}
-use Rattle.bq_actions.specs.declared.action.Action.{Action}
-use Rattle.bq_actions.specs.declared.action.Action.TheVariants.{Run, Sleep, Wait, Wake}
-use Rattle.bq_actions.specs.declared.action.Length.{Length}
-use Rattle.bq_actions.specs.declared.workload.TaskKind.{TaskKind}
-use Rattle.bq_actions.specs.Draws.{length_drawn}
-use Rattle.bq_actions.specs.Streams.{stream_of_task, first_word, second_word, after_draws}
-use Rattle.bq_actions.specs.Accounts.{is_same}
-use Rattle.bq_actions.specs.declared.course.Course.{Course}
-use Rattle.bq_actions.specs.declared.course.Stance.{Stance}
-use Rattle.bq_actions.specs.declared.course.Stance.TheVariants.{Asleep, Waiting, Over}
-use Rattle.bq_actions.specs.Courses.{advanced, begun}
-use Rattle.bq_actions.specs.Kinds.{count_of}
+use Rattle.bq_workload.specs.declared.action.Action.{Action}
+use Rattle.bq_workload.specs.declared.action.Action.TheVariants.{Run, Sleep, Wait, Wake}
+use Rattle.bq_workload.specs.declared.action.Length.{Length}
+use Rattle.bq_workload.specs.declared.workload.TaskKind.{TaskKind}
+use Rattle.bq_workload.specs.Draws.{length_drawn}
+use Rattle.bq_workload.specs.Streams.{stream_of_task, first_word, second_word, after_draws}
+use Rattle.bq_workload.specs.Accounts.{is_same}
+use Rattle.bq_workload.specs.declared.course.Course.{Course}
+use Rattle.bq_workload.specs.declared.course.Stance.{Stance}
+use Rattle.bq_workload.specs.declared.course.Stance.TheVariants.{Asleep, Waiting, Over}
+use Rattle.bq_workload.specs.Courses.{advanced, begun}
+use Rattle.bq_workload.specs.Kinds.{count_of}
 
 -- the action at which a task of this kind stands; none where it has done all as often as it is to
 abbrev pub action_at : TaskKind → Course → Option Action

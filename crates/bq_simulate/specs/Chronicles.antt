@@ -1,23 +1,23 @@
 -- What happens in a simulation, one thing after another: events of the trace with their answers, and what tasks do beside them.
 use Rattle.std.specs.Prelude.{◌≡◌, ◌≢◌, ℕ, suc, Bool, true, false, List, [], ◌∷◌, ◌++◌, Option, Some, None, is_some, length, slice_get, unwrap_or}
 use Rattle.std.specs.Option.{option_map_or}
-use Rattle.bq_actions.specs.declared.action.Action.{Action}
-use Rattle.bq_actions.specs.declared.action.Length.{Length}
-use Rattle.bq_actions.specs.declared.workload.TaskKind.{TaskKind}
+use Rattle.bq_workload.specs.declared.action.Action.{Action}
+use Rattle.bq_workload.specs.declared.action.Length.{Length}
+use Rattle.bq_workload.specs.declared.workload.TaskKind.{TaskKind}
 use Rattle.bq_parts.specs.declared.event.Event.{Event}
 use Rattle.bq_parts.specs.declared.event.Event.TheVariants.{BeginWake, Drain, Tick, Block, Pull}
 use Rattle.bq_parts.specs.declared.reply.Reply.{Reply}
 use Rattle.bq_trace.specs.News.{Told}
 use Rattle.bq_simulate.specs.declared.driver.Driver.{Driver}
 use Rattle.bq_simulate.specs.Drives.{Does, count_entered, runs_now, task_pulled}
-use Rattle.bq_actions.specs.declared.course.Course.{Course}
-use Rattle.bq_actions.specs.declared.course.Stance.{Stance}
-use Rattle.bq_actions.specs.declared.course.Stance.TheVariants.{Asleep, Waiting}
-use Rattle.bq_actions.specs.declared.lane.Lane.{Lane}
-use Rattle.bq_actions.specs.declared.roster.Pace.{Pace}
-use Rattle.bq_actions.specs.Accounts.{Accounts, IsDone, LooksAt, TicksAt, beaten, changed_at, charged, entered_by, left_by, looked, of_task, passed, switched}
-use Rattle.bq_actions.specs.Courses.{fresh, woken}
-use Rattle.bq_actions.specs.Dues.{IsSource}
+use Rattle.bq_workload.specs.declared.course.Course.{Course}
+use Rattle.bq_workload.specs.declared.course.Stance.{Stance}
+use Rattle.bq_workload.specs.declared.course.Stance.TheVariants.{Asleep, Waiting}
+use Rattle.bq_workload.specs.declared.lane.Lane.{Lane}
+use Rattle.bq_workload.specs.declared.roster.Pace.{Pace}
+use Rattle.bq_workload.specs.Accounts.{Accounts, IsDone, LooksAt, TicksAt, beaten, changed_at, charged, entered_by, left_by, looked, of_task, passed, switched}
+use Rattle.bq_workload.specs.Courses.{fresh, woken}
+use Rattle.bq_workload.specs.Dues.{IsSource}
 use Rattle.bq_simulate.specs.Actions.{IsOfKind, acted, aimed, asked_by, length_of, next_action, start_of}
 
 -- one thing that a simulation does

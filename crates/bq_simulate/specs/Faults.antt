@@ -1,8 +1,8 @@
 -- Why a simulation does not come to its end.
 use Rattle.std.specs.Prelude.{◌≡◌, Option, Some, None, IfSome}
-use Rattle.bq_actions.specs.Soundness.{first_flaw}
-use Rattle.bq_actions.specs.declared.sound.Unsound.{Unsound}
-use Rattle.bq_actions.specs.declared.workload.Workload.{Workload}
+use Rattle.bq_workload.specs.Soundness.{first_flaw}
+use Rattle.bq_workload.specs.declared.sound.Unsound.{Unsound}
+use Rattle.bq_workload.specs.declared.workload.Workload.{Workload}
 use Rattle.bq_simulate.specs.declared.fault.SimulateFault.{SimulateFault}
 use Rattle.bq_simulate.specs.declared.fault.SimulateFault.TheVariants as fault
 

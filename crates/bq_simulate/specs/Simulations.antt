@@ -1,22 +1,22 @@
 -- What a simulation tells.
 use Rattle.std.specs.Prelude.{◌≡◌, ℕ, ◌++◌, ◌+◌, true, List, [], ◌∷◌, Option, Some, None, slice_get, slice_set}
 use Rattle.rand_pcg.specs.Lcg.{Lcg}
-use Rattle.bq_actions.specs.declared.action.Length.{Length}
-use Rattle.bq_actions.specs.declared.roster.Pace.{Pace}
-use Rattle.bq_actions.specs.declared.setup.Setup.{Setup}
-use Rattle.bq_actions.specs.declared.workload.TaskKind.{TaskKind}
-use Rattle.bq_actions.specs.declared.workload.Workload.{Workload}
-use Rattle.bq_actions.specs.Streams.{stream_of_task, after_draw, after_draws}
+use Rattle.bq_workload.specs.declared.action.Length.{Length}
+use Rattle.bq_workload.specs.declared.roster.Pace.{Pace}
+use Rattle.bq_workload.specs.declared.setup.Setup.{Setup}
+use Rattle.bq_workload.specs.declared.workload.TaskKind.{TaskKind}
+use Rattle.bq_workload.specs.declared.workload.Workload.{Workload}
+use Rattle.bq_workload.specs.Streams.{stream_of_task, after_draw, after_draws}
 pub use Rattle.bq_verify.specs.Accepted.{Accepted}
 use Rattle.bq_words.specs.Sizes.{processors_in}
 use Rattle.bq_trace.specs.News.{News, Told, Gets}
 use Rattle.bq_simulate.specs.declared.driver.Driver.{Driver}
 use Rattle.bq_simulate.specs.Drives.{Starts, Drives}
-use Rattle.bq_actions.specs.Accounts.{accounts_of, is_over, opening}
+use Rattle.bq_workload.specs.Accounts.{accounts_of, is_over, opening}
 use Rattle.bq_simulate.specs.declared.simulation.Simulation.{Simulation}
 use Rattle.bq_simulate.specs.Actions.{first_of, next_length}
-use Rattle.bq_actions.specs.Bounds.{most_steps}
-use Rattle.bq_actions.specs.Next.{IsAgreed, NothingComes, StaysAgreed}
+use Rattle.bq_workload.specs.Bounds.{most_steps}
+use Rattle.bq_workload.specs.Next.{IsAgreed, NothingComes, StaysAgreed}
 use Rattle.bq_simulate.specs.Chronicles.{Book, Deed, Lives, after_deeds, events_of}
 use Rattle.bq_simulate.specs.Steps.{AreJust, AreMet, Opens, all_processors, last_ticks}
 

@@ -1,20 +1,20 @@
 -- What comes due in a simulation, and what is done then.
 use Rattle.std.specs.Prelude.{◌≡◌, ◌≢◌, ◌⊎◌, ◌≤◌, ◌+◌, ℕ, zero, suc, List, [], ◌∷◌, ◌++◌, Option, None, Some, length, map, filter, slice_get}
 use Rattle.std.specs.List.{flat_map, range_with_len}
-use Rattle.bq_actions.specs.declared.action.Action.{Action}
-use Rattle.bq_actions.specs.declared.action.Action.TheVariants.{Run, Wake}
-use Rattle.bq_actions.specs.declared.due.Due.{Due}
-use Rattle.bq_actions.specs.declared.workload.TaskKind.{TaskKind}
-use Rattle.bq_actions.specs.declared.due.Due.TheVariants as due
+use Rattle.bq_workload.specs.declared.action.Action.{Action}
+use Rattle.bq_workload.specs.declared.action.Action.TheVariants.{Run, Wake}
+use Rattle.bq_workload.specs.declared.due.Due.{Due}
+use Rattle.bq_workload.specs.declared.workload.TaskKind.{TaskKind}
+use Rattle.bq_workload.specs.declared.due.Due.TheVariants as due
 use Rattle.bq_parts.specs.declared.event.Event.{Event}
 use Rattle.bq_parts.specs.declared.event.Event.TheVariants.{Admit, Draw, Install, BeginWake, EndWake, Drain, Tick, Block, Pull}
 use Rattle.bq_parts.specs.declared.reply.Reply.{Reply}
 use Rattle.bq_parts.specs.declared.reply.Reply.TheVariants.{Drawn}
 use Rattle.bq_verify.specs.Accepted.{Accepted}
-use Rattle.bq_actions.specs.Accounts.{Accounts}
-use Rattle.bq_actions.specs.declared.roster.Pace.{Pace}
-use Rattle.bq_actions.specs.Next.{IsNext}
-use Rattle.bq_actions.specs.Soundness.{IsFirstAllowed}
+use Rattle.bq_workload.specs.Accounts.{Accounts}
+use Rattle.bq_workload.specs.declared.roster.Pace.{Pace}
+use Rattle.bq_workload.specs.Next.{IsNext}
+use Rattle.bq_workload.specs.Soundness.{IsFirstAllowed}
 use Rattle.bq_simulate.specs.Chronicles.{Acts, Beats, Book, Deed, Happens, Joins, Looks, Misses, Reaches, Rings, after_deeds, is_busy}
 use Rattle.bq_simulate.specs.Drives.{placed_at}
 

@@ -1,17 +1,17 @@
 //! What a task does next, once it has run long enough.
 ghost use Rattle.std.specs.Prelude.{◌≡◌, ◌+◌, [], ◌∷◌, IfOk, List, OnOk, Some, slice_get};
 ghost use Rattle.bq_parts.specs.declared.event.Event.TheVariants.{Block};
-ghost use Rattle.bq_actions.specs.Courses.{begun};
-ghost use Rattle.bq_actions.specs.Kinds.{count_of};
-ghost use Rattle.bq_actions.specs.declared.workload.TaskKind.{TaskKind};
+ghost use Rattle.bq_workload.specs.Courses.{begun};
+ghost use Rattle.bq_workload.specs.Kinds.{count_of};
+ghost use Rattle.bq_workload.specs.declared.workload.TaskKind.{TaskKind};
 ghost use Rattle.bq_simulate.specs.Actions.{acted, action_at, asleep_for, advanced_in, aim_of, asked_by, first_of, next_action, resting, woken_one_in};
 ghost use Rattle.bq_simulate.specs.Simulations.{Befell, DrawsFor, Lived, Same, Silent};
 ghost use Rattle.bq_simulate.specs.Steps.{AreJust, Follow, IsAct, Meet, Wakes};
 
 use crate::fault::SimulateFault;
 use crate::simulation::Simulation;
-use bq_actions::{Action, Astray, Course, Due, Length, Stance, TaskKind, Workload};
 use bq_trace::Sink;
+use bq_workload::{Action, Astray, Course, Due, Length, Stance, TaskKind, Workload};
 use std::alloc::Global;
 
 /// What a task does next, once its phase has ended.

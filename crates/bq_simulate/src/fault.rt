@@ -4,7 +4,7 @@ ghost use Rattle.bq_simulate.specs.Faults.{flaw_told};
 ghost use Rattle.bq_simulate.specs.declared.fault.SimulateFault.TheVariants.{OutOfMemory};
 
 use crate::DriveFault;
-use bq_actions::{Astray, Unsound};
+use bq_workload::{Astray, Unsound};
 use std::alloc::AllocError;
 use thiserror::Error;
 

@@ -1,11 +1,11 @@
 //! A simulation from its beginning to its end.
 ghost use Rattle.std.specs.Prelude.{◌≡◌, ◌≢◌, None, [], ◌∷◌, OnOk, IfOk, IfErr, length};
-ghost use Rattle.bq_actions.specs.Accounts.{accounts_of};
+ghost use Rattle.bq_workload.specs.Accounts.{accounts_of};
 ghost use Rattle.bq_words.specs.Sizes.{processors_in};
-ghost use Rattle.bq_actions.specs.Bounds.{most_steps};
-ghost use Rattle.bq_actions.specs.Kinds.{tasks_in};
-ghost use Rattle.bq_actions.specs.Next.{IsAgreed, NothingComes};
-ghost use Rattle.bq_actions.specs.Soundness.{first_flaw};
+ghost use Rattle.bq_workload.specs.Bounds.{most_steps};
+ghost use Rattle.bq_workload.specs.Kinds.{tasks_in};
+ghost use Rattle.bq_workload.specs.Next.{IsAgreed, NothingComes};
+ghost use Rattle.bq_workload.specs.Soundness.{first_flaw};
 ghost use Rattle.bq_simulate.specs.Faults.{flaw_told};
 ghost use Rattle.bq_simulate.specs.Simulations.{Befell, IsSimulation, LivedFrom, Runs, opening_book, pace_of, with_seed};
 ghost use Rattle.bq_simulate.specs.Steps.{AreJust, AreMet, KeepsOthers, all_processors, last_ticks};
@@ -15,9 +15,9 @@ use crate::Driver;
 use crate::fault::SimulateFault;
 use crate::simulation::Simulation;
 use crate::tally::Tally;
-use bq_actions::{Pace, Roster, Setup, Workload, most_steps, soundness};
 use bq_installed::Policy;
 use bq_trace::Sink;
+use bq_workload::{Pace, Roster, Setup, Workload, most_steps, soundness};
 use std::alloc::Global;
 
 /// Follows a workload to its end, with these policies at all processors, and tells a sink of its events: line 1 of their

@@ -1,8 +1,8 @@
 //! How a simulation begins: policies are installed, and tasks are admitted.
 ghost use Rattle.std.specs.Prelude.{◌≡◌, ◌+◌, [], ◌∷◌, IfOk, OnOk, Some, List, length, slice_get};
 ghost use Rattle.bq_parts.specs.declared.event.Event.TheVariants.{Admit};
-ghost use Rattle.bq_actions.specs.Kinds.{tasks_in};
-ghost use Rattle.bq_actions.specs.declared.workload.TaskKind.{TaskKind};
+ghost use Rattle.bq_workload.specs.Kinds.{tasks_in};
+ghost use Rattle.bq_workload.specs.declared.workload.TaskKind.{TaskKind};
 ghost use Rattle.bq_simulate.specs.Actions.{IsOfKind, first_of, start_of};
 ghost use Rattle.bq_simulate.specs.Simulations.{Befell, Lived, Same, Silent};
 ghost use Rattle.bq_simulate.specs.Steps.{AreAdmitted, AreAllAdmitted, AreInstalled, AreJust, IsJoin, installs_of};
@@ -10,9 +10,9 @@ ghost use Rattle.bq_words.specs.Sizes.{processors_in};
 
 use crate::fault::SimulateFault;
 use crate::simulation::Simulation;
-use bq_actions::{Course, Due, Stream, TaskKind, Workload, first_of_mask};
 use bq_installed::Policy;
 use bq_trace::Sink;
+use bq_workload::{Course, Due, Stream, TaskKind, Workload, first_of_mask};
 use std::alloc::Global;
 
 impl Simulation {

@@ -3,8 +3,8 @@ ghost use Rattle.std.specs.Prelude.{◌≡◌, ℕ, true, [], ◌∷◌, IfOk, O
 ghost use Rattle.bq_parts.specs.declared.event.Event.TheVariants.{BeginWake, EndWake, Drain, Pull, Tick};
 ghost use Rattle.bq_simulate.specs.Drives.{Drove};
 ghost use Rattle.std.specs.Option.{option_map_or};
-ghost use Rattle.bq_actions.specs.Accounts.{accounts_of, passed, switched};
-ghost use Rattle.bq_actions.specs.Next.{StaysAgreed};
+ghost use Rattle.bq_workload.specs.Accounts.{accounts_of, passed, switched};
+ghost use Rattle.bq_workload.specs.Next.{StaysAgreed};
 ghost use Rattle.bq_simulate.specs.Chronicles.{IsWoken, is_busy};
 ghost use Rattle.bq_simulate.specs.Simulations.{Befell, Draws, Lived};
 ghost use Rattle.bq_simulate.specs.Steps.{AreJust, AreWake, KeepsOthers, Meet};
@@ -13,8 +13,8 @@ use crate::Driver;
 use crate::calls::Moved;
 use crate::fault::SimulateFault;
 use crate::tally::Tally;
-use bq_actions::{Astray, Due, Length, Roster, Stance, Stream, Workload};
 use bq_trace::Sink;
+use bq_workload::{Astray, Due, Length, Roster, Stance, Stream, Workload};
 use std::alloc::Global;
 
 /// A simulation on its way: its machine, its tasks and processors, the draws of each task, the first task of each kind,

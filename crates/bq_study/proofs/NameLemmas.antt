@@ -12,11 +12,11 @@ use Rattle.std.proofs.lemmas.List.FromFn.{length-map-range_with_len}
 use Rattle.std.proofs.lemmas.List.Splits.{slice_split_at}
 use Rattle.std.proofs.lemmas.List.Sums.{sum_by-cons}
 use Rattle.std.proofs.lemmas.Str.{IsUtf8-from_ascii, is_utf8-from_IsUtf8}
-use Rattle.bq_actions.specs.declared.workload.TaskKind.{TaskKind}
-use Rattle.bq_actions.specs.declared.workload.Workload.{Workload}
-use Rattle.bq_actions.specs.Kinds.{tasks_in}
-use Rattle.bq_actions.specs.Soundness.{first_flaw}
-use Rattle.bq_actions.proofs.SoundLemmas.{sound-few, sound-named}
+use Rattle.bq_workload.specs.declared.workload.TaskKind.{TaskKind}
+use Rattle.bq_workload.specs.declared.workload.Workload.{Workload}
+use Rattle.bq_workload.specs.Kinds.{tasks_in}
+use Rattle.bq_workload.specs.Soundness.{first_flaw}
+use Rattle.bq_workload.proofs.SoundLemmas.{sound-few, sound-named}
 use Rattle.bq_lines.specs.Bytes.{is_allowed}
 use Rattle.bq_lines.specs.Lines.{reading_of, reading_of_words}
 use Rattle.bq_lines.specs.declared.command.LineReading.TheVariants as says

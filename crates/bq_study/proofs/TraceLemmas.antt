@@ -1,8 +1,8 @@
 -- A simulation that is told as a text.
 use Rattle.std.proofs.Common.{◌≡◌, List, None, [], ◌∷◌, ◌++◌, map, sym, ap, ◌∙◌, subst, string_bytes}
 use Rattle.std.proofs.lemmas.Grind.{flat_map-append}
-use Rattle.bq_actions.specs.Soundness.{first_flaw}
-use Rattle.bq_actions.specs.declared.workload.Workload.{Workload}
+use Rattle.bq_workload.specs.Soundness.{first_flaw}
+use Rattle.bq_workload.specs.declared.workload.Workload.{Workload}
 use Rattle.bq_simulate.specs.Retelling.{Answers, AreOfImages}
 use Rattle.bq_simulate.specs.Texts.{AreFitting, ByHook, image_at, told_lines}
 use Rattle.bq_simulate.specs.declared.trace_writer.TraceWriter.{TraceWriter}

@@ -1,9 +1,9 @@
 -- What a viewer has of a simulation that is told to it further below.
 use Rattle.std.proofs.Common.{◌≡◌, ℕ, List, [], ◌∷◌, Some, None, Option, map, refl, sym, ap, ◌∙◌}
 use Rattle.std.specs.Prelude.{IfSome}
-use Rattle.bq_actions.specs.Soundness.{first_flaw}
-use Rattle.bq_actions.specs.declared.sound.Unsound.{Unsound}
-use Rattle.bq_actions.specs.declared.workload.Workload.{Workload}
+use Rattle.bq_workload.specs.Soundness.{first_flaw}
+use Rattle.bq_workload.specs.declared.sound.Unsound.{Unsound}
+use Rattle.bq_workload.specs.declared.workload.Workload.{Workload}
 use Rattle.bq_parts.specs.declared.event.Event.{Event}
 use Rattle.bq_schedule.specs.Figures.{Figures}
 use Rattle.bq_simulate.specs.Chronicles.{events_of}

@@ -1,7 +1,7 @@
 -- What the words of `simulate` ask for.
 use Rattle.std.specs.Prelude.{◌≡◌, ℕ, Bool, true, false, ◌&&◌, ◌||◌, nat_le, List, Option, Some, None, String, if◌then◌else◌, codes, is_some, option_and_then, option_map}
 use Rattle.std.specs.Global.{Global}
-use Rattle.bq_actions.specs.Lengths.{longest}
+use Rattle.bq_workload.specs.Lengths.{longest}
 use Rattle.bq_words.specs.Quantities.{size_of, decimal_of}
 use Rattle.bq_policy_commands.specs.Saying.{option_bytes}
 use Rattle.bq_timeline.specs.Settings.{AsksFor, IsNoSettings, asked_or, form_asked}

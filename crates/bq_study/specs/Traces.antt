@@ -1,7 +1,7 @@
 -- What is written of a workload that is run, as a trace.
 use Rattle.std.specs.Prelude.{◌≡◌, ℕ, List, [], ◌++◌, None, string_bytes}
-use Rattle.bq_actions.specs.Soundness.{first_flaw}
-use Rattle.bq_actions.specs.declared.workload.Workload.{Workload}
+use Rattle.bq_workload.specs.Soundness.{first_flaw}
+use Rattle.bq_workload.specs.declared.workload.Workload.{Workload}
 use Rattle.bq_simulate.specs.Retelling.{Answers, AreOfImages}
 use Rattle.bq_simulate.specs.Texts.{AreFitting, ByHook, told_lines}
 use Rattle.bq_simulate.specs.Simulations.{Accepted, IsSimulation}

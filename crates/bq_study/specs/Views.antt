@@ -1,7 +1,7 @@
 -- A workload that is run before a viewer.
 use Rattle.std.specs.Prelude.{◌≡◌, ℕ, List, ◌++◌, None}
-use Rattle.bq_actions.specs.Soundness.{first_flaw}
-use Rattle.bq_actions.specs.declared.workload.Workload.{Workload}
+use Rattle.bq_workload.specs.Soundness.{first_flaw}
+use Rattle.bq_workload.specs.declared.workload.Workload.{Workload}
 use Rattle.bq_simulate.specs.Simulations.{Accepted, IsSimulation}
 use Rattle.bq_timeline.specs.Notes.{last_notes}
 use Rattle.bq_timeline.specs.Watching.{schedule_after}

@@ -6,10 +6,10 @@ ghost use Rattle.bq_words.specs.Sizes.{rule_of};
 ghost use Rattle.bq_study.specs.Asking.{AskForChanges, AskToShow, IsNoChange, IsNotShown, change_asked, chooses_part, time_in};
 
 use crate::words::StudyWords;
-use bq_actions::limits::LONGEST;
 use bq_timeline::{Settings, SettingsFault, Words, with_forms};
 use bq_words::quantities::{decimal, size};
 use bq_words::{ProcessorCount, Rule, duration, with_rules, with_sizes, with_units};
+use bq_workload::limits::LONGEST;
 use bq_workload_file::Changes;
 use std::alloc::Global;
 use thiserror::Error;

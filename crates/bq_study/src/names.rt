@@ -4,8 +4,8 @@ ghost use Rattle.bq_trace.specs.News.{TakesAll};
 ghost use Rattle.bq_study.specs.Names.{comments_of, name_in, names_in, names_of, plain_name, plain_of};
 ghost use Rattle.bq_study.specs.Traces.{skipped};
 
-use bq_actions::{TaskKind, Workload};
 use bq_trace::Sink;
+use bq_workload::{TaskKind, Workload};
 use std::alloc::{AllocError, Global};
 
 /// The name of each task. The tasks of a kind are numbered from 0, where it has several.

@@ -9,10 +9,10 @@ use crate::asked::ShownAs;
 use crate::later::Later;
 use crate::names::tell_names;
 use crate::policies::Policies;
-use bq_actions::Workload;
 use bq_simulate::{SimulateFault, TraceWriter, simulate};
 use bq_timeline::Settings;
 use bq_timeline::viewer::Viewer;
+use bq_workload::Workload;
 use std::alloc::Global;
 
 /// What is written of a run: to the output, and to standard error.

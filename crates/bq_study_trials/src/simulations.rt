@@ -1,10 +1,10 @@
 //! Simulations, step by step.
 
 use crate::cases::holds;
-use bq_actions::{Action, Length, Setup, TaskKind, Unsound, Workload};
 use bq_parts::Event;
 use bq_simulate::{SimulateFault, Tally, simulate, write_event};
 use bq_words::{ProcessorCount, Rule};
+use bq_workload::{Action, Length, Setup, TaskKind, Unsound, Workload};
 use std::alloc::Global;
 use std::process::Abort;
 use std::test::Fail;

@@ -1,8 +1,8 @@
 // Texts that are workloads, and what they say.
 
 use crate::cases::holds;
-use bq_actions::{Action, Length, Setup, TaskKind, Workload};
 use bq_words::{ProcessorCount, Rule};
+use bq_workload::{Action, Length, Setup, TaskKind, Workload};
 use bq_workload_file::{Changes, read};
 use std::alloc::Global;
 use std::process::Abort;

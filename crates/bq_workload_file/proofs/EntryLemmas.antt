@@ -4,10 +4,10 @@ use Rattle.toml.specs.declared.value.Value.{Value}
 use Rattle.toml.specs.Data.{Members, as_table}
 use Rattle.toml.specs.View.{view, items_view, members_view}
 use Rattle.toml.proofs.Views.{Entry, items_view-drop}
-use Rattle.bq_actions.specs.declared.action.Action.{Action}
+use Rattle.bq_workload.specs.declared.action.Action.{Action}
 use Rattle.bq_workload_file.specs.Actions.{action_of, actions_of, named_at}
 use Rattle.bq_workload_file.specs.Lengths.{ends_of}
-use Rattle.bq_actions.specs.declared.workload.TaskKind.{TaskKind}
+use Rattle.bq_workload.specs.declared.workload.TaskKind.{TaskKind}
 use Rattle.bq_workload_file.specs.Tables.{only_of}
 use Rattle.bq_workload_file.specs.Workloads.{AreKinds, AreNames, AreOthers, IsKind, name_in}
 

@@ -6,7 +6,7 @@ use Rattle.std.proofs.Math.Nat.{div-div-eq-div-mul}
 use Rattle.std.proofs.lemmas.Bool.{eqb-false, or_parts, true_from_ne_false}
 use Rattle.std.proofs.lemmas.Grind.{pow_more}
 use Rattle.std.proofs.lemmas.Nat.{and_mask, mod-pow-add}
-use Rattle.bq_actions.specs.Soundness.{allows_one}
+use Rattle.bq_workload.specs.Soundness.{allows_one}
 use Rattle.bq_disc.specs.Masks.{allows}
 use Rattle.bq_words.specs.Sizes.{processors_in}
 use Rattle.bq_words.specs.declared.processor_count.ProcessorCount.{ProcessorCount}

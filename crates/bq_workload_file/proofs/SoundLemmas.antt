@@ -10,18 +10,18 @@ use Rattle.bq_weights.specs.VirtualTime.{is_nice}
 use Rattle.bq_words.specs.Sizes.{processors_in}
 use Rattle.bq_words.specs.ProcessorSets.{processors_of}
 use Rattle.bq_words.specs.declared.processor_count.ProcessorCount.{ProcessorCount}
-use Rattle.bq_actions.specs.Kinds.{tasks_in}
-use Rattle.bq_actions.specs.Lengths.{is_length, is_long, longest, takes_time}
-use Rattle.bq_actions.specs.Soundness.{allows_one, first_flaw, flaws_of, flaws_of_actions, flaws_of_kind, flaws_of_kinds, goes_round, has_name, has_numbers, has_times, is_action, unless}
-use Rattle.bq_actions.specs.declared.action.Action.{Action}
-use Rattle.bq_actions.specs.declared.action.Action.TheVariants.{Run, Sleep, Wake}
-use Rattle.bq_actions.specs.declared.action.Length.{Length}
-use Rattle.bq_actions.specs.declared.action.Length.TheVariants.{Fixed, Uniform, Exponential}
-use Rattle.bq_actions.specs.declared.setup.Setup.{Setup}
-use Rattle.bq_actions.specs.declared.sound.Unsound.{Unsound}
-use Rattle.bq_actions.specs.declared.sound.Unsound.TheVariants as flaw
-use Rattle.bq_actions.specs.declared.workload.TaskKind.{TaskKind}
-use Rattle.bq_actions.specs.declared.workload.Workload.{Workload}
+use Rattle.bq_workload.specs.Kinds.{tasks_in}
+use Rattle.bq_workload.specs.Lengths.{is_length, is_long, longest, takes_time}
+use Rattle.bq_workload.specs.Soundness.{allows_one, first_flaw, flaws_of, flaws_of_actions, flaws_of_kind, flaws_of_kinds, goes_round, has_name, has_numbers, has_times, is_action, unless}
+use Rattle.bq_workload.specs.declared.action.Action.{Action}
+use Rattle.bq_workload.specs.declared.action.Action.TheVariants.{Run, Sleep, Wake}
+use Rattle.bq_workload.specs.declared.action.Length.{Length}
+use Rattle.bq_workload.specs.declared.action.Length.TheVariants.{Fixed, Uniform, Exponential}
+use Rattle.bq_workload.specs.declared.setup.Setup.{Setup}
+use Rattle.bq_workload.specs.declared.sound.Unsound.{Unsound}
+use Rattle.bq_workload.specs.declared.sound.Unsound.TheVariants as flaw
+use Rattle.bq_workload.specs.declared.workload.TaskKind.{TaskKind}
+use Rattle.bq_workload.specs.declared.workload.Workload.{Workload}
 use Rattle.bq_workload_file.specs.declared.changes.Changes.{Changes}
 use Rattle.bq_workload_file.specs.Actions.{action_of, actions_of, entry_of, named_at, waits}
 use Rattle.bq_words.specs.Durations.{duration_of}

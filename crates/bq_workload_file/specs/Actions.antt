@@ -3,8 +3,8 @@ use Rattle.std.specs.Prelude.{ℕ, Bool, true, false, List, [], ◌∷◌, ◌++
 use Rattle.std.specs.Str.{bytes_eq}
 use Rattle.std.specs.declared.alloc.Global.{Global}
 use Rattle.toml.specs.Data.{Data, Items, no_items, item, as_bool, as_str, as_table}
-use Rattle.bq_actions.specs.declared.action.Action.{Action}
-use Rattle.bq_actions.specs.declared.action.Action.TheVariants.{Run, Sleep, Wait, Wake}
+use Rattle.bq_workload.specs.declared.action.Action.{Action}
+use Rattle.bq_workload.specs.declared.action.Action.TheVariants.{Run, Sleep, Wait, Wake}
 use Rattle.bq_workload_file.specs.Lengths.{length_of}
 use Rattle.bq_workload_file.specs.Tables.{only_of}
 

@@ -2,7 +2,7 @@
 use Rattle.std.specs.Prelude.{ℕ, length, ◌&&◌, ◌==◌, nat_le, nat_lt, ℤ, pos, negsuc, List, Option, Some, None, option_map, option_and_then, if◌then◌else◌, bit_and}
 use Rattle.toml.specs.Data.{Data, as_str, as_integer}
 use Rattle.bq_weights.specs.VirtualTime.{is_nice}
-use Rattle.bq_actions.specs.declared.limits.TheConstants.{LONGEST_NAME}
+use Rattle.bq_workload.specs.declared.limits.TheConstants.{LONGEST_NAME}
 use Rattle.bq_words.specs.declared.rule.Rule.{Rule}
 use Rattle.bq_words.specs.declared.processor_count.ProcessorCount.{ProcessorCount}
 use Rattle.bq_words.specs.Sizes.{rule_of, size_numbered}

@@ -2,9 +2,9 @@
 use Rattle.std.specs.Prelude.{ℕ, nat_le, List, Option, Some, None, option_map, option_and_then, if◌then◌else◌, codes}
 use Rattle.std.specs.Str.{bytes_eq}
 use Rattle.toml.specs.Data.{Data, Items, no_items, item, Members, as_array, as_table}
-use Rattle.bq_actions.specs.Lengths.{longest}
-use Rattle.bq_actions.specs.declared.action.Length.{Length}
-use Rattle.bq_actions.specs.declared.action.Length.TheVariants.{Fixed, Uniform, Exponential}
+use Rattle.bq_workload.specs.Lengths.{longest}
+use Rattle.bq_workload.specs.declared.action.Length.{Length}
+use Rattle.bq_workload.specs.declared.action.Length.TheVariants.{Fixed, Uniform, Exponential}
 use Rattle.bq_workload_file.specs.Fields.{span_in}
 use Rattle.bq_workload_file.specs.Tables.{only_of}
 

@@ -10,12 +10,12 @@ use Rattle.bq_words.specs.Sizes.{processors_in}
 use Rattle.bq_words.specs.declared.rule.Rule.TheVariants.{Cfs}
 use Rattle.bq_words.specs.declared.processor_count.ProcessorCount.{ProcessorCount}
 use Rattle.bq_words.specs.declared.processor_count.ProcessorCount.TheVariants.{One}
-use Rattle.bq_actions.specs.Lengths.{longest, takes_time}
-use Rattle.bq_actions.specs.declared.action.Action.{Action}
-use Rattle.bq_actions.specs.declared.action.Action.TheVariants.{Run, Sleep}
-use Rattle.bq_actions.specs.declared.setup.Setup.{Setup}
-use Rattle.bq_actions.specs.declared.workload.TaskKind.{TaskKind}
-use Rattle.bq_actions.specs.declared.workload.Workload.{Workload}
+use Rattle.bq_workload.specs.Lengths.{longest, takes_time}
+use Rattle.bq_workload.specs.declared.action.Action.{Action}
+use Rattle.bq_workload.specs.declared.action.Action.TheVariants.{Run, Sleep}
+use Rattle.bq_workload.specs.declared.setup.Setup.{Setup}
+use Rattle.bq_workload.specs.declared.workload.TaskKind.{TaskKind}
+use Rattle.bq_workload.specs.declared.workload.Workload.{Workload}
 use Rattle.bq_workload_file.specs.declared.changes.Changes.{Changes}
 use Rattle.bq_workload_file.specs.declared.fault.Fault.{Fault}
 use Rattle.bq_workload_file.specs.declared.fault.Fault.TheVariants.{Syntax, Meaning, OutOfMemory}

@@ -8,7 +8,7 @@ ghost use Rattle.bq_workload_file.specs.Actions.{action_of, entry_of, wait_of, w
 use crate::lengths::length;
 use crate::tables::only;
 use crate::why::{Wanted, Why};
-use bq_actions::Action;
+use bq_workload::Action;
 use std::alloc::{AllocError, Global};
 use toml::Value;
 
@@ -50,7 +50,7 @@ fn entry<'a>(key: &'a str, value: &'a Value, names: &'a [String]) -> Result<Acti
 }
 
 /// A length at this key.
-pub(crate) fn phase<'a>(key: &'static str, value: &'a Value) -> Result<bq_actions::Length, Why<'a>>
+pub(crate) fn phase<'a>(key: &'static str, value: &'a Value) -> Result<bq_workload::Length, Why<'a>>
     ensures { result_ok result ≡ length_of (view value.now) }
 {
     match length(value) {

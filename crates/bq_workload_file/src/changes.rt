@@ -1,8 +1,8 @@
 //! What is asked for beside a workload's text.
 ghost use Rattle.std.specs.Prelude.{◌≡◌};
 
-use bq_actions::Setup;
 use bq_words::{ProcessorCount, Rule};
+use bq_workload::Setup;
 
 /// What the words of a command put in the place of a machine's own.
 #[derive(Clone, Copy)]

@@ -9,7 +9,7 @@ use crate::actions::{actions, phase};
 use crate::blame::{Location, Trouble};
 use crate::tables::at;
 use crate::why::{Wanted, Why};
-use bq_actions::Action;
+use bq_workload::Action;
 use std::alloc::Global;
 use toml::{Table, Value};
 

@@ -8,10 +8,10 @@ ghost use Rattle.bq_workload_file.specs.Fields.{within, span_in, number_in, or_d
 
 use crate::tables::at;
 use crate::why::{Range, Wanted, Why};
-use bq_actions::limits::LONGEST_NAME;
 use bq_weights::is_nice;
 use bq_words::processor_sets::processors;
 use bq_words::{ProcessorCount, Rule, duration};
+use bq_workload::limits::LONGEST_NAME;
 use toml::{Table, Value};
 
 /// The number, if it is in the range.

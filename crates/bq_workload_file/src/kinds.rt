@@ -12,11 +12,11 @@ use crate::doing::all_actions;
 use crate::fields::{loops, mask, name, nice, number_at, span_at};
 use crate::tables::all_known;
 use crate::why::{Range, Why};
-use bq_actions::limits::LONGEST;
-use bq_actions::{TaskKind, take_time};
 use bq_disc::limits::{DEFAULT_SLICE, GREATEST_SLICE, LEAST_SLICE, TASKS};
 use bq_words::ProcessorCount;
 use bq_words::processor_sets::bits;
+use bq_workload::limits::LONGEST;
+use bq_workload::{TaskKind, take_time};
 use std::alloc::Global;
 use toml::Table;
 

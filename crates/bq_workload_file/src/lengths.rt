@@ -7,7 +7,7 @@ ghost use Rattle.bq_workload_file.specs.Lengths.{length_of, drawn_of, ends_of, u
 use crate::fields::span;
 use crate::tables::only;
 use crate::why::PHASE;
-use bq_actions::Length;
+use bq_workload::Length;
 use toml::{Table, Value};
 
 /// A length: a duration, or a table that says how it is drawn.

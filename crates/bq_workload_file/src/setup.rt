@@ -9,9 +9,9 @@ ghost use Rattle.bq_workload_file.specs.Workloads.{IsSetup};
 use crate::fields::{number_at, rule, size, span_at};
 use crate::tables::all_known;
 use crate::why::{Range, Why};
-use bq_actions::Setup;
-use bq_actions::limits::LONGEST;
 use bq_words::{ProcessorCount, Rule};
+use bq_workload::Setup;
+use bq_workload::limits::LONGEST;
 use toml::Table;
 
 /// The keys of a machine.

@@ -2,12 +2,12 @@
 
 use crate::fields::span;
 use crate::tables::only;
-use bq_actions::limits::{LONGEST, LONGEST_NAME};
 use bq_disc::limits::TASKS;
 use bq_disc::with_processors;
 use bq_weights::with_nice_values;
 use bq_words::quantities::NO_SIZE;
 use bq_words::{duration, with_rules, with_units};
+use bq_workload::limits::{LONGEST, LONGEST_NAME};
 use std::fmt;
 use toml::{Table, Value};
 

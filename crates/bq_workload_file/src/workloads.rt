@@ -4,8 +4,8 @@ ghost use Rattle.std.specs.Result.{result_err};
 ghost use Rattle.toml.specs.Data.{as_table};
 ghost use Rattle.toml.specs.Parse.{parse_document};
 ghost use Rattle.toml.specs.View.{view, items_view, table_view};
-ghost use Rattle.bq_actions.specs.Lengths.{is_long};
-ghost use Rattle.bq_actions.specs.Soundness.{first_flaw};
+ghost use Rattle.bq_workload.specs.Lengths.{is_long};
+ghost use Rattle.bq_workload.specs.Soundness.{first_flaw};
 ghost use Rattle.bq_workload_file.specs.Keys.{document_keys, first_unknown, unknown_there};
 ghost use Rattle.bq_workload_file.specs.Workloads.{AreKinds, AreNames, AreOthers, Describes, IsMachine, IsReadFault, tasks_of};
 
@@ -18,8 +18,8 @@ use crate::kinds::{Processors, kind};
 use crate::setup::{absent, setup};
 use crate::tables::{all_known, at};
 use crate::why::{Wanted, Why};
-use bq_actions::{Setup, TaskKind, Workload};
 use bq_disc::limits::TASKS;
+use bq_workload::{Setup, TaskKind, Workload};
 use std::alloc::Global;
 use toml::{Table, Value};
 

@@ -1,6 +1,6 @@
 use Rattle.std.proofs.Common.{List, ◌++◌, ap}
 use Rattle.std.proofs.lemmas.Result.{on_ok_weaker}
-use Rattle.bq_actions.specs.declared.due.Due.TheVariants.{End}
+use Rattle.bq_workload.specs.declared.due.Due.TheVariants.{End}
 use Rattle.bq_simulate.specs.Actions.{aim_of}
 use Rattle.bq_simulate.specs.Chronicles.{Deed}
 use Rattle.bq_simulate.specs.Steps.{Follow, IsAct, Meet}

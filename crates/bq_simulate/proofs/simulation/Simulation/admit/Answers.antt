@@ -1,8 +1,8 @@
 use Rattle.std.proofs.Common.{◌≤◌, ◌+◌, List, [], ◌++◌, get_or, length, take, take_all, refl, sym, ap, ◌∙◌, subst, arith}
 use Rattle.std.proofs.lemmas.Option.{slice_get_read}
-use Rattle.bq_actions.specs.declared.roster.Roster.{Roster}
-use Rattle.bq_actions.specs.declared.workload.TaskKind.{TaskKind}
-use Rattle.bq_actions.specs.Kinds.{tasks_in}
+use Rattle.bq_workload.specs.declared.roster.Roster.{Roster}
+use Rattle.bq_workload.specs.declared.workload.TaskKind.{TaskKind}
+use Rattle.bq_workload.specs.Kinds.{tasks_in}
 use Rattle.bq_words.specs.Sizes.{processors_in}
 use Rattle.bq_simulate.specs.Actions.{first_of}
 use Rattle.bq_simulate.specs.Chronicles.{Deed}

@@ -1,6 +1,6 @@
 use Rattle.std.proofs.Common.{[], ◌∷◌, ℕ, Option, refl, ap, sym, ◌∙◌}
 use Rattle.bq_parts.specs.declared.event.Event.TheVariants.{Block}
-use Rattle.bq_actions.specs.Accounts.{accounts_of, left_by}
+use Rattle.bq_workload.specs.Accounts.{accounts_of, left_by}
 use Rattle.bq_simulate.specs.Steps.{AreJust}
 use Rattle.bq_simulate.proofs.DeedLemmas.{Lived-event}
 use Rattle.bq_simulate.proofs.simulation.Simulation.block.Goals as goal

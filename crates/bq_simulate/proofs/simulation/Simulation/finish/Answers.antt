@@ -1,6 +1,6 @@
 use Rattle.std.proofs.Common.{◌≡◌, ◌+◌, ℕ, List, ◌∷◌, [], ◌++◌, arith, ◌∙◌, sym, ap, subst, refl}
 use Rattle.bq_parts.specs.declared.event.Event.{Event}
-use Rattle.bq_actions.specs.Accounts.{accounts_of}
+use Rattle.bq_workload.specs.Accounts.{accounts_of}
 use Rattle.bq_simulate.specs.Chronicles.{Deed}
 use Rattle.bq_simulate.specs.Steps.{AreJust, all_processors, last_ticks}
 use Rattle.bq_simulate.proofs.DeedLemmas.{Lived-join, Lived-same, Lived-weaker, Same-here}

@@ -1,6 +1,6 @@
 use Rattle.std.proofs.Common.{◌≡◌, ◌≤◌, ℕ}
 use Rattle.std.specs.Prelude.{slice_get}
-use Rattle.bq_actions.specs.Accounts.{accounts_of}
+use Rattle.bq_workload.specs.Accounts.{accounts_of}
 use Rattle.bq_simulate.specs.Simulations.{Befell}
 use Rattle.bq_simulate.specs.Steps.{AreJust, all_processors, last_ticks}
 use Rattle.bq_simulate.proofs.simulation.Simulation.finish.Given as goal

@@ -1,7 +1,7 @@
 use Rattle.std.proofs.Common.{◌≤◌, arith}
 use Rattle.std.proofs.lemmas.Option.{MatchOption-at_none, MatchOption-at_some}
-use Rattle.bq_actions.specs.Accounts.{accounts_of}
-use Rattle.bq_actions.specs.Next.{IsAgreed, IsNext, NothingComes}
+use Rattle.bq_workload.specs.Accounts.{accounts_of}
+use Rattle.bq_workload.specs.Next.{IsAgreed, IsNext, NothingComes}
 use Rattle.bq_simulate.specs.Simulations.{book_of}
 use Rattle.bq_simulate.specs.Steps.{AreMet}
 use Rattle.bq_simulate.proofs.DeedLemmas.{Goes-weaker, Lived-same, Same-here}

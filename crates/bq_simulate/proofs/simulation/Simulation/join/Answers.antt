@@ -1,11 +1,11 @@
 use Rattle.std.proofs.Common.{◌≡◌, ◌++◌, ◌∷◌, [], length, refl, ap, ◌∙◌, arith}
 use Rattle.rand_pcg.specs.Lcg.{Lcg}
-use Rattle.bq_actions.specs.Streams.{stream_of_task}
-use Rattle.bq_actions.specs.declared.course.Course.{Course}
-use Rattle.bq_actions.specs.declared.roster.Roster.{Roster}
-use Rattle.bq_actions.specs.Courses.{fresh}
-use Rattle.bq_actions.specs.Next.{StaysAgreed}
-use Rattle.bq_actions.proofs.DueLemmas.{added-agreed}
+use Rattle.bq_workload.specs.Streams.{stream_of_task}
+use Rattle.bq_workload.specs.declared.course.Course.{Course}
+use Rattle.bq_workload.specs.declared.roster.Roster.{Roster}
+use Rattle.bq_workload.specs.Courses.{fresh}
+use Rattle.bq_workload.specs.Next.{StaysAgreed}
+use Rattle.bq_workload.proofs.DueLemmas.{added-agreed}
 use Rattle.bq_simulate.proofs.DeedLemmas.{Silent-joins}
 use Rattle.bq_simulate.proofs.simulation.Simulation.join.Goals as goal
 

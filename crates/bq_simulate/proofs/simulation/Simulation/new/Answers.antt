@@ -1,6 +1,6 @@
 use Rattle.std.proofs.Common.{◌≤◌, ℕ, ap, sym, subst}
-use Rattle.bq_actions.specs.declared.roster.Pace.{Pace}
-use Rattle.bq_actions.proofs.DueLemmas.{opening-agreed}
+use Rattle.bq_workload.specs.declared.roster.Pace.{Pace}
+use Rattle.bq_workload.proofs.DueLemmas.{opening-agreed}
 use Rattle.bq_words.proofs.SizeLemmas.{processors_in-few}
 use Rattle.bq_simulate.proofs.simulation.Simulation.new.Goals as goal
 

@@ -1,7 +1,7 @@
 use Rattle.std.proofs.Common.{[], ◌∷◌, ℕ, Option, None, Some, refl, subst}
 use Rattle.std.proofs.lemmas.Result.{on_ok_weaker}
-use Rattle.bq_actions.specs.declared.due.Due.TheVariants as due
-use Rattle.bq_actions.specs.Dues.{IsSource}
+use Rattle.bq_workload.specs.declared.due.Due.TheVariants as due
+use Rattle.bq_workload.specs.Dues.{IsSource}
 use Rattle.bq_parts.specs.declared.event.Event.TheVariants.{Pull}
 use Rattle.bq_simulate.specs.declared.simulation.Simulation.{Simulation}
 use Rattle.bq_simulate.specs.Steps.{AreJust, Meet}

@@ -2,7 +2,7 @@ use Rattle.std.proofs.Common.{[], ◌∷◌, ℕ, Option, refl, ap, sym, ◌∙�
 use Rattle.std.specs.Option.{option_map_or}
 use Rattle.bq_parts.specs.declared.event.Event.TheVariants.{Pull}
 use Rattle.bq_simulate.specs.Drives.{runs_now}
-use Rattle.bq_actions.specs.Accounts.{Accounts, accounts_of, passed, switched}
+use Rattle.bq_workload.specs.Accounts.{Accounts, accounts_of, passed, switched}
 use Rattle.bq_simulate.specs.Steps.{AreJust}
 use Rattle.bq_simulate.proofs.DeedLemmas.{Lived-event}
 use Rattle.bq_simulate.proofs.simulation.Simulation.pull_from.Goals as goal

@@ -1,7 +1,7 @@
 use Rattle.std.proofs.Common.{ℕ, List, subst, sym, ◌∙◌}
-use Rattle.bq_actions.specs.Accounts.{accounts_of}
+use Rattle.bq_workload.specs.Accounts.{accounts_of}
 use Rattle.bq_words.specs.Sizes.{processors_in}
-use Rattle.bq_actions.specs.Bounds.{most_steps}
+use Rattle.bq_workload.specs.Bounds.{most_steps}
 use Rattle.bq_simulate.specs.Chronicles.{Deed}
 use Rattle.bq_simulate.specs.Simulations.{LivedFrom}
 use Rattle.bq_simulate.specs.Steps.{AreAllAdmitted, AreInstalled, AreJust, AreMet, Opens, all_processors, last_ticks}

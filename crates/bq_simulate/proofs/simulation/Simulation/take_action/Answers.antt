@@ -1,6 +1,6 @@
 use Rattle.std.proofs.Common.{refl, ap, ◌∙◌, subst, Option}
-use Rattle.bq_actions.specs.declared.action.Action.{Action}
-use Rattle.bq_actions.specs.declared.action.Length.{Length}
+use Rattle.bq_workload.specs.declared.action.Action.{Action}
+use Rattle.bq_workload.specs.declared.action.Length.{Length}
 use Rattle.bq_simulate.specs.Actions.{acted, asked_by}
 use Rattle.bq_simulate.specs.Simulations.{DrawsFor}
 use Rattle.bq_simulate.proofs.DeedLemmas.{Silent-acts}

@@ -1,7 +1,7 @@
 use Rattle.std.proofs.Common.{[], ◌∷◌, ℕ, Option, refl, ap, sym, ◌∙◌}
 use Rattle.std.specs.Prelude.{slice_get}
 use Rattle.bq_parts.specs.declared.event.Event.TheVariants.{Tick}
-use Rattle.bq_actions.specs.Accounts.{Accounts, accounts_of, switched}
+use Rattle.bq_workload.specs.Accounts.{Accounts, accounts_of, switched}
 use Rattle.bq_simulate.specs.Steps.{AreJust}
 use Rattle.bq_simulate.proofs.DeedLemmas.{Lived-event}
 use Rattle.bq_simulate.proofs.LaneLemmas.{switched-others}

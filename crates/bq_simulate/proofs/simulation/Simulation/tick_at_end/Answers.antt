@@ -2,7 +2,7 @@ use Rattle.std.proofs.Common.{◌≡◌, List, ◌∷◌, [], Option, true, fals
 use Rattle.std.proofs.lemmas.Result.{on_ok_weaker}
 use Rattle.bq_parts.specs.declared.event.Event.{Event}
 use Rattle.bq_parts.specs.declared.event.Event.TheVariants.{Tick}
-use Rattle.bq_actions.specs.Accounts.{accounts_of}
+use Rattle.bq_workload.specs.Accounts.{accounts_of}
 use Rattle.bq_simulate.specs.Chronicles.{is_busy}
 use Rattle.bq_simulate.specs.Steps.{AreJust, last_ticks}
 use Rattle.bq_simulate.proofs.DeedLemmas.{Befell-weaker, Lived-same, Same-here}

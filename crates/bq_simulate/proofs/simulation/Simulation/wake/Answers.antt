@@ -2,9 +2,9 @@ use Rattle.std.proofs.Common.{ℕ, [], ◌∷◌, Option, refl, ap, sym, ◌∙�
 use Rattle.bq_parts.specs.declared.event.Event.TheVariants.{BeginWake, EndWake, Drain}
 use Rattle.bq_simulate.specs.Drives.{runs_now}
 use Rattle.bq_simulate.proofs.DriveLemmas.{Drove-join, Drove-one, Drove-places}
-use Rattle.bq_actions.specs.declared.roster.Pace.{Pace}
-use Rattle.bq_actions.specs.Accounts.{Accounts, accounts_of, entered_by, of_task}
-use Rattle.bq_actions.specs.Courses.{woken}
+use Rattle.bq_workload.specs.declared.roster.Pace.{Pace}
+use Rattle.bq_workload.specs.Accounts.{Accounts, accounts_of, entered_by, of_task}
+use Rattle.bq_workload.specs.Courses.{woken}
 use Rattle.bq_simulate.proofs.DeedLemmas.{Lived-wakes}
 use Rattle.bq_simulate.proofs.simulation.Simulation.wake.Goals as goal
 

@@ -1,6 +1,6 @@
 use Rattle.std.proofs.Common.{refl}
 use Rattle.std.proofs.lemmas.Result.{on_ok_weaker}
-use Rattle.bq_actions.specs.declared.due.Due.TheVariants.{Wake}
+use Rattle.bq_workload.specs.declared.due.Due.TheVariants.{Wake}
 use Rattle.bq_simulate.specs.declared.simulation.Simulation.{Simulation}
 use Rattle.bq_simulate.specs.Chronicles.{Rings}
 use Rattle.bq_simulate.specs.Steps.{AreWake, Meet}

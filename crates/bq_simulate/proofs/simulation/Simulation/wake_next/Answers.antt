@@ -1,7 +1,7 @@
 use Rattle.std.proofs.Common.{◌≡◌, ◌+◌, ℕ, [], ◌∷◌, List, Some, refl, inl, inr, ap, ◌∙◌, subst}
 use Rattle.std.specs.Prelude.{slice_get}
 use Rattle.std.proofs.lemmas.Result.{on_ok_weaker}
-use Rattle.bq_actions.specs.declared.workload.TaskKind.{TaskKind}
+use Rattle.bq_workload.specs.declared.workload.TaskKind.{TaskKind}
 use Rattle.bq_trace.specs.News.{News}
 use Rattle.bq_simulate.specs.Actions.{first_of}
 use Rattle.bq_simulate.specs.Chronicles.{Deed, Misses, Reaches}

@@ -1,6 +1,0 @@
-use Rattle.std.proofs.Common.{◌≡◌, ◌^◌, ◌-◌, min, take}
-use Rattle.bq_actions.specs.Bounds.{steps_of}
-use Rattle.bq_actions.proofs.bound.units_of.Given as goal
-
-abbrev pub invariant-actions : goal.invariant-actions
-invariant-actions l = l.units ≡ min (steps_of l.workload.tasks.items (take l.action-index l.actions)) (2 ^ 64 - 1)

@@ -1,5 +1,0 @@
-use Rattle.bq_actions.specs.Dues.{AreLooks}
-use Rattle.bq_actions.proofs.roster.plan_looks.Given as goal
-
-abbrev pub invariant-processors : goal.invariant-processors
-invariant-processors l = AreLooks l.processor l.time l.agenda

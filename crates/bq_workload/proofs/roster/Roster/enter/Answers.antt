@@ -1,0 +1,11 @@
+use Rattle.std.proofs.lemmas.Result.{on_ok_weaker}
+use Rattle.bq_workload.specs.declared.roster.Roster.{Roster}
+use Rattle.bq_workload.proofs.DueLemmas.{grown-agreed}
+use Rattle.bq_workload.proofs.roster.Roster.enter.Goals as goal
+
+pub returns-clause-agrees : goal.returns-clause-agrees
+returns-clause-agrees c =
+    let old : Roster = c.args.self.now in
+    let mid : Roster = c.grow.new.self in
+    let more = c.in_ok-grow.ensures in
+    on_ok_weaker c.switch.result (λ stays h. stays (grown-agreed c.args.processor c.args.count old mid more.accounts more.agenda more.pace h)) c.switch.ensures.agrees

@@ -1,0 +1,10 @@
+use Rattle.std.proofs.Common.{sym}
+use Rattle.bq_workload.specs.Accounts.{accounts_of}
+use Rattle.bq_workload.proofs.DueLemmas.{first-next, none-next}
+use Rattle.bq_workload.proofs.roster.Roster.first.Goals as goal
+
+pub returns-in-None-clause-next : goal.returns-in-None-clause-next
+returns-in-None-clause-next c = none-next c.args.self.now.pace.end (accounts_of c.args.self.now) c.args.self.now.agenda c.in-None.ensures.none
+
+pub returns-in-Some-at-clause-next : goal.returns-in-Some-at-clause-next
+returns-in-Some-at-clause-next c = first-next c.args.self.now.pace.end (accounts_of c.args.self.now) c.args.self.now.agenda c.in-Some.time c.in-Some.place c.in-Some-at.due c.in-Some.ensures.first (sym c.in-Some-at.ensures)

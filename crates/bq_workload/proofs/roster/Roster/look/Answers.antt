@@ -1,0 +1,12 @@
+use Rattle.bq_workload.specs.declared.roster.Roster.{Roster}
+use Rattle.bq_workload.proofs.DueLemmas.{looked-agreed}
+use Rattle.bq_workload.proofs.roster.Roster.look.Goals as goal
+
+pub returns-clause-agrees : goal.returns-clause-agrees
+returns-clause-agrees c =
+    let old : Roster = c.args.self.now in
+    let mid : Roster = c.plan.new.self in
+    let new : Roster = c.set_lane.new.self in
+    let plan = c.in_ok-plan.ensures in
+    let set = c.in_ok-set_lane.ensures in
+    looked-agreed c.args.processor c.args.now c.in_ok-next.next c.in_ok-lane.lane old mid new c.in_ok-lane.ensures.there c.in_ok-next.ensures.next plan.planned plan.courses plan.lanes plan.pace set.lanes set.courses set.agenda set.pace

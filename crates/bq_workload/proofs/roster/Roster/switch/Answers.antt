@@ -1,0 +1,41 @@
+use Rattle.std.proofs.Common.{sym, subst}
+use Rattle.std.proofs.lemmas.Result.{on_ok_weaker}
+use Rattle.bq_workload.specs.declared.roster.Pace.{Pace}
+use Rattle.bq_workload.specs.declared.roster.Roster.{Roster}
+use Rattle.bq_workload.specs.Accounts.{accounts_of}
+use Rattle.bq_workload.specs.Next.{Agrees}
+use Rattle.bq_workload.proofs.AgreedLemmas.{idled-agrees, started-agrees}
+use Rattle.bq_workload.proofs.DueLemmas.{both-ok, charged-agreed}
+use Rattle.bq_workload.proofs.roster.Roster.switch.Goals as goal
+
+pub returns-in-Some-clause-agrees : goal.returns-in-Some-clause-agrees
+returns-in-Some-clause-agrees c =
+    let old : Roster = c.args.self.now in
+    let mid : Roster = c.charge.new.self in
+    let new : Roster = c.start.new.self in
+    let p = c.args.processor in
+    let now = c.args.now in
+    let charge = c.in_ok-charge.ensures in
+    let start = c.start.ensures in
+    on_ok_weaker c.start.result
+    (λ w h.
+    let plans = w.1 in
+    subst (λ (k : Pace). Agrees k.end (accounts_of new) new.agenda) (sym start.pace)
+    (started-agrees mid.pace p c.in-Some.task now plans.0 plans.2 (accounts_of mid) (accounts_of new) mid.agenda new.agenda (charged-agreed p now c.in_ok-lane.lane old mid c.in_ok-lane.ensures.there charge.accounts charge.agenda charge.pace h) plans.1 w.0.1 w.0.0 plans.3 plans.4))
+    (both-ok _ _ c.start.result (both-ok _ _ c.start.result start.accounts start.rests) start.plans)
+
+pub returns-in-None-clause-agrees : goal.returns-in-None-clause-agrees
+returns-in-None-clause-agrees c =
+    let old : Roster = c.args.self.now in
+    let mid : Roster = c.charge.new.self in
+    let new : Roster = c.idle.new.self in
+    let p = c.args.processor in
+    let now = c.args.now in
+    let charge = c.in_ok-charge.ensures in
+    let idle = c.idle.ensures in
+    on_ok_weaker c.idle.result
+    (λ w h.
+    let plans = w.1 in
+    subst (λ (k : Pace). Agrees k.end (accounts_of new) new.agenda) (sym idle.pace)
+    (idled-agrees mid.pace p now plans.0 (accounts_of mid) (accounts_of new) mid.agenda new.agenda (charged-agreed p now c.in_ok-lane.lane old mid c.in_ok-lane.ensures.there charge.accounts charge.agenda charge.pace h) plans.1 w.0 plans.2))
+    (both-ok _ _ c.idle.result idle.accounts idle.plans)

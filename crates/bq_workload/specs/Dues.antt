@@ -1,0 +1,93 @@
+-- What comes due, when, and its place in the order of one instant.
+use Rattle.std.specs.Prelude.{◌≡◌, ℕ, ◌+◌, ◌-◌, ◌*◌, ◌/◌, ◌^◌, ◌<◌, ◌≤◌, ◌==◌, ◌&&◌, min, nat_lt, nat_le, List, Option, Some, None, slice_get, if◌then◌else◌}
+use Rattle.std.specs.Option.{option_map_or}
+use Rattle.bq_workload.specs.declared.course.Course.{Course}
+use Rattle.bq_workload.specs.declared.due.Due.{Due}
+use Rattle.bq_workload.specs.declared.due.Due.TheVariants.{End, Wake, Tick, Pull}
+use Rattle.bq_workload.specs.declared.lane.Lane.{Lane}
+use Rattle.bq_workload.specs.Minima.{at_place, never, number_of, ChangesOnly}
+
+-- processors have numbers below 64, and tasks below 1024
+abbrev pub IsDue : Due → Type 0
+IsDue (End processor) = processor < 64
+IsDue (Wake task) = task < 1024
+IsDue (Tick processor) = processor < 64
+IsDue (Pull processor) = processor < 64
+
+abbrev pub place_of : Due → ℕ
+place_of (End processor) = processor
+place_of (Wake task) = 64 + task
+place_of (Tick processor) = 1088 + processor
+place_of (Pull processor) = 1152 + processor
+
+abbrev pub due_at : ℕ → Option Due
+due_at n =
+    if nat_lt n 64 then Some (End n)
+    else if nat_lt n 1088 then Some (Wake (n - 64))
+    else if nat_lt n 1152 then Some (Tick (n - 1088))
+    else if nat_lt n 1216 then Some (Pull (n - 1152))
+    else None
+
+-- the first multiple of the time between two things that comes after an instant
+abbrev pub next_multiple : ℕ → ℕ → ℕ
+next_multiple between now = (now / between + 1) * between
+
+-- what would come after the end, or after the latest instant, never does
+abbrev pub until : ℕ → ℕ → Option ℕ
+until end time = if nat_le time end && nat_lt time (2 ^ 48) then Some time else None
+
+-- this comes due then, unless that is after the end, and of nothing else it has changed when it is due
+pub record IsPlanned (end : ℕ) (due : Due) (time : ℕ) (old new : List ℕ) : Type 0 where
+  pub there : IsDue due
+  pub at : at_place new (place_of due) ≡ number_of (place_of due) (until end time)
+  pub others : ChangesOnly (place_of due) old new
+
+-- this never comes due, and of nothing else it has changed when it is due
+pub record IsDropped (due : Due) (old new : List ℕ) : Type 0 where
+  pub there : IsDue due
+  pub at : at_place new (place_of due) ≡ never
+  pub others : ChangesOnly (place_of due) old new
+
+-- when what stands at a place comes due, where so many processors look for a task then
+abbrev pub look_of : ℕ → Option ℕ → ℕ → Option ℕ
+look_of processors time place = if nat_le (place_of (Pull 0)) place && nat_lt place (place_of (Pull processors)) then time else None
+
+-- each of so many processors looks for a task then, if ever, and nothing else comes due
+abbrev pub AreLooks : ℕ → Option ℕ → List ℕ → Type 0
+AreLooks processors time agenda = (place : ℕ) → place < 2048 → at_place agenda place ≡ number_of place (look_of processors time place)
+
+-- when a task that runs from now on has got what its phase takes, as far as 64 bits count
+abbrev pub end_of : ℕ → Course → ℕ
+end_of now c = min (now + (c.due - c.got)) (2 ^ 64 - 1)
+
+-- how many tasks a processor has; none where there is no such processor
+abbrev pub size_at : List Lane → ℕ → ℕ
+size_at lanes processor = option_map_or (λ (lane : Lane). lane.size) (slice_get lanes processor) 0
+
+-- of so many processors this one has the most tasks, and more than one; of those that have as many it is the first
+pub record IsLargest (lanes : List Lane) (count processor : ℕ) : Type 0 where
+  pub within : processor < count
+  pub several : 1 < size_at lanes processor
+  pub most : (other : ℕ) → other < count → size_at lanes other ≤ size_at lanes processor
+  pub first : (other : ℕ) → other < processor → size_at lanes other < size_at lanes processor
+
+-- the largest of so many processors; none where no one has more than one task
+abbrev pub HasLargest : List Lane → ℕ → Option ℕ → Type 0
+HasLargest lanes count None = (processor : ℕ) → processor < count → size_at lanes processor ≤ 1
+HasLargest lanes count (Some processor) = IsLargest lanes count processor
+
+-- the largest of so many processors and the next, where that of the others is known
+abbrev pub larger : List Lane → Option ℕ → ℕ → Option ℕ
+larger lanes None next = if nat_lt 1 (size_at lanes next) then Some next else None
+larger lanes (Some best) next = if nat_lt (size_at lanes best) (size_at lanes next) then Some next else Some best
+
+-- from another processor than this, or from none
+abbrev pub other_than : ℕ → Option ℕ → Option ℕ
+other_than processor None = None
+other_than processor (Some other) = if other == processor then None else Some other
+
+-- from which processor this one pulls a task: from the largest, if that is another
+pub record IsSource (lanes : List Lane) (processor : ℕ) (source : Option ℕ) : Type 0 where
+  pub largest : Option ℕ
+  pub has : HasLargest lanes 64 largest
+  pub other : source ≡ other_than processor largest

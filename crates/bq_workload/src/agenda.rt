@@ -1,0 +1,99 @@
+//! When each thing is due.
+ghost use Rattle.std.specs.Prelude.{◌≡◌, ℕ, ◌+◌, ◌/◌, ◌<◌, ◌≤◌, ◌^◌, length, IfOk, IfSome, IfNone, slice_index};
+ghost use Rattle.bq_workload.specs.Minima.{number_of, at_place, AreNever, ChangesOnly, IsFirst, HasMinima, HasOtherMinima};
+
+use std::alloc::{AllocError, Global};
+use std::marker::Model;
+
+/// How many places there are.
+const PLACES: usize = 2048;
+
+/// The number of what is never due.
+const NEVER: u64 = u64::MAX;
+
+/// The time at which what stands at each of 2,048 places is due, if it is. Contracts see a number for each: the time and
+/// the place as one, or `never`.
+///
+/// The numbers are the leaves of a tree, in which each node has the less of the two below it. So the first is the root.
+#[derive(Drop)]
+pub struct Agenda {
+    numbers: Vec<u64>,
+}
+
+impl Model for Agenda {
+    ghost use Rattle.std.specs.Prelude.{◌≡◌, List, ℕ, length};
+    ghost use Rattle.bq_workload.specs.Minima.{HasMinima, HasPlaces};
+
+    ghost Value = { List ℕ };
+
+    ghost view = { λ a. a.numbers.items };
+
+    ghost invariant = { λ a. (length a.numbers.items ≡ 4096) × HasMinima a.numbers.items × HasPlaces a.numbers.items };
+}
+
+impl Agenda {
+    /// Nothing is ever due. It takes all the memory that it will need.
+    pub fn new(alloc: Global) -> Result<Agenda, AllocError>
+        ensures { IfOk result AreNever }
+    {
+        Ok(Agenda {
+            numbers: vec![in alloc; NEVER; 2 * PLACES]?,
+        })
+    }
+
+    /// What stands at a place is due at this time from now on, or never.
+    pub fn set(&mut self, place: u16, time: Option<u64>)
+        requires place { place < 2048 }
+        requires time { IfSome time (λ t. t < 2 ^ 48) }
+        ensures due { at_place self.new place ≡ number_of place time }
+        ensures others { ChangesOnly place self.old self.new }
+    {
+        let leaf = PLACES + usize::from(place);
+        let number = number_of(place, time);
+        if self.numbers[leaf] == number {
+            return;
+        }
+        self.numbers[leaf] = number;
+        recompute(&mut self.numbers, leaf);
+    }
+
+    /// The time at which something is due first, and its place: the least place, where several are due then.
+    pub fn first(&self) -> Option<(u64, u16)>
+        ensures none { IfNone result (AreNever self.now) }
+        ensures first { IfSome result (λ due. IsFirst self.now due.0 due.1) }
+    {
+        let number = self.numbers[1];
+        if number == NEVER {
+            return None;
+        }
+        Some((number / 2048, (number % 2048) as u16))
+    }
+}
+
+/// The number by which it is ordered.
+fn number_of(place: u16, time: Option<u64>) -> u64
+    requires place { place < 2048 }
+    requires time { IfSome time (λ t. t < 2 ^ 48) }
+    ensures { result ≡ number_of place time }
+{
+    match time {
+        None => NEVER,
+        Some(time) => time * 2048 + u64::from(place),
+    }
+}
+
+/// Above a leaf that has changed each node gets the less of the two below it again.
+fn recompute(numbers: &mut [u64], leaf: usize)
+    requires all { length numbers.old ≡ 4096 }
+    requires low { 2048 ≤ leaf }
+    requires high { leaf < 4096 }
+    requires others { HasOtherMinima (leaf / 2) numbers.old }
+    ensures minima { HasMinima numbers.new }
+    ensures leaves { (k : ℕ) → 2048 ≤ k → slice_index numbers.new k ≡ slice_index numbers.old k }
+{
+    let mut node = leaf;
+    'up: while node > 1 {
+        node /= 2;
+        numbers[node] = numbers[2 * node].min(numbers[2 * node + 1]);
+    }
+}

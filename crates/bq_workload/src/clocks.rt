@@ -1,0 +1,167 @@
+//! When the processors of a simulation tick, and when they look for tasks to pull, and where.
+ghost use Rattle.std.specs.Prelude.{◌≡◌, ◌⊎◌, ◌≤◌, ◌^◌, None, Some, IfOk, IfErr, OnOk, unwrap_or};
+ghost use Rattle.bq_workload.specs.Accounts.{LooksAt, TicksAt, accounts_of, beaten, first_look, looked};
+ghost use Rattle.bq_workload.specs.Dues.{HasLargest, IsPlanned, IsSource, larger, next_multiple, size_at};
+ghost use Rattle.bq_workload.specs.Next.{StaysAgreed};
+ghost use Rattle.bq_workload.specs.Plans.{PlansLook, PlansTick};
+
+use crate::Due;
+use crate::roster::{Astray, Roster};
+use bq_disc::limits::PROCESSORS;
+
+/// When each of so many processors looks first for a task to pull; one alone never looks.
+pub(crate) fn first_look(processors: u8, balance: u64) -> Option<u64>
+    ensures { result ≡ first_look processors balance }
+{
+    if processors < 2 { None } else { Some(balance) }
+}
+
+/// The first multiple of the time between two things that comes after an instant.
+fn next_after(now: u64, between: u64) -> Result<u64, Astray>
+    ensures next { IfOk result (λ next. next ≡ next_multiple between now) }
+    ensures stray { IfErr result (λ _. (between ≡ 0) ⊎ (2 ^ 64 ≤ next_multiple between now)) }
+{
+    if between == 0 {
+        return Err(Astray);
+    }
+    let past = now / between * between;
+    past.checked_add(between).ok_or(Astray)
+}
+
+impl Roster {
+    /// The clock of a processor beats, which is to tick just now. Its next tick is planned.
+    pub fn beat(&mut self, processor: u8, now: u64) -> Result<(), Astray>
+        ensures due { OnOk result (TicksAt (accounts_of self.old) processor now) }
+        ensures accounts { OnOk result (accounts_of self.new ≡ beaten processor now self.old.pace.tick (accounts_of self.old)) }
+        ensures planned { OnOk result (IsPlanned self.old.pace.end (Due.Tick processor) (next_multiple self.old.pace.tick now) self.old.agenda self.new.agenda) }
+        ensures agrees { OnOk result (StaysAgreed self.old self.new) }
+        ensures pace { self.new.pace ≡ self.old.pace }
+    {
+        let mut lane = self.lane(processor)?;
+        if lane.tick != Some(now) {
+            return Err(Astray);
+        }
+        let next = self.plan_tick(processor, now)?;
+        lane.tick = Some(next);
+        self.set_lane(processor, lane)
+    }
+
+    /// When a processor that runs something from now on ticks next: then, or if it has no tick yet, at one that is planned.
+    pub(crate) fn next_tick(
+        &mut self,
+        processor: u8,
+        tick: Option<u64>,
+        now: u64,
+    ) -> Result<u64, Astray>
+        ensures next { IfOk result (λ next. next ≡ unwrap_or tick (next_multiple self.old.pace.tick now)) }
+        ensures plans { OnOk result (PlansTick self.old.pace processor now tick self.old.agenda self.new.agenda) }
+        ensures courses { self.new.courses ≡ self.old.courses }
+        ensures lanes { self.new.lanes ≡ self.old.lanes }
+        ensures pace { self.new.pace ≡ self.old.pace }
+    {
+        match tick {
+            Some(tick) => Ok(tick),
+            None => self.plan_tick(processor, now),
+        }
+    }
+
+    /// A processor that looks for tasks to pull at all is to look just now.
+    pub(crate) fn look_at_once(
+        &mut self,
+        processor: u8,
+        look: Option<u64>,
+        now: u64,
+    ) -> Result<(), Astray>
+        ensures plans { OnOk result (PlansLook self.old.pace processor now look self.old.agenda self.new.agenda) }
+        ensures courses { self.new.courses ≡ self.old.courses }
+        ensures lanes { self.new.lanes ≡ self.old.lanes }
+        ensures pace { self.new.pace ≡ self.old.pace }
+    {
+        match look {
+            Some(_) => self.plan(Due::Pull(processor), now),
+            None => Ok(()),
+        }
+    }
+
+    /// The next tick of a processor is planned. When it is.
+    fn plan_tick(&mut self, processor: u8, now: u64) -> Result<u64, Astray>
+        ensures next { IfOk result (λ next. next ≡ next_multiple self.old.pace.tick now) }
+        ensures planned { OnOk result (IsPlanned self.old.pace.end (Due.Tick processor) (next_multiple self.old.pace.tick now) self.old.agenda self.new.agenda) }
+        ensures courses { self.new.courses ≡ self.old.courses }
+        ensures lanes { self.new.lanes ≡ self.old.lanes }
+        ensures pace { self.new.pace ≡ self.old.pace }
+        ensures stray { IfErr result (λ _. (64 ≤ processor) ⊎ (self.old.pace.tick ≡ 0) ⊎ (2 ^ 64 ≤ next_multiple self.old.pace.tick now)) }
+    {
+        let next = next_after(now, self.pace.tick)?;
+        self.plan(Due::Tick(processor), next)?;
+        Ok(next)
+    }
+
+    /// A processor looks for a task to pull, which is to look just now: from where it pulls one, if from anywhere. Its next look
+    /// is planned.
+    pub fn look(&mut self, processor: u8, now: u64) -> Result<Option<u8>, Astray>
+        ensures due { OnOk result (LooksAt (accounts_of self.old) processor now) }
+        ensures source { IfOk result (λ source. IsSource self.old.lanes.items processor source) }
+        ensures accounts { OnOk result (accounts_of self.new ≡ looked processor now self.old.pace.balance (accounts_of self.old)) }
+        ensures planned { OnOk result (IsPlanned self.old.pace.end (Due.Pull processor) (next_multiple self.old.pace.balance now) self.old.agenda self.new.agenda) }
+        ensures agrees { OnOk result (StaysAgreed self.old self.new) }
+        ensures pace { self.new.pace ≡ self.old.pace }
+    {
+        let mut lane = self.lane(processor)?;
+        if lane.look != Some(now) {
+            return Err(Astray);
+        }
+        let source = self.source(processor);
+        let next = next_after(now, self.pace.balance)?;
+        self.plan(Due::Pull(processor), next)?;
+        lane.look = Some(next);
+        self.set_lane(processor, lane)?;
+        Ok(source)
+    }
+
+    /// From which processor this one pulls a task: from the largest, if that is another.
+    fn source(&self, processor: u8) -> Option<u8>
+        ensures { IsSource self.now.lanes.items processor result }
+    {
+        match self.largest() {
+            Some(other) if other != processor => Some(other),
+            _ => None,
+        }
+    }
+
+    /// The processor with the most tasks, the least number where several have, unless it has less than two.
+    pub fn largest(&self) -> Option<u8>
+        ensures { HasLargest self.now.lanes.items 64 result }
+    {
+        let mut best: Option<u8> = None;
+        'processors: for processor in 0..PROCESSORS {
+            best = self.larger(best, processor);
+        }
+        best
+    }
+
+    /// The largest of so many processors and the next, where that of the others is known.
+    fn larger(&self, best: Option<u8>, next: u8) -> Option<u8>
+        ensures { result ≡ larger self.now.lanes.items best next }
+    {
+        let most = match best {
+            Some(best) => self.size_at(best),
+            None => 1,
+        };
+        if self.size_at(next) > most {
+            Some(next)
+        } else {
+            best
+        }
+    }
+
+    /// How many tasks a processor has; none where there is no such processor.
+    fn size_at(&self, processor: u8) -> u32
+        ensures { result ≡ size_at self.now.lanes.items processor }
+    {
+        match self.lanes.get(usize::from(processor)) {
+            Some(lane) => lane.size,
+            None => 0,
+        }
+    }
+}

@@ -1,0 +1,147 @@
+//! How far a task has come in what it does.
+ghost use Rattle.std.specs.Prelude.{◌≡◌, ◌≤◌, ◌+◌, ◌^◌, true, IfSome, IfNone};
+
+/// Where a task is.
+#[derive(Clone, Copy)]
+pub enum Stance {
+    /// It sleeps until its timer wakes it.
+    Asleep,
+    /// It sleeps until another task wakes it.
+    Waiting,
+    /// It runs, or waits for a processor.
+    Runnable,
+    /// It has done all that it does, and sleeps for good.
+    Over,
+}
+
+/// How far a task has come. Times are nanoseconds.
+#[derive(Clone, Copy)]
+pub struct Course {
+    /// The index of its kind.
+    pub kind: usize,
+    /// The index of the action that it does next.
+    pub action: usize,
+    /// How many tasks the wake that it does next has come to.
+    pub woken: u16,
+    /// How often it has done all its actions.
+    pub loops: u64,
+    pub stance: Stance,
+    /// When its timer wakes it, where it is asleep.
+    pub timer: u64,
+    /// What its run phase takes: its length, and the costs of changes of processor.
+    pub due: u64,
+    /// What it has got of that.
+    pub got: u64,
+    /// The processor that it ran on last; before it first ran, the one from which its first wake comes.
+    pub home: u8,
+    /// Whether it has run.
+    pub has_run: bool,
+}
+
+impl Course {
+    ghost use Rattle.bq_workload.specs.Courses.{advanced, begun, fresh, run_for, migrates_to, moved_to, woken, is_done, keeps_time, lacks_more, sleeps_past};
+
+    /// A task that has done nothing, and sleeps until its timer wakes it first.
+    pub fn new(kind: usize, home: u8, start: u64) -> Course
+        ensures { result ≡ fresh kind home start }
+    {
+        Course {
+            kind,
+            action: 0,
+            woken: 0,
+            loops: 0,
+            stance: Stance::Asleep,
+            timer: start,
+            due: 0,
+            got: 0,
+            home,
+            has_run: false,
+        }
+    }
+
+    /// A run phase of this length begins.
+    pub fn begin(&mut self, length: u64)
+        ensures { self.new ≡ begun length self.old }
+    {
+        self.due = length;
+        self.got = 0;
+    }
+
+    /// It has run for so long. None where what it has got would be more than 64 bits can count.
+    pub fn run_for(&mut self, ran: u64) -> Option<()>
+        ensures some { IfSome result (λ _. self.new ≡ run_for ran self.old) }
+        ensures none { IfNone result (self.new ≡ self.old) }
+        ensures cause { IfNone result (2 ^ 64 ≤ self.old.got + ran) }
+    {
+        self.got = self.got.checked_add(ran)?;
+        Some(())
+    }
+
+    /// It begins to run at a processor: where it ran at another before, what is left of its phase is longer by the cost. A task
+    /// that has run past its phase has nothing left. None where its phase would take more than 64 bits can count.
+    pub fn move_to(&mut self, processor: u8, cost: u64) -> Option<()>
+        ensures some { IfSome result (λ _. self.new ≡ moved_to processor cost self.old) }
+        ensures none { IfNone result (self.new ≡ self.old) }
+        ensures cause { IfNone result ((migrates_to processor self.old ≡ true) × (2 ^ 64 ≤ self.old.due + cost)) }
+    {
+        if self.has_run && self.home != processor && self.got <= self.due {
+            self.due = self.due.checked_add(cost)?;
+        }
+        self.home = processor;
+        self.has_run = true;
+        Some(())
+    }
+
+    /// It is woken, and has no run phase yet.
+    pub fn wake(&mut self)
+        ensures { self.new ≡ woken self.old }
+    {
+        self.stance = Stance::Runnable;
+        self.due = 0;
+        self.got = 0;
+    }
+
+    /// Whether it has got just what its run phase takes.
+    pub fn is_done(&self) -> bool
+        ensures { result ≡ is_done self.now }
+    {
+        self.got == self.due
+    }
+
+    /// Whether it has got no more than its run phase takes, and no timer wakes it until the end.
+    pub fn keeps_time(&self, end: u64) -> bool
+        ensures { result ≡ keeps_time end self.now }
+    {
+        self.got <= self.due && self.sleeps_past(end)
+    }
+
+    /// Whether no timer wakes it until the end.
+    fn sleeps_past(&self, end: u64) -> bool
+        ensures { result ≡ sleeps_past end self.now }
+    {
+        match self.stance {
+            Stance::Asleep => end < self.timer,
+            _ => true,
+        }
+    }
+
+    /// Whether it lacks more of its phase than it can get from this instant until the end.
+    pub fn lacks_more(&self, since: u64, end: u64) -> bool
+        ensures { result ≡ lacks_more since end self.now }
+    {
+        u128::from(end) + u128::from(self.got) < u128::from(since) + u128::from(self.due)
+    }
+
+    /// Goes on to the next of so many actions; after the last to the first, and it has done them all once more.
+    pub fn advance(&mut self, actions: usize)
+        ensures { self.new ≡ advanced actions self.old }
+    {
+        self.woken = 0;
+        if self.action.saturating_add(1) >= actions {
+            self.action = 0;
+            self.loops = self.loops.saturating_add(1);
+        } else {
+            self.action += 1;
+        }
+    }
+}

@@ -1,0 +1,65 @@
+//! The kinds of things that come due.
+ghost use Rattle.std.specs.Prelude.{◌≡◌, ◌<◌, Some};
+ghost use Rattle.bq_workload.specs.Dues.{IsDue, place_of, due_at};
+
+use bq_disc::limits::{PROCESSORS, TASKS};
+
+/// Something that comes due. At one instant they come in this order, and those of one kind by their numbers. Processors
+/// are numbered from 0 to 63, tasks from 0 to 1023.
+#[derive(Clone, Copy)]
+pub enum Due {
+    /// The run phase of the task that runs at a processor ends.
+    End(u8),
+    /// A timer wakes a task.
+    Wake(u16),
+    /// The clock of a processor ticks.
+    Tick(u8),
+    /// A processor looks for a task to pull.
+    Pull(u8),
+}
+
+/// The place of the first wake, behind those of the ends of phases.
+const WAKES: u16 = PROCESSORS as u16;
+
+/// The place of the first tick.
+const TICKS: u16 = WAKES + TASKS;
+
+/// The place of the first look.
+const LOOKS: u16 = TICKS + PROCESSORS as u16;
+
+/// How many places there are.
+const PLACES: u16 = LOOKS + PROCESSORS as u16;
+
+impl Due {
+    /// Its place in the order of one instant, below 2,048.
+    pub fn place(self) -> u16
+        requires { IsDue self }
+        ensures place { result ≡ place_of self }
+        ensures few { result < 2048 }
+        ensures back { due_at result ≡ Some self }
+    {
+        match self {
+            Due::End(processor) => u16::from(processor),
+            Due::Wake(task) => WAKES + task,
+            Due::Tick(processor) => TICKS + u16::from(processor),
+            Due::Pull(processor) => LOOKS + u16::from(processor),
+        }
+    }
+
+    /// What stands at a place.
+    pub fn at(place: u16) -> Option<Due>
+        ensures { result ≡ due_at place }
+    {
+        if place < WAKES {
+            Some(Due::End(place as u8))
+        } else if place < TICKS {
+            Some(Due::Wake(place - WAKES))
+        } else if place < LOOKS {
+            Some(Due::Tick((place - TICKS) as u8))
+        } else if place < PLACES {
+            Some(Due::Pull((place - LOOKS) as u8))
+        } else {
+            None
+        }
+    }
+}

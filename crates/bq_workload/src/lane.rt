@@ -1,0 +1,51 @@
+//! A processor as a simulation keeps it.
+ghost use Rattle.std.specs.Prelude.{◌≡◌};
+ghost use Rattle.bq_workload.specs.Accounts.{at_rest, is_past, rests_past};
+
+/// What a simulation knows of a processor: what runs there and since when, how many tasks it has, when it ticks and when it looks
+/// for a task next.
+#[derive(Clone, Copy)]
+pub struct Lane {
+    /// The task that runs.
+    pub run: Option<u16>,
+    /// Since when its time is not counted yet.
+    pub since: u64,
+    /// How many tasks run there or wait in the queue.
+    pub size: u32,
+    /// When it ticks next; nothing where nothing runs.
+    pub tick: Option<u64>,
+    /// When it looks next for a task to pull; nothing where there is no other processor.
+    pub look: Option<u64>,
+}
+
+impl Lane {
+    /// Nothing runs, and it looks next for a task to pull then, where it looks at all.
+    pub fn new(look: Option<u64>) -> Lane
+        ensures { result ≡ at_rest look }
+    {
+        Lane {
+            run: None,
+            since: 0,
+            size: 0,
+            tick: None,
+            look,
+        }
+    }
+
+    /// Whether it neither ticks nor looks for a task to pull until the end.
+    pub fn rests_past(&self, end: u64) -> bool
+        ensures { result ≡ rests_past end self.now }
+    {
+        is_past(self.tick, end) && is_past(self.look, end)
+    }
+}
+
+/// Whether what comes at a time, if it comes, comes after the end.
+fn is_past(time: Option<u64>, end: u64) -> bool
+    ensures { result ≡ is_past end time }
+{
+    match time {
+        Some(time) => end < time,
+        None => true,
+    }
+}
