@@ -1,8 +1,8 @@
 -- What the words of `simulate` ask for.
 use Rattle.std.specs.Prelude.{Some, None}
 use Rattle.bq_comparison.specs.Asking.{AskFor}
-use Rattle.bq_study.specs.Asking.{AskForChanges, AskToShow}
-use Rattle.bq_study.specs.declared.words.StudyWords.{StudyWords}
+use Rattle.bq_experiment.specs.Asking.{AskForChanges, AskToShow}
+use Rattle.bq_experiment.specs.declared.words.StudyWords.{StudyWords}
 use Rattle.bq_cli.specs.declared.simulate.Shown.{Shown}
 use Rattle.bq_cli.specs.declared.simulate.Shown.TheVariants.{Figures, Run}
 use Rattle.bq_cli.specs.declared.simulate.Simulation.{Simulation}

@@ -12,9 +12,9 @@ use Rattle.bq_policy_commands.specs.declared.words.PolicyWords.{PolicyWords}
 use Rattle.bq_policy_commands.specs.declared.words.RunWords.{RunWords}
 use Rattle.bq_policy_commands.specs.declared.words.TellingWords.{TellingWords}
 use Rattle.bq_program.specs.Forms.{maps_text}
-use Rattle.bq_study.specs.declared.words.HookWords.{HookWords}
-use Rattle.bq_study.specs.declared.words.MachineWords.{MachineWords}
-use Rattle.bq_study.specs.declared.words.StudyWords.{StudyWords}
+use Rattle.bq_experiment.specs.declared.words.HookWords.{HookWords}
+use Rattle.bq_experiment.specs.declared.words.MachineWords.{MachineWords}
+use Rattle.bq_experiment.specs.declared.words.StudyWords.{StudyWords}
 use Rattle.bq_timeline.specs.declared.settings.Words.{Words}
 use Rattle.bq_words.specs.Numbers.{below}
 use Rattle.bq_words.specs.Sizes.{rule_of}

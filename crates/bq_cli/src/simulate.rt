@@ -14,14 +14,14 @@ use bq_console::{
     WordsFault, all_words, name_of, refused_words, say_out_of_memory, whole_file, whole_input,
     word, written,
 };
+use bq_experiment::{
+    AskedFault, AttachFault, HookWords, MachineWords, Policies, ShownAs, StudyWords, asked_changes,
+    run_as,
+};
 use bq_hooks::Hook;
 use bq_load::LoadFault;
 use bq_program::fault_text;
 use bq_simulate::SimulateFault;
-use bq_study::{
-    AskedFault, AttachFault, HookWords, MachineWords, Policies, ShownAs, StudyWords, asked_changes,
-    run_as,
-};
 use bq_timeline::SettingsFault;
 use bq_workload::Workload;
 use bq_workload_file::{Changes, Fault, read};

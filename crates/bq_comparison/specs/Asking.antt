@@ -7,7 +7,7 @@ use Rattle.bq_timeline.specs.declared.form_names.FormName.{FormName}
 use Rattle.bq_timeline.specs.declared.form_names.FormName.TheVariants as form
 use Rattle.bq_timeline.specs.declared.settings.Settings.{Settings}
 use Rattle.bq_timeline.specs.declared.settings.Words.{Words}
-use Rattle.bq_study.specs.declared.words.StudyWords.{StudyWords}
+use Rattle.bq_experiment.specs.declared.words.StudyWords.{StudyWords}
 use Rattle.bq_comparison.specs.declared.asked.Comparing.{Comparing}
 use Rattle.bq_comparison.specs.declared.asked.ComparingFault.{ComparingFault}
 use Rattle.bq_comparison.specs.declared.asked.ComparingFault.TheVariants as fault

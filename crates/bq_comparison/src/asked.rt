@@ -3,8 +3,8 @@ ghost use Rattle.std.specs.Prelude.{◌≡◌, ◌≤◌, ◌↔◌, IfErr, IfOk
 ghost use Rattle.bq_comparison.specs.Asking.{AskFor, AskForNone, IsNoComparison, seeds_asked, seeds_in, table_of};
 ghost use Rattle.bq_comparison.specs.declared.asked.ComparingFault.TheVariants as why;
 
+use bq_experiment::StudyWords;
 use bq_report::Window;
-use bq_study::StudyWords;
 use bq_timeline::form_names::FormName;
 use bq_timeline::{Settings, SettingsFault};
 use std::alloc::Global;

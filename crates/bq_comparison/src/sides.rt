@@ -4,7 +4,7 @@ ghost use Rattle.bq_comparison.specs.Faults.{IsNoSummary};
 ghost use Rattle.bq_comparison.specs.Sides.{IsComparison, size_of_machine};
 
 use crate::{MachineSize, Rows, SeedsFault, all_figures, summary};
-use bq_study::Policies;
+use bq_experiment::Policies;
 use bq_workload::Workload;
 use std::alloc::Global;
 use std::thread::Threads;

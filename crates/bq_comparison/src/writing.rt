@@ -6,7 +6,7 @@ use crate::json_text::json_text;
 use crate::line::lines;
 use crate::sides::Sides;
 use crate::table::table_text;
-use bq_study::{plain, task_names};
+use bq_experiment::{plain, task_names};
 use bq_workload::Workload;
 use std::alloc::{AllocError, Global};
 

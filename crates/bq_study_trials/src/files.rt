@@ -1,8 +1,8 @@
 // Policies as files, each for the hook preempt. The bytes of the image were written down by hand from docs/IMAGE.md.
 
 use crate::cases::holds;
+use bq_experiment::Policies;
 use bq_hooks::Hook;
-use bq_study::Policies;
 use std::alloc::Global;
 use std::test::Fail;
 

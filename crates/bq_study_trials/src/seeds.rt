@@ -8,7 +8,7 @@
 use crate::cases::holds;
 use bq_cli::{Command, job};
 use bq_comparison::{Comparing, ComparingFault, asked_comparison, compare, comparison_text};
-use bq_study::{Policies, ShownAs, StudyWords};
+use bq_experiment::{Policies, ShownAs, StudyWords};
 use bq_workload::Workload;
 use bq_workload_file::{Changes, read};
 use std::alloc::Global;

@@ -1,0 +1,22 @@
+-- The viewer took the names, and then the simulation.
+use Rattle.std.proofs.Common.{List, subst}
+use Rattle.std.proofs.lemmas.Result.{err_from_is_err_and}
+use Rattle.bq_trace.specs.News.{Gets}
+use Rattle.bq_simulate.specs.Simulations.{Accepted, IsSimulation}
+use Rattle.bq_experiment.specs.Names.{comments_of}
+use Rattle.bq_experiment.specs.declared.later.Later.{Later}
+use Rattle.bq_experiment.proofs.ViewLemmas.{TakesLater, no_other, views_simulation}
+use Rattle.bq_experiment.proofs.running.viewed.Goals as goal
+
+pub returns-clause-viewed : goal.returns-clause-viewed
+returns-clause-viewed c =
+    let w = c.args.workload.now in
+    let later : Later = record { viewer = c.tell_names.new.sink; above = c.in_ok-above.above } in
+    let told = subst (λ (l : List Accepted). Gets TakesLater later c.simulate.new.sink (IsSimulation l w)) c.loaded.ensures.value c.in_ok-simulate.ensures.told in
+    views_simulation c.new-viewer.result later c.simulate.new.sink (comments_of w) c.args.policies.now.loaded w
+    c.new-viewer.ensures.schedule c.new-viewer.ensures.troubles c.in_ok-simulate.ensures.sound c.in_ok-above.ensures.told told
+
+pub returns-in_err-simulate-clause-flaw : goal.returns-in_err-simulate-clause-flaw
+returns-in_err-simulate-clause-flaw c =
+    let p = err_from_is_err_and c.from_residual-in_err-simulate.result c.from_residual-in_err-simulate.ensures.1 in
+    rw (p.1, p.2) (no_other c.args.workload.now c.in_err-simulate.field-0.0 c.in_err-simulate.ensures.flaw)

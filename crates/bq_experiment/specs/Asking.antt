@@ -1,0 +1,63 @@
+-- What the words of `simulate` ask for.
+use Rattle.std.specs.Prelude.{◌≡◌, ℕ, Bool, true, false, ◌&&◌, ◌||◌, nat_le, List, Option, Some, None, String, if◌then◌else◌, codes, is_some, option_and_then, option_map}
+use Rattle.std.specs.Global.{Global}
+use Rattle.bq_workload.specs.Lengths.{longest}
+use Rattle.bq_words.specs.Quantities.{size_of, decimal_of}
+use Rattle.bq_policy_commands.specs.Saying.{option_bytes}
+use Rattle.bq_timeline.specs.Settings.{AsksFor, IsNoSettings, asked_or, form_asked}
+use Rattle.bq_timeline.specs.declared.settings.Words.{Words}
+use Rattle.bq_words.specs.Sizes.{rule_of}
+use Rattle.bq_words.specs.Durations.{duration_of}
+use Rattle.bq_workload_file.specs.declared.changes.Changes.{Changes}
+use Rattle.bq_experiment.specs.declared.asked.ShownAs.{ShownAs}
+use Rattle.bq_experiment.specs.declared.asked.ShownAs.TheVariants.{Trace, Timeline}
+use Rattle.bq_experiment.specs.declared.asked.AskedFault.{AskedFault}
+use Rattle.bq_experiment.specs.declared.asked.AskedFault.TheVariants as fault
+use Rattle.bq_experiment.specs.declared.words.MachineWords.{MachineWords}
+use Rattle.bq_experiment.specs.declared.words.StudyWords.{StudyWords}
+
+-- a change, where a word asks for one
+abbrev pub change_asked : {A : Type 0} → (List ℕ → Option A) → Option (String Global) → Option (Option A)
+change_asked read word = asked_or None (λ w. option_map Some (read w)) word
+
+-- a time that can be simulated: from 1 to 2^48 - 1 ns
+abbrev pub simulable : ℕ → Option ℕ
+simulable time = if nat_le 1 time && nat_le time longest then Some time else None
+
+abbrev pub time_in : List ℕ → Option ℕ
+time_in word = option_and_then simulable (duration_of word)
+
+-- the words ask for these changes of the machine
+pub record AskForChanges (w : MachineWords) (c : Changes) : Type 0 where
+  pub rule : change_asked rule_of w.discipline ≡ Some c.rule
+  pub size : change_asked size_of w.processors ≡ Some c.size
+  pub duration : change_asked time_in w.duration ≡ Some c.duration
+  pub seed : change_asked decimal_of w.seed ≡ Some c.seed
+
+-- the word that the fault names is none of its kind
+abbrev pub IsNoChange : MachineWords → AskedFault → Type 0
+IsNoChange w fault.Discipline = change_asked rule_of w.discipline ≡ None
+IsNoChange w fault.Processors = change_asked size_of w.processors ≡ None
+IsNoChange w fault.Duration = change_asked time_in w.duration ≡ None
+IsNoChange w fault.Seed = change_asked decimal_of w.seed ≡ None
+IsNoChange w other = ⊥
+
+-- the form is called a trace
+abbrev pub NamesTrace : StudyWords → Type 0
+NamesTrace w = option_bytes w.shown.form ≡ Some (codes "trace")
+
+-- the words choose what is shown: a stretch of time, processors, tasks or a width
+abbrev pub chooses_part : Words → Bool
+chooses_part w = is_some w.from || (is_some w.to || (is_some w.cpus || (is_some w.tasks || is_some w.width)))
+
+-- a trace, which is written whole, where the form is called so, else what a timeline shows by these words
+abbrev pub AskToShow : StudyWords → ShownAs → Type 0
+AskToShow w Trace = NamesTrace w × (chooses_part w.shown ≡ false)
+AskToShow w (Timeline settings) = (¬ NamesTrace w) × AsksFor w.shown settings
+
+-- the word that the fault names is none of its kind, or a part is chosen of a trace
+abbrev pub IsNotShown : StudyWords → AskedFault → Type 0
+IsNotShown w fault.WholeTrace = NamesTrace w × (chooses_part w.shown ≡ true)
+IsNotShown w fault.Form = (¬ NamesTrace w) × (form_asked w.shown ≡ None)
+IsNotShown w (fault.Settings why) = (¬ NamesTrace w) × IsNoSettings w.shown why
+IsNotShown w other = ⊥

@@ -1,0 +1,79 @@
+//! The names of a workload's tasks.
+ghost use Rattle.std.specs.Prelude.{◌≡◌, ◌<◌, ◌++◌, map, length, IfOk, OnOk, string_bytes};
+ghost use Rattle.bq_trace.specs.News.{TakesAll};
+ghost use Rattle.bq_experiment.specs.Names.{comments_of, name_in, names_in, names_of, plain_name, plain_of};
+ghost use Rattle.bq_experiment.specs.Traces.{skipped};
+
+use bq_trace::Sink;
+use bq_workload::{TaskKind, Workload};
+use std::alloc::{AllocError, Global};
+
+/// The name of each task. The tasks of a kind are numbered from 0, where it has several.
+pub fn task_names(alloc: Global, workload: &Workload) -> Result<Vec<String>, AllocError>
+    ensures { IfOk result (λ names. map string_bytes names.items ≡ names_of workload.now.tasks.items) }
+{
+    let mut names = Vec::new(alloc);
+    'kinds: for kind in &workload.tasks {
+        add_names(alloc, kind, &mut names)?;
+    }
+    Ok(names)
+}
+
+/// Adds the name of each task of a kind.
+fn add_names(alloc: Global, kind: &TaskKind, names: &mut Vec<String>) -> Result<(), AllocError>
+    ensures { OnOk result (map string_bytes names.new.items ≡ map string_bytes names.old.items ++ names_in kind.now) }
+{
+    'numbers: for number in 0..kind.count {
+        names.push(task_name(alloc, kind, number)?)?;
+    }
+    Ok(())
+}
+
+/// The name of a task, by its number among those of its kind.
+fn task_name(alloc: Global, kind: &TaskKind, number: u16) -> Result<String, AllocError>
+    ensures { IfOk result (λ name. string_bytes name ≡ name_in kind.now number) }
+{
+    let name = kind.name.as_str();
+    if kind.count == 1 {
+        String::from_str(alloc, name)
+    } else {
+        format!(in alloc; "{name}-{number}")
+    }
+}
+
+/// Tells a sink the name of each task, by the comment that names one in a trace. How many lines of a trace that takes.
+pub fn tell_names<S: Sink>(
+    alloc: Global,
+    workload: &Workload,
+    sink: &mut S,
+) -> Result<u64, AllocError>
+    ensures told { OnOk result (TakesAll S.takes sink.old (map skipped (comments_of workload.now)) sink.new) }
+    ensures lines { IfOk result (λ lines. lines ≡ length (comments_of workload.now)) }
+{
+    let names = task_names(alloc, workload)?;
+    'names: for (task, name) in names.iter().enumerate() {
+        let name = plain(alloc, name.as_str())?;
+        let comment = format!(in alloc; "# task {task} {name}")?;
+        sink.skipped(0, comment.as_bytes())?;
+    }
+    Ok(names.len() as u64)
+}
+
+/// The name as a line of a trace can have it: a character that is no printable ASCII stands as `?`.
+pub fn plain(alloc: Global, name: &str) -> Result<String, AllocError>
+    ensures { IfOk result (λ text. string_bytes text ≡ plain_name name.now) }
+{
+    let mut text = String::new(alloc);
+    for letter in name.chars() {
+        text.push(plain_letter(letter))?;
+    }
+    Ok(text)
+}
+
+fn plain_letter(letter: char) -> char
+    ensures ascii { result < 128 }
+    ensures value { result ≡ plain_of letter }
+{
+    let is_plain = letter.is_ascii_graphic() || letter == ' ';
+    if is_plain { letter } else { '?' }
+}

@@ -1,0 +1,206 @@
+//! The policies that stand at the hooks of all processors.
+ghost use Rattle.std.specs.Prelude.{◌≡◌, ℕ, List, [], Some, None, IfOk, IfErr, OnOk, OnErr};
+ghost use Rattle.std.specs.Borrow.{Bor};
+ghost use Rattle.std.specs.Option.{option_map};
+ghost use Rattle.bq_program.specs.Files.{IsPolicy, IsPolicyFault};
+ghost use Rattle.bq_simulate.specs.Retelling.{IsOfImage};
+ghost use Rattle.bq_simulate.specs.Texts.{image_at};
+ghost use Rattle.bq_experiment.specs.Standing.{Adds, AreOfTheirImages, image_for};
+ghost use Rattle.bq_experiment.specs.Taking.{IsNone, IsRead, IsTold, IsToldOf, IsToldOfImage, Takes};
+
+use bq_hooks::Hook;
+use bq_installed::Policy;
+use bq_load::{LoadFault, load};
+use bq_policy_commands::{HOOK_UNSAID, fault_reason};
+use bq_program::{Head, read_policy};
+use bq_simulate::Images;
+use std::alloc::{AllocError, AllocFailed, Global};
+use std::marker::Model;
+use thiserror::Error;
+
+/// Why a file is no policy for a hook.
+#[derive(Debug, Drop, Error)]
+pub enum AttachFault {
+    /// It is no policy: why, in words.
+    #[error("{0}")]
+    File(String),
+    /// Its program is not accepted.
+    #[error("refused {0}")]
+    Program(LoadFault),
+    #[error("the policy is for another hook")]
+    Hook,
+    #[error("another policy is for the same hook")]
+    Twice,
+    #[error("out of memory")]
+    OutOfMemory,
+}
+
+/// The policies, and the image of each, in the order in which they came. Each policy is that of the image at its hook.
+#[derive(Drop)]
+pub struct Policies {
+    loaded: Vec<Policy>,
+    images: Vec<(Hook, Vec<u8>)>,
+}
+
+impl Model for Policies {
+    ghost use Rattle.bq_experiment.specs.Standing.{AreOfTheirImages, Standing, standing};
+
+    ghost Value = { Standing };
+
+    ghost view = { λ p. standing p.loaded.items p.images.items };
+
+    ghost invariant = { λ p. AreOfTheirImages (standing p.loaded.items p.images.items) };
+}
+
+impl Policies {
+    /// No policy stands anywhere.
+    pub fn new(alloc: Global) -> Policies
+        ensures loaded { result.loaded ≡ [] }
+        ensures images { result.images ≡ [] }
+    {
+        Policies {
+            loaded: Vec::new(alloc),
+            images: Vec::new(alloc),
+        }
+    }
+
+    /// The policies. Each is that of the image at its hook.
+    pub fn loaded(&self) -> &[Policy]
+        ensures value { result.now ≡ self.now.loaded }
+        ensures of_images { AreOfTheirImages self.now }
+    {
+        self.loaded.as_slice()
+    }
+
+    /// Takes the policy for this hook that a file holds: an image, the hex of one, or an assembler text whose head says what
+    /// it leaves out. Where one was taken for that hook before it is refused. Where it is not taken, all is as it was.
+    pub fn add(&mut self, alloc: Global, hook: Hook, file: &[u8]) -> Result<(), AttachFault>
+        ensures taken { OnOk result (Takes (IsRead (Some hook) file.now) hook self.old self.new) }
+        ensures refused { OnErr result (self.new ≡ self.old) }
+        ensures told { IfErr result (IsTold (IsRead (Some hook) file.now) (IsNone (Some hook) file.now) self.old) }
+    {
+        let mut asked = Head::nothing();
+        asked.hook = Some(hook);
+        self.take(alloc, &asked, file)
+    }
+
+    /// The same, for the hook that the file says.
+    pub fn add_as_said(&mut self, alloc: Global, file: &[u8]) -> Result<(), AttachFault>
+        ensures taken { OnOk result ((hook : Hook) × Takes (IsRead None file.now) hook self.old self.new) }
+        ensures refused { OnErr result (self.new ≡ self.old) }
+        ensures told { IfErr result (IsTold (IsRead None file.now) (IsNone None file.now) self.old) }
+    {
+        self.take(alloc, &Head::nothing(), file)
+    }
+
+    /// Takes the policy of a file that agrees with what was asked for.
+    fn take(&mut self, alloc: Global, asked: &Head, file: &[u8]) -> Result<(), AttachFault>
+        ensures taken { OnOk result ((hook : Hook) × Takes (IsPolicy file.now asked.now) hook self.old self.new) }
+        ensures refused { OnErr result (self.new ≡ self.old) }
+        ensures told { IfErr result (IsTold (IsPolicy file.now asked.now) (IsPolicyFault file.now asked.now) self.old) }
+    {
+        let read = match read_policy(alloc, file, asked) {
+            Ok(read) => read,
+            Err(fault) => return Err(told(alloc, file, fault)),
+        };
+        if self.image_at(read.hook).is_some() {
+            return Err(AttachFault::Twice);
+        }
+        let image = read.image(alloc)?;
+        let policy = policy_of(alloc, image.as_slice())?;
+        self.keep(read.hook, image, policy)
+    }
+
+    /// Keeps a policy and its image, for a hook at which none is.
+    fn keep(&mut self, hook: Hook, image: Vec<u8>, policy: Policy) -> Result<(), AttachFault>
+        requires of { IsOfImage (Some image.items) policy }
+        requires hook { policy.hook ≡ hook }
+        requires free { image_for self.old.images hook ≡ None }
+        ensures adds { OnOk result (Adds hook image.items policy self.old self.new) }
+        ensures refused { OnErr result (self.new ≡ self.old) }
+        ensures other { IfErr result (λ fault. fault ≡ AttachFault.OutOfMemory) }
+    {
+        let count = self.images.len();
+        self.images.push((hook, image))?;
+        if let Err(_) = self.loaded.push(policy) {
+            self.images.truncate(count);
+            return Err(AttachFault::OutOfMemory);
+        }
+        Ok(())
+    }
+
+    /// The image at a hook.
+    pub fn image_at(&self, hook: Hook) -> Option<&[u8]>
+        ensures { option_map (λ (b : Bor (List ℕ)). b.now) result ≡ image_for self.now.images hook }
+    {
+        'images: for (place, image) in &self.images {
+            if *place == hook {
+                return Some(image.as_slice());
+            }
+        }
+        None
+    }
+
+    /// The images at all hooks.
+    pub fn images(&self) -> Images<'_>
+        ensures { image_at result ≡ image_for self.now.images }
+    {
+        Images {
+            place: self.image_at(Hook::Place),
+            preempt: self.image_at(Hook::Preempt),
+            pull: self.image_at(Hook::Pull),
+        }
+    }
+}
+
+impl From<AllocError> for AttachFault {
+    ghost use Rattle.std.specs.Prelude.{◌≡◌};
+    ghost use Rattle.bq_experiment.specs.declared.policies.AttachFault.TheVariants.{OutOfMemory};
+
+    ghost from_gives = { λ _ e. e ≡ OutOfMemory };
+
+    fn from(_e: AllocError) -> AttachFault {
+        AttachFault::OutOfMemory
+    }
+}
+
+impl<T: Drop> From<AllocFailed<T>> for AttachFault {
+    ghost use Rattle.std.specs.Prelude.{◌≡◌};
+    ghost use Rattle.bq_experiment.specs.declared.policies.AttachFault.TheVariants.{OutOfMemory};
+
+    ghost from_gives = { λ _ e. e ≡ OutOfMemory };
+
+    fn from(_e: AllocFailed<T>) -> AttachFault {
+        AttachFault::OutOfMemory
+    }
+}
+
+/// Why the file is no policy for the hook, in words.
+fn told(alloc: Global, file: &[u8], fault: bq_program::PolicyFault) -> AttachFault
+    ensures { IsToldOf fault result }
+{
+    if let bq_program::PolicyFault::Disagrees(_) = fault {
+        return AttachFault::Hook;
+    }
+    let why = match fault {
+        bq_program::PolicyFault::NoHook => String::from_str(alloc, HOOK_UNSAID),
+        fault => fault_reason(alloc, file, fault),
+    };
+    match why {
+        Ok(why) => AttachFault::File(why),
+        Err(_) => AttachFault::OutOfMemory,
+    }
+}
+
+/// The policy of an image.
+fn policy_of(alloc: Global, image: &[u8]) -> Result<Policy, AttachFault>
+    ensures of { IfOk result (IsOfImage (Some image.now)) }
+    ensures told { IfErr result (IsToldOfImage image.now) }
+{
+    let program = match load(alloc, image) {
+        Ok(program) => program,
+        Err(LoadFault::OutOfMemory) => return Err(AttachFault::OutOfMemory),
+        Err(fault) => return Err(AttachFault::Program(fault)),
+    };
+    Ok(Policy::new(alloc, program)?)
+}

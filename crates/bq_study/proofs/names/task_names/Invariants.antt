@@ -1,7 +1,0 @@
-use Rattle.std.proofs.Common.{◌≡◌, map, take, string_bytes}
-use Rattle.bq_study.specs.Names.{names_of}
-use Rattle.bq_study.proofs.names.task_names.Given as goal
-
--- the tasks of so many kinds have their names
-abbrev pub invariant-kinds : goal.invariant-kinds
-invariant-kinds l = map string_bytes l.names.items ≡ names_of (take l.kind-index l.workload.tasks.items)

@@ -1,7 +1,0 @@
-//! Laws of the definitions.
-ghost use Rattle.bq_study.specs.Traces.{TracesAreReplayed};
-
-/// A replay of the text of a simulation answers what the simulation was answered.
-pub fn traces_are_replayed()
-    ensures { TracesAreReplayed }
-{}
