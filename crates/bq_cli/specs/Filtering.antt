@@ -3,12 +3,12 @@ use Rattle.std.specs.Prelude.{◌≡◌, ℕ, Bool, false, List, Option, ◌⊎�
 use Rattle.std.specs.Io.KnownBytes.{Appends, Keeps}
 use Rattle.bq_streams.specs.Reading.{GivesAll, GivesSome}
 use Rattle.bq_streams.specs.Writing.{AppendsPart}
-use Rattle.bq_program.specs.Asm.{AsmWrites}
-use Rattle.bq_program.specs.Check.{CheckWrites}
-use Rattle.bq_program.specs.Dis.{DisWrites}
-use Rattle.bq_program.specs.Forms.{AsksFor, RefusesOptions}
-use Rattle.bq_program.specs.declared.form.ProgramForm.{ProgramForm}
-use Rattle.bq_program.specs.declared.options.Options.{Options}
+use Rattle.bq_policy_file.specs.Asm.{AsmWrites}
+use Rattle.bq_policy_file.specs.Check.{CheckWrites}
+use Rattle.bq_policy_file.specs.Dis.{DisWrites}
+use Rattle.bq_policy_file.specs.Forms.{AsksFor, RefusesOptions}
+use Rattle.bq_policy_file.specs.declared.form.ProgramForm.{ProgramForm}
+use Rattle.bq_policy_file.specs.declared.options.Options.{Options}
 use Rattle.bq_cli.specs.declared.filter.Filter.{Filter}
 use Rattle.bq_cli.specs.declared.filter.Filter.TheVariants.{Asm, Check, Dis}
 

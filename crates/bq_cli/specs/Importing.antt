@@ -7,7 +7,7 @@ use Rattle.bq_bpf.specs.declared.shape.MapShape.{MapShape}
 use Rattle.bq_import.specs.declared.text.ImportSettings.{ImportSettings}
 use Rattle.bq_policy_commands.specs.Saying.{SaysHead, option_bytes}
 use Rattle.bq_policy_commands.specs.declared.words.PolicyWords.{PolicyWords}
-use Rattle.bq_program.specs.declared.head.Head.{Head}
+use Rattle.bq_policy_file.specs.declared.head.Head.{Head}
 
 -- the shapes of maps, none if they are not named
 abbrev pub shapes_in : Option (Vec MapShape Global) → List MapShape

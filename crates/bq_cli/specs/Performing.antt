@@ -2,8 +2,8 @@
 use Rattle.std.specs.Prelude.{◌≡◌, ℕ, Bool, true, false, List, Option, ◌⊎◌}
 use Rattle.std.specs.Io.KnownBytes.{Appends, Keeps}
 use Rattle.bq_streams.specs.Writing.{AppendsPart}
-use Rattle.bq_program.specs.Check.{CheckWrites}
-use Rattle.bq_program.specs.Dis.{DisWrites}
+use Rattle.bq_policy_file.specs.Check.{CheckWrites}
+use Rattle.bq_policy_file.specs.Dis.{DisWrites}
 use Rattle.bq_trace.specs.Machines.{discipline_of}
 use Rattle.bq_trace.specs.Replaying.{Replays, ReplaysInPart}
 use Rattle.bq_words.specs.Sizes.{processors_in}

@@ -11,7 +11,7 @@ use Rattle.bq_policy_commands.specs.declared.words.ListWords.{ListWords}
 use Rattle.bq_policy_commands.specs.declared.words.PolicyWords.{PolicyWords}
 use Rattle.bq_policy_commands.specs.declared.words.RunWords.{RunWords}
 use Rattle.bq_policy_commands.specs.declared.words.TellingWords.{TellingWords}
-use Rattle.bq_program.specs.Forms.{maps_text}
+use Rattle.bq_policy_file.specs.Forms.{maps_text}
 use Rattle.bq_experiment.specs.declared.words.HookWords.{HookWords}
 use Rattle.bq_experiment.specs.declared.words.MachineWords.{MachineWords}
 use Rattle.bq_experiment.specs.declared.words.StudyWords.{StudyWords}

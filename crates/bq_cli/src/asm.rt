@@ -11,7 +11,7 @@ use bq_console::status::BAD_INPUT;
 use bq_console::{WordsFault, say_out_of_memory, whole_input, written};
 use bq_explain::complaint;
 use bq_policy_commands::{AsmRefusal, PolicyWords, asm_note, asm_refusal, options_complaint};
-use bq_program::Options;
+use bq_policy_file::Options;
 use clap::ArgMatches;
 use std::alloc::Global;
 use std::process::ExitCode;

@@ -7,7 +7,9 @@ ghost use Rattle.bq_streams.specs.Writing.{AppendsPart};
 ghost use Rattle.bq_streams.specs.Faults.{IsFault, IsWriteFault};
 ghost use Rattle.bq_cli.specs.Filtering.{AnswersAll, AsmFilters, AsmFiltersInPart, BreaksOff, FilterWrites};
 
-use bq_program::{Answer, Options, ProgramForm, assembled, checked, disassembled, refused_options};
+use bq_policy_file::{
+    Answer, Options, ProgramForm, assembled, checked, disassembled, refused_options,
+};
 use bq_streams::{Counted, StreamFault, read_whole};
 use std::alloc::{AllocError, Global};
 use std::io::{Read, Write};

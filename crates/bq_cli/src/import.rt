@@ -11,7 +11,7 @@ use bq_console::{WordsFault, name_of, refused_words, say_out_of_memory, whole_in
 use bq_hooks::Version;
 use bq_import::{ImportRefusal, ImportSettings, imported};
 use bq_policy_commands::{PolicyWords, said_by};
-use bq_program::{Head, ImageForm};
+use bq_policy_file::{Head, ImageForm};
 use clap::ArgMatches;
 use std::alloc::{AllocError, Global};
 use std::process::ExitCode;

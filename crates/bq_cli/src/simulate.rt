@@ -20,7 +20,7 @@ use bq_experiment::{
 };
 use bq_hooks::Hook;
 use bq_load::LoadFault;
-use bq_program::fault_text;
+use bq_policy_file::fault_text;
 use bq_simulate::SimulateFault;
 use bq_timeline::SettingsFault;
 use bq_workload::Workload;

@@ -4,7 +4,7 @@ use crate::done::holds;
 use bq_cli::import::import_settings;
 use bq_cli::{Command, job};
 use bq_import::{ImportSettings, imported};
-use bq_program::{Head, read_policy};
+use bq_policy_file::{Head, read_policy};
 use std::alloc::Global;
 use std::process::Abort;
 use std::test::Fail;

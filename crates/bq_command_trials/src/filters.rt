@@ -3,7 +3,7 @@
 use crate::done::{LongRow, Row, all_give, all_give_long, gives, holds, repeated};
 use bq_asm::{AsmFault, assemble};
 use bq_hooks::Version;
-use bq_program::{Options, OptionsFault};
+use bq_policy_file::{Options, OptionsFault};
 use std::alloc::Global;
 use std::test::Fail;
 

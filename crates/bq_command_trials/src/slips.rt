@@ -2,7 +2,7 @@
 
 use crate::done::holds;
 use bq_explain::{Limits, complaint, explain, explanation_text};
-use bq_program::{Head, read_policy};
+use bq_policy_file::{Head, read_policy};
 use std::alloc::Global;
 use std::process::Abort;
 use std::test::Fail;

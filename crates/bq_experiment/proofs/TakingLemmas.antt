@@ -3,13 +3,13 @@ use Rattle.std.proofs.Common.{◌≡◌, ℕ, List, Option, Result, Ok, Err, Som
 use Rattle.bq_hooks.specs.declared.hook.Hook.{Hook}
 use Rattle.bq_insn.specs.Spelling.{spelling}
 use Rattle.bq_load.specs.Layout.{IsImage}
-use Rattle.bq_program.specs.Files.{Agree, IsOfKind, IsPolicy, IsPolicyFault, either, kind_of}
-use Rattle.bq_program.specs.declared.fault.PolicyFault.{PolicyFault as FileFault}
-use Rattle.bq_program.specs.declared.fault.PolicyFault.TheVariants.{Disagrees}
-use Rattle.bq_program.specs.declared.head.Head.{Head}
-use Rattle.bq_program.specs.declared.kind.FileKind.{FileKind}
-use Rattle.bq_program.specs.declared.kind.FileKind.TheVariants as kind
-use Rattle.bq_program.specs.declared.policy_source.PolicySource.{PolicySource}
+use Rattle.bq_policy_file.specs.Files.{Agree, IsOfKind, IsPolicy, IsPolicyFault, either, kind_of}
+use Rattle.bq_policy_file.specs.declared.fault.PolicyFault.{PolicyFault as FileFault}
+use Rattle.bq_policy_file.specs.declared.fault.PolicyFault.TheVariants.{Disagrees}
+use Rattle.bq_policy_file.specs.declared.head.Head.{Head}
+use Rattle.bq_policy_file.specs.declared.kind.FileKind.{FileKind}
+use Rattle.bq_policy_file.specs.declared.kind.FileKind.TheVariants as kind
+use Rattle.bq_policy_file.specs.declared.policy_source.PolicySource.{PolicySource}
 use Rattle.bq_experiment.specs.Standing.{Standing}
 use Rattle.bq_experiment.specs.Taking.{Asks, IsNone, IsRead, IsTold, IsToldOf, IsToldOfImage, Takes}
 use Rattle.bq_experiment.specs.declared.policies.AttachFault.{AttachFault}

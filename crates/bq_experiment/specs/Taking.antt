@@ -5,12 +5,12 @@ use Rattle.bq_insn.specs.Spelling.{spelling}
 use Rattle.bq_load.specs.Answers.{IsUnloaded}
 use Rattle.bq_load.specs.Layout.{IsImage}
 use Rattle.bq_load.specs.declared.fault.LoadFault.{LoadFault}
-use Rattle.bq_program.specs.Files.{IsPolicy, IsPolicyFault}
-use Rattle.bq_program.specs.declared.fault.PolicyFault.{PolicyFault as FileFault}
-use Rattle.bq_program.specs.declared.fault.PolicyFault.TheVariants.{Disagrees}
-use Rattle.bq_program.specs.declared.head.Head.{Head}
-use Rattle.bq_program.specs.declared.mark.Key.{Key}
-use Rattle.bq_program.specs.declared.policy_source.PolicySource.{PolicySource}
+use Rattle.bq_policy_file.specs.Files.{IsPolicy, IsPolicyFault}
+use Rattle.bq_policy_file.specs.declared.fault.PolicyFault.{PolicyFault as FileFault}
+use Rattle.bq_policy_file.specs.declared.fault.PolicyFault.TheVariants.{Disagrees}
+use Rattle.bq_policy_file.specs.declared.head.Head.{Head}
+use Rattle.bq_policy_file.specs.declared.mark.Key.{Key}
+use Rattle.bq_policy_file.specs.declared.policy_source.PolicySource.{PolicySource}
 use Rattle.bq_simulate.specs.Retelling.{IsOfImage}
 use Rattle.bq_experiment.specs.Standing.{Adds, Standing, image_for}
 use Rattle.bq_experiment.specs.declared.policies.AttachFault.{AttachFault}

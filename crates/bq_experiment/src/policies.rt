@@ -2,7 +2,7 @@
 ghost use Rattle.std.specs.Prelude.{◌≡◌, ℕ, List, [], Some, None, IfOk, IfErr, OnOk, OnErr};
 ghost use Rattle.std.specs.Borrow.{Bor};
 ghost use Rattle.std.specs.Option.{option_map};
-ghost use Rattle.bq_program.specs.Files.{IsPolicy, IsPolicyFault};
+ghost use Rattle.bq_policy_file.specs.Files.{IsPolicy, IsPolicyFault};
 ghost use Rattle.bq_simulate.specs.Retelling.{IsOfImage};
 ghost use Rattle.bq_simulate.specs.Texts.{image_at};
 ghost use Rattle.bq_experiment.specs.Standing.{Adds, AreOfTheirImages, image_for};
@@ -12,7 +12,7 @@ use bq_hooks::Hook;
 use bq_installed::Policy;
 use bq_load::{LoadFault, load};
 use bq_policy_commands::{HOOK_UNSAID, fault_reason};
-use bq_program::{Head, read_policy};
+use bq_policy_file::{Head, read_policy};
 use bq_simulate::Images;
 use std::alloc::{AllocError, AllocFailed, Global};
 use std::marker::Model;
@@ -176,14 +176,14 @@ impl<T: Drop> From<AllocFailed<T>> for AttachFault {
 }
 
 /// Why the file is no policy for the hook, in words.
-fn told(alloc: Global, file: &[u8], fault: bq_program::PolicyFault) -> AttachFault
+fn told(alloc: Global, file: &[u8], fault: bq_policy_file::PolicyFault) -> AttachFault
     ensures { IsToldOf fault result }
 {
-    if let bq_program::PolicyFault::Disagrees(_) = fault {
+    if let bq_policy_file::PolicyFault::Disagrees(_) = fault {
         return AttachFault::Hook;
     }
     let why = match fault {
-        bq_program::PolicyFault::NoHook => String::from_str(alloc, HOOK_UNSAID),
+        bq_policy_file::PolicyFault::NoHook => String::from_str(alloc, HOOK_UNSAID),
         fault => fault_reason(alloc, file, fault),
     };
     match why {

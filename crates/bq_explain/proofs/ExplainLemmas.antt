@@ -11,7 +11,7 @@ use Rattle.bq_verify.specs.Refusals.{IsRefusal}
 use Rattle.bq_verify.specs.declared.cause.Cause.{Cause}
 use Rattle.bq_verify.specs.declared.cause.Cause.TheVariants as cause
 use Rattle.bq_verify.specs.declared.refused.Refused.TheVariants as refused
-use Rattle.bq_program.specs.declared.policy_source.PolicySource.{PolicySource}
+use Rattle.bq_policy_file.specs.declared.policy_source.PolicySource.{PolicySource}
 use Rattle.bq_hooks.specs.Hooks.{context_length_of}
 use Rattle.bq_verify.specs.KnownAt.{ContainsRuns, IsNotReached}
 use Rattle.bq_verify.specs.Straight.{IsStraightBefore}

@@ -4,8 +4,8 @@ use Rattle.std.specs.Fmt.{decimal}
 use Rattle.bq_insn.specs.declared.TheConstants.{SLOTS}
 use Rattle.bq_bpf.specs.declared.shape.MapShape.{MapShape}
 use Rattle.bq_hooks.specs.Hooks.{hook_word, version_number}
-use Rattle.bq_program.specs.declared.policy_source.PolicySource.{PolicySource}
-use Rattle.bq_program.specs.MarkLines.{more_maps}
+use Rattle.bq_policy_file.specs.declared.policy_source.PolicySource.{PolicySource}
+use Rattle.bq_policy_file.specs.MarkLines.{more_maps}
 use Rattle.bq_explain.specs.declared.verdict.Verdict.{Verdict}
 use Rattle.bq_explain.specs.declared.verdict.Verdict.TheVariants.{Accepted}
 use Rattle.bq_explain.specs.Verdicts.{verdict_line}

@@ -13,7 +13,7 @@ use Rattle.bq_verify.specs.KnownAt.{ContainsRuns, IsNotReached}
 use Rattle.bq_verify.specs.Straight.{IsStraightBefore}
 use Rattle.bq_states.specs.AbstractStates.{Contains as Allows}
 use Rattle.bq_states.specs.declared.abstract_state.AbstractState.{AbstractState}
-use Rattle.bq_program.specs.declared.policy_source.PolicySource.{PolicySource}
+use Rattle.bq_policy_file.specs.declared.policy_source.PolicySource.{PolicySource}
 use Rattle.bq_needs.specs.Needs.{IsNeed}
 use Rattle.bq_needs.specs.Words.{TellsNeed}
 use Rattle.bq_needs.specs.declared.needs.Need.{Need}

@@ -16,8 +16,8 @@ use Rattle.bq_hooks.specs.declared.hook.Hook.{Hook}
 use Rattle.bq_verify.specs.declared.cause.Cause.{Cause}
 use Rattle.bq_verify.specs.declared.refused.Refused.TheVariants as refused
 use Rattle.bq_words.specs.Refused.{refused_line}
-use Rattle.bq_program.specs.Check.{accepted_line}
-use Rattle.bq_program.specs.declared.policy_source.PolicySource.{PolicySource}
+use Rattle.bq_policy_file.specs.Check.{accepted_line}
+use Rattle.bq_policy_file.specs.declared.policy_source.PolicySource.{PolicySource}
 use Rattle.bq_explain.specs.declared.limits.Limits.{Limits}
 use Rattle.bq_explain.specs.declared.verdict.Verdict.{Verdict}
 use Rattle.bq_explain.specs.declared.verdict.Verdict.TheVariants.{Accepted, OverSteps, Forbidden, Refused}

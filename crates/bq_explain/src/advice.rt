@@ -6,7 +6,7 @@ use bq_bpf::{with_counters, with_helper, with_helpers, with_stack_size};
 use bq_hooks::{Hook, Version, context_length, with_longer_context};
 use bq_insn::{Insn, Size};
 use bq_needs::{Access, Argument, Lack, Need, Pointer, Registers};
-use bq_program::PolicySource;
+use bq_policy_file::PolicySource;
 use bq_states::abstract_state::{AbstractState, AbstractValue, ValueKind};
 use bq_states::registers::known;
 use std::alloc::{AllocError, Global};

@@ -7,7 +7,7 @@ use crate::place::{Place, call_of};
 use crate::refusal::{Refusal, refusal_of};
 use crate::summary::{Summary, summary_of};
 use crate::verdict::{Verdict, judge};
-use bq_program::PolicySource;
+use bq_policy_file::PolicySource;
 use std::alloc::{AllocError, Global};
 
 /// What is said of a policy.

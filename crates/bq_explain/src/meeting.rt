@@ -8,7 +8,7 @@ use crate::after::known_after;
 use crate::makers::leading_to;
 use crate::place::{Place, place_at};
 use bq_insn::Insn;
-use bq_program::PolicySource;
+use bq_policy_file::PolicySource;
 use bq_states::abstract_state::AbstractValue;
 use bq_states::registers::known;
 use bq_verify::edges::instruction;

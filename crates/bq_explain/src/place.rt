@@ -7,7 +7,7 @@ ghost use Rattle.bq_verify.specs.Edges.{IsStart};
 ghost use Rattle.bq_explain.specs.Explained.{IsPlace};
 
 use bq_insn::Insn;
-use bq_program::{PolicySource, instruction_text};
+use bq_policy_file::{PolicySource, instruction_text};
 use std::alloc::{AllocError, Global};
 
 /// Where an instruction stands, and what it is.

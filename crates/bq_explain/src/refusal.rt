@@ -2,7 +2,7 @@
 ghost use Rattle.std.specs.Prelude.{◌≡◌, ◌<◌, ℕ, Bool, List, [], IfOk, length};
 ghost use Rattle.bq_insn.specs.Slots.{spread};
 ghost use Rattle.bq_verify.specs.Faults.{IsFaultless};
-ghost use Rattle.bq_program.specs.declared.policy_source.PolicySource.{PolicySource as Named};
+ghost use Rattle.bq_policy_file.specs.declared.policy_source.PolicySource.{PolicySource as Named};
 ghost use Rattle.bq_explain.specs.Explained.{AreMade, IsFinding, IsOfState, IsRefusalOf};
 ghost use Rattle.bq_explain.specs.Verdicts.{IsRefusedPolicy};
 
@@ -13,7 +13,7 @@ use crate::trail::{Trail, no_trail, trail_of};
 use crate::verdict::program_of;
 use bq_insn::Insn;
 use bq_needs::{Argument, Need, Registers, need_of};
-use bq_program::PolicySource;
+use bq_policy_file::PolicySource;
 use bq_states::abstract_state::AbstractState;
 use bq_verify::layout::lay_out;
 use bq_verify::{Cause, GraphCause, Program, state_at};

@@ -7,7 +7,7 @@ use bq_bpf::MapShape;
 use bq_bpf::helper::{ADD_COUNTER, LOOKUP, NOW, PROCESSOR, READ_COUNTER, UPDATE};
 use bq_bpf::instruction::is_counter_call;
 use bq_insn::{Insn, SLOTS};
-use bq_program::{PolicySource, more_maps};
+use bq_policy_file::{PolicySource, more_maps};
 use std::alloc::{AllocError, Global};
 
 /// The helpers that there are, by their numbers.

@@ -16,7 +16,7 @@ use crate::summary::{accepted_words, summary_text};
 use crate::trail::{Made, Trail};
 use crate::verdict::{Verdict, verdict_line};
 use bq_needs::{Need, known_text, need_text};
-use bq_program::{PolicySource, instruction_text};
+use bq_policy_file::{PolicySource, instruction_text};
 use bq_states::abstract_state::{AbstractState, AbstractValue};
 use std::alloc::{AllocError, Global};
 

@@ -9,7 +9,7 @@ use crate::meeting::{Meeting, known_behind, meeting_of};
 use crate::place::{Place, place_at};
 use bq_insn::Insn;
 use bq_needs::{Registers, read_registers};
-use bq_program::PolicySource;
+use bq_policy_file::PolicySource;
 use bq_states::abstract_state::AbstractValue;
 use bq_verify::Program;
 use std::alloc::{AllocError, Global};

@@ -6,7 +6,7 @@ ghost use Rattle.bq_explain.specs.Verdicts.{IsSafePolicy, IsVerdict, is_accepted
 use crate::limits::Limits;
 use bq_hooks::Hook;
 use bq_load::LoadFault;
-use bq_program::{PolicySource, accepted_line, fault_text};
+use bq_policy_file::{PolicySource, accepted_line, fault_text};
 use bq_verify::{Cause, Program, Refused, verify};
 use std::alloc::{AllocError, Global};
 

@@ -9,8 +9,8 @@ use Rattle.bq_import.specs.Importing.{Imports, IsImportFault}
 use Rattle.bq_import.specs.declared.text.ImportSettings.{ImportSettings}
 use Rattle.bq_import.specs.declared.text.ImportRefusal.{ImportRefusal}
 use Rattle.bq_import.specs.declared.text.ImportRefusal.TheVariants as refusal
-use Rattle.bq_program.specs.HexText.{IsNoHex, SpellsBytes, is_blank}
-use Rattle.bq_program.specs.MarkLines.{marks_text}
+use Rattle.bq_policy_file.specs.HexText.{IsNoHex, SpellsBytes, is_blank}
+use Rattle.bq_policy_file.specs.MarkLines.{marks_text}
 
 -- a digit of hex, or a blank
 abbrev pub is_hex_byte : ℕ → Bool

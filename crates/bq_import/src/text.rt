@@ -8,7 +8,7 @@ ghost use Rattle.bq_import.specs.Text.{IsRefused, IsSection, IsTextOf, IsUnimpor
 use crate::fault::Disorder;
 use crate::section::{ImportFault, import};
 use bq_asm::listing;
-use bq_program::{ImageForm, bytes_of, is_blank, marks_text};
+use bq_policy_file::{ImageForm, bytes_of, is_blank, marks_text};
 use std::alloc::{AllocError, AllocFailed, Global};
 use thiserror::Error;
 

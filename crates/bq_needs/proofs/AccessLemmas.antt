@@ -11,7 +11,7 @@ use Rattle.bq_states.specs.AbstractStates.{size_of_shape}
 use Rattle.bq_states.specs.declared.abstract_state.ValueKind.TheVariants as kind
 use Rattle.bq_states.specs.declared.abstract_state.AbstractValue.{AbstractValue}
 use Rattle.bq_states.specs.declared.abstract_state.AbstractState.{AbstractState}
-use Rattle.bq_program.specs.declared.policy_source.PolicySource.{PolicySource}
+use Rattle.bq_policy_file.specs.declared.policy_source.PolicySource.{PolicySource}
 use Rattle.bq_needs.specs.Accesses.{AreSet, Follows, GoesBeyond, IsMoved, IsShown, ReachesLast, Stays, TellsBegin, Wraps, across, across_text, begin_of, context_of, counted, by_register, register_text}
 use Rattle.bq_needs.specs.Texts.{kind_text}
 use Rattle.bq_needs.specs.declared.operands.Access.{Access}

@@ -1,7 +1,7 @@
 -- The arguments of a helper.
 use Rattle.std.proofs.Common.{ℤ}
 use Rattle.bq_states.specs.declared.abstract_state.AbstractState.{AbstractState}
-use Rattle.bq_program.specs.declared.policy_source.PolicySource.{PolicySource}
+use Rattle.bq_policy_file.specs.declared.policy_source.PolicySource.{PolicySource}
 use Rattle.bq_needs.specs.declared.arguments.Argument.TheVariants as argument
 use Rattle.bq_needs.specs.Arguments.{GivesHelper, IsGood, Wants}
 

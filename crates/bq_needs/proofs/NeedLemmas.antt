@@ -7,7 +7,7 @@ use Rattle.bq_states.specs.Certainty.{Pointer, Stands, StandsAt}
 use Rattle.bq_states.specs.declared.abstract_state.ValueKind.TheVariants as kind
 use Rattle.bq_states.specs.declared.abstract_state.AbstractValue.{AbstractValue}
 use Rattle.bq_states.specs.declared.abstract_state.AbstractState.{AbstractState}
-use Rattle.bq_program.specs.declared.policy_source.PolicySource.{PolicySource}
+use Rattle.bq_policy_file.specs.declared.policy_source.PolicySource.{PolicySource}
 use Rattle.bq_needs.specs.Accesses.{IsShown, Lacks, context_of}
 use Rattle.bq_needs.specs.Arguments.{PointsTo, PointsToValue}
 use Rattle.bq_needs.specs.Needs.{AreKnown, AreNumbers, AreUnknown, IsFirstPointer, IsGoodAccess, is_unknown}

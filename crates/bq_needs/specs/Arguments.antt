@@ -8,7 +8,7 @@ use Rattle.bq_states.specs.Certainty.{Exact, Pointer, Scalar, StandsAt}
 use Rattle.bq_states.specs.declared.abstract_state.ValueKind.TheVariants.{Number, Map}
 use Rattle.bq_states.specs.declared.abstract_state.AbstractValue.{AbstractValue}
 use Rattle.bq_states.specs.declared.abstract_state.AbstractState.{AbstractState}
-use Rattle.bq_program.specs.declared.policy_source.PolicySource.{PolicySource}
+use Rattle.bq_policy_file.specs.declared.policy_source.PolicySource.{PolicySource}
 use Rattle.bq_needs.specs.declared.arguments.Argument.TheVariants as argument
 use Rattle.bq_needs.specs.declared.arguments.Argument.{Argument}
 use Rattle.bq_needs.specs.Accesses.{IsShown}

@@ -9,7 +9,7 @@ use Rattle.bq_states.specs.Certainty.{Scalar, StandsAt}
 use Rattle.bq_states.specs.declared.abstract_state.ValueKind.TheVariants.{Number}
 use Rattle.bq_states.specs.declared.abstract_state.AbstractValue.{AbstractValue}
 use Rattle.bq_states.specs.declared.abstract_state.AbstractState.{AbstractState}
-use Rattle.bq_program.specs.declared.policy_source.PolicySource.{PolicySource}
+use Rattle.bq_policy_file.specs.declared.policy_source.PolicySource.{PolicySource}
 use Rattle.bq_needs.specs.declared.arguments.Argument.{Argument as Wanted}
 use Rattle.bq_needs.specs.declared.needs.Need.TheVariants as need
 use Rattle.bq_needs.specs.declared.needs.Need.{Need}

@@ -5,7 +5,7 @@ use Rattle.bq_insn.specs.declared.Insn.{Insn}
 use Rattle.bq_insn.specs.declared.Insn.TheVariants.{StoreReg, Branch}
 use Rattle.bq_states.specs.declared.abstract_state.AbstractValue.{AbstractValue}
 use Rattle.bq_states.specs.declared.abstract_state.AbstractState.{AbstractState}
-use Rattle.bq_program.specs.declared.policy_source.PolicySource.{PolicySource}
+use Rattle.bq_policy_file.specs.declared.policy_source.PolicySource.{PolicySource}
 use Rattle.bq_needs.specs.declared.arguments.Argument.{Argument as Wanted}
 use Rattle.bq_needs.specs.declared.needs.Need.{Need}
 use Rattle.bq_needs.specs.declared.needs.Need.TheVariants.{Unknown, Address, Access, Number, Map, Argument, Answer, Unshown}

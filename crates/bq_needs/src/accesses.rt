@@ -8,7 +8,7 @@ use bq_bpf::addresses::STACK_SIZE;
 use bq_bpf::with_stack_size;
 use bq_bpf::words::address;
 use bq_hooks::context_length;
-use bq_program::PolicySource;
+use bq_policy_file::PolicySource;
 use bq_ranges::Range;
 use bq_states::abstract_state::{AbstractState, AbstractValue, ValueKind};
 use bq_states::places::shape_of;

@@ -11,7 +11,7 @@ use bq_bpf::helper::{ADD_COUNTER, LOOKUP, UPDATE};
 use bq_bpf::instruction::is_counter_call;
 use bq_bpf::with_counters;
 use bq_insn::Insn;
-use bq_program::PolicySource;
+use bq_policy_file::PolicySource;
 use bq_states::abstract_state::{AbstractState, ValueKind};
 use bq_states::places::shape_of;
 use bq_states::registers::known;

@@ -12,7 +12,7 @@ use crate::accesses::{Lack, lack_of};
 use crate::arguments::{Argument, bad_argument};
 use crate::operands::{Access, Registers, access_of, reads, works_on};
 use bq_insn::Insn;
-use bq_program::PolicySource;
+use bq_policy_file::PolicySource;
 use bq_states::abstract_state::{AbstractState, AbstractValue, ValueKind};
 use bq_states::registers::known;
 use bq_transfer::doubt::Doubt;

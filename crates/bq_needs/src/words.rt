@@ -10,7 +10,7 @@ use crate::known::known_text;
 use crate::needs::{Need, Pointer};
 use crate::operands::{Access, Registers};
 use bq_insn::Insn;
-use bq_program::PolicySource;
+use bq_policy_file::PolicySource;
 use bq_states::abstract_state::{AbstractState, AbstractValue};
 use bq_states::registers::known;
 use std::alloc::{AllocError, Global};

@@ -1,14 +1,14 @@
 -- The mark from which words differ, of a fault.
 use Rattle.std.proofs.Common.{◌≡◌, ◌≢◌, ℕ, List, Option, Some, None, inr, is_some, subst, sym, true}
-use Rattle.bq_program.specs.declared.fault.PolicyFault.{PolicyFault}
-use Rattle.bq_program.specs.declared.fault.PolicyFault.TheVariants.{OutOfMemory}
-use Rattle.bq_program.specs.declared.head.Head.{Head}
-use Rattle.bq_program.specs.declared.mark.Key.{Key}
-use Rattle.bq_program.specs.Files.{IsPolicyFault}
-use Rattle.bq_program.specs.Forms.{maps_text}
-use Rattle.bq_program.specs.Heads.{Names}
-use Rattle.bq_program.specs.ShapesText.{NamesNoShapes}
-use Rattle.bq_program.specs.declared.options.Options.{Options}
+use Rattle.bq_policy_file.specs.declared.fault.PolicyFault.{PolicyFault}
+use Rattle.bq_policy_file.specs.declared.fault.PolicyFault.TheVariants.{OutOfMemory}
+use Rattle.bq_policy_file.specs.declared.head.Head.{Head}
+use Rattle.bq_policy_file.specs.declared.mark.Key.{Key}
+use Rattle.bq_policy_file.specs.Files.{IsPolicyFault}
+use Rattle.bq_policy_file.specs.Forms.{maps_text}
+use Rattle.bq_policy_file.specs.Heads.{Names}
+use Rattle.bq_policy_file.specs.ShapesText.{NamesNoShapes}
+use Rattle.bq_policy_file.specs.declared.options.Options.{Options}
 use Rattle.bq_console.specs.Words.{SaysWord}
 use Rattle.bq_console.proofs.SayingLemmas.{no_value}
 use Rattle.bq_policy_commands.specs.Disagreeing.{IsDifference, SaysImage, differing}

@@ -7,11 +7,11 @@ use Rattle.std.specs.declared.alloc.Global.{Global}
 use Rattle.bq_explain.specs.declared.limits.Limits.{Limits}
 use Rattle.bq_explain.specs.declared.verdict.Verdict.{Verdict}
 use Rattle.bq_explain.specs.Verdicts.{IsVerdict, is_accepted, verdict_line}
-use Rattle.bq_program.specs.declared.fault.PolicyFault.{PolicyFault}
-use Rattle.bq_program.specs.declared.fault.PolicyFault.TheVariants as fault
-use Rattle.bq_program.specs.declared.head.Head.{Head}
-use Rattle.bq_program.specs.declared.policy_source.PolicySource.{PolicySource}
-use Rattle.bq_program.specs.Files.{IsPolicy, IsPolicyFault}
+use Rattle.bq_policy_file.specs.declared.fault.PolicyFault.{PolicyFault}
+use Rattle.bq_policy_file.specs.declared.fault.PolicyFault.TheVariants as fault
+use Rattle.bq_policy_file.specs.declared.head.Head.{Head}
+use Rattle.bq_policy_file.specs.declared.policy_source.PolicySource.{PolicySource}
+use Rattle.bq_policy_file.specs.Files.{IsPolicy, IsPolicyFault}
 use Rattle.bq_policy_commands.specs.declared.answered.Answered.{Answered}
 use Rattle.bq_policy_commands.specs.declared.answered.Answered.TheVariants.{Done, Refused}
 use Rattle.bq_policy_commands.specs.declared.words.CheckWords.{CheckWords}

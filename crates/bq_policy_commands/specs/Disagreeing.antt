@@ -1,16 +1,16 @@
 -- Where the words of `asm` say another thing than the marks of the text.
 use Rattle.std.specs.Prelude.{◌≡◌, ◌≢◌, ℕ, List, ◌⊎◌, Option, Some, None, IsSome, string_bytes}
 use Rattle.bq_console.specs.Words.{SaysWord}
-use Rattle.bq_program.specs.declared.fault.PolicyFault.{PolicyFault}
-use Rattle.bq_program.specs.declared.fault.PolicyFault.TheVariants.{Disagrees, OutOfMemory}
-use Rattle.bq_program.specs.declared.head.Head.{Head}
-use Rattle.bq_program.specs.declared.kind.FileKind.TheVariants.{Text}
-use Rattle.bq_program.specs.declared.mark.Key.{Key}
-use Rattle.bq_program.specs.declared.options.Options.{Options}
-use Rattle.bq_program.specs.declared.policy_source.PolicySource.{PolicySource}
-use Rattle.bq_program.specs.Files.{IsPolicy, IsPolicyFault, kind_of}
-use Rattle.bq_program.specs.Forms.{maps_text}
-use Rattle.bq_program.specs.Heads.{Names}
+use Rattle.bq_policy_file.specs.declared.fault.PolicyFault.{PolicyFault}
+use Rattle.bq_policy_file.specs.declared.fault.PolicyFault.TheVariants.{Disagrees, OutOfMemory}
+use Rattle.bq_policy_file.specs.declared.head.Head.{Head}
+use Rattle.bq_policy_file.specs.declared.kind.FileKind.TheVariants.{Text}
+use Rattle.bq_policy_file.specs.declared.mark.Key.{Key}
+use Rattle.bq_policy_file.specs.declared.options.Options.{Options}
+use Rattle.bq_policy_file.specs.declared.policy_source.PolicySource.{PolicySource}
+use Rattle.bq_policy_file.specs.Files.{IsPolicy, IsPolicyFault, kind_of}
+use Rattle.bq_policy_file.specs.Forms.{maps_text}
+use Rattle.bq_policy_file.specs.Heads.{Names}
 use Rattle.bq_policy_commands.specs.Refusing.{fault_line}
 use Rattle.bq_policy_commands.specs.declared.asm_head.AsmRefusal.{AsmRefusal}
 

@@ -1,11 +1,11 @@
 -- What `dis` answers to a policy's file.
 use Rattle.std.specs.Prelude.{◌≡◌, ℕ, List, ◌⊎◌, String, string_bytes}
 use Rattle.std.specs.declared.alloc.Global.{Global}
-use Rattle.bq_program.specs.declared.head.Head.{Head}
-use Rattle.bq_program.specs.declared.policy_source.PolicySource.{PolicySource}
-use Rattle.bq_program.specs.Files.{IsPolicy}
-use Rattle.bq_program.specs.Listed.{IsListed}
-use Rattle.bq_program.specs.ReadBack.{IsFileOf}
+use Rattle.bq_policy_file.specs.declared.head.Head.{Head}
+use Rattle.bq_policy_file.specs.declared.policy_source.PolicySource.{PolicySource}
+use Rattle.bq_policy_file.specs.Files.{IsPolicy}
+use Rattle.bq_policy_file.specs.Listed.{IsListed}
+use Rattle.bq_policy_file.specs.ReadBack.{IsFileOf}
 use Rattle.bq_policy_commands.specs.declared.answered.Answered.{Answered}
 use Rattle.bq_policy_commands.specs.declared.answered.Answered.TheVariants.{Done}
 use Rattle.bq_policy_commands.specs.declared.words.ListWords.{ListWords}

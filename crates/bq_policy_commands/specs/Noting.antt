@@ -2,13 +2,13 @@
 use Rattle.std.specs.Prelude.{◌≡◌, ◌≢◌, ℕ, Bool, List, [], ◌++◌, ◌&&◌, ◌⊎◌, false, true, if◌then◌else◌, codes, is_some, length, nat_lt, not}
 use Rattle.bq_hooks.specs.declared.hook.Version.{Version}
 use Rattle.bq_hooks.specs.declared.hook.Version.TheVariants.{First, Second}
-use Rattle.bq_program.specs.declared.fault.PolicyFault.{PolicyFault}
-use Rattle.bq_program.specs.declared.fault.PolicyFault.TheVariants as fault
-use Rattle.bq_program.specs.declared.head.Head.{Head}
-use Rattle.bq_program.specs.declared.kind.FileKind.TheVariants.{Text}
-use Rattle.bq_program.specs.declared.options.Options.{Options}
-use Rattle.bq_program.specs.declared.policy_source.PolicySource.{PolicySource}
-use Rattle.bq_program.specs.Files.{IsPolicy, IsPolicyFault, kind_of}
+use Rattle.bq_policy_file.specs.declared.fault.PolicyFault.{PolicyFault}
+use Rattle.bq_policy_file.specs.declared.fault.PolicyFault.TheVariants as fault
+use Rattle.bq_policy_file.specs.declared.head.Head.{Head}
+use Rattle.bq_policy_file.specs.declared.kind.FileKind.TheVariants.{Text}
+use Rattle.bq_policy_file.specs.declared.options.Options.{Options}
+use Rattle.bq_policy_file.specs.declared.policy_source.PolicySource.{PolicySource}
+use Rattle.bq_policy_file.specs.Files.{IsPolicy, IsPolicyFault, kind_of}
 use Rattle.bq_policy_commands.specs.Disagreeing.{SaysImage}
 
 -- the text says maps, and the options none

@@ -1,12 +1,12 @@
 -- The line that refuses a file.
 use Rattle.std.specs.Prelude.{◌≡◌, ◌≢◌, ℕ, List, ◌++◌, String, string_bytes}
 use Rattle.std.specs.declared.alloc.Global.{Global}
-use Rattle.bq_program.specs.Naming.{fault_text}
+use Rattle.bq_policy_file.specs.Naming.{fault_text}
 use Rattle.bq_words.specs.Refused.{refused_line}
-use Rattle.bq_program.specs.declared.fault.PolicyFault.{PolicyFault}
-use Rattle.bq_program.specs.declared.fault.PolicyFault.TheVariants as fault
-use Rattle.bq_program.specs.declared.head.Head.{Head}
-use Rattle.bq_program.specs.Files.{IsPolicyFault}
+use Rattle.bq_policy_file.specs.declared.fault.PolicyFault.{PolicyFault}
+use Rattle.bq_policy_file.specs.declared.fault.PolicyFault.TheVariants as fault
+use Rattle.bq_policy_file.specs.declared.head.Head.{Head}
+use Rattle.bq_policy_file.specs.Files.{IsPolicyFault}
 use Rattle.bq_policy_commands.specs.declared.answered.Answered.{Answered}
 use Rattle.bq_policy_commands.specs.declared.answered.Answered.TheVariants.{Refused}
 

@@ -1,8 +1,8 @@
 -- What the words of a command say of a policy.
 use Rattle.std.specs.Prelude.{◌≡◌, ℕ, ◌<◌, List, Option, Some, option_map, String, string_bytes}
 use Rattle.std.specs.declared.alloc.Global.{Global}
-use Rattle.bq_program.specs.declared.head.Head.{Head}
-use Rattle.bq_program.specs.Heads.{Names}
+use Rattle.bq_policy_file.specs.declared.head.Head.{Head}
+use Rattle.bq_policy_file.specs.Heads.{Names}
 use Rattle.bq_console.specs.Words.{SaysWord}
 use Rattle.bq_words.specs.Numbers.{number_of}
 use Rattle.bq_hooks.specs.Hooks.{hook_of, version_of}

@@ -1,10 +1,10 @@
 //! The words of `asm` beside the marks of its text.
 ghost use Rattle.std.specs.Prelude.{◌≡◌, IfOk, MatchOption};
-ghost use Rattle.bq_program.specs.declared.head.Head.{Head as Said};
+ghost use Rattle.bq_policy_file.specs.declared.head.Head.{Head as Said};
 ghost use Rattle.bq_policy_commands.specs.Disagreeing.{IsAsmRefusal, IsDifference, IsRefusalBeside, SaysImage, differing};
 
 use crate::reasons::{fault_line, fault_reason};
-use bq_program::{FileKind, Head, Key, Options, PolicyFault, kind_of, read_policy, shapes_of};
+use bq_policy_file::{FileKind, Head, Key, Options, PolicyFault, kind_of, read_policy, shapes_of};
 use std::alloc::{AllocError, Global};
 
 /// Why the words of `asm` are refused beside a text.

@@ -5,7 +5,7 @@ ghost use Rattle.bq_policy_commands.specs.Noting.{IsAsmNote, IsNoteBeside, Tells
 use crate::asm_head::head_of;
 use crate::reasons::fault_reason;
 use bq_hooks::Version;
-use bq_program::{FileKind, Head, Options, PolicyFault, PolicySource, kind_of, read_policy};
+use bq_policy_file::{FileKind, Head, Options, PolicyFault, PolicySource, kind_of, read_policy};
 use std::alloc::{AllocError, Global};
 
 /// Lines on what an image lacks that the marks of its text say, as the options leave it out, or on the first mark that is none. Nothing

@@ -3,7 +3,7 @@ ghost use Rattle.std.specs.Prelude.{IfOk};
 ghost use Rattle.bq_policy_commands.specs.Complaining.{ComplainsOf};
 
 use crate::maps_words::maps_words;
-use bq_program::{Options, OptionsFault};
+use bq_policy_file::{Options, OptionsFault};
 use std::alloc::{AllocError, Global};
 
 /// One line on what is wrong with the options of `asm`, without its end; None where they ask for a form.

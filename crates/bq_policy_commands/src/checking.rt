@@ -1,7 +1,7 @@
 //! `check` of a policy's file.
 ghost use Rattle.std.specs.Prelude.{◌≡◌, ◌≢◌, IfErr, IfOk, OnOk, false, string_bytes};
 ghost use Rattle.bq_explain.specs.Verdicts.{is_accepted};
-ghost use Rattle.bq_program.specs.declared.fault.PolicyFault.TheVariants.{OutOfMemory};
+ghost use Rattle.bq_policy_file.specs.declared.fault.PolicyFault.TheVariants.{OutOfMemory};
 ghost use Rattle.bq_policy_commands.specs.Checking.{ChecksFile, ChecksTo, IsShown, IsTold, SaysTerms, TellsVerdict, answered};
 ghost use Rattle.bq_policy_commands.specs.Limiting.{HasLimits};
 ghost use Rattle.bq_policy_commands.specs.Refusing.{fault_line};
@@ -17,7 +17,7 @@ use crate::reasons::{fault_line, reason_of};
 use crate::words::CheckWords;
 use bq_console::{WordsFault, file_named};
 use bq_explain::{Explanation, Limits, explain, explanation_text, judge, verdict_line};
-use bq_program::{Head, PolicyFault, PolicySource, read_policy};
+use bq_policy_file::{Head, PolicyFault, PolicySource, read_policy};
 use std::alloc::{AllocError, Global};
 
 /// The verdict on the policy whose file has these bytes, or why the file is none. Words are refused only where they say no head or no

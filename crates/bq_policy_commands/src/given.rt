@@ -2,7 +2,7 @@
 ghost use Rattle.std.specs.Prelude.{◌≡◌, IfErr, IfOk, Some};
 ghost use Rattle.bq_console.specs.Words.{SaysNone, SaysWord};
 ghost use Rattle.bq_policy_commands.specs.Saying.{SaysHead, option_bytes};
-ghost use Rattle.bq_program.specs.Heads.{Names};
+ghost use Rattle.bq_policy_file.specs.Heads.{Names};
 ghost use Rattle.bq_hooks.specs.Hooks.{hook_of, version_of};
 
 use crate::asm_options::maps_option_words;
@@ -11,7 +11,7 @@ use bq_bpf::MapShape;
 use bq_console::{WordsFault, words_fault};
 use bq_hooks::hook::{NO_HOOK, NO_VERSION};
 use bq_hooks::{Hook, Version};
-use bq_program::{Head, shapes_of};
+use bq_policy_file::{Head, shapes_of};
 use std::alloc::{AllocError, Global};
 
 /// What the words say beside the file. They are refused only where they say no head.

@@ -4,7 +4,7 @@ use bq_bpf::MapShape;
 use bq_console::file_named;
 use bq_explain::{Finding, Made, Place, Refusal, Summary, Verdict, advice_text, need_words};
 use bq_needs::known_text;
-use bq_program::{PolicySource, instruction_text};
+use bq_policy_file::{PolicySource, instruction_text};
 use bq_states::abstract_state::{AbstractState, AbstractValue};
 use bq_transfer::doubt::Doubt;
 use bq_verify::{Cause, GraphCause};

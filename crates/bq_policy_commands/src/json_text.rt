@@ -12,7 +12,7 @@ use crate::json_parts::{
 use crate::reasons::{Reason, fields_of_reason};
 use bq_console::file_named;
 use bq_explain::{Detail, Explanation, Verdict, explanation_text};
-use bq_program::{PolicyFault, PolicySource};
+use bq_policy_file::{PolicyFault, PolicySource};
 use serde_json::{Map, Value, put};
 use std::alloc::{AllocError, Global};
 

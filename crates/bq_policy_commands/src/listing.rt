@@ -1,6 +1,6 @@
 //! `dis` of a policy's file.
 ghost use Rattle.std.specs.Prelude.{◌≡◌, ◌≢◌, ◌++◌, ℕ, List, IfOk, OnOk, string_bytes};
-ghost use Rattle.bq_program.specs.declared.fault.PolicyFault.TheVariants.{OutOfMemory};
+ghost use Rattle.bq_policy_file.specs.declared.fault.PolicyFault.TheVariants.{OutOfMemory};
 ghost use Rattle.bq_policy_commands.specs.Listing.{ListsFile, ListsTo};
 ghost use Rattle.bq_policy_commands.specs.Refusing.{Refuses};
 
@@ -9,7 +9,7 @@ use crate::given::said_by;
 use crate::reasons::{Reason, fault_line, reason_of, reason_text};
 use crate::words::ListWords;
 use bq_console::{WordsFault, file_named};
-use bq_program::{Head, PolicyFault, policy_text, read_policy};
+use bq_policy_file::{Head, PolicyFault, policy_text, read_policy};
 use std::alloc::{AllocError, Global};
 
 /// The listing of the policy whose file has these bytes, under the marks that say its hook, maps and version. Words

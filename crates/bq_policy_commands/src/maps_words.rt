@@ -1,6 +1,6 @@
 //! What is wrong with a text of maps, in words.
 use bq_bpf::shape::{ENTRIES_WORDS, MAPS, SIZE_WORDS};
-use bq_program::shapes_of;
+use bq_policy_file::shapes_of;
 use std::alloc::{AllocError, Global};
 
 /// What a part of the text is.

@@ -1,7 +1,7 @@
 //! Why a file is no policy: the line that refuses it, and what is wrong, as a value and in words.
 ghost use Rattle.std.specs.Prelude.{◌≡◌, ◌≢◌, IfOk, OnOk, string_bytes};
 ghost use Rattle.bq_policy_commands.specs.Refusing.{fault_line};
-ghost use Rattle.bq_program.specs.declared.fault.PolicyFault.TheVariants.{OutOfMemory};
+ghost use Rattle.bq_policy_file.specs.declared.fault.PolicyFault.TheVariants.{OutOfMemory};
 
 use crate::image_words::{image_words, spelling_words};
 use crate::json_parts::{number_value, put_text};
@@ -10,7 +10,7 @@ use bq_asm::Cause;
 use bq_explain::assembly_words;
 use bq_hooks::hook::{NO_HOOK, NO_VERSION};
 use bq_insn::fault::Cause as Spelling;
-use bq_program::{HeadCause, Key, PolicyFault, SHAPES_FORM};
+use bq_policy_file::{HeadCause, Key, PolicyFault, SHAPES_FORM};
 use serde_json::{Map, Value, put};
 use std::alloc::{AllocError, Global};
 

@@ -13,7 +13,7 @@ use Rattle.bq_verify.specs.declared.refused.Refused.{Refused}
 use Rattle.bq_verify.specs.declared.refused.Refused.TheVariants as refused
 use Rattle.bq_verify.specs.Refusals.{IsOutOfMemory, IsRefusal}
 use Rattle.bq_verify.specs.Straight.{IsStraightProgram}
-use Rattle.bq_program.specs.declared.policy_source.PolicySource.{PolicySource}
+use Rattle.bq_policy_file.specs.declared.policy_source.PolicySource.{PolicySource}
 use Rattle.bq_explain.specs.Verdicts.{IsRefusedPolicy, IsSafePolicy}
 use Rattle.bq_policy_commands.specs.declared.answered.Answered.{Answered}
 use Rattle.bq_policy_commands.specs.declared.words.RunWords.{RunWords}

@@ -23,9 +23,9 @@ use Rattle.bq_verify.specs.declared.cause.Cause.{Cause}
 use Rattle.bq_verify.specs.Accepted.{Accepted}
 use Rattle.bq_hooks.specs.Hooks.{context_length_of}
 use Rattle.bq_hooks.specs.declared.hook.Hook.{Hook}
-use Rattle.bq_program.specs.declared.head.Head.{Head}
-use Rattle.bq_program.specs.declared.policy_source.PolicySource.{PolicySource}
-use Rattle.bq_program.specs.Files.{IsPolicy}
+use Rattle.bq_policy_file.specs.declared.head.Head.{Head}
+use Rattle.bq_policy_file.specs.declared.policy_source.PolicySource.{PolicySource}
+use Rattle.bq_policy_file.specs.Files.{IsPolicy}
 use Rattle.bq_policy_commands.specs.declared.answered.Answered.{Answered}
 use Rattle.bq_policy_commands.specs.declared.answered.Answered.TheVariants.{Done, Refused}
 use Rattle.bq_policy_commands.specs.declared.words.RunWords.{RunWords}

@@ -14,7 +14,7 @@ use crate::{Inputs, RunOutcome, copied, run_often, trace_once, write_calls, writ
 use bq_console::WordsFault;
 use bq_explain::{Verdict, verdict_line};
 use bq_policy_commands::{Answered, RunWords, refused_file, said_by};
-use bq_program::{Head, PolicySource, read_policy};
+use bq_policy_file::{Head, PolicySource, read_policy};
 use bq_verify::{Program, Refused, Verified, verify};
 use std::alloc::{AllocError, Global};
 use std::time::Clock;

@@ -6,7 +6,7 @@ use bq_asm::listing;
 use bq_explain::index_at;
 use bq_insn::Insn;
 use bq_interp::Snapshot;
-use bq_program::PolicySource;
+use bq_policy_file::PolicySource;
 use bq_verify::Verified;
 use std::alloc::{AllocError, Global};
 

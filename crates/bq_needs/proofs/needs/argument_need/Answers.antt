@@ -3,7 +3,7 @@ use Rattle.std.specs.Prelude.{MatchOption}
 use Rattle.std.specs.Int.{w32}
 use Rattle.bq_insn.specs.declared.Insn.TheVariants.{Call}
 use Rattle.bq_states.specs.declared.abstract_state.AbstractState.{AbstractState}
-use Rattle.bq_program.specs.declared.policy_source.PolicySource.{PolicySource}
+use Rattle.bq_policy_file.specs.declared.policy_source.PolicySource.{PolicySource}
 use Rattle.bq_transfer.specs.declared.doubt.Doubt.TheVariants as doubt
 use Rattle.bq_verify.specs.declared.cause.Cause.TheVariants.{State}
 use Rattle.bq_needs.specs.Arguments.{GivesHelper, IsBad}

@@ -1,8 +1,8 @@
 use Rattle.std.proofs.Common.{◌≢◌, rules, IfOk, Result, inl, inr, sym, subst}
 use Rattle.std.specs.declared.alloc.AllocError.{AllocError}
 use Rattle.std.specs.Prelude.{Option}
-use Rattle.bq_program.specs.declared.fault.PolicyFault.TheVariants.{OutOfMemory}
-use Rattle.bq_program.specs.declared.mark.Key.{Key}
+use Rattle.bq_policy_file.specs.declared.fault.PolicyFault.TheVariants.{OutOfMemory}
+use Rattle.bq_policy_file.specs.declared.mark.Key.{Key}
 use Rattle.bq_policy_commands.specs.Disagreeing.{IsDifference}
 use Rattle.bq_policy_commands.proofs.DifferenceLemmas.{IsDifference-of_fault}
 use Rattle.bq_policy_commands.proofs.asm_head.difference.Goals.{in-Ok, in-Err-OutOfMemory, in-Err}

@@ -1,6 +1,6 @@
 use Rattle.std.proofs.Common.{MatchOption, inr, subst}
 use Rattle.std.proofs.lemmas.Result.{IfOk-weaker}
-use Rattle.bq_program.specs.declared.head.Head.{Head}
+use Rattle.bq_policy_file.specs.declared.head.Head.{Head}
 use Rattle.bq_policy_commands.specs.Disagreeing.{SaysImage}
 use Rattle.bq_policy_commands.proofs.asm_notes.asm_note.Goals as goal
 

@@ -1,6 +1,6 @@
 use Rattle.std.proofs.lemmas.Result.{err_from_is_err_and}
 use Rattle.bq_explain.specs.declared.limits.Limits.{Limits}
-use Rattle.bq_program.specs.declared.head.Head.{Head}
+use Rattle.bq_policy_file.specs.declared.head.Head.{Head}
 use Rattle.bq_policy_commands.specs.Checking.{SaysTerms}
 use Rattle.bq_policy_commands.specs.Limiting.{HasLimits}
 use Rattle.bq_policy_commands.specs.Saying.{SaysHead}

@@ -1,7 +1,7 @@
 use Rattle.std.proofs.Common.{◌≡◌, ℕ, List, Some}
 use Rattle.std.proofs.lemmas.Result.{err_from_is_err_and}
-use Rattle.bq_program.specs.Heads.{Names}
-use Rattle.bq_program.specs.declared.head.Head.{Head}
+use Rattle.bq_policy_file.specs.Heads.{Names}
+use Rattle.bq_policy_file.specs.declared.head.Head.{Head}
 use Rattle.bq_hooks.specs.Hooks.{hook_of, version_of}
 use Rattle.bq_hooks.specs.declared.hook.Hook.{Hook}
 use Rattle.bq_hooks.specs.declared.hook.Version.{Version}

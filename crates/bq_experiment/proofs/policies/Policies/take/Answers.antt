@@ -3,7 +3,7 @@ use Rattle.std.proofs.Common.{◌≡◌, ℕ, List, None, Some, refl, rules, sub
 use Rattle.std.proofs.lemmas.Result.{err_from_is_err_and, on_ok_weaker}
 use Rattle.std.specs.Borrow.{Bor}
 use Rattle.bq_simulate.specs.Retelling.{IsOfImage}
-use Rattle.bq_program.specs.Files.{IsPolicy, IsPolicyFault}
+use Rattle.bq_policy_file.specs.Files.{IsPolicy, IsPolicyFault}
 use Rattle.bq_experiment.specs.Standing.{image_for}
 use Rattle.bq_experiment.specs.Taking.{IsToldOfImage}
 use Rattle.bq_experiment.proofs.StandingLemmas.{found_is_there, not_found}

@@ -1,0 +1,62 @@
+-- The lines of a listing, without comments and with them.
+use Rattle.std.proofs.Common.{◌≡◌, ℕ, List, [], ◌∷◌, ◌++◌, map, true, false, None, refl, sym, ap, ◌∙◌, append_assoc}
+use Rattle.std.specs.Prelude.{◌==◌, not, codes}
+use Rattle.std.specs.List.{list_all}
+use Rattle.std.proofs.lemmas.Bool.{and_parts, not-true, ne_eqb, eqb-false}
+use Rattle.bq_insn.specs.declared.Insn.{Insn}
+use Rattle.bq_insn.specs.Laws.{AllFit}
+use Rattle.bq_insn.specs.Spelling.{is_insn}
+use Rattle.bq_asm.specs.Lines.{line_said, lines_of}
+use Rattle.bq_asm.specs.Names.{name_of}
+use Rattle.bq_asm.specs.Text.{listing_text, mnemonic_of, operands_of, operands_text, line_body}
+use Rattle.std.specs.Str.Lines.{lines}
+use Rattle.bq_policy_file.specs.Marks.{mark_words}
+use Rattle.bq_policy_file.proofs.BodyLemmas.{is_clean, is_inner, body_begins, body_inner, inner_clean}
+use Rattle.bq_policy_file.proofs.LineLemmas.{AreClean, ended, lines_ended}
+use Rattle.bq_policy_file.proofs.MarkLemmas.{AreNoMarks}
+use Rattle.bq_policy_file.proofs.ReadBackLemmas.{AreLines}
+
+-- a line that begins with an inner byte is no mark
+no_mark : (b : ℕ) (rest : List ℕ) → is_inner b ≡ true → mark_words (b ∷ rest) ≡ None
+no_mark b rest h =
+    let other : (b == 59) ≡ false = not-true (b == 59) (and_parts (not (b == 59)) (is_clean b) h).0 in
+    let differs : (59 == b) ≡ false = ne_eqb 59 b (λ e. eqb-false b 59 other (sym e)) in
+    rw differs refl
+
+-- the line of an instruction, with something behind it
+pub body_no_mark : (i : Insn) (behind : List ℕ) → is_insn i ≡ true → mark_words (line_body i ++ behind) ≡ None
+body_no_mark i behind h =
+    let begins = body_begins i h in
+    ap (λ bs. mark_words (bs ++ behind)) begins.2 ∙ no_mark begins.0 (begins.1 ++ behind) begins.3
+
+-- a listing is these lines
+pub listing_ended : (insns : List Insn) → listing_text insns ≡ ended (map line_body insns)
+listing_ended [] = refl
+listing_ended (i ∷ insns) =
+    let name = name_of (mnemonic_of i) in
+    λ n. sym (append_assoc name (operands_text (operands_of i)) (codes "\n")) n ++ listing_ended insns n
+
+bodies_clean : (insns : List Insn) → list_all is_insn insns ≡ true → AllFit insns → AreClean (map line_body insns)
+bodies_clean [] h k = tt
+bodies_clean (i ∷ insns) h k =
+    let parts = and_parts (is_insn i) (list_all is_insn insns) h in
+    (inner_clean (line_body i) (body_inner i parts.0 k.0), bodies_clean insns parts.1 k.1)
+
+bodies_no_marks : (insns : List Insn) → list_all is_insn insns ≡ true → AreNoMarks (map line_body insns)
+bodies_no_marks [] h = tt
+bodies_no_marks (i ∷ insns) h =
+    let parts = and_parts (is_insn i) (list_all is_insn insns) h in
+    let begins = body_begins i parts.0 in
+    (ap mark_words begins.2 ∙ no_mark begins.0 begins.1 begins.3, bodies_no_marks insns parts.1)
+
+-- the lines of a listing say what the texts of its instructions say
+pub bodies_said : (insns : List Insn) → list_all is_insn insns ≡ true → AllFit insns → lines_of (listing_text insns) ≡ map line_said (map line_body insns)
+bodies_said insns h k = ap (λ t. map line_said (lines t)) (listing_ended insns) ∙ ap (map line_said) (lines_ended (map line_body insns) (bodies_clean insns h k))
+
+-- a listing without comments
+pub plain_lines : (insns : List Insn) → list_all is_insn insns ≡ true → AllFit insns → AreLines insns (map line_body insns)
+plain_lines insns h k = record {
+  clean = bodies_clean insns h k;
+  no_marks = bodies_no_marks insns h;
+  said = sym (bodies_said insns h k);
+}

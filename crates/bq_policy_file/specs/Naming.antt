@@ -1,0 +1,45 @@
+-- The names that faults of the parts have as faults of a policy, and the texts of those.
+use Rattle.std.specs.Prelude.{ℕ, List, ◌++◌, codes}
+use Rattle.std.specs.Fmt.{decimal}
+use Rattle.bq_asm.specs.Causes.{fault_text as assembly_text}
+use Rattle.bq_asm.specs.declared.fault.AsmFault.{AsmFault}
+use Rattle.bq_asm.specs.declared.fault.AsmFault.TheVariants as assembly
+use Rattle.bq_insn.specs.declared.fault.DecodeFault.{DecodeFault}
+use Rattle.bq_insn.specs.declared.fault.DecodeFault.TheVariants as decode
+use Rattle.bq_load.specs.declared.fault.LoadFault.{LoadFault}
+use Rattle.bq_load.specs.declared.fault.LoadFault.TheVariants as load
+use Rattle.bq_load.specs.Naming.{fault_text as image_text}
+use Rattle.bq_policy_file.specs.declared.fault.HeadFault.{HeadFault}
+use Rattle.bq_policy_file.specs.declared.fault.HeadFault.TheVariants as heads
+use Rattle.bq_policy_file.specs.declared.fault.PolicyFault.{PolicyFault}
+use Rattle.bq_policy_file.specs.declared.fault.PolicyFault.TheVariants.{Text, Hex, Head, Assembly, Image, Program, Disagrees, NoHook, OutOfMemory}
+use Rattle.bq_policy_file.specs.Marks.{key_word}
+
+abbrev pub of_head : HeadFault → PolicyFault
+of_head (heads.At line cause) = Head line cause
+of_head heads.OutOfMemory = OutOfMemory
+
+abbrev pub of_assembly : AsmFault → PolicyFault
+of_assembly (assembly.At line cause) = Assembly line cause
+of_assembly assembly.OutOfMemory = OutOfMemory
+
+abbrev pub of_image : LoadFault → PolicyFault
+of_image load.OutOfMemory = OutOfMemory
+of_image named = Image named
+
+abbrev pub of_program : DecodeFault → PolicyFault
+of_program (decode.At slot cause) = Program slot cause
+of_program decode.OutOfMemory = OutOfMemory
+
+-- why a file is no policy, as it is answered: by the text of the part's fault where it is a part's. Want of memory is none of
+-- the file
+abbrev pub fault_text : PolicyFault → List ℕ
+fault_text Text = codes "text"
+fault_text Hex = codes "hex"
+fault_text (Head line cause) = codes "head " ++ decimal line
+fault_text (Assembly line cause) = assembly_text (assembly.At line cause)
+fault_text (Image named) = image_text named
+fault_text (Program slot cause) = image_text (load.Decode slot cause)
+fault_text (Disagrees key) = key_word key
+fault_text NoHook = codes "hook"
+fault_text OutOfMemory = codes "out of memory"

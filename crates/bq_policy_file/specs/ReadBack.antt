@@ -1,0 +1,37 @@
+-- The text of a policy is read as that policy.
+use Rattle.std.specs.Prelude.{◌≡◌, ◌↔◌, ℕ, Bool, List, None}
+use Rattle.std.specs.Str.Lines.{lines}
+use Rattle.bq_insn.specs.Laws.{AllFit}
+use Rattle.bq_policy_file.specs.declared.fault.PolicyFault.{PolicyFault}
+use Rattle.bq_policy_file.specs.declared.fault.PolicyFault.TheVariants.{OutOfMemory}
+use Rattle.bq_policy_file.specs.declared.head.Head.{Head}
+use Rattle.bq_policy_file.specs.declared.policy_source.PolicySource.{PolicySource}
+use Rattle.bq_policy_file.specs.Files.{IsPolicy, IsPolicyFault, instruction_lines}
+use Rattle.bq_policy_file.specs.Listed.{IsListed}
+
+-- nothing is asked for beside the file
+pub record AsksNothing (h : Head) : Type 0 where
+  pub hook : h.hook ≡ None
+  pub maps : h.maps ≡ None
+  pub format : h.format ≡ None
+
+-- the same choice, version, maps and program
+pub record IsSame (p q : PolicySource) : Type 0 where
+  pub hook : q.hook ≡ p.hook
+  pub version : q.version ≡ p.version
+  pub shapes : q.shapes.items ≡ p.shapes.items
+  pub insns : q.insns.items ≡ p.insns.items
+
+-- the policy, whose lines are those of the text that say an instruction
+pub record IsFrom (text : List ℕ) (p q : PolicySource) : Type 0 where
+  pub same : IsSame p q
+  pub lines : q.lines.items ≡ instruction_lines 1 (lines text)
+
+-- the text is the file of this policy and of no other, and has no fault; want of memory says nothing of it
+pub record IsFileOf (p : PolicySource) (text : List ℕ) : Type 0 where
+  pub read : (h : Head) → AsksNothing h → (q : PolicySource) → IsPolicy text h q ↔ IsFrom text p q
+  pub no_fault : (h : Head) → AsksNothing h → (named : PolicyFault) → IsPolicyFault text h named → named ≡ OutOfMemory
+
+-- what is listed of a policy is its file, with slots and bytes and without
+abbrev pub ListingIsReadBack : Type 0
+ListingIsReadBack = (p : PolicySource) (has_slots : Bool) (text : List ℕ) → AllFit p.insns.items → IsListed p has_slots text → IsFileOf p text

@@ -1,0 +1,36 @@
+-- What one more line does to a head.
+use Rattle.std.specs.Prelude.{◌≡◌, ℕ, List, Some, None}
+use Rattle.std.proofs.Common.{Global}
+use Rattle.std.specs.declared.vec.Vec.{Vec}
+use Rattle.bq_bpf.specs.declared.shape.MapShape.{MapShape}
+use Rattle.bq_hooks.specs.declared.hook.Hook.{Hook}
+use Rattle.bq_hooks.specs.declared.hook.Version.{Version}
+use Rattle.bq_policy_file.specs.declared.head.Head.{Head}
+use Rattle.bq_policy_file.specs.declared.mark.Key.{Key}
+use Rattle.bq_policy_file.specs.declared.mark.Key.TheVariants as key
+use Rattle.bq_policy_file.specs.declared.fault.HeadCause.TheVariants as cause
+use Rattle.bq_policy_file.specs.declared.fault.HeadCause.{HeadCause}
+use Rattle.bq_policy_file.specs.declared.fault.HeadFault.{HeadFault}
+use Rattle.bq_policy_file.specs.declared.fault.HeadFault.TheVariants.{At, OutOfMemory}
+use Rattle.bq_hooks.specs.Hooks.{hook_of, version_of}
+use Rattle.bq_policy_file.specs.Heads.{HasKey, IsBadLine, IsNoValue, Names}
+
+-- nothing was said of the key, and then the value is, and nothing else
+abbrev pub TakesValue : Head → Head → Key → List ℕ → Type 0
+TakesValue old new key.Hook word = (value : Hook) × (old.hook ≡ None) × (hook_of word ≡ Some value) × (new.hook ≡ Some value) × (new.maps ≡ old.maps) × (new.format ≡ old.format)
+TakesValue old new key.Maps word = (value : Vec MapShape Global) × (old.maps ≡ None) × Names word value × (new.hook ≡ old.hook) × (new.maps ≡ Some value) × (new.format ≡ old.format)
+TakesValue old new key.Format word = (value : Version) × (old.format ≡ None) × (version_of word ≡ Some value) × (new.hook ≡ old.hook) × (new.maps ≡ old.maps) × (new.format ≡ Some value)
+
+-- why the value of the key is not taken
+abbrev pub IsBadValue : Head → Key → List ℕ → HeadCause → Type 0
+IsBadValue h key word cause.Unknown = ⊥
+IsBadValue h key word (cause.Value named) = (named ≡ key) × IsNoValue key word × (HasKey h key → ⊥)
+IsBadValue h key word (cause.Twice named) = (named ≡ key) × HasKey h key
+
+abbrev pub IsRefusedValue : Head → ℕ → Key → List ℕ → HeadFault → Type 0
+IsRefusedValue h number key word (At line named) = (line ≡ number) × IsBadValue h key word named
+IsRefusedValue h number key word OutOfMemory = Unit {0}
+
+abbrev pub IsRefusedLine : Head → ℕ → List ℕ → HeadFault → Type 0
+IsRefusedLine h number text (At line named) = (line ≡ number) × IsBadLine h text named
+IsRefusedLine h number text OutOfMemory = Unit {0}

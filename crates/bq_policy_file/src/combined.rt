@@ -1,0 +1,93 @@
+//! What was asked for and what a file says, together.
+ghost use Rattle.std.specs.Prelude.{◌≤◌, length, IfOk, IfErr, MatchBool, MatchOption};
+ghost use Rattle.bq_policy_file.specs.Files.{Agree, Agrees, Differ, DiffersIn, CombineTo, shapes_in};
+ghost use Rattle.bq_policy_file.specs.Combining.{IsUncombinable};
+
+use crate::fault::PolicyFault;
+use crate::head::Head;
+use crate::mark::Key;
+use bq_bpf::{MapShape, same_shapes};
+use bq_hooks::{Hook, Version};
+use std::alloc::Global;
+
+/// The hook, the shapes of the maps and the version.
+#[derive(Drop)]
+pub(crate) struct Combined {
+    pub hook: Hook,
+    pub shapes: Vec<MapShape>,
+    pub version: Version,
+    ghost few: { length shapes.items ≤ 8 },
+}
+
+/// What both say together, if they do not differ and one of them names the hook.
+pub(crate) fn combine(alloc: Global, given: &Head, said: &Head) -> Result<Combined, PolicyFault>
+    ensures ok { IfOk result (λ s. CombineTo given.now said.now s.hook s.shapes.items s.version) }
+    ensures err { IfErr result (IsUncombinable given.now said.now) }
+{
+    if let Some(key) = difference(given, said.hook, &said.maps, said.format) {
+        return Err(PolicyFault::Disagrees(key));
+    }
+    let Some(hook) = given.hook.or(said.hook) else {
+        return Err(PolicyFault::NoHook);
+    };
+    let version = given.format.or(said.format).unwrap_or(Version::First);
+    let shapes = match (&given.maps, &said.maps) {
+        (Some(shapes), _) => Vec::from_slice(alloc, shapes.as_slice())?,
+        (None, Some(shapes)) => Vec::from_slice(alloc, shapes.as_slice())?,
+        (None, None) => Vec::new(alloc),
+    };
+    Ok(Combined {
+        hook,
+        shapes,
+        version,
+    })
+}
+
+/// What they differ in, if they do.
+pub(crate) fn difference(
+    given: &Head,
+    hook: Option<Hook>,
+    maps: &Option<Vec<MapShape>>,
+    format: Option<Version>,
+) -> Option<Key>
+    ensures { MatchOption result (Agrees given.now hook (shapes_in maps.now) format)
+        (λ key. DiffersIn key given.now hook (shapes_in maps.now) format) }
+{
+    if hooks_differ(given.hook, hook) {
+        return Some(Key::Hook);
+    }
+    if maps_differ(&given.maps, maps) {
+        return Some(Key::Maps);
+    }
+    if formats_differ(given.format, format) {
+        return Some(Key::Format);
+    }
+    None
+}
+
+fn hooks_differ(given: Option<Hook>, said: Option<Hook>) -> bool
+    ensures { MatchBool result (Differ given said) (Agree given said) }
+{
+    match (given, said) {
+        (Some(asked), Some(hook)) => asked != hook,
+        _ => false,
+    }
+}
+
+fn formats_differ(given: Option<Version>, said: Option<Version>) -> bool
+    ensures { MatchBool result (Differ given said) (Agree given said) }
+{
+    match (given, said) {
+        (Some(asked), Some(version)) => asked != version,
+        _ => false,
+    }
+}
+
+fn maps_differ(given: &Option<Vec<MapShape>>, said: &Option<Vec<MapShape>>) -> bool
+    ensures { MatchBool result (Differ (shapes_in given.now) (shapes_in said.now)) (Agree (shapes_in given.now) (shapes_in said.now)) }
+{
+    match (given, said) {
+        (Some(asked), Some(shapes)) => !same_shapes(asked.as_slice(), shapes.as_slice()),
+        _ => false,
+    }
+}

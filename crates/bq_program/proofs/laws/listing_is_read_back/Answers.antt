@@ -1,5 +1,0 @@
-use Rattle.bq_program.proofs.LawLemmas as Law
-use Rattle.bq_program.proofs.laws.listing_is_read_back.Goals as goal
-
-pub returns : goal.returns
-returns c = Law.listing_is_read_back

@@ -1,5 +1,0 @@
-use Rattle.bq_program.proofs.OneAnswerLemmas as answer
-use Rattle.bq_program.proofs.laws.one_assembly.Goals as goal
-
-pub returns : goal.returns
-returns c = answer.one_assembly
