@@ -5,8 +5,8 @@ use Rattle.std.specs.declared.vec.Vec.{Vec}
 use Rattle.bq_hooks.specs.declared.hook.Version.TheVariants.{First}
 use Rattle.bq_bpf.specs.declared.shape.MapShape.{MapShape}
 use Rattle.bq_import.specs.declared.text.ImportSettings.{ImportSettings}
-use Rattle.bq_policy_commands.specs.Saying.{SaysHead, option_bytes}
-use Rattle.bq_policy_commands.specs.declared.words.PolicyWords.{PolicyWords}
+use Rattle.bq_policy_check.specs.Saying.{SaysHead, option_bytes}
+use Rattle.bq_policy_check.specs.declared.words.PolicyWords.{PolicyWords}
 use Rattle.bq_policy_file.specs.declared.head.Head.{Head}
 
 -- the shapes of maps, none if they are not named

@@ -1,8 +1,8 @@
 -- The exit statuses.
 use Rattle.std.specs.Prelude.{ℕ, Result, Ok, Err}
 use Rattle.std.specs.declared.alloc.AllocError.{AllocError}
-use Rattle.bq_policy_commands.specs.declared.answered.Answered.{Answered}
-use Rattle.bq_policy_commands.specs.declared.answered.Answered.TheVariants.{Done, Refused, Words}
+use Rattle.bq_policy_check.specs.declared.answered.Answered.{Answered}
+use Rattle.bq_policy_check.specs.declared.answered.Answered.TheVariants.{Done, Refused, Words}
 
 abbrev pub status_of : Result Answered AllocError → ℕ
 status_of (Ok (Done text)) = 0

@@ -5,12 +5,12 @@ use Rattle.clap.specs.Words.{Row, Text, all_of, first_of}
 use Rattle.bq_hooks.specs.Hooks.{hook_of, version_of}
 use Rattle.bq_console.specs.Words.{SaysWord}
 use Rattle.bq_words.specs.Quantities.{size_of, decimal_of}
-use Rattle.bq_policy_commands.specs.Saying.{option_bytes}
-use Rattle.bq_policy_commands.specs.declared.words.CheckWords.{CheckWords}
-use Rattle.bq_policy_commands.specs.declared.words.ListWords.{ListWords}
-use Rattle.bq_policy_commands.specs.declared.words.PolicyWords.{PolicyWords}
-use Rattle.bq_policy_commands.specs.declared.words.RunWords.{RunWords}
-use Rattle.bq_policy_commands.specs.declared.words.TellingWords.{TellingWords}
+use Rattle.bq_policy_check.specs.Saying.{option_bytes}
+use Rattle.bq_policy_check.specs.declared.words.CheckWords.{CheckWords}
+use Rattle.bq_policy_check.specs.declared.words.ListWords.{ListWords}
+use Rattle.bq_policy_check.specs.declared.words.PolicyWords.{PolicyWords}
+use Rattle.bq_policy_check.specs.declared.words.RunWords.{RunWords}
+use Rattle.bq_policy_check.specs.declared.words.TellingWords.{TellingWords}
 use Rattle.bq_policy_file.specs.Forms.{maps_text}
 use Rattle.bq_experiment.specs.declared.words.HookWords.{HookWords}
 use Rattle.bq_experiment.specs.declared.words.MachineWords.{MachineWords}

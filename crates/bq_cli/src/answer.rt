@@ -6,7 +6,7 @@ ghost use Rattle.bq_cli.specs.Status.{status_of};
 
 use bq_console::status::{BAD_INPUT, REFUSED};
 use bq_console::{OUT_OF_MEMORY, say_out_of_memory, written};
-use bq_policy_commands::Answered;
+use bq_policy_check::Answered;
 use std::alloc::AllocError;
 use std::process::ExitCode;
 

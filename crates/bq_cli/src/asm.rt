@@ -10,7 +10,7 @@ use crate::policy_words::{format_in, hook_in, policy_words};
 use bq_console::status::BAD_INPUT;
 use bq_console::{WordsFault, say_out_of_memory, whole_input, written};
 use bq_explain::complaint;
-use bq_policy_commands::{AsmRefusal, PolicyWords, asm_note, asm_refusal, options_complaint};
+use bq_policy_check::{AsmRefusal, PolicyWords, asm_note, asm_refusal, options_complaint};
 use bq_policy_file::Options;
 use clap::ArgMatches;
 use std::alloc::Global;

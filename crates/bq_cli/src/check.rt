@@ -6,7 +6,7 @@ ghost use Rattle.bq_cli.specs.Words.{AreCheckWords, is_plain_check};
 use crate::answer::written_answer;
 use crate::policy_words::{name_nothing, policy_words};
 use bq_console::{is_set, whole_input, word};
-use bq_policy_commands::{CheckWords, check};
+use bq_policy_check::{CheckWords, check};
 use clap::ArgMatches;
 use std::alloc::{AllocError, Global};
 use std::process::ExitCode;

@@ -17,7 +17,7 @@ use crate::tables::program;
 use crate::timeline::timeline_words;
 use bq_console::{WordsFault, found_in, words_fault};
 use bq_experiment::StudyWords;
-use bq_policy_commands::{CheckWords, ListWords, PolicyWords, RunWords};
+use bq_policy_check::{CheckWords, ListWords, PolicyWords, RunWords};
 use bq_timeline::Words;
 use clap::ArgMatches;
 use std::alloc::Global;

@@ -6,7 +6,7 @@ ghost use Rattle.bq_cli.specs.Words.{AreListWords, is_plain_dis};
 use crate::answer::written_answer;
 use crate::policy_words::{name_nothing, policy_words};
 use bq_console::{is_set, whole_input};
-use bq_policy_commands::{ListWords, list};
+use bq_policy_check::{ListWords, list};
 use clap::ArgMatches;
 use std::alloc::{AllocError, Global};
 use std::process::ExitCode;

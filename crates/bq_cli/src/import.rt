@@ -10,7 +10,7 @@ use bq_console::status::BAD_INPUT;
 use bq_console::{WordsFault, name_of, refused_words, say_out_of_memory, whole_input, written};
 use bq_hooks::Version;
 use bq_import::{ImportRefusal, ImportSettings, imported};
-use bq_policy_commands::{PolicyWords, said_by};
+use bq_policy_check::{PolicyWords, said_by};
 use bq_policy_file::{Head, ImageForm};
 use clap::ArgMatches;
 use std::alloc::{AllocError, Global};

@@ -5,12 +5,12 @@ ghost use Rattle.bq_hooks.specs.Hooks.{hook_of, version_of};
 ghost use Rattle.bq_hooks.specs.declared.hook.Hook.{Hook as Place};
 ghost use Rattle.bq_hooks.specs.declared.hook.Version.{Version as Number};
 ghost use Rattle.bq_console.specs.Words.{SaysWord};
-ghost use Rattle.bq_policy_commands.specs.Saying.{option_bytes};
+ghost use Rattle.bq_policy_check.specs.Saying.{option_bytes};
 ghost use Rattle.bq_cli.specs.Words.{ArePolicyWords, name_nothing};
 
 use bq_console::{WordsFault, refused_value, word};
 use bq_hooks::{Hook, Version, with_hooks, with_versions};
-use bq_policy_commands::PolicyWords;
+use bq_policy_check::PolicyWords;
 use clap::ArgMatches;
 use std::alloc::{AllocError, Global};
 

@@ -1,13 +1,13 @@
 //! `run`: one run of a policy, or several.
 ghost use Rattle.std.specs.Prelude.{◌≡◌, IfOk, codes};
 ghost use Rattle.clap.specs.Words.{first_of, found_of, rows_of};
-ghost use Rattle.bq_policy_commands.specs.Saying.{option_bytes};
+ghost use Rattle.bq_policy_check.specs.Saying.{option_bytes};
 ghost use Rattle.bq_cli.specs.Words.{AreAll, AreRunWords, AreTellingWords};
 
 use crate::answer::written_answer;
 use crate::policy_words::policy_words;
 use bq_console::{all_words, is_set, whole_input, word};
-use bq_policy_commands::{RunWords, TellingWords};
+use bq_policy_check::{RunWords, TellingWords};
 use bq_policy_run::run;
 use clap::ArgMatches;
 use std::alloc::{AllocError, Global};

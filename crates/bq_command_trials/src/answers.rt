@@ -1,7 +1,7 @@
 // Files, words and answers. The numbers were counted by hand.
 
 use crate::done::holds;
-use bq_policy_commands::{
+use bq_policy_check::{
     Answered, CheckWords, ListWords, PolicyWords, RunWords, TellingWords, check, list,
 };
 use bq_policy_run::run;

@@ -3,7 +3,7 @@
 use crate::answers::{KEEP_HOME, check_words};
 use crate::done::holds;
 use bq_hooks::{Hook, Version};
-use bq_policy_commands::{Answered, CheckWords, asm_note, check, options_complaint};
+use bq_policy_check::{Answered, CheckWords, asm_note, check, options_complaint};
 use bq_policy_file::Options;
 use std::alloc::{AllocError, Global};
 use std::test::Fail;

@@ -1,7 +1,7 @@
 //! What a simulation is asked for, by the words of its options.
 ghost use Rattle.std.specs.Prelude.{◌≡◌, ◌↔◌, IfErr, IfOk, IsTrue, Some, codes};
 ghost use Rattle.bq_words.specs.Quantities.{size_of, decimal_of};
-ghost use Rattle.bq_policy_commands.specs.Saying.{option_bytes};
+ghost use Rattle.bq_policy_check.specs.Saying.{option_bytes};
 ghost use Rattle.bq_words.specs.Sizes.{rule_of};
 ghost use Rattle.bq_experiment.specs.Asking.{AskForChanges, AskToShow, IsNoChange, IsNotShown, change_asked, chooses_part, time_in};
 

@@ -11,7 +11,7 @@ ghost use Rattle.bq_experiment.specs.Taking.{IsNone, IsRead, IsTold, IsToldOf, I
 use bq_hooks::Hook;
 use bq_installed::Policy;
 use bq_load::{LoadFault, load};
-use bq_policy_commands::{HOOK_UNSAID, fault_reason};
+use bq_policy_check::{HOOK_UNSAID, fault_reason};
 use bq_policy_file::{Head, read_policy};
 use bq_simulate::Images;
 use std::alloc::{AllocError, AllocFailed, Global};

@@ -15,8 +15,8 @@ use Rattle.bq_verify.specs.Refusals.{IsOutOfMemory, IsRefusal}
 use Rattle.bq_verify.specs.Straight.{IsStraightProgram}
 use Rattle.bq_policy_file.specs.declared.policy_source.PolicySource.{PolicySource}
 use Rattle.bq_explain.specs.Verdicts.{IsRefusedPolicy, IsSafePolicy}
-use Rattle.bq_policy_commands.specs.declared.answered.Answered.{Answered}
-use Rattle.bq_policy_commands.specs.declared.words.RunWords.{RunWords}
+use Rattle.bq_policy_check.specs.declared.answered.Answered.{Answered}
+use Rattle.bq_policy_check.specs.declared.words.RunWords.{RunWords}
 use Rattle.bq_policy_run.specs.Running.{IsProgramOf, RunsAccepted, RunsProgram}
 
 -- what is safe of a program, is so of the policy whose program it is

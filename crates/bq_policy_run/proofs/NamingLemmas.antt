@@ -10,11 +10,11 @@ use Rattle.bq_policy_run.specs.Naming.{IsContextNamed, SetsEntry, SetsFields, Te
 use Rattle.bq_policy_run.specs.Runs.{Fits}
 use Rattle.bq_policy_run.proofs.InTurnLemmas.{IsSeen, turns_seen}
 use Rattle.bq_policy_run.proofs.RefusalLemmas.{entry_seen, fields_seen, texts_seen}
-use Rattle.bq_policy_commands.specs.declared.words.RunWords.{RunWords}
+use Rattle.bq_policy_check.specs.declared.words.RunWords.{RunWords}
 use Rattle.bq_words.specs.Numbers.{number_of}
 use Rattle.bq_words.specs.Durations.{duration_of}
 use Rattle.bq_policy_run.specs.Running.{HasInputs, SetsParts, WritesTime}
-use Rattle.bq_policy_commands.specs.Saying.{option_bytes}
+use Rattle.bq_policy_check.specs.Saying.{option_bytes}
 
 -- what is no number of 64 bits, and no number with a unit, writes no time
 pub no_time : (word : List ℕ) → duration_of word ≡ None → number_of 10 word ≡ None → (time : ℕ) → ¬ WritesTime word time

@@ -11,7 +11,7 @@ use Rattle.bq_interp.specs.Progress.{setting_of}
 use Rattle.bq_interp.specs.Snapshots.{AreSnapshots}
 use Rattle.bq_policy_run.specs.declared.inputs.Inputs.{Inputs}
 use Rattle.bq_policy_run.specs.Runs.{AreRuns, IsRun, PersistentState, kept_in}
-use Rattle.bq_policy_commands.specs.declared.answered.Answered.TheVariants.{Done}
+use Rattle.bq_policy_check.specs.declared.answered.Answered.TheVariants.{Done}
 use Rattle.bq_policy_run.specs.Running.{HasRun, TellsRun, changed_text}
 use Rattle.bq_policy_run.specs.Tracing.{TellsSteps}
 

@@ -26,14 +26,14 @@ use Rattle.bq_hooks.specs.declared.hook.Hook.{Hook}
 use Rattle.bq_policy_file.specs.declared.head.Head.{Head}
 use Rattle.bq_policy_file.specs.declared.policy_source.PolicySource.{PolicySource}
 use Rattle.bq_policy_file.specs.Files.{IsPolicy}
-use Rattle.bq_policy_commands.specs.declared.answered.Answered.{Answered}
-use Rattle.bq_policy_commands.specs.declared.answered.Answered.TheVariants.{Done, Refused}
-use Rattle.bq_policy_commands.specs.declared.words.RunWords.{RunWords}
+use Rattle.bq_policy_check.specs.declared.answered.Answered.{Answered}
+use Rattle.bq_policy_check.specs.declared.answered.Answered.TheVariants.{Done, Refused}
+use Rattle.bq_policy_check.specs.declared.words.RunWords.{RunWords}
 use Rattle.bq_policy_run.specs.Judging.{TellsWord}
-use Rattle.bq_policy_commands.specs.Refusing.{IsRefusedFile}
+use Rattle.bq_policy_check.specs.Refusing.{IsRefusedFile}
 use Rattle.bq_policy_run.specs.Tracing.{TellsSteps}
 use Rattle.bq_words.specs.Durations.{duration_of}
-use Rattle.bq_policy_commands.specs.Saying.{IsNumberBelow, IsWordsFault, SaysHead, option_bytes}
+use Rattle.bq_policy_check.specs.Saying.{IsNumberBelow, IsWordsFault, SaysHead, option_bytes}
 
 -- without a word the number is 0, and it is below that limit
 abbrev pub IsNumberOrZero : ℕ → Option (List ℕ) → ℕ → Type 0

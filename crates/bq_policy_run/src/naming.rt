@@ -5,12 +5,12 @@ ghost use Rattle.bq_bpf.specs.declared.board.TheConstants.{COUNTERS};
 ghost use Rattle.bq_policy_run.specs.Naming.{IsClean, IsContextNamed, SetsCounter, SetsEntry, SetsFields, TextsInTurn};
 ghost use Rattle.bq_policy_run.specs.Running.{HasClock, HasInputs, IsNumberOrZero, IsTime, SetsParts, WritesTime};
 ghost use Rattle.bq_console.specs.Words.{SaysNone};
-ghost use Rattle.bq_policy_commands.specs.Saying.{option_bytes};
+ghost use Rattle.bq_policy_check.specs.Saying.{option_bytes};
 
 use crate::{Inputs, inputs_of};
 use bq_console::{WordsFault, words_fault};
 use bq_interp::Env;
-use bq_policy_commands::{RunWords, small_number};
+use bq_policy_check::{RunWords, small_number};
 use bq_verify::Verified;
 use bq_words::{duration, with_32_bits, with_units};
 use std::alloc::Global;

@@ -2,10 +2,10 @@
 ghost use Rattle.std.specs.Prelude.{IfErr, IfOk};
 ghost use Rattle.bq_policy_run.specs.Running.{IsBefore};
 ghost use Rattle.bq_console.specs.Words.{SaysNone};
-ghost use Rattle.bq_policy_commands.specs.Saying.{option_bytes};
+ghost use Rattle.bq_policy_check.specs.Saying.{option_bytes};
 
 use bq_console::{WordsFault, words_fault};
-use bq_policy_commands::small_number;
+use bq_policy_check::small_number;
 use std::alloc::Global;
 
 /// How many runs there may be.

@@ -13,7 +13,7 @@ use crate::word_text::word_text;
 use crate::{Inputs, RunOutcome, copied, run_often, trace_once, write_calls, write_changes};
 use bq_console::WordsFault;
 use bq_explain::{Verdict, verdict_line};
-use bq_policy_commands::{Answered, RunWords, refused_file, said_by};
+use bq_policy_check::{Answered, RunWords, refused_file, said_by};
 use bq_policy_file::{Head, PolicySource, read_policy};
 use bq_verify::{Program, Refused, Verified, verify};
 use std::alloc::{AllocError, Global};

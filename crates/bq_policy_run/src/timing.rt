@@ -4,7 +4,7 @@ ghost use Rattle.std.specs.Prelude.{◌≡◌, [], IfOk, IsNone, string_bytes};
 use crate::naming::inputs_named;
 use crate::repeats::runs_before;
 use crate::{Inputs, run_often};
-use bq_policy_commands::RunWords;
+use bq_policy_check::RunWords;
 use bq_verify::Verified;
 use std::alloc::{AllocError, Global};
 use std::time::Clock;

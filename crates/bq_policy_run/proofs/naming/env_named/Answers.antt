@@ -2,7 +2,7 @@ use Rattle.std.proofs.Common.{◌^◌}
 use Rattle.std.proofs.lemmas.Result.{err_from_is_err_and}
 use Rattle.bq_interp.specs.declared.env.Env.{Env}
 use Rattle.bq_policy_run.specs.Running.{HasClock, IsNumberOrZero, IsTime}
-use Rattle.bq_policy_commands.specs.Saying.{option_bytes}
+use Rattle.bq_policy_check.specs.Saying.{option_bytes}
 use Rattle.bq_console.proofs.SayingLemmas.{none_whole}
 use Rattle.bq_policy_run.proofs.naming.env_named.Goals as goal
 

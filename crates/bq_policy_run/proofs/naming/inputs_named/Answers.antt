@@ -3,7 +3,7 @@ use Rattle.bq_hooks.specs.Hooks.{context_length_of}
 use Rattle.bq_policy_run.specs.declared.inputs.Inputs.{Inputs}
 use Rattle.bq_policy_run.specs.Naming.{IsContextNamed}
 use Rattle.bq_policy_run.specs.Running.{HasClock, HasInputs, SetsParts}
-use Rattle.bq_policy_commands.specs.Saying.{option_bytes}
+use Rattle.bq_policy_check.specs.Saying.{option_bytes}
 use Rattle.bq_policy_run.proofs.NamingLemmas.{parts_set}
 use Rattle.bq_console.proofs.SayingLemmas.{none_of_part, none_whole}
 use Rattle.bq_policy_run.proofs.naming.inputs_named.Goals as goal

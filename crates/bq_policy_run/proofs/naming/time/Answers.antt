@@ -1,6 +1,6 @@
 use Rattle.std.proofs.Common.{ℕ, List, Option, String, Global, subst, sym}
 use Rattle.bq_console.proofs.SayingLemmas.{none_said}
-use Rattle.bq_policy_commands.specs.Saying.{option_bytes}
+use Rattle.bq_policy_check.specs.Saying.{option_bytes}
 use Rattle.bq_policy_run.specs.Running.{IsTime, WritesTime}
 use Rattle.bq_policy_run.proofs.naming.time.Goals as goal
 

@@ -1,7 +1,7 @@
 use Rattle.std.proofs.Common.{inl, inr, refl}
 use Rattle.std.proofs.lemmas.Result.{IfOk-weaker}
 use Rattle.bq_policy_run.specs.Running.{RunsFile, RunsTo}
-use Rattle.bq_policy_commands.specs.Saying.{SaysHead}
+use Rattle.bq_policy_check.specs.Saying.{SaysHead}
 use Rattle.bq_console.proofs.SayingLemmas.{said_none}
 use Rattle.bq_policy_run.proofs.running.run.Goals as goal
 

@@ -2,7 +2,7 @@ use Rattle.std.proofs.Common.{inl, inr, refl}
 use Rattle.std.specs.Prelude.{is_some}
 use Rattle.std.proofs.lemmas.Result.{IfOk-weaker}
 use Rattle.bq_policy_run.specs.Running.{HasInputs, HasRun, IsBefore, RunsProgram}
-use Rattle.bq_policy_commands.specs.Saying.{option_bytes}
+use Rattle.bq_policy_check.specs.Saying.{option_bytes}
 use Rattle.bq_policy_run.proofs.NamingLemmas.{named_fits}
 use Rattle.bq_console.proofs.SayingLemmas.{said_none}
 use Rattle.bq_policy_run.proofs.running.run_verified.Goals as goal

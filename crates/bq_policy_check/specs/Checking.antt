@@ -1,0 +1,85 @@
+-- What `check` answers to a file.
+use Rattle.std.specs.Prelude.{◌≡◌, ◌≢◌, ℕ, Bool, true, false, List, ◌++◌, ◌⊎◌, Some, String, codes, string_bytes}
+use Rattle.serde_json.specs.Data.{Data, boolean}
+use Rattle.serde_json.specs.Find.{get}
+use Rattle.serde_json.specs.Written.{IsInOrder}
+use Rattle.std.specs.declared.alloc.Global.{Global}
+use Rattle.bq_explain.specs.declared.limits.Limits.{Limits}
+use Rattle.bq_explain.specs.declared.verdict.Verdict.{Verdict}
+use Rattle.bq_explain.specs.Verdicts.{IsVerdict, is_accepted, verdict_line}
+use Rattle.bq_policy_file.specs.declared.fault.PolicyFault.{PolicyFault}
+use Rattle.bq_policy_file.specs.declared.fault.PolicyFault.TheVariants as fault
+use Rattle.bq_policy_file.specs.declared.head.Head.{Head}
+use Rattle.bq_policy_file.specs.declared.policy_source.PolicySource.{PolicySource}
+use Rattle.bq_policy_file.specs.Files.{IsPolicy, IsPolicyFault}
+use Rattle.bq_policy_check.specs.declared.answered.Answered.{Answered}
+use Rattle.bq_policy_check.specs.declared.answered.Answered.TheVariants.{Done, Refused}
+use Rattle.bq_policy_check.specs.declared.words.CheckWords.{CheckWords}
+use Rattle.bq_policy_check.specs.Limiting.{HasLimits}
+use Rattle.bq_policy_check.specs.Refusing.{fault_line}
+use Rattle.bq_policy_check.specs.Saying.{IsWordsFault, SaysHead}
+
+-- neither explained nor as JSON the answer is this line alone
+abbrev pub IsTold : CheckWords → List ℕ → List ℕ → Type 0
+IsTold w line text = w.is_explained ≡ false → w.is_json ≡ false → text ≡ line
+
+-- the value as JSON, on a line of its own
+abbrev pub IsLineOf : Data → List ℕ → Type 0
+IsLineOf d text = (line : List ℕ) × IsInOrder line d × (text ≡ line ++ codes "\n")
+
+-- an object on a line of its own, which says whether the policy is accepted
+abbrev pub IsJson : Bool → List ℕ → Type 0
+IsJson accepted text = (d : Data) × (get (codes "accepted") d ≡ Some (boolean accepted)) × IsLineOf d text
+
+-- as JSON the answer says so
+abbrev pub IsShown : CheckWords → Bool → List ℕ → Type 0
+IsShown w accepted text = w.is_json ≡ true → IsJson accepted text
+
+abbrev pub answered : Bool → String Global → Answered
+answered true text = Done text
+answered false text = Refused text
+
+-- it is done where the verdict accepts the policy, else refused, by the line that tells the verdict
+pub record TellsVerdict (w : CheckWords) (p : PolicySource) (l : Limits) (answer : Answered) : Type 0 where
+  pub verdict : Verdict
+  pub is_verdict : IsVerdict p l verdict
+  pub text : String Global
+  pub is : answer ≡ answered (is_accepted verdict) text
+  pub told : IsTold w (verdict_line p.hook verdict) (string_bytes text)
+  pub shown : IsShown w (is_accepted verdict) (string_bytes text)
+
+-- the file is no policy, for this fault, by the line that names it
+pub record TellsFault (w : CheckWords) (bytes : List ℕ) (h : Head) (answer : Answered) : Type 0 where
+  pub named : PolicyFault
+  pub is_fault : IsPolicyFault bytes h named
+  pub other : named ≢ fault.OutOfMemory
+  pub text : String Global
+  pub is : answer ≡ Refused text
+  pub told : IsTold w (fault_line named) (string_bytes text)
+  pub shown : IsShown w false (string_bytes text)
+
+-- the file is this policy, and its verdict is told
+pub record TellsPolicy (w : CheckWords) (bytes : List ℕ) (h : Head) (l : Limits) (answer : Answered) : Type 0 where
+  pub policy : PolicySource
+  pub is_policy : IsPolicy bytes h policy
+  pub tells : TellsVerdict w policy l answer
+
+abbrev pub ChecksFile : CheckWords → List ℕ → Head → Limits → Answered → Type 0
+ChecksFile w bytes h l answer = TellsFault w bytes h answer ⊎ TellsPolicy w bytes h l answer
+
+-- by the head and the limits that the words say
+pub record ChecksAsked (w : CheckWords) (bytes : List ℕ) (answer : Answered) : Type 0 where
+  pub head : Head
+  pub says : SaysHead w.policy head
+  pub limits : Limits
+  pub has : HasLimits w limits
+  pub checks : ChecksFile w bytes head limits answer
+
+-- the words say this head, and these limits
+pub record SaysTerms (w : CheckWords) (terms : Head × Limits) : Type 0 where
+  pub head : SaysHead w.policy terms.0
+  pub limits : HasLimits w terms.1
+
+-- words that say none are refused, and no others
+abbrev pub ChecksTo : CheckWords → List ℕ → Answered → Type 0
+ChecksTo w bytes answer = IsWordsFault (SaysTerms w) answer ⊎ ChecksAsked w bytes answer

@@ -1,0 +1,91 @@
+//! What `asm` leaves of the marks of its text.
+ghost use Rattle.std.specs.Prelude.{◌≡◌, IfOk, string_bytes};
+ghost use Rattle.bq_policy_check.specs.Noting.{IsAsmNote, IsNoteBeside, TellsHead, left_text, leaves_format, leaves_maps};
+
+use crate::asm_head::head_of;
+use crate::reasons::fault_reason;
+use bq_hooks::Version;
+use bq_policy_file::{FileKind, Head, Options, PolicyFault, PolicySource, kind_of, read_policy};
+use std::alloc::{AllocError, Global};
+
+/// Lines on what an image lacks that the marks of its text say, as the options leave it out, or on the first mark that is none. Nothing
+/// where there is nothing to say.
+///
+/// ```text
+/// the text says maps, and the image has none: asm takes them from --maps alone
+/// ```
+pub fn asm_note(alloc: Global, options: &Options, text: &[u8]) -> Result<String, AllocError>
+    ensures { IfOk result (λ note. IsAsmNote options.now text.now (string_bytes note)) }
+{
+    match head_of(alloc, options)? {
+        None => Ok(String::new(alloc)),
+        Some(given) => note_beside(alloc, &given, text),
+    }
+}
+
+/// The lines of a text, beside what the options say.
+fn note_beside(alloc: Global, given: &Head, text: &[u8]) -> Result<String, AllocError>
+    ensures { IfOk result (λ note. IsNoteBeside text.now given.now (string_bytes note)) }
+{
+    match kind_of(text) {
+        FileKind::Image | FileKind::Hex => return Ok(String::new(alloc)),
+        FileKind::Text => {}
+    }
+    match read_policy(alloc, text, given) {
+        Ok(policy) => left_text(alloc, given, &policy),
+        Err(PolicyFault::OutOfMemory) => Err(AllocError),
+        Err(fault) => head_note(alloc, text, fault),
+    }
+}
+
+/// The line on a mark that is none, where that is the fault.
+fn head_note(alloc: Global, text: &[u8], fault: PolicyFault) -> Result<String, AllocError>
+    ensures { IfOk result (λ note. TellsHead fault (string_bytes note)) }
+{
+    match fault {
+        PolicyFault::Head { line: _, cause: _ } => {
+            let reason = fault_reason(alloc, text, fault)?;
+            format!(in alloc; "{reason}; asm goes by its options alone\n")
+        }
+        PolicyFault::Text
+        | PolicyFault::Hex
+        | PolicyFault::Assembly { .. }
+        | PolicyFault::Image(_)
+        | PolicyFault::Program { .. }
+        | PolicyFault::Disagrees(_)
+        | PolicyFault::NoHook
+        | PolicyFault::OutOfMemory => Ok(String::new(alloc)),
+    }
+}
+
+/// The lines on what the options leave out and the policy's text says.
+fn left_text(alloc: Global, given: &Head, policy: &PolicySource) -> Result<String, AllocError>
+    ensures { IfOk result (λ note. string_bytes note ≡ left_text given.now policy.now) }
+{
+    let mut note = String::new(alloc);
+    if leaves_maps(given, policy) {
+        note.push_str(
+            "the text says maps, and the image has none: asm takes them from --maps alone\n",
+        )?;
+    }
+    if leaves_format(given, policy) {
+        note.push_str(
+            "the text says format 2, and the image has version 1: asm takes it from --format alone\n",
+        )?;
+    }
+    Ok(note)
+}
+
+/// Whether the text says maps, and the options none.
+fn leaves_maps(given: &Head, policy: &PolicySource) -> bool
+    ensures { result ≡ leaves_maps given.now policy.now }
+{
+    given.maps.is_none() && !policy.shapes.is_empty()
+}
+
+/// Whether the text says the second version, and the options none.
+fn leaves_format(given: &Head, policy: &PolicySource) -> bool
+    ensures { result ≡ leaves_format given.now policy.now }
+{
+    given.format.is_none() && policy.version == Version::Second
+}

@@ -1,0 +1,43 @@
+//! What is wrong with the options of `asm`.
+ghost use Rattle.std.specs.Prelude.{IfOk};
+ghost use Rattle.bq_policy_check.specs.Complaining.{ComplainsOf};
+
+use crate::maps_words::maps_words;
+use bq_policy_file::{Options, OptionsFault};
+use std::alloc::{AllocError, Global};
+
+/// One line on what is wrong with the options of `asm`, without its end; None where they ask for a form.
+///
+/// ```text
+/// --maps: part 1 "7:2": the size of a value is 8 to 256, a multiple of 8 (got 7)
+/// ```
+pub fn options_complaint(alloc: Global, options: &Options) -> Result<Option<String>, AllocError>
+    ensures { IfOk result (ComplainsOf options.now) }
+{
+    match options.form(alloc) {
+        Ok(_) => Ok(None),
+        Err(OptionsFault::Maps) => Ok(Some(maps_complaint(alloc, options)?)),
+        Err(OptionsFault::Format) => Ok(Some(String::from_str(
+            alloc,
+            "--format: only an image has a version; say its hook too, as --hook place",
+        )?)),
+        Err(OptionsFault::OutOfMemory) => Err(AllocError),
+    }
+}
+
+/// What is wrong with the maps of options that `asm` refuses for them.
+fn maps_complaint(alloc: Global, options: &Options) -> Result<String, AllocError> {
+    match (&options.hook, &options.maps) {
+        (Some(_), Some(text)) => maps_option_words(alloc, text.as_str()),
+        _ => String::from_str(
+            alloc,
+            "--maps: only an image has maps; say its hook too, as --hook place",
+        ),
+    }
+}
+
+/// What is wrong with the text of `--maps`, which names no maps.
+pub fn maps_option_words(alloc: Global, text: &str) -> Result<String, AllocError> {
+    let why = maps_words(alloc, text)?;
+    format!(in alloc; "--maps: {why}")
+}

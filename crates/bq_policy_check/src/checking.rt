@@ -1,0 +1,162 @@
+//! `check` of a policy's file.
+ghost use Rattle.std.specs.Prelude.{◌≡◌, ◌≢◌, IfErr, IfOk, OnOk, false, string_bytes};
+ghost use Rattle.bq_explain.specs.Verdicts.{is_accepted};
+ghost use Rattle.bq_policy_file.specs.declared.fault.PolicyFault.TheVariants.{OutOfMemory};
+ghost use Rattle.bq_policy_check.specs.Checking.{ChecksFile, ChecksTo, IsShown, IsTold, SaysTerms, TellsVerdict, answered};
+ghost use Rattle.bq_policy_check.specs.Limiting.{HasLimits};
+ghost use Rattle.bq_policy_check.specs.Refusing.{fault_line};
+ghost use Rattle.bq_console.specs.Words.{SaysNone};
+ghost use Rattle.bq_policy_check.specs.Saying.{SaysHead};
+
+use crate::answered::Answered;
+use crate::given::said_by;
+use crate::json_text::{explanation_json, reason_json};
+use crate::limits::limits_of;
+use crate::listing::reasoned;
+use crate::reasons::{fault_line, reason_of};
+use crate::words::CheckWords;
+use bq_console::{WordsFault, file_named};
+use bq_explain::{Explanation, Limits, explain, explanation_text, judge, verdict_line};
+use bq_policy_file::{Head, PolicyFault, PolicySource, read_policy};
+use std::alloc::{AllocError, Global};
+
+/// The verdict on the policy whose file has these bytes, or why the file is none. Words are refused only where they say no head or no
+/// limits.
+pub fn check(alloc: Global, words: &CheckWords, bytes: &[u8]) -> Result<Answered, AllocError>
+    ensures { IfOk result (ChecksTo words.now bytes.now) }
+{
+    match terms_of(alloc, words) {
+        Ok(terms) => check_file(alloc, words, bytes, &terms.head, &terms.limits),
+        Err(WordsFault::Words(why)) => Ok(Answered::Words(why)),
+        Err(WordsFault::OutOfMemory) => Err(AllocError),
+    }
+}
+
+/// What a check goes by: what is said beside the file, and the limits.
+#[derive(Drop)]
+struct Terms {
+    head: Head,
+    limits: Limits,
+}
+
+/// What the words say beside the file, and the limits that they set.
+fn terms_of(alloc: Global, words: &CheckWords) -> Result<Terms, WordsFault>
+    ensures says { IfOk result (λ terms. SaysHead words.now.policy terms.head) }
+    ensures has { IfOk result (λ terms. HasLimits words.now terms.limits) }
+    ensures none { IfErr result (SaysNone (SaysTerms words.now)) }
+{
+    let head = said_by(alloc, &words.policy)?;
+    let limits = limits_of(alloc, words)?;
+    Ok(Terms { head, limits })
+}
+
+fn check_file(
+    alloc: Global,
+    words: &CheckWords,
+    bytes: &[u8],
+    head: &Head,
+    limits: &Limits,
+) -> Result<Answered, AllocError>
+    ensures { IfOk result (ChecksFile words.now bytes.now head.now limits.now) }
+{
+    match read_policy(alloc, bytes, head) {
+        Ok(policy) => check_policy(alloc, words, &policy, limits),
+        Err(fault) => Ok(Answered::Refused(refusal(alloc, words, bytes, fault)?)),
+    }
+}
+
+/// The verdict on a policy, in the form that the words ask for.
+fn check_policy(
+    alloc: Global,
+    words: &CheckWords,
+    policy: &PolicySource,
+    limits: &Limits,
+) -> Result<Answered, AllocError>
+    ensures { IfOk result (TellsVerdict words.now policy.now limits.now) }
+{
+    if words.is_explained || words.is_json {
+        let explanation = explain(alloc, policy, limits)?;
+        let text = shown(alloc, words, policy, &explanation)?;
+        return Ok(answered(explanation.verdict.is_accepted(), text));
+    }
+    judge_policy(alloc, words, policy, limits)
+}
+
+/// The verdict on a policy, by one line.
+fn judge_policy(
+    alloc: Global,
+    words: &CheckWords,
+    policy: &PolicySource,
+    limits: &Limits,
+) -> Result<Answered, AllocError>
+    requires { words.now.is_json ≡ false }
+    ensures { IfOk result (TellsVerdict words.now policy.now limits.now) }
+{
+    let verdict = judge(alloc, policy, limits)?;
+    let line = verdict_line(alloc, policy.hook, verdict)?;
+    Ok(answered(verdict.is_accepted(), line))
+}
+
+/// Why the file of these bytes is no policy, in the form that the words ask for.
+fn refusal(
+    alloc: Global,
+    words: &CheckWords,
+    bytes: &[u8],
+    fault: PolicyFault,
+) -> Result<String, AllocError>
+    ensures told { IfOk result (λ text. IsTold words.now (fault_line fault) (string_bytes text)) }
+    ensures shown { IfOk result (λ text. IsShown words.now false (string_bytes text)) }
+    ensures other { OnOk result (fault ≢ OutOfMemory) }
+{
+    let line = fault_line(alloc, fault)?;
+    if words.is_explained || words.is_json {
+        return reasoned_refusal(alloc, words, bytes, fault, &line);
+    }
+    Ok(line)
+}
+
+/// An answer of that text.
+fn answered(accepted: bool, text: String) -> Answered
+    ensures { result ≡ answered accepted text }
+{
+    if accepted {
+        Answered::Done(text)
+    } else {
+        Answered::Refused(text)
+    }
+}
+
+/// Why the file of these bytes is no policy, with the reason, in words or as JSON.
+fn reasoned_refusal(
+    alloc: Global,
+    words: &CheckWords,
+    bytes: &[u8],
+    fault: PolicyFault,
+    line: &String,
+) -> Result<String, AllocError>
+    ensures { IfOk result (λ text. IsShown words.now false (string_bytes text)) }
+{
+    let file = &words.policy.file;
+    let reason = reason_of(alloc, bytes, fault)?;
+    let text = reasoned(alloc, file, &reason, line)?;
+    if words.is_json {
+        return reason_json(alloc, file, fault, &reason, text.as_str());
+    }
+    Ok(text)
+}
+
+/// An explanation, in words or as JSON.
+fn shown(
+    alloc: Global,
+    words: &CheckWords,
+    policy: &PolicySource,
+    explanation: &Explanation,
+) -> Result<String, AllocError>
+    ensures { IfOk result (λ text. IsShown words.now (is_accepted explanation.now.verdict) (string_bytes text)) }
+{
+    let file = &words.policy.file;
+    if words.is_json {
+        return explanation_json(alloc, file, policy, explanation);
+    }
+    explanation_text(alloc, policy, file_named(file), explanation)
+}

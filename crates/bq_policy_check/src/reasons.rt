@@ -1,0 +1,222 @@
+//! Why a file is no policy: the line that refuses it, and what is wrong, as a value and in words.
+ghost use Rattle.std.specs.Prelude.{◌≡◌, ◌≢◌, IfOk, OnOk, string_bytes};
+ghost use Rattle.bq_policy_check.specs.Refusing.{fault_line};
+ghost use Rattle.bq_policy_file.specs.declared.fault.PolicyFault.TheVariants.{OutOfMemory};
+
+use crate::image_words::{image_words, spelling_words};
+use crate::json_parts::{number_value, put_text};
+use crate::maps_words::maps_words;
+use bq_asm::Cause;
+use bq_explain::assembly_words;
+use bq_hooks::hook::{NO_HOOK, NO_VERSION};
+use bq_insn::fault::Cause as Spelling;
+use bq_policy_file::{HeadCause, Key, PolicyFault, SHAPES_FORM};
+use serde_json::{Map, Value, put};
+use std::alloc::{AllocError, Global};
+
+/// What is said of a text that tells no hook.
+pub const HOOK_UNSAID: &str = "the hook is not said: write a line ;@ hook place in the text's head";
+
+/// The line that refuses the file. If memory ran out, that is handed on.
+pub fn fault_line(alloc: Global, fault: PolicyFault) -> Result<String, AllocError>
+    ensures line { IfOk result (λ text. string_bytes text ≡ fault_line fault) }
+    ensures other { OnOk result (fault ≢ OutOfMemory) }
+{
+    match fault {
+        PolicyFault::OutOfMemory => Err(AllocError),
+        fault => format!(in alloc; "refused {fault}\n"),
+    }
+}
+
+/// What is wrong with a file: where, if it is at a place of it, and why.
+#[derive(Drop)]
+pub struct Reason {
+    /// The line, counted from 1.
+    pub line: Option<usize>,
+    /// The slot of an instruction.
+    pub slot: Option<usize>,
+    pub why: String,
+}
+
+/// Of the whole file.
+fn whole(why: String) -> Reason {
+    Reason {
+        line: None,
+        slot: None,
+        why,
+    }
+}
+
+/// Of that line.
+fn at_line(line: usize, why: String) -> Reason {
+    Reason {
+        line: Some(line),
+        slot: None,
+        why,
+    }
+}
+
+/// What is wrong with the file of these bytes.
+pub(crate) fn reason_of(
+    alloc: Global,
+    bytes: &[u8],
+    fault: PolicyFault,
+) -> Result<Reason, AllocError> {
+    match fault {
+        PolicyFault::Text => plain(alloc, "the file is no UTF-8 text"),
+        PolicyFault::Hex => plain(alloc, "the file begins as hex does, and is none"),
+        PolicyFault::Head { line, cause } => head_reason(alloc, bytes, line, cause),
+        PolicyFault::Assembly { line, cause } => assembly_reason(alloc, bytes, line, cause),
+        PolicyFault::Image(fault) => plain(alloc, image_words(fault)),
+        PolicyFault::Program { slot, cause } => {
+            let why = String::from_str(alloc, spelling_words(cause))?;
+            Ok(Reason {
+                line: None,
+                slot: Some(slot),
+                why,
+            })
+        }
+        PolicyFault::Disagrees(key) => Ok(whole(difference_words(alloc, key)?)),
+        PolicyFault::NoHook => Ok(whole(format!(in alloc; "{HOOK_UNSAID}, or give --hook place")?)),
+        PolicyFault::OutOfMemory => Err(AllocError),
+    }
+}
+
+/// Of the whole file, in these words.
+fn plain(alloc: Global, why: &str) -> Result<Reason, AllocError> {
+    Ok(whole(String::from_str(alloc, why)?))
+}
+
+/// What is wrong with the file of these bytes, by its line or slot where it has one.
+pub fn fault_reason(alloc: Global, bytes: &[u8], fault: PolicyFault) -> Result<String, AllocError> {
+    let reason = reason_of(alloc, bytes, fault)?;
+    reason_text(alloc, None, &reason)
+}
+
+/// The reason behind the file's name, if there is one: `p.s line 3: why`, `p.s: why`.
+pub(crate) fn reason_text(
+    alloc: Global,
+    name: Option<&str>,
+    reason: &Reason,
+) -> Result<String, AllocError> {
+    let at = place_text(alloc, reason)?;
+    let why = reason.why.as_str();
+    match name {
+        Some(name) if at.is_empty() => format!(in alloc; "{name}: {why}"),
+        Some(name) => format!(in alloc; "{name} {at}: {why}"),
+        None if at.is_empty() => String::from_str(alloc, why),
+        None => format!(in alloc; "{at}: {why}"),
+    }
+}
+
+/// Where it is; nothing of the whole file.
+fn place_text(alloc: Global, reason: &Reason) -> Result<String, AllocError> {
+    match (reason.line, reason.slot) {
+        (Some(line), _) => format!(in alloc; "line {line}"),
+        (None, Some(slot)) => format!(in alloc; "slot {slot}"),
+        (None, None) => Ok(String::new(alloc)),
+    }
+}
+
+/// What is told of it as JSON, beside the prose.
+pub(crate) fn fields_of_reason(
+    alloc: Global,
+    fault: PolicyFault,
+    reason: &Reason,
+) -> Result<Map<String, Value>, AllocError> {
+    let mut fields = Map::new(alloc);
+    put_text(&mut fields, alloc, "stage", stage_of(fault))?;
+    let code = format!(in alloc; "{fault}")?;
+    put_text(&mut fields, alloc, "code", code.as_str())?;
+    put(&mut fields, alloc, "line", number_value(reason.line))?;
+    put(&mut fields, alloc, "slot", number_value(reason.slot))?;
+    put_text(&mut fields, alloc, "need", reason.why.as_str())?;
+    Ok(fields)
+}
+
+/// Which part of the program refuses the file.
+fn stage_of(fault: PolicyFault) -> &'static str {
+    match fault {
+        PolicyFault::Head { .. } => "head",
+        PolicyFault::Assembly { .. } => "assembler",
+        PolicyFault::Image(_) => "image",
+        PolicyFault::Program { .. } => "decoder",
+        PolicyFault::Text
+        | PolicyFault::Hex
+        | PolicyFault::Disagrees(_)
+        | PolicyFault::NoHook
+        | PolicyFault::OutOfMemory => "file",
+    }
+}
+
+/// What is wrong with words that say another thing than the file.
+fn difference_words(alloc: Global, key: Key) -> Result<String, AllocError> {
+    let key = key.word();
+    format!(in alloc; "--{key} says another {key} than the file")
+}
+
+/// What is wrong with a text that the assembler refuses there; line 0 stands for a text without instruction.
+fn assembly_reason(
+    alloc: Global,
+    bytes: &[u8],
+    line: usize,
+    cause: Cause,
+) -> Result<Reason, AllocError> {
+    let text = std::str::from_utf8(bytes).unwrap_or("");
+    let why = assembly_words(alloc, text, line, cause)?;
+    if line == 0 {
+        return Ok(whole(why));
+    }
+    Ok(at_line(line, why))
+}
+
+/// What is wrong with a line that begins with `;@`.
+fn head_reason(
+    alloc: Global,
+    bytes: &[u8],
+    line: usize,
+    cause: HeadCause,
+) -> Result<Reason, AllocError> {
+    if let HeadCause::Value(key) = cause {
+        if let Some(value) = last_word(bytes, line) {
+            return Ok(at_line(line, value_words(alloc, key, value)?));
+        }
+    }
+    let why = String::from_str(alloc, head_words(cause))?;
+    Ok(at_line(line, why))
+}
+
+/// What is wrong with what a line says of a key.
+fn value_words(alloc: Global, key: Key, value: &str) -> Result<String, AllocError> {
+    match key {
+        Key::Hook => format!(in alloc; "{value} {NO_HOOK}"),
+        Key::Maps => {
+            let why = maps_words(alloc, value)?;
+            format!(in alloc; "maps: {why}")
+        }
+        Key::Format => format!(in alloc; "{value} {NO_VERSION}"),
+    }
+}
+
+/// The last word of the line of that number, counted from 1.
+fn last_word(bytes: &[u8], number: usize) -> Option<&str> {
+    line_at(bytes, number)?.split_whitespace().last()
+}
+
+/// The line of that number, counted from 1.
+fn line_at(bytes: &[u8], number: usize) -> Option<&str> {
+    let text = std::str::from_utf8(bytes).ok()?;
+    text.lines().nth(number.checked_sub(1)?)
+}
+
+fn head_words(cause: HeadCause) -> &'static str {
+    match cause {
+        HeadCause::Unknown => {
+            "a line that begins with ;@ says one thing: ;@ hook place, ;@ maps 8:1,16:4 or ;@ format 2"
+        }
+        HeadCause::Value(Key::Hook) => NO_HOOK,
+        HeadCause::Value(Key::Maps) => SHAPES_FORM,
+        HeadCause::Value(Key::Format) => NO_VERSION,
+        HeadCause::Twice(_) => "this was said in a line before",
+    }
+}

@@ -1,7 +1,0 @@
-use Rattle.std.proofs.Common.{length}
-use Rattle.bq_words.specs.Words.{parts}
-use Rattle.bq_policy_commands.proofs.HelperLemmas.{ReadsOn}
-use Rattle.bq_policy_commands.proofs.limits.push_numbers.Given as goal
-
-abbrev pub invariant-loop-part : goal.invariant-loop-part
-invariant-loop-part l = ReadsOn (parts 44 l.text) (length l.yielded) l.numbers.items
