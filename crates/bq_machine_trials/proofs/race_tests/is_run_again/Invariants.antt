@@ -1,4 +1,4 @@
-use Rattle.bq_races.proofs.race_tests.is_run_again.Given as goal
+use Rattle.bq_machine_trials.proofs.race_tests.is_run_again.Given as goal
 
 abbrev pub ghosts-race_under-N-Naming : goal.ghosts-race_under-N-Naming
 ghosts-race_under-N-Naming g a = record { table = a.prepared.0 }

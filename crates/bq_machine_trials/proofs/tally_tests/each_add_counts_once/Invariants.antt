@@ -1,4 +1,4 @@
-use Rattle.bq_races.proofs.tally_tests.each_add_counts_once.Given as goal
+use Rattle.bq_machine_trials.proofs.tally_tests.each_add_counts_once.Given as goal
 
 abbrev pub ghosts-told : goal.ghosts-told
 ghosts-told g a = record { counters = a.unnamed.0 }

@@ -17,14 +17,14 @@ use Rattle.bq_history.specs.contracts.shared_state.Receipt as Receipt
 use Rattle.bq_history.proofs.shared_state.Receipt.TheSendSync as receipt
 use Rattle.bq_shared.specs.contracts.record.Record as Record
 use Rattle.bq_shared.proofs.SendLemmas.{record_send}
-use Rattle.bq_races.specs.contracts.script.Job as Job
-use Rattle.bq_races.specs.contracts.script.Played as Played
-use Rattle.bq_races.proofs.gate.Gate.TheSendSync as gate
-use Rattle.bq_races.specs.contracts.held_queue.HeldQueue as Held
-use Rattle.bq_races.specs.contracts.held_queue.HeldQueueRunQueue.TheImpl as held
-use Rattle.bq_races.specs.contracts.counting_clock.CountingClock as Counted
-use Rattle.bq_races.specs.contracts.counting_clock.CountingClockClock.TheImpl as clock
-use Rattle.bq_races.proofs.script.play_all.Goals as goal
+use Rattle.bq_machine_trials.specs.contracts.script.Job as Job
+use Rattle.bq_machine_trials.specs.contracts.script.Played as Played
+use Rattle.bq_machine_trials.proofs.gate.Gate.TheSendSync as gate
+use Rattle.bq_machine_trials.specs.contracts.held_queue.HeldQueue as Held
+use Rattle.bq_machine_trials.specs.contracts.held_queue.HeldQueueRunQueue.TheImpl as held
+use Rattle.bq_machine_trials.specs.contracts.counting_clock.CountingClock as Counted
+use Rattle.bq_machine_trials.specs.contracts.counting_clock.CountingClockClock.TheImpl as clock
+use Rattle.bq_machine_trials.proofs.script.play_all.Goals as goal
 
 held_send : IsSend Held.the_row
 held_send = declared_send Held.the_type (cfs_queue_send, (search (gate.the_send, gate.the_sync, crosses, sendable) depth 40, tt))

@@ -10,8 +10,8 @@ use Rattle.bq_par.proofs.SeatLemmas.{seat_send}
 use Rattle.bq_par.proofs.SharingLemmas.{machine_sync}
 use Rattle.bq_history.specs.declared.law.Naming as Naming
 use Rattle.bq_shared.specs.declared.account.Counting as Counting
-use Rattle.bq_races.specs.contracts.drawn.Racer as Racer
-use Rattle.bq_races.proofs.race_tests.race_under.Goals as goal
+use Rattle.bq_machine_trials.specs.contracts.drawn.Racer as Racer
+use Rattle.bq_machine_trials.proofs.race_tests.race_under.Goals as goal
 
 metronome_sync : IsSync Metronome.the_row
 metronome_sync = search (crosses, sendable) depth 20

@@ -1,4 +1,4 @@
-use Rattle.bq_races.proofs.one_seat_tests.one_seat_is_answered.Given as goal
+use Rattle.bq_machine_trials.proofs.one_seat_tests.one_seat_is_answered.Given as goal
 
 abbrev pub ghosts-rows-N-Naming : goal.ghosts-rows-N-Naming
 ghosts-rows-N-Naming g a = record { table = a.prepared.0 }

@@ -1,4 +1,4 @@
-use Rattle.bq_races.proofs.script.run_script.Given as goal
+use Rattle.bq_machine_trials.proofs.script.run_script.Given as goal
 
 abbrev pub ghosts-play_all-N-Naming : goal.ghosts-play_all-N-Naming
 ghosts-play_all-N-Naming g a = record { table = a.prepared.0 }
