@@ -1,5 +1,4 @@
 //! Programs and policies as bytes, as hex and as text: what `asm`, `dis` and `check` answer, and a policy's file.
-//!
 //! A policy's file is an image, its hex, or an assembler text that says in marks what it is. A mark is a line that begins
 //! with `;@`, a comment to the assembler: `;@ hook place`, `;@ maps 8:1,16:4`, `;@ format 2`. `read_policy` tells the three
 //! apart by their first bytes, and refuses a file that disagrees with what was asked for. `policy_text` writes such a text,

@@ -1,7 +1,7 @@
 //! How an event of the world comes into the history that many callers share: under the locks of the parts that it touches,
 //! its share is done, and its record and its receipt are made.
 //! Promises that each call records the event that it is asked for, and that the seat's receipts grow by just its own.
-//! Stands on bq_shared for the law and the cells, and on bq_shared for commits and counters.
+//! Stands on bq_shared for the law, the cells, the seats and the counters.
 #![tactic(auto)]
 
 pub mod closed;
