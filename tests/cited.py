@@ -1,0 +1,141 @@
+#!/usr/bin/env python3
+"""The names that pages cite stand in the sources.
+
+    tests/cited.py        says what is not found, and how many names it read; exit status 0: all are found
+
+In docs/promises/ each item of a list is a promise, and ends with a line of names in backticks: definitions, then ` · `, then the calls
+and laws whose contracts cite them. An item below a heading that begins with "Only tested" or "Not claimed" has no such line. A
+definition is found in a specs/ folder; a call, a law or a type in a src/ folder. A name that stands in several crates is written with
+its crate, as `bq_load::load`; one with a slash is a path below crates/. The words after "clause" or "clauses" are names of clauses.
+
+In all pages of docs/ each path that begins with a crate's name is there; and in the pages of NAMES so is each `Type::call`.
+"""
+import re
+import sys
+from collections import defaultdict
+from pathlib import Path
+
+TOP = Path(__file__).resolve().parent.parent
+NAMES = ["docs/ARCHITECTURE.md", "docs/DECISIONS.md", "docs/PROVING.md"]
+UNPROVED = ("Only tested", "Not claimed")
+
+DEFINED = re.compile(r"(?m)^ *(?:abbrev )?pub (?:abbrev |record |data )*([^\s:(]+)")
+ITEM = re.compile(r"\b(?:fn|struct|enum|trait|type|const|mod)\s+(\w+)")
+CLAUSE = re.compile(r"\bensures ([\w']+) \{")
+
+
+def names_in(pattern, folder, ending):
+    """Which crates have each name, trials left out."""
+    found = defaultdict(set)
+    for path in sorted(TOP.glob(f"crates/*/{folder}/**/*{ending}")):
+        crate = path.relative_to(TOP / "crates").parts[0]
+        if not crate.endswith("_trials"):
+            for name in pattern.findall(path.read_text(encoding="utf-8")):
+                found[name].add(crate)
+    return found
+
+
+DEFINITIONS = names_in(DEFINED, "specs", ".antt")
+ITEMS = names_in(ITEM, "src", ".rt")
+CLAUSES = names_in(CLAUSE, "src", ".rt")
+CRATES = {path.name for path in (TOP / "crates").iterdir()}
+
+
+def path_wrong(name):
+    return "" if (TOP / "crates" / name.removeprefix("crates/")).exists() else "no such path"
+
+
+def name_wrong(name, known):
+    """What is wrong with a cited name; nothing where exactly one crate has it, or the crate that is written before it."""
+    if "/" in name:
+        return path_wrong(name)
+    parts = name.split("::")
+    crate = parts.pop(0) if parts[0] in CRATES else None
+    crates = set.intersection(*(known.get(part, set()) for part in parts)) if parts else CRATES
+    if not crates:
+        return "not found"
+    if crate:
+        return "" if crate in crates else f"stands in {', '.join(sorted(crates))}"
+    return "" if len(crates) == 1 else f"stands in {', '.join(sorted(crates))}: write the crate before it"
+
+
+def items(lines):
+    """The items of lists: the heading above, the number of the first line, and the lines."""
+    heading, first, item = "", 0, []
+    for number, line in enumerate([*lines, ""], 1):
+        if item and not line.startswith("  "):
+            yield heading, first, item
+            item = []
+        if line.startswith("#"):
+            heading = line.lstrip("# ")
+        elif line.startswith("- "):
+            first, item = number, [line]
+        elif item:
+            item.append(line)
+
+
+def cited_line(item):
+    """The definitions, the calls and the clauses of a promise's last lines; None where it has no such line."""
+    start = next((at for at, line in enumerate(item) if re.match(r"  (?:·|`|clause)", line)), None)
+    if start is None:
+        return None
+    text = " ".join(line.strip() for line in item[start:])
+    definitions, dot, calls = text.partition("·")
+    if not dot or re.sub(r"`[^`]+`|\bclauses?\b|[,\s]", "", definitions + calls):
+        return None
+    before, _, clauses = definitions.partition("clause")
+    return [re.findall(r"`([^`]+)`", part) for part in (before, calls, clauses)]
+
+
+def promises():
+    """What is wrong in docs/promises/, and how many names stand there."""
+    count, wrong = 0, []
+    for page in sorted(TOP.glob("docs/promises/*.md")):
+        for heading, number, item in items(page.read_text(encoding="utf-8").split("\n")):
+            where = f"{page.relative_to(TOP)}:{number}"
+            cited = cited_line(item)
+            if heading.startswith(UNPROVED):
+                continue
+            if cited is None or not cited[1]:
+                wrong.append(f"{where}: this promise does not end with its definitions, a dot and its calls")
+                continue
+            for names, known in zip(cited, (DEFINITIONS, ITEMS, None)):
+                count += len(names)
+                for name in names:
+                    why = name_wrong(name, known) if known is not None else "" if name in CLAUSES else "no such clause"
+                    if why:
+                        wrong.append(f"{where}: {name}: {why}")
+    return count, wrong
+
+
+def pages():
+    """The same of what all pages name: paths of crates, and in some pages calls of types."""
+    count, wrong = 0, []
+    for page in sorted(TOP.glob("docs/**/*.md")):
+        name = str(page.relative_to(TOP))
+        for number, line in enumerate(page.read_text(encoding="utf-8").split("\n"), 1):
+            for span in re.findall(r"`([^`]+)`", line):
+                why = ""
+                if re.fullmatch(r"(?:crates/)?bq\w+/[\w/.]+", span) and span.removeprefix("crates/").split("/")[0] in CRATES:
+                    count, why = count + 1, path_wrong(span)
+                elif name in NAMES and re.fullmatch(r"(?:\w+::)+\w+", span):
+                    parts = [part for part in span.split("::") if part not in CRATES]
+                    count, why = count + 1, "" if all(part in ITEMS or part in VARIANTS for part in parts) else "not found"
+                elif name in NAMES and re.fullmatch(r"bq_\w+", span):
+                    count, why = count + 1, "" if span in CRATES else "no such crate"
+                if why:
+                    wrong.append(f"{name}:{number}: {span}: {why}")
+    return count, wrong
+
+
+VARIANTS = names_in(re.compile(r"(?m)^ +(?:pub )?([A-Z]\w*)(?:\(|,| \{)"), "src", ".rt")
+
+
+def main():
+    (first, wrong), (second, also) = promises(), pages()
+    print("\n".join([*wrong, *also, f"{first} names of promises and {second} of pages read, {len(wrong) + len(also)} are wrong"]))
+    return 1 if wrong or also or not first else 0
+
+
+if __name__ == "__main__":
+    sys.exit(main())
