@@ -3,10 +3,11 @@
 
     tests/cited.py        says what is not found, and how many names it read; exit status 0: all are found
 
-In docs/promises/ each item of a list is a promise, and ends with a line of names in backticks: definitions, then ` · `, then the calls
-and laws whose contracts cite them. An item below a heading that begins with "Only tested" or "Not claimed" has no such line. A
-definition is found in a specs/ folder; a call, a law or a type in a src/ folder. A name that stands in several crates is written with
-its crate, as `bq_load::load`; one with a slash is a path below crates/. The words after "clause" or "clauses" are names of clauses.
+In docs/promises/ each item of a list is a promise, and ends with a line of names: definitions, and behind a colon the calls whose
+contracts cite them. Where no call is named each definition is a law, or the page's head names the call that carries it. Items below
+"Only tested" and "Not claimed" have no such line. A definition is found in a specs/ folder; a call or a type in a src/ folder. A name
+that stands in several crates is written with its crate, as `bq_load::load`; one with a slash is a path below crates/. The names after
+"clauses" are those of clauses.
 
 In all pages of docs/ each path that begins with a crate's name is there; and in the pages of NAMES so is each `Type::call`.
 """
@@ -22,6 +23,8 @@ UNPROVED = ("Only tested", "Not claimed")
 DEFINED = re.compile(r"(?m)^ *(?:abbrev )?pub (?:abbrev |record |data )*([^\s:(]+)")
 ITEM = re.compile(r"\b(?:fn|struct|enum|trait|type|const|mod)\s+(\w+)")
 CLAUSE = re.compile(r"\bensures ([\w']+) \{")
+LAW = re.compile(r"\bensures \{ (\w+)(?: \w+)? \}")
+CARRIED = "Where no call is named, `"
 
 
 def names_in(pattern, folder, ending):
@@ -38,6 +41,7 @@ def names_in(pattern, folder, ending):
 DEFINITIONS = names_in(DEFINED, "specs", ".antt")
 ITEMS = names_in(ITEM, "src", ".rt")
 CLAUSES = names_in(CLAUSE, "src", ".rt")
+LAWS = names_in(LAW, "src", "laws.rt")
 CRATES = {path.name for path in (TOP / "crates").iterdir()}
 
 
@@ -76,35 +80,40 @@ def items(lines):
 
 def cited_line(item):
     """The definitions, the calls and the clauses of a promise's last lines; None where it has no such line."""
-    start = next((at for at, line in enumerate(item) if re.match(r"  (?:·|`|clause)", line)), None)
+    start = next((at for at, line in enumerate(item) if re.match(r"  (?:`|clauses )", line)), None)
     if start is None:
         return None
     text = " ".join(line.strip() for line in item[start:])
-    definitions, dot, calls = text.partition("·")
-    if not dot or re.sub(r"`[^`]+`|\bclauses?\b|[,\s]", "", definitions + calls):
+    if re.sub(r"`[^`]+`:?|\bclauses\b|[,\s]", "", text):
         return None
-    before, _, clauses = definitions.partition("clause")
-    return [re.findall(r"`([^`]+)`", part) for part in (before, calls, clauses)]
+    definitions, _, calls = text.partition("`: ")
+    definitions, _, clauses = (definitions + "`" if calls else definitions).partition("clauses")
+    return [re.findall(r"`([^`]+)`", part) for part in (definitions, calls, clauses)]
+
+
+def item_wrong(cited, carried):
+    """What is wrong with the names of a promise."""
+    if cited is None:
+        return ["this promise does not end with the names behind it"]
+    definitions, calls, clauses = cited
+    wrong = [f"{name}: {why}" for name in definitions if (why := name_wrong(name, DEFINITIONS))]
+    wrong += [f"{name}: {why}" for name in calls if (why := name_wrong(name, ITEMS))]
+    wrong += [f"{name}: no such clause" for name in clauses if name not in CLAUSES]
+    if not calls and not carried:
+        wrong += [f"{name}: no law has this name, and no call is named" for name in definitions if name.split("::")[-1] not in LAWS]
+    return wrong
 
 
 def promises():
     """What is wrong in docs/promises/, and how many names stand there."""
     count, wrong = 0, []
     for page in sorted(TOP.glob("docs/promises/*.md")):
-        for heading, number, item in items(page.read_text(encoding="utf-8").split("\n")):
-            where = f"{page.relative_to(TOP)}:{number}"
-            cited = cited_line(item)
-            if heading.startswith(UNPROVED):
-                continue
-            if cited is None or not cited[1]:
-                wrong.append(f"{where}: this promise does not end with its definitions, a dot and its calls")
-                continue
-            for names, known in zip(cited, (DEFINITIONS, ITEMS, None)):
-                count += len(names)
-                for name in names:
-                    why = name_wrong(name, known) if known is not None else "" if name in CLAUSES else "no such clause"
-                    if why:
-                        wrong.append(f"{where}: {name}: {why}")
+        text = page.read_text(encoding="utf-8")
+        for heading, number, item in items(text.split("\n")):
+            if not heading.startswith(UNPROVED):
+                cited = cited_line(item)
+                count += sum(map(len, cited or []))
+                wrong += [f"{page.relative_to(TOP)}:{number}: {why}" for why in item_wrong(cited, CARRIED in text)]
     return count, wrong
 
 

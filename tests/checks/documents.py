@@ -46,7 +46,7 @@ class Command:
 
 def pages():
     top = Path(TOP)
-    found = [top / "README.md", *sorted(top.glob("docs/*.md")), *sorted(top.glob("*/README.md"))]
+    found = [top / "README.md", *sorted(top.glob("docs/**/*.md")), *sorted(top.glob("*/README.md"))]
     return [str(page.relative_to(top)) for page in found]
 
 

@@ -27,6 +27,7 @@ SOURCES = [
     "tests/one_place.py",
     "tests/long_functions.py",
     "tests/lemmas.py",
+    "tests/cited.py",
     "tests/examples.py",
     "tests/pictures.py",
     "tests/more_edits.py --texts",
