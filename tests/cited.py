@@ -9,7 +9,8 @@ contracts cite them. Where no call is named each definition is a law, or the pag
 that stands in several crates is written with its crate, as `bq_load::load`; one with a slash is a path below crates/. The names after
 "clauses" are those of clauses.
 
-In all pages of docs/ each path that begins with a crate's name is there; and in the pages of NAMES so is each `Type::call`.
+In all pages of docs/ each path that begins with a crate's name is there. So is, in the pages of NAMES, each crate, each `Type::call`, and each
+path below `src/` or `specs/` in a crate of the same line.
 """
 import re
 import sys
@@ -123,13 +124,17 @@ def pages():
     for page in sorted(TOP.glob("docs/**/*.md")):
         name = str(page.relative_to(TOP))
         for number, line in enumerate(page.read_text(encoding="utf-8").split("\n"), 1):
-            for span in re.findall(r"`([^`]+)`", line):
+            spans = re.findall(r"`([^`]+)`", line)
+            crates = [crate for span in spans if (crate := span.split("/")[0]) in CRATES]
+            for span in spans:
                 why = ""
                 if re.fullmatch(r"(?:crates/)?bq\w+/[\w/.]+", span) and span.removeprefix("crates/").split("/")[0] in CRATES:
                     count, why = count + 1, path_wrong(span)
                 elif name in NAMES and re.fullmatch(r"(?:\w+::)+\w+", span):
                     parts = [part for part in span.split("::") if part not in CRATES]
                     count, why = count + 1, "" if all(part in ITEMS or part in VARIANTS for part in parts) else "not found"
+                elif name in NAMES and crates and re.fullmatch(r"(?:src|specs)/[\w/.]+", span):
+                    count, why = count + 1, "" if any(not path_wrong(f"{crate}/{span}") for crate in crates) else "no such path"
                 elif name in NAMES and re.fullmatch(r"bq_\w+", span):
                     count, why = count + 1, "" if span in CRATES else "no such crate"
                 if why:
