@@ -29,6 +29,7 @@ SOURCES = [
     "tests/lemmas.py",
     "tests/examples.py",
     "tests/pictures.py",
+    "tests/style.py",
     "tests/more_edits.py --texts",
 ]
 
