@@ -16,13 +16,13 @@ from pathlib import Path
 
 from .runs import TOP, Answer, Failed, cut, difference, read
 
-TREE = ["README.md", "CHANGELOG.md", "LICENSE", "docs", "examples", "policies", "prebuilt", "studies", "tests", "workloads"]
+TREE = ["README.md", "CHANGELOG.md", "CONTRIBUTING.md", "LICENSE", "docs", "examples", "policies", "prebuilt", "studies", "tests", "workloads"]
 
 # What is not run, by how it begins, and why.
 SKIPPED = [
     (r"rt |\./test|\./bqsim --(prove|build)|tools/", "proves and builds all, or is this very test"),
     (r"clang-19 |llvm-objcopy-19 ", "needs clang 19"),
-    (r"\./bqsim (import|asm) --hook preempt .*turns\.", "reads what clang compiles"),
+    (r"\./bqsim (import|asm|check|simulate) .*turns\.", "reads what clang compiles"),
     (r"studies/policies/run_all\.sh ", "takes GNU parallel, for 1,600 runs"),
     (r"studies/policies/gather\.py ", "reads the answers of those 1,600 runs"),
     (r"sbatch ", "needs Slurm"),
@@ -46,7 +46,7 @@ class Command:
 
 def pages():
     top = Path(TOP)
-    found = [top / "README.md", *sorted(top.glob("docs/**/*.md")), *sorted(top.glob("*/README.md"))]
+    found = [top / "README.md", top / "CONTRIBUTING.md", *sorted(top.glob("docs/**/*.md")), *sorted(top.glob("*/README.md"))]
     return [str(page.relative_to(top)) for page in found]
 
 

@@ -30,6 +30,7 @@ SOURCES = [
     "tests/cited.py",
     "tests/examples.py",
     "tests/pictures.py",
+    "tests/style.py",
     "tests/more_edits.py --texts",
 ]
 
