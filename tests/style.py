@@ -22,14 +22,10 @@ PARAGRAPH, CELL = 90, 200  # the most words of a paragraph, the most characters 
 
 # Pages that have faults still. Take a page off when it has none.
 NOT_YET = [
-    "docs/ARCHITECTURE.md",
     "docs/ASSEMBLER.md",
-    "docs/BENCHMARKS.md",
-    "docs/DECISIONS.md",
     "docs/JSON.md",
     "docs/POLICIES.md",
     "docs/POLICIES_IN_C.md",
-    "docs/PROMISES.md",
     "docs/REFUSALS.md",
     "docs/TIMELINE.md",
     "docs/WORKLOADS.md",
