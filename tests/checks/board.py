@@ -49,10 +49,13 @@ class Board:
         return sum(self.passed.values()), sum(self.failed.values())
 
     def end(self):
-        """Says what was not run, and the sums; answers the exit status."""
+        """Says how many were not run and why, a line a reason, and the sums; answers the exit status."""
         self.clear()
+        names = {}
         for answer in sorted(self.skipped, key=lambda it: it.name):
-            print(f"not run, {answer.skipped}: {answer.name}")
+            names.setdefault(answer.skipped, []).append(answer.name)
+        for reason, skipped in names.items():
+            print(f"{len(skipped)} not run, {reason}: {', '.join(skipped[:3])}{', ..' if len(skipped) > 3 else ''}")
         passed, failed = self.sums()
         print(f"{passed} passed, {failed} failed", flush=True)
         return 1 if failed else 0
