@@ -27,7 +27,6 @@ NOT_YET = [
     "docs/POLICIES.md",
     "docs/POLICIES_IN_C.md",
     "docs/REFUSALS.md",
-    "docs/TIMELINE.md",
     "docs/WORKLOADS.md",
 ]
 
