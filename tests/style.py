@@ -24,7 +24,6 @@ PARAGRAPH, CELL = 90, 200  # the most words of a paragraph, the most characters 
 NOT_YET = [
     "docs/ASSEMBLER.md",
     "docs/JSON.md",
-    "docs/POLICIES.md",
     "docs/POLICIES_IN_C.md",
     "docs/REFUSALS.md",
     "docs/WORKLOADS.md",
