@@ -26,7 +26,6 @@ NOT_YET = [
     "docs/JSON.md",
     "docs/POLICIES_IN_C.md",
     "docs/REFUSALS.md",
-    "docs/WORKLOADS.md",
 ]
 
 # What a native reader stumbles over, and what to write instead.
