@@ -25,7 +25,6 @@ NOT_YET = [
     "docs/ASSEMBLER.md",
     "docs/JSON.md",
     "docs/POLICIES_IN_C.md",
-    "docs/REFUSALS.md",
 ]
 
 # What a native reader stumbles over, and what to write instead.
