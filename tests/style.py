@@ -23,7 +23,6 @@ PARAGRAPH, CELL = 90, 200  # the most words of a paragraph, the most characters 
 # Pages that have faults still. Take a page off when it has none.
 NOT_YET = [
     "docs/JSON.md",
-    "docs/POLICIES_IN_C.md",
 ]
 
 # What a native reader stumbles over, and what to write instead.
