@@ -22,13 +22,7 @@ PARAGRAPH, CELL = 90, 200  # the most words of a paragraph, the most characters 
 
 # Pages that have faults still. Take a page off when it has none.
 NOT_YET = [
-    "docs/ASSEMBLER.md",
     "docs/JSON.md",
-    "docs/POLICIES.md",
-    "docs/POLICIES_IN_C.md",
-    "docs/REFUSALS.md",
-    "docs/TIMELINE.md",
-    "docs/WORKLOADS.md",
 ]
 
 # What a native reader stumbles over, and what to write instead.
