@@ -10,7 +10,7 @@ use bq_cfs::CfsQueue;
 use bq_core::Core;
 use bq_disc::RunQueue;
 use bq_eevdf::EevdfQueue;
-use bq_hooks::Hook;
+use bq_hooks::{By, Hook};
 use bq_installed::Policy;
 use bq_load::load;
 use bq_parts::{Event, Refusal, Reply};
@@ -280,4 +280,50 @@ fn what_policies_add_stands_on_the_board(rt: HostRuntime) {
     let mut board = Plain::new();
     is_answered::<EevdfQueue, 1>(&rt, rt.alloc(), &BOARD_ROWS, &mut board, BOARD_LINES);
     is_number(&rt, board.read(3), 10);
+}
+
+/// How many ticks a long run of 20,000 events has, behind the four by which a task comes to the processor.
+const TICKS: u64 = 19_996;
+
+/// A task comes to a processor, which then ticks.
+fn long_events(rt: &impl Abort, alloc: Global) -> Vec<Event> {
+    let first = [
+        Told::Admit(1, 1, 3_000_000),
+        Told::BeginWake(1),
+        Told::EndWake(0),
+        Told::Drain(0),
+    ];
+    let mut events = events(rt, alloc, &first);
+    for _ in 0..TICKS {
+        events
+            .push(event(rt, alloc, Told::Tick(0)))
+            .expect(rt, "memory");
+    }
+    events
+}
+
+/// How many of the answers are those to ticks by which task 1 runs, by the rule.
+fn ticks(answers: &[Answer]) -> u64 {
+    let mut count = 0u64;
+    for answer in answers {
+        if let Ok(
+            Reply::Ticked {
+                run: Some(1),
+                by: By::Discipline,
+                steps: 0,
+            },
+        ) = answer
+        {
+            count = count.wrapping_add(1);
+        }
+    }
+    count
+}
+
+#[test]
+fn a_long_run_is_answered_to_its_end(rt: HostRuntime) {
+    let events = long_events(&rt, rt.alloc());
+    let answers = answers::<CfsQueue, 1>(&rt, rt.alloc(), events, &mut Plain::new());
+    is_number(&rt, answers.len() as u64, 20_000);
+    is_number(&rt, ticks(answers.as_slice()), TICKS);
 }
