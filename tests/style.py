@@ -1,7 +1,7 @@
 #!/usr/bin/env python3
 """Judges the pages that people read: long paragraphs, long table cells, phrases of a dialect, broken links, misspelt words.
 
-    tests/style.py [PAGE..]     each fault as `PAGE:LINE: what`; without pages, of all that are not in NOT_YET
+    tests/style.py [PAGE..]     each fault as `PAGE:LINE: what`; without pages, of all
     tests/style.py --count      the words on each page
     tests/style.py --words      the words that tests/words.txt does not have; read them, then add those that are right
 
@@ -20,10 +20,6 @@ from checks.runs import TOP, read
 
 PARAGRAPH, CELL = 90, 200  # the most words of a paragraph, the most characters of a table's cell
 
-# Pages that have faults still. Take a page off when it has none.
-NOT_YET = [
-    "docs/JSON.md",
-]
 
 # What a native reader stumbles over, and what to write instead.
 DIALECT = {
@@ -132,9 +128,9 @@ def main():
         print(__doc__.strip(), file=sys.stderr)
         return 2
     else:
-        judged = [os.path.relpath(it, TOP) if os.path.isabs(it) else it for it in asked] or [it for it in all_pages() if it not in NOT_YET]
+        judged = [os.path.relpath(it, TOP) if os.path.isabs(it) else it for it in asked] or all_pages()
         found = [f"{page}:{number}: {fault}" for page in judged for number, fault in faults(page)]
-        print(*found, f"{len(judged)} pages, {len(found)} faults; to come: {' '.join(NOT_YET) or 'none'}", sep="\n")
+        print(*found, f"{len(judged)} pages, {len(found)} faults", sep="\n")
         return 1 if found else 0
     return 0
 
