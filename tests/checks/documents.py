@@ -16,7 +16,7 @@ from pathlib import Path
 
 from .runs import TOP, Answer, Failed, cut, difference, read
 
-TREE = ["README.md", "CHANGELOG.md", "CONTRIBUTING.md", "LICENSE", "docs", "examples", "policies", "prebuilt", "studies", "tests", "workloads"]
+TREE = ["README.md", "CHANGELOG.md", "CONTRIBUTING.md", "SECURITY.md", "LICENSE", "docs", "examples", "policies", "prebuilt", "studies", "tests", "workloads"]
 
 # What is not run, by how it begins, and why.
 SKIPPED = [
@@ -46,7 +46,7 @@ class Command:
 
 def pages():
     top = Path(TOP)
-    found = [top / "README.md", top / "CONTRIBUTING.md", *sorted(top.glob("docs/**/*.md")), *sorted(top.glob("*/README.md"))]
+    found = [top / "README.md", top / "CONTRIBUTING.md", top / "SECURITY.md", *sorted(top.glob("docs/**/*.md")), *sorted(top.glob("*/README.md"))]
     return [str(page.relative_to(top)) for page in found]
 
 
