@@ -21,7 +21,7 @@ TOP = Path(__file__).resolve().parent.parent
 NAMES = ["docs/ARCHITECTURE.md", "docs/DECISIONS.md", "docs/PROVING.md"]
 UNPROVED = ("Only tested", "Not claimed")
 
-DEFINED = re.compile(r"(?m)^ *(?:abbrev )?pub (?:abbrev |record |data )*([^\s:(]+)")
+DEFINED = re.compile(r"(?m)^ *(?:unfoldable |abbrev )?pub (?:abbrev |record |data )*([^\s:(]+)")
 ITEM = re.compile(r"\b(?:fn|struct|enum|trait|type|const|mod)\s+(\w+)")
 CLAUSE = re.compile(r"\bensures ([\w']+) \{")
 LAW = re.compile(r"\bensures \{ (\w+)(?: \w+)? \}")

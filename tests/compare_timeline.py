@@ -5,7 +5,7 @@
     tests/compare_timeline.py BQSIM --near [TRACES [SEED]]   drawn histories of the discipline alone, and how near they come
 
 BQSIM is the path of the program. Of each trace `csv` must have the model's slices, `json` its figures of tasks and
-processors (times, waits, latencies, fair times and counts, to the nanosecond), and `report` its table of bounds. The second
+processors (times, waits, latencies, fair times and counts, to the nanosecond), and `report` its tables of latencies and of bounds. The second
 form draws ticks, wakes and blocks at processors where no policy stands, and says how much of the bounds was reached.
 
 `tests/quick.py` compares some of these. Last seen: 300 traces, 39,873 slices alike, the figures of `json` and the table of bounds too; of the second form 200 histories.
@@ -24,6 +24,10 @@ from model.scheduler import Eevdf, vdelta
 PARTS = 10**12
 
 
+def millis(time):
+    return f"{time // 10**6}.{time // 1000 % 1000:03}"
+
+
 class Figures:
     """Those of a task."""
 
@@ -33,7 +37,7 @@ class Figures:
         self.joined = self.settled = 0
         self.ran = self.waited = 0
         self.latencies = []
-        self.counts = dict.fromkeys(["wakes", "switches", "preemptions", "migrations"], 0)
+        self.counts = dict.fromkeys(["wakes", "switches", "preempted", "migrated"], 0)
 
 
 class Place:
@@ -139,14 +143,14 @@ class Watched:
         if was == now:
             return
         if was is not None and why == "preempted":
-            self.task(was).counts["preemptions"] += 1
+            self.task(was).counts["preempted"] += 1
             self.task(was).since = here.last
         self.ran[cpu] = now
         if now is None:
             return
         figures = self.task(now)
         figures.counts["switches"] += 1
-        figures.counts["migrations"] += figures.before not in (None, cpu)
+        figures.counts["migrated"] += figures.before not in (None, cpu)
         figures.waited += max(0, here.last - figures.since)
         if figures.woken is not None:
             figures.latencies.append(max(0, here.last - figures.woken))
@@ -222,11 +226,23 @@ class Watched:
     def csv(self):
         return "processor,task,from,to\n" + "".join(f"{','.join(map(str, each))}\n" for each in self.slices)
 
-    def json(self):
-        def rank(values, percent):
-            values = sorted(values)
-            return values[max(1, -(-percent * len(values) // 100)) - 1] if values else None
+    def percentiles(self, figures):
+        """The latencies' percentiles by nearest rank, by name; None of a task without a latency."""
+        values = sorted(figures.latencies)
+        ranks = {name: max(1, -(-percent * len(values) // 100)) for name, percent in [("p50", 50), ("p95", 95), ("p99", 99), ("max", 100)]}
+        return {name: values[rank - 1] if values else None for name, rank in ranks.items()}
 
+    def waits(self, number):
+        """How long a task has waited in all, and how long one waits that has not run since its last wake. A task waits still where it
+        is runnable at a processor and does not run there: till that processor's last reading."""
+        figures = self.task(number)
+        if figures.place is None or self.ran[figures.place] == number:
+            return figures.waited, None
+        last = self.world.processors[figures.place].last
+        still = None if figures.woken is None else max(0, last - figures.woken)
+        return figures.waited + max(0, last - figures.since), still
+
+    def json(self):
         def fair(figures):
             there = 0
             if figures.place is not None:
@@ -235,9 +251,9 @@ class Watched:
 
         tasks = [
             {
-                "task": number, "name": None, "nice": figures.nice, "weight": figures.weight, "ran": figures.ran,
-                "fair": fair(figures), "waited": figures.waited, "counts": figures.counts,
-                "latency": {name: rank(figures.latencies, percent) for name, percent in [("p50", 50), ("p95", 95), ("p99", 99), ("max", 100)]},
+                "task": number, "name": None, "nice": figures.nice, "weight": figures.weight, "cpu": figures.ran,
+                "fair": fair(figures), "counts": figures.counts, "latency": self.percentiles(figures),
+                **dict(zip(("waited", "still_waiting"), self.waits(number))),
             }
             for number, figures in sorted(self.tasks.items())
         ]  # fmt: skip
@@ -248,14 +264,20 @@ class Watched:
             }
             for number, (place, here) in enumerate(zip(self.places, self.world.processors))
         ]  # fmt: skip
-        return {"tasks": tasks, "processors": processors}
+        return {"schema": 1, "tasks": tasks, "processors": processors}
+
+    def latencies(self):
+        """The rows of the table of latencies, as words."""
+        rows = []
+        for number, figures in sorted(self.tasks.items()):
+            shown = ["-" if value is None else f"{value // 1000}.{value % 1000:03}" for value in self.percentiles(figures).values()]
+            still = self.waits(number)[1]
+            rows.append([str(number), str(figures.counts["wakes"]), *shown])
+            rows[-1] += [] if still is None else ["still", "waiting", millis(still), "ms"]
+        return rows
 
     def bounds(self):
         """The rows of the table, as words."""
-
-        def millis(time):
-            return f"{time // 10**6}.{time // 1000 % 1000:03}"
-
         rows = []
         for number, (place, here) in enumerate(zip(self.places, self.world.processors)):
             law = "ahead of the mean" if isinstance(here.rule, Eevdf) else "beyond the least"
@@ -324,10 +346,12 @@ def timeline(program, form, text):
     return done.stdout
 
 
-def table_of_bounds(report):
+def table(report, head):
+    """The rows of the table of a report whose head begins so, as words."""
     lines = report.splitlines()
-    heads = [at for at, line in enumerate(lines) if line.startswith("  cpu law ")]
-    return [line.split() for line in lines[heads[0] + 1 :]] if heads else []
+    heads = [at for at, line in enumerate(lines) if line.startswith(head)]
+    rows = lines[heads[0] + 1 :] if heads else []
+    return [line.split() for line in rows[: rows.index("") if "" in rows else None]]
 
 
 def compare(program, lines):
@@ -343,9 +367,10 @@ def compare(program, lines):
             if one != other:
                 raise SystemExit(leave(lines, f"json differs: the model has\n{one}\nthe program\n{other}"))
         raise SystemExit(leave(lines, "json differs"))
-    rows = table_of_bounds(timeline(program, "report", text))
-    if rows != ours.bounds():
-        raise SystemExit(leave(lines, f"bounds differ: the model has\n{ours.bounds()}\nthe program\n{rows}"))
+    report = timeline(program, "report", text)
+    for head, rows in ("  cpu law ", ours.bounds()), (" task name               wakes ", ours.latencies()):
+        if table(report, head) != rows:
+            raise SystemExit(leave(lines, f"the table{head}differs: the model has\n{rows}\nthe program\n{table(report, head)}"))
     return len(ours.slices), ours
 
 

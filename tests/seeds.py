@@ -23,8 +23,8 @@ TOP = Path(__file__).resolve().parent.parent
 DURATION = "40ms"
 OTHERS = {"place": TOP / "policies/keep_home.s", "preempt": TOP / "policies/run_to_the_end.s"}
 HEAD = "of,name,figure,unit,runs,mean,deviation,against_runs,against_mean,against_deviation,difference".split(",")
-TASK = [("cpu", "ran"), ("fair", "fair"), ("waited", "waited")]
-COUNTS = [("switches", "switches"), ("preempted", "preemptions"), ("migrated", "migrations"), ("wakes", "wakes")]
+TIMES = ["cpu", "fair", "waited"]
+COUNTS = ["switches", "preempted", "migrated", "wakes"]
 
 
 def run(program, *words):
@@ -40,9 +40,10 @@ def figures(program, words, seed):
     values = {}
     for task in told["tasks"]:
         of = f"task {task['task']}", task["name"] or ""
-        values |= {(*of, figure, "ns"): task[key] for figure, key in TASK}
-        values |= {(*of, figure, "1"): task["counts"][key] for figure, key in COUNTS}
-        values |= {(*of, figure, "ns"): (task["latency"] or {}).get(figure) for figure in ("p50", "p95", "p99", "max")}
+        values |= {(*of, figure, "ns"): task[figure] for figure in TIMES}
+        values |= {(*of, figure, "1"): task["counts"][figure] for figure in COUNTS}
+        values |= {(*of, figure, "ns"): task["latency"][figure] for figure in ("p50", "p95", "p99", "max")}
+        values[*of, "still_waiting", "ns"] = task["still_waiting"]
     for processor in told["processors"]:
         of = f"cpu {processor['processor']}"
         values |= {(of, "", figure, unit): processor[figure] for figure, unit in (("busy", "ns"), ("idle", "ns"), ("switches", "1"))}
@@ -92,7 +93,8 @@ def as_csv(told):
 
 def as_json(told):
     keys = "runs mean_thousandths deviation_thousandths against_runs against_mean_thousandths against_deviation_thousandths difference_thousandths".split()
-    return [dict(zip(["of", "name", "figure", "unit", *keys], [*figure, *ours, *theirs, difference])) for figure, ours, theirs, difference in told]
+    figures = [dict(zip(["of", "name", "figure", "unit", *keys], [*figure, *ours, *theirs, difference])) for figure, ours, theirs, difference in told]
+    return {"schema": 1, "figures": figures}
 
 
 def as_report(told, wide):

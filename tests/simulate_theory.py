@@ -41,7 +41,7 @@ def shares(program, rule):
     worst = 0
     for task, weight in zip(told(program, text)["tasks"], WEIGHTS.values()):
         due = duration * weight / sum(WEIGHTS.values())
-        worst = max(worst, abs(task["ran"] - due))
+        worst = max(worst, abs(task["cpu"] - due))
     if worst > 4 * 4 * MS:
         sys.exit(f"{rule}: a share is {worst / MS:.3f} ms off")
     print(f"{rule}: shares by weight, at most {worst / MS:.3f} ms of 10 s off")
@@ -63,7 +63,7 @@ def queue(program, rule):
     spent = visits = 0
     for seed in range(1, 5):
         for task in told(program, text, "--seed", str(seed))["tasks"]:
-            spent += task["ran"] + task["waited"]
+            spent += task["cpu"] + task["waited"]
             visits += task["counts"]["wakes"] - 1  # the first wake only begins to think
     mean, due = spent / visits / MS, repairman(sources, need, think)
     if abs(mean - due) > 0.05 * due:

@@ -20,10 +20,10 @@ def missing():
     late = mine["latency"]["p95"]
     if late is None or late > rule["latency"]["p95"] / 10:
         yield f"95 % of the editor's wakes wait up to {late} ns; wanted is a tenth of the rule's {rule['latency']['p95']}"
-    if mine["ran"] < rule["ran"]:
+    if mine["cpu"] < rule["cpu"]:
         yield f"the editor runs for {mine['ran']} ns; wanted is the rule's {rule['ran']}"
     for task in tasks("workloads/nice_values.toml", POLICY).values():
-        if task["ran"] < task["fair"] * 0.9:
+        if task["cpu"] < task["fair"] * 0.9:
             yield f"{task['name']} runs for {task['ran']} ns in nice_values; wanted is 90 % of its fair {task['fair']}"
 
 

@@ -27,9 +27,9 @@ def figures(answer):
     return {
         "latency": statistics.fmean(it["p99"] for it in latencies) / 1e3 if latencies else 0.0,
         "worst_latency": max((it["max"] for it in latencies), default=0) / 1e3,
-        "unfair": sum(abs(task["ran"] - task["fair"]) for task in tasks) / 1e6,
+        "unfair": sum(abs(task["cpu"] - task["fair"]) for task in tasks) / 1e6,
         "switches": sum(processor["switches"] for processor in processors),
-        "migrations": sum(task["counts"]["migrations"] for task in tasks),
+        "migrations": sum(task["counts"]["migrated"] for task in tasks),
         "overruled": sum(hook["overruled"] for hook in hooks),
     }
 

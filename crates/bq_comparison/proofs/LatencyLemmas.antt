@@ -50,5 +50,6 @@ pub IsValue-reordered : (s : Figures) (old new : Tasks) (f : Figure) (v : Option
 IsValue-reordered s old new (figure.Task id f) v kept h = h
 IsValue-reordered s old new (figure.Latency id f) v kept (sorted, same, order, is) =
     (sorted, IsPermutation-trans (latencies_of old id) (latencies_of new id) sorted (kept id) same, order, is)
+IsValue-reordered s old new (figure.StillWaiting id) v kept h = h
 IsValue-reordered s old new (figure.Processor processor f) v kept h = h
 IsValue-reordered s old new (figure.Hook processor at f) v kept h = h

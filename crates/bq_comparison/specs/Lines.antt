@@ -3,7 +3,7 @@ use Rattle.std.specs.Prelude.{◌≡◌, ℕ, ◌+◌, ◌==◌, ◌&&◌, ◌�
 use Rattle.std.specs.declared.vec.Vec.{Vec}
 use Rattle.std.proofs.Common.{Global}
 use Rattle.bq_comparison.specs.declared.naming.Figure.{Figure}
-use Rattle.bq_comparison.specs.declared.naming.Figure.TheVariants.{Task, Latency, Processor, Hook}
+use Rattle.bq_comparison.specs.declared.naming.Figure.TheVariants.{Task, Latency, StillWaiting, Processor, Hook}
 use Rattle.bq_comparison.specs.declared.summing.FigureRow.{FigureRow}
 use Rattle.bq_report.specs.declared.window.Window.{Window}
 use Rattle.bq_report.specs.Windows.{ShowsProcessor, ShowsTask}
@@ -33,6 +33,7 @@ says_nothing line = nothing_beside line.theirs (is_nothing line.ours.mean)
 abbrev pub IsShownAs : Window → FigureLine → Figure → Type 0
 IsShownAs w line (Task id f) = ShowsTask w id
 IsShownAs w line (Latency id percent) = ShowsTask w id
+IsShownAs w line (StillWaiting id) = ShowsTask w id
 IsShownAs w line (Processor processor f) = ShowsProcessor w processor
 IsShownAs w line (Hook processor at f) = ShowsProcessor w processor × (says_nothing line ≡ false)
 

@@ -5,7 +5,7 @@ use Rattle.bq_hooks.specs.declared.hook.Hook.{Hook}
 use Rattle.bq_hooks.specs.declared.hook.Hook.TheVariants as hook
 use Rattle.bq_comparison.specs.declared.all.MachineSize.{MachineSize}
 use Rattle.bq_comparison.specs.declared.naming.Figure.{Figure}
-use Rattle.bq_comparison.specs.declared.naming.Figure.TheVariants.{Task, Latency, Processor, Hook as AtHook}
+use Rattle.bq_comparison.specs.declared.naming.Figure.TheVariants.{Task, Latency, StillWaiting, Processor, Hook as AtHook}
 use Rattle.bq_comparison.specs.declared.naming.HookFigure.TheVariants.{Asked, Overruled, Steps}
 use Rattle.bq_comparison.specs.declared.naming.LatencyFigure.TheVariants as of_latency
 use Rattle.bq_comparison.specs.declared.naming.ProcessorFigure.TheVariants as of_processor
@@ -15,7 +15,8 @@ use Rattle.bq_comparison.specs.declared.naming.TaskFigure.TheVariants as of_task
 abbrev pub figures_of_task : ℕ → List Figure
 figures_of_task id =
     Task id of_task.Ran ∷ Task id of_task.Fair ∷ Task id of_task.Waited ∷ Task id of_task.Switches ∷ Task id of_task.Preemptions ∷ Task id of_task.Migrations
-    ∷ Task id of_task.Wakes ∷ Latency id of_latency.P50 ∷ Latency id of_latency.P95 ∷ Latency id of_latency.P99 ∷ Latency id of_latency.Greatest ∷ []
+    ∷ Task id of_task.Wakes ∷ Latency id of_latency.P50 ∷ Latency id of_latency.P95 ∷ Latency id of_latency.P99 ∷ Latency id of_latency.Greatest
+    ∷ StillWaiting id ∷ []
 
 -- of a hook at a processor
 abbrev pub figures_of_hook : ℕ → Hook → List Figure

@@ -4,6 +4,7 @@ use Rattle.std.specs.Ordering.{nat_cmp}
 use Rattle.bq_hooks.specs.declared.hook.Hook.{Hook}
 use Rattle.bq_hooks.specs.declared.hook.Hook.TheVariants as hook
 use Rattle.bq_report.specs.Columns.{nearest}
+use Rattle.bq_report.specs.Waits.{still_waiting, waited_in_all}
 use Rattle.bq_schedule.specs.declared.figures.HookFigures.{HookFigures}
 use Rattle.bq_schedule.specs.Figures.{Figures, processor_of, task_of}
 use Rattle.bq_schedule.specs.Passing.{idle_of}
@@ -24,7 +25,7 @@ use Rattle.bq_comparison.specs.declared.naming.TaskFigure.TheVariants as of_task
 abbrev pub task_value : Figures → ℕ → TaskFigure → ℕ
 task_value s id of_task.Ran = (task_of s id).time
 task_value s id of_task.Fair = nearest (fair_of s id)
-task_value s id of_task.Waited = (task_of s id).waited
+task_value s id of_task.Waited = waited_in_all s id
 task_value s id of_task.Switches = (task_of s id).switches
 task_value s id of_task.Preemptions = (task_of s id).preemptions
 task_value s id of_task.Migrations = (task_of s id).migrations
@@ -59,6 +60,7 @@ IsPercentile f xs v = (sorted : List ℕ) × IsPermutation xs sorted × IsSorted
 abbrev pub IsValue : Figures → Tasks → Figure → Option ℕ → Type 0
 IsValue s tasks (figure.Task id f) v = v ≡ Some (task_value s id f)
 IsValue s tasks (figure.Latency id f) v = IsPercentile f (latencies_of tasks id) v
+IsValue s tasks (figure.StillWaiting id) v = v ≡ still_waiting s id
 IsValue s tasks (figure.Processor processor f) v = v ≡ Some (processor_value s processor f)
 IsValue s tasks (figure.Hook processor at f) v = v ≡ Some (hook_value s processor at f)
 

@@ -27,7 +27,7 @@ pub fn all_figures(alloc: Global, size: MachineSize) -> Result<Vec<Figure>, Allo
     Ok(figures)
 }
 
-fn task_figures(task: u16) -> [Figure; 11]
+fn task_figures(task: u16) -> [Figure; 12]
     ensures { result ≡ figures_of_task task }
 {
     [
@@ -42,6 +42,7 @@ fn task_figures(task: u16) -> [Figure; 11]
         Figure::Latency(task, LatencyFigure::P95),
         Figure::Latency(task, LatencyFigure::P99),
         Figure::Latency(task, LatencyFigure::Greatest),
+        Figure::StillWaiting(task),
     ]
 }
 

@@ -8,14 +8,17 @@ use crate::line::FigureLine;
 use serde_json::{Map, Value, put};
 use std::alloc::{AllocError, Global};
 
-/// An array with an object a figure. Means, deviations and differences are whole thousandths of the unit. What is not there is
-/// null.
+/// The version of what the object holds. It changes if a key goes or means something else.
+const SCHEMA: u64 = 1;
+
+/// One object: `schema`, and `figures`, an array with an object a figure. Means, deviations and differences are whole
+/// thousandths of the unit. What is not there is null.
 pub(crate) fn json_text(
     alloc: Global,
     lines: &[FigureLine],
     names: &[String],
 ) -> Result<String, AllocError> {
-    let mut text = String::from_str(alloc, "[")?;
+    let mut text = format!(in alloc; "{{\"schema\":{SCHEMA},\"figures\":[")?;
     let mut is_first = true;
     for line in lines {
         let object = object(alloc, line, names)?.to_string(alloc)?;
@@ -23,7 +26,7 @@ pub(crate) fn json_text(
         text.push_str(object.as_str())?;
         is_first = false;
     }
-    text.push_str("\n]\n")?;
+    text.push_str("\n]}\n")?;
     Ok(text)
 }
 

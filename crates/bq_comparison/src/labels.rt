@@ -6,7 +6,9 @@ use std::alloc::{AllocError, Global};
 /// What a figure is of: `task 3`, `cpu 0` or `cpu 0 place`.
 pub(crate) fn subject(alloc: Global, figure: Figure) -> Result<String, AllocError> {
     match figure {
-        Figure::Task(task, _) | Figure::Latency(task, _) => format!(in alloc; "task {task}"),
+        Figure::Task(task, _) | Figure::Latency(task, _) | Figure::StillWaiting(task) => {
+            format!(in alloc; "task {task}")
+        }
         Figure::Processor(processor, _) => format!(in alloc; "cpu {processor}"),
         Figure::Hook(processor, hook, _) => {
             let hook = hook.word();
@@ -18,7 +20,7 @@ pub(crate) fn subject(alloc: Global, figure: Figure) -> Result<String, AllocErro
 /// The name of the task that a figure is of.
 pub(crate) fn name<'a>(figure: Figure, names: &'a [String]) -> &'a str {
     let task = match figure {
-        Figure::Task(task, _) | Figure::Latency(task, _) => task,
+        Figure::Task(task, _) | Figure::Latency(task, _) | Figure::StillWaiting(task) => task,
         _ => return "",
     };
     match names.get(usize::from(task)) {
@@ -32,6 +34,7 @@ pub(crate) fn word(figure: Figure) -> &'static str {
     match figure {
         Figure::Task(_, figure) => task_word(figure),
         Figure::Latency(_, figure) => latency_word(figure),
+        Figure::StillWaiting(_) => "still_waiting",
         Figure::Processor(_, ProcessorFigure::Busy) => "busy",
         Figure::Processor(_, ProcessorFigure::Idle) => "idle",
         Figure::Processor(_, ProcessorFigure::Switches) => "switches",
@@ -69,7 +72,7 @@ pub(crate) fn is_time(figure: Figure) -> bool {
             figure,
             TaskFigure::Ran | TaskFigure::Fair | TaskFigure::Waited
         ),
-        Figure::Latency(_, _) => true,
+        Figure::Latency(_, _) | Figure::StillWaiting(_) => true,
         Figure::Processor(_, figure) => {
             matches!(figure, ProcessorFigure::Busy | ProcessorFigure::Idle)
         }

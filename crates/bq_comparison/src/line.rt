@@ -22,6 +22,7 @@ impl FigureLine {
         match self.ours.figure {
             Figure::Task(task, _) => window.shows_task(task),
             Figure::Latency(task, _) => window.shows_task(task),
+            Figure::StillWaiting(task) => window.shows_task(task),
             Figure::Processor(processor, _) => window.shows_processor(processor),
             Figure::Hook(processor, _, _) => {
                 window.shows_processor(processor) && !self.says_nothing()

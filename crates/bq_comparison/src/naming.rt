@@ -9,7 +9,7 @@ pub enum TaskFigure {
     Ran,
     /// Its fair time.
     Fair,
-    /// The time that it waited.
+    /// The time that it waited, with a wait that goes on at the end.
     Waited,
     /// How often it began to run.
     Switches,
@@ -63,6 +63,8 @@ pub enum Figure {
     Task(u16, TaskFigure),
     /// A figure of a task's latencies.
     Latency(u16, LatencyFigure),
+    /// How long a task waits that has not run since its last wake, in nanoseconds.
+    StillWaiting(u16),
     /// A figure of a processor.
     Processor(u8, ProcessorFigure),
     /// A figure of a hook at a processor.

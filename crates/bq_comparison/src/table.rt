@@ -7,11 +7,12 @@ use crate::line::FigureLine;
 use std::alloc::{AllocError, Global};
 
 /// The head of a table without others.
-const HEAD: &str = "of             name            figure    unit          mean     deviation\n";
+const HEAD: &str =
+    "of             name            figure        unit          mean     deviation\n";
 
 /// The head of a table with others.
 const WIDE_HEAD: &str =
-    "of             name            figure    unit          mean     deviation       against     deviation    difference\n";
+    "of             name            figure        unit          mean     deviation       against     deviation    difference\n";
 
 /// A line a figure, below the head of a table with others or without. Times are in microseconds.
 pub(crate) fn table_text(
@@ -42,7 +43,7 @@ fn write_label(
     let name = name(figure, names);
     let word = word(figure);
     let unit = if is_time(figure) { "us" } else { "" };
-    write!(text, "{subject:<14} {name:<15.15} {word:<9} {unit:<4}")
+    write!(text, "{subject:<14} {name:<15.15} {word:<13} {unit:<4}")
 }
 
 /// Its means and deviations.

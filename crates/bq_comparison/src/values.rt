@@ -6,10 +6,11 @@ ghost use Rattle.bq_comparison.specs.Values.{AreReordered, IsPercentile, IsValue
 use crate::naming::{Figure, HookFigure, LatencyFigure, ProcessorFigure, TaskFigure};
 use bq_hooks::Hook;
 use bq_report::tables::nanoseconds;
+use bq_report::{still_waiting, waited_in_all};
 use bq_schedule::{Percentiles, Schedule, WakeLatencies};
 
-/// The value of a figure in a schedule in which tasks had these latencies. A latency of a task that had none has no value. It
-/// sorts the latencies of a task that the figure is a latency of.
+/// The value of a figure in a schedule in which tasks had these latencies. A latency of a task that had none has no value, nor
+/// has the wait of a task that has run since its last wake. It sorts the latencies of a task that the figure is a latency of.
 pub fn value_of(schedule: &Schedule, latencies: &mut WakeLatencies, figure: Figure) -> Option<u64>
     ensures value { IsValue schedule.now latencies.old figure result }
     ensures kept { AreReordered latencies.old latencies.new }
@@ -17,6 +18,7 @@ pub fn value_of(schedule: &Schedule, latencies: &mut WakeLatencies, figure: Figu
     match figure {
         Figure::Task(task, figure) => Some(task_value(schedule, task, figure)),
         Figure::Latency(task, figure) => latency_value(latencies, task, figure),
+        Figure::StillWaiting(task) => still_waiting(schedule, task),
         Figure::Processor(processor, figure) => Some(processor_value(schedule, processor, figure)),
         Figure::Hook(processor, hook, figure) => {
             Some(hook_value(schedule, processor, hook, figure))
@@ -31,7 +33,7 @@ fn task_value(schedule: &Schedule, task: u16, figure: TaskFigure) -> u64
     match figure {
         TaskFigure::Ran => figures.time,
         TaskFigure::Fair => nanoseconds(schedule.fair_time(task)),
-        TaskFigure::Waited => figures.waited,
+        TaskFigure::Waited => waited_in_all(schedule, task),
         TaskFigure::Switches => figures.switches,
         TaskFigure::Preemptions => figures.preemptions,
         TaskFigure::Migrations => figures.migrations,

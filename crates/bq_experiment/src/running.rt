@@ -90,6 +90,7 @@ fn viewed(
     let mut viewer = Viewer::new(alloc, settings);
     let above = tell_names(alloc, workload, &mut viewer)?;
     let mut later = Later { viewer, above };
-    simulate(alloc, workload, policies.loaded(), &mut later)?;
+    let tally = simulate(alloc, workload, policies.loaded(), &mut later)?;
+    later.viewer.count_missed(tally.missed);
     Ok(later.viewer)
 }

@@ -1,7 +1,8 @@
 //! Each form on a small trace, with its text worked out by hand.
 
 use crate::cases::holds;
-use crate::steps::{Step, shown_between, shows};
+use crate::steps::{Step, shown_all, shown_between, shows};
+use bq_hooks::By;
 use bq_report::{Csv, Json, Map, Names, Report, Timehist, Window};
 use std::alloc::{AllocError, Global};
 use std::process::Abort;
@@ -72,16 +73,16 @@ const TIMEHIST: &str = concat!(
 
 /// The keys of an object stand in their order as text.
 const JSON: &str = concat!(
-    "{\"tasks\":[\n",
-    "{\"counts\":{\"migrations\":0,\"preemptions\":1,\"switches\":2,\"wakes\":1},\"fair\":3500000,",
-    "\"latency\":{\"max\":0,\"p50\":0,\"p95\":0,\"p99\":0},\"name\":null,\"nice\":0,\"ran\":3000000,",
-    "\"task\":1,\"waited\":3000000,\"weight\":1024},\n",
-    "{\"counts\":{\"migrations\":0,\"preemptions\":0,\"switches\":1,\"wakes\":1},\"fair\":2500000,",
+    "{\"schema\":1,\"tasks\":[\n",
+    "{\"counts\":{\"migrated\":0,\"preempted\":1,\"switches\":2,\"wakes\":1},\"cpu\":3000000,\"fair\":3500000,",
+    "\"latency\":{\"max\":0,\"p50\":0,\"p95\":0,\"p99\":0},\"name\":null,\"nice\":0,",
+    "\"still_waiting\":null,\"task\":1,\"waited\":3000000,\"weight\":1024},\n",
+    "{\"counts\":{\"migrated\":0,\"preempted\":0,\"switches\":1,\"wakes\":1},\"cpu\":3000000,\"fair\":2500000,",
     "\"latency\":{\"max\":1000000,\"p50\":1000000,\"p95\":1000000,\"p99\":1000000},\"name\":null,",
-    "\"nice\":0,\"ran\":3000000,\"task\":2,\"waited\":1000000,\"weight\":1024},\n",
-    "{\"counts\":{\"migrations\":0,\"preemptions\":0,\"switches\":1,\"wakes\":1},\"fair\":1000000,",
+    "\"nice\":0,\"still_waiting\":null,\"task\":2,\"waited\":1000000,\"weight\":1024},\n",
+    "{\"counts\":{\"migrated\":0,\"preempted\":0,\"switches\":1,\"wakes\":1},\"cpu\":1000000,\"fair\":1000000,",
     "\"latency\":{\"max\":1000000,\"p50\":1000000,\"p95\":1000000,\"p99\":1000000},\"name\":\"server\",",
-    "\"nice\":5,\"ran\":1000000,\"task\":3,\"waited\":1000000,\"weight\":335}\n",
+    "\"nice\":5,\"still_waiting\":null,\"task\":3,\"waited\":1000000,\"weight\":335}\n",
     "],\"processors\":[\n",
     "{\"busy\":6000000,\"idle\":0,\"place\":{\"asked\":0,\"overruled\":0,\"steps\":0},",
     "\"preempt\":{\"asked\":0,\"overruled\":0,\"steps\":0},\"processor\":0,",
@@ -165,6 +166,94 @@ fn windows(rt: HostRuntime) -> Result<(), AllocError> {
     )?;
     shows(&rt, alloc, Map::new(alloc, part(alloc)?, 17), PART)?;
     shows(&rt, alloc, Map::new(alloc, third(alloc)?, 24), THIRD)
+}
+
+/// Task 2 is placed at 2 ms on processor 0, where task 1 runs till the last reading at 9.5 ms: it has not run since its wake. At
+/// processor 1 task 4 comes at 1 ms and is put in the place of task 3, which waits till the last reading at 5 ms: it has run since
+/// its wake.
+static WAITING: [Step; 14] = [
+    Step::Admitted(1, 0),
+    Step::Admitted(2, 0),
+    Step::Admitted(3, 0),
+    Step::Admitted(4, 0),
+    Step::Placed(0, 0, 1, 0),
+    Step::Drained(0, 0, 1, Some(1)),
+    Step::Placed(0, 2_000_000, 2, 0),
+    Step::Drained(0, 2_000_000, 1, Some(1)),
+    Step::Ticked(0, 9_500_000, Some(1), By::Discipline, 0),
+    Step::Placed(1, 0, 3, 1),
+    Step::Drained(1, 0, 1, Some(3)),
+    Step::Placed(1, 1_000_000, 4, 1),
+    Step::Drained(1, 1_000_000, 1, Some(4)),
+    Step::Ticked(1, 5_000_000, Some(4), By::Discipline, 0),
+];
+
+/// Eight wakes of a simulation found no task waiting.
+const STILL_WAITING: &str = concat!(
+    " task name            nice       cpu ms      fair ms switches preempted migrated\n",
+    "    1                   0        9.500        5.750        1         0        0\n",
+    "    2                   0        0.000        3.750        0         0        0\n",
+    "    3                   0        1.000        3.000        1         1        0\n",
+    "    4                   0        4.000        2.000        1         0        0\n",
+    "\n",
+    " task name               wakes      p50 us      p95 us      p99 us      max us\n",
+    "    1                        1       0.000       0.000       0.000       0.000\n",
+    "    2                        1           -           -           -           -",
+    "  still waiting 7.500 ms\n",
+    "    3                        1       0.000       0.000       0.000       0.000\n",
+    "    4                        1       0.000       0.000       0.000       0.000\n",
+    "\n",
+    "wakes that found no task waiting: 8\n",
+    "\n",
+    "  cpu  busy %      busy ms      idle ms switches\n",
+    "    0  100.00        9.500        0.000        1\n",
+    "    1  100.00        5.000        0.000        2\n",
+);
+
+/// Tasks 2 and 3 alone.
+const WAITING_JSON: &str = concat!(
+    "{\"schema\":1,\"tasks\":[\n",
+    "{\"counts\":{\"migrated\":0,\"preempted\":0,\"switches\":0,\"wakes\":1},\"cpu\":0,\"fair\":3750000,",
+    "\"latency\":{\"max\":null,\"p50\":null,\"p95\":null,\"p99\":null},\"name\":null,\"nice\":0,",
+    "\"still_waiting\":7500000,\"task\":2,\"waited\":7500000,\"weight\":1024},\n",
+    "{\"counts\":{\"migrated\":0,\"preempted\":1,\"switches\":1,\"wakes\":1},\"cpu\":1000000,\"fair\":3000000,",
+    "\"latency\":{\"max\":0,\"p50\":0,\"p95\":0,\"p99\":0},\"name\":null,\"nice\":0,",
+    "\"still_waiting\":null,\"task\":3,\"waited\":4000000,\"weight\":1024}\n",
+    "],\"processors\":[\n",
+    "],\"missed_wakes\":8}\n",
+);
+
+/// Tasks 2 and 3, and no processor.
+fn two_tasks(alloc: Global) -> Result<Window, AllocError> {
+    let mut window = Window::whole(alloc);
+    window.processors = 0;
+    window.tasks.push(2)?;
+    window.tasks.push(3)?;
+    Ok(window)
+}
+
+#[test]
+fn open_waits(rt: HostRuntime) -> Result<(), AllocError> {
+    let alloc = rt.alloc();
+    let mut report = Report::new(alloc, Window::whole(alloc));
+    report.count_missed(8);
+    let text = shown_all(alloc, report, &WAITING)?;
+    holds(
+        &rt,
+        text.as_str() == STILL_WAITING,
+        text.as_str(),
+        STILL_WAITING,
+    );
+    let mut json = Json::new(alloc, two_tasks(alloc)?);
+    json.count_missed(8);
+    let text = shown_all(alloc, json, &WAITING)?;
+    holds(
+        &rt,
+        text.as_str() == WAITING_JSON,
+        text.as_str(),
+        WAITING_JSON,
+    );
+    Ok(())
 }
 
 /// Task 4 runs 1 ms at processor 0, is pulled by processor 1 and runs there: it has migrated once.

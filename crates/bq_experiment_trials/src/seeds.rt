@@ -44,6 +44,7 @@ const CSV: &str = concat!(
     "task 1,b,p95,ns,2,4000000.000,0.000,2,6413185.000,578437.388,+2413185.000\n",
     "task 1,b,p99,ns,2,4000000.000,0.000,2,6413185.000,578437.388,+2413185.000\n",
     "task 1,b,max,ns,2,4000000.000,0.000,2,6413185.000,578437.388,+2413185.000\n",
+    "task 1,b,still_waiting,ns,0,,,0,,,\n",
     "cpu 0,,busy,ns,2,12874500.000,1111656.712,2,12874500.000,1111656.712,+0.000\n",
     "cpu 0,,idle,ns,2,0.000,0.000,2,0.000,0.000,+0.000\n",
     "cpu 0,,switches,1,2,3.000,0.000,2,2.000,0.000,-1.000\n",
@@ -52,46 +53,48 @@ const CSV: &str = concat!(
 );
 
 const REPORT: &str = concat!(
-    "of             name            figure    unit          mean     deviation\n",
-    "cpu 0                          busy      us       12874.500      1111.656\n",
-    "cpu 0                          idle      us           0.000         0.000\n",
-    "cpu 0                          switches               3.000         0.000\n",
+    "of             name            figure        unit          mean     deviation\n",
+    "cpu 0                          busy          us       12874.500      1111.656\n",
+    "cpu 0                          idle          us           0.000         0.000\n",
+    "cpu 0                          switches                   3.000         0.000\n",
 );
 
 const WIDE_HEAD: &str = concat!(
-    "of             name            figure    unit          mean     deviation       against ",
+    "of             name            figure        unit          mean     deviation       against ",
     "    deviation    difference\n",
 );
 
 const WIDE_REPORT: &str = concat!(
-    "of             name            figure    unit          mean     deviation       against ",
+    "of             name            figure        unit          mean     deviation       against ",
     "    deviation    difference\n",
-    "task 1         b               cpu       us        6084.272             -      6084.272 ",
+    "task 1         b               cpu           us        6084.272             -      6084.272 ",
     "            -        +0.000\n",
-    "task 1         b               fair      us        5042.136             -      9086.356 ",
+    "task 1         b               fair          us        5042.136             -      9086.356 ",
     "            -     +4044.220\n",
-    "task 1         b               waited    us        4000.000             -      6004.168 ",
+    "task 1         b               waited        us        4000.000             -      6004.168 ",
     "            -     +2004.168\n",
-    "task 1         b               switches               1.000             -         1.000 ",
+    "task 1         b               switches                   1.000             -         1.000 ",
     "            -        +0.000\n",
-    "task 1         b               preempted              0.000             -         0.000 ",
+    "task 1         b               preempted                  0.000             -         0.000 ",
     "            -        +0.000\n",
-    "task 1         b               migrated               0.000             -         0.000 ",
+    "task 1         b               migrated                   0.000             -         0.000 ",
     "            -        +0.000\n",
-    "task 1         b               wakes                  1.000             -         1.000 ",
+    "task 1         b               wakes                      1.000             -         1.000 ",
     "            -        +0.000\n",
-    "task 1         b               p50       us        4000.000             -      6004.168 ",
+    "task 1         b               p50           us        4000.000             -      6004.168 ",
     "            -     +2004.168\n",
-    "task 1         b               p95       us        4000.000             -      6004.168 ",
+    "task 1         b               p95           us        4000.000             -      6004.168 ",
     "            -     +2004.168\n",
-    "task 1         b               p99       us        4000.000             -      6004.168 ",
+    "task 1         b               p99           us        4000.000             -      6004.168 ",
     "            -     +2004.168\n",
-    "task 1         b               max       us        4000.000             -      6004.168 ",
+    "task 1         b               max           us        4000.000             -      6004.168 ",
     "            -     +2004.168\n",
+    "task 1         b               still_waiting us               -             -             - ",
+    "            -             -\n",
 );
 
 const JSON: &str = concat!(
-    "[\n",
+    "{\"schema\":1,\"figures\":[\n",
     "{\"against_deviation_thousandths\":1111656712,\"against_mean_thousandths\":12874500000,",
     "\"against_runs\":2,\"deviation_thousandths\":1111656712,\"difference_thousandths\":0,\"f",
     "igure\":\"busy\",\"mean_thousandths\":12874500000,\"name\":\"\",\"of\":\"cpu 0\",\"runs",
@@ -108,7 +111,7 @@ const JSON: &str = concat!(
     "{\"against_deviation_thousandths\":0,\"against_mean_thousandths\":8000,\"against_runs\":",
     "2,\"deviation_thousandths\":0,\"difference_thousandths\":8000,\"figure\":\"steps\",\"mea",
     "n_thousandths\":0,\"name\":\"\",\"of\":\"cpu 0 preempt\",\"runs\":2,\"unit\":\"1\"}\n",
-    "]\n",
+    "]}\n",
 );
 
 /// Words of options, and what is written. A word of `--against` stands for the policy.

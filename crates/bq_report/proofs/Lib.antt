@@ -3,3 +3,4 @@ pub mod LongestLemmas
 pub mod NameLemmas
 pub mod NamingLemmas
 pub mod RowLemmas
+pub mod TimehistLemmas

@@ -1,6 +1,6 @@
 -- Text in columns, as `{:>9}` and the like write it.
 use Rattle.std.specs.Prelude.{ℕ, ◌-◌, ◌*◌, ◌/◌, ◌%◌, ◌^◌, ◌==◌, min, ℤ, List, [], ◌++◌, if◌then◌else◌, Option, Some, None, unwrap_or, codes}
-use Rattle.std.specs.Fmt.{format_spec, styled_decimal, styled_signed_decimal, styled_text}
+use Rattle.std.specs.Fmt.{decimal, format_spec, styled_decimal, styled_signed_decimal, styled_text}
 use Rattle.bq_schedule.specs.declared.change.Start.{Start}
 use Rattle.bq_schedule.specs.declared.figures.TaskFigures.{TaskFigures}
 use Rattle.bq_schedule.specs.declared.figures.HookFigures.{HookFigures}
@@ -9,7 +9,7 @@ use Rattle.bq_parts.specs.Counts.{counted}
 use Rattle.bq_schedule.specs.Counts.{counted_wide, parts}
 use Rattle.bq_schedule.specs.Passing.{idle_of}
 use Rattle.bq_schedule.specs.declared.percentiles.Percentiles.{Percentiles}
-use Rattle.bq_report.specs.Amounts.{three_decimals}
+use Rattle.bq_report.specs.Amounts.{millis_text, three_decimals}
 
 -- a number at the right end of so many columns
 abbrev pub right : ℕ → ℕ → List ℕ
@@ -57,11 +57,21 @@ task_line task name figures fair =
     ++ (cell 8 figures.switches ++ (cell 9 figures.preemptions ++ (cell 8 figures.migrations ++ codes "\n"))))))
 
 abbrev pub latency_columns : Percentiles → List ℕ
-latency_columns p = latency_column p.p50 ++ (latency_column p.p95 ++ (latency_column p.p99 ++ (latency_column p.greatest ++ codes "\n")))
+latency_columns p = latency_column p.p50 ++ (latency_column p.p95 ++ (latency_column p.p99 ++ latency_column p.greatest))
+
+-- how long a task waits that has not run since its last wake; nothing of one that has
+abbrev pub still_waiting_text : Option ℕ → List ℕ
+still_waiting_text None = []
+still_waiting_text (Some time) = codes "  still waiting " ++ (millis_text time ++ codes " ms")
 
 -- the line of a task's latencies
-abbrev pub latency_line : ℕ → List ℕ → ℕ → Percentiles → List ℕ
-latency_line task name wakes p = task_columns task name ++ (cell 9 wakes ++ latency_columns p)
+abbrev pub latency_line : ℕ → List ℕ → ℕ → Percentiles → Option ℕ → List ℕ
+latency_line task name wakes p still =
+    task_columns task name ++ (cell 9 wakes ++ (latency_columns p ++ (still_waiting_text still ++ codes "\n")))
+
+-- how many wakes did nothing since their task did not wait, where any did
+abbrev pub missed_line : ℕ → List ℕ
+missed_line n = if n == 0 then [] else codes "\nwakes that found no task waiting: " ++ (decimal n ++ codes "\n")
 
 -- the line of a hook of a processor
 abbrev pub hook_line : ℕ → List ℕ → HookFigures → List ℕ

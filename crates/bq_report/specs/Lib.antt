@@ -7,4 +7,6 @@ pub mod Objects
 pub mod Rosters
 pub mod Rows
 pub mod Steps
+pub mod Timehist
+pub mod Waits
 pub mod Windows

@@ -17,6 +17,7 @@ pub mod steps;
 pub mod summary;
 pub mod tables;
 pub mod timehist;
+pub mod waits;
 pub mod window;
 
 pub use amounts::{Micros, Millis, MomentText, Unit};
@@ -30,4 +31,5 @@ pub use rows::Csv;
 pub use steps::round_step;
 pub use summary::Json;
 pub use timehist::Timehist;
+pub use waits::{still_waiting, waited_in_all};
 pub use window::Window;

@@ -1,5 +1,6 @@
 //! The names that a trace's comments give to its tasks.
 ghost use Rattle.std.specs.Prelude.{◌≡◌, ℕ, List, IfSome, IfNone, OnOk, OnErr, option_map};
+ghost use Rattle.bq_report.specs.Timehist.{name_text};
 ghost use Rattle.bq_report.specs.Names.{IsNaming, Learns, name_of, task_number};
 
 use bq_words::number;
@@ -55,6 +56,16 @@ impl Names {
         match self.names.get(&task) {
             Some(name) => Some(name.as_str()),
             None => None,
+        }
+    }
+
+    /// The name of a task; nothing where it has none.
+    pub fn text(&self, task: u16) -> &str
+        ensures { result.now ≡ name_text self.now task }
+    {
+        match self.of(task) {
+            Some(name) => name,
+            None => "",
         }
     }
 }

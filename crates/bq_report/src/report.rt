@@ -1,11 +1,13 @@
 //! The report: a table of the tasks, of their latencies, of the processors and of the policies.
+ghost use Rattle.std.specs.Prelude.{◌≡◌};
 
 use crate::form::ScheduleForm;
 use crate::names::Names;
 use crate::tables::{
     HOOK_HEAD, LATENCY_HEAD, PROCESSOR_HEAD, TASK_HEAD, nanoseconds, write_hook_lines,
-    write_latency_line, write_processor_line, write_task_line,
+    write_latency_line, write_missed_line, write_processor_line, write_task_line,
 };
+use crate::waits::still_waiting;
 use crate::window::Window;
 use bq_disc::limits::{PROCESSORS, TASKS};
 use bq_schedule::{Change, ProcessorFigures, Schedule, WakeLatencies};
@@ -17,6 +19,7 @@ use std::alloc::{AllocError, Global};
 pub struct Report {
     window: Window,
     latencies: WakeLatencies,
+    missed: u64,
 }
 
 impl Report {
@@ -25,7 +28,15 @@ impl Report {
         Report {
             window,
             latencies: WakeLatencies::new(alloc),
+            missed: 0,
         }
+    }
+
+    /// So many wakes did nothing, since their task did not wait. A simulation counts them; no trace tells them.
+    pub fn count_missed(&mut self, wakes: u64)
+        ensures { self.new ≡ record self.old { missed = wakes } }
+    {
+        self.missed = wakes;
     }
 
     fn write_tasks(
@@ -58,7 +69,8 @@ impl Report {
             if figures.is_admitted && self.window.shows_task(task) {
                 let percentiles = self.latencies.percentiles(task);
                 let name = names.of(task).unwrap_or("");
-                write_latency_line(text, task, name, figures.wakes, &percentiles)?;
+                let still = still_waiting(schedule, task);
+                write_latency_line(text, task, name, figures.wakes, &percentiles, still)?;
             }
         }
         Ok(())
@@ -126,6 +138,7 @@ impl ScheduleForm for Report {
         self.write_tasks(schedule, names, text)?;
         text.push_str("\n")?;
         self.write_latencies(schedule, names, text)?;
+        write_missed_line(text, self.missed)?;
         text.push_str("\n")?;
         self.write_processors(schedule, text)?;
         self.write_policies(schedule, text)

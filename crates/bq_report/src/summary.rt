@@ -6,6 +6,7 @@ ghost use Rattle.bq_report.specs.Objects.{hook_object, latency_object, number_or
 use crate::form::ScheduleForm;
 use crate::names::Names;
 use crate::tables::nanoseconds;
+use crate::waits::{still_waiting, waited_in_all};
 use crate::window::Window;
 use bq_disc::limits::{PROCESSORS, TASKS};
 use bq_schedule::{
@@ -14,13 +15,18 @@ use bq_schedule::{
 use serde_json::{Map, Value, json, put};
 use std::alloc::{AllocError, Global};
 
-/// The figures of the report, in full, as one JSON object: `tasks` and `processors`, an object each. Times are nanoseconds.
+/// The figures of the report, in full, as one JSON object: `schema`, then `tasks` and `processors`, an object each, and
+/// `missed_wakes` where there are any. Times are nanoseconds.
 #[derive(Drop)]
 pub struct Json {
     alloc: Global,
     window: Window,
     latencies: WakeLatencies,
+    missed: u64,
 }
+
+/// The version of what the object holds. It changes if a key goes or means something else.
+const SCHEMA: u64 = 1;
 
 impl Json {
     /// The figures of what is in the window.
@@ -29,7 +35,15 @@ impl Json {
             alloc,
             window,
             latencies: WakeLatencies::new(alloc),
+            missed: 0,
         }
+    }
+
+    /// So many wakes did nothing, since their task did not wait. A simulation counts them; no trace tells them.
+    pub fn count_missed(&mut self, wakes: u64)
+        ensures { self.new ≡ record self.old { missed = wakes } }
+    {
+        self.missed = wakes;
     }
 
     fn write_tasks(
@@ -40,11 +54,9 @@ impl Json {
     ) -> Result<(), AllocError> {
         let mut is_first = true;
         for task in 0..TASKS {
-            let figures = schedule.task(task);
-            if figures.is_admitted && self.window.shows_task(task) {
-                let fair = nanoseconds(schedule.fair_time(task));
+            if schedule.task(task).is_admitted && self.window.shows_task(task) {
                 let percentiles = self.latencies.percentiles(task);
-                let value = self.task(task, names, &figures, fair, &percentiles)?;
+                let value = self.task(task, names, schedule, &percentiles)?;
                 self.write_element(&value, is_first, text)?;
                 is_first = false;
             }
@@ -80,10 +92,10 @@ impl Json {
         &self,
         task: u16,
         names: &Names,
-        figures: &TaskFigures,
-        fair: u64,
+        schedule: &Schedule,
         percentiles: &Percentiles,
     ) -> Result<Value, AllocError> {
+        let figures = schedule.task(task);
         let mut members = Map::new(self.alloc);
         let name = match names.of(task) {
             Some(name) => Value::try_from_str(self.alloc, name)?,
@@ -96,14 +108,16 @@ impl Json {
             &[
                 ("task", u64::from(task)),
                 ("weight", u64::from(figures.weight)),
-                ("ran", figures.time),
-                ("fair", fair),
-                ("waited", figures.waited),
+                ("cpu", figures.time),
+                ("fair", nanoseconds(schedule.fair_time(task))),
+                ("waited", waited_in_all(schedule, task)),
             ],
         )?;
+        let still = number(still_waiting(schedule, task));
+        put(&mut members, self.alloc, "still_waiting", still)?;
         let latency = self.latency(percentiles)?;
         put(&mut members, self.alloc, "latency", latency)?;
-        let counts = self.counts(figures)?;
+        let counts = self.counts(&figures)?;
         put(&mut members, self.alloc, "counts", counts)?;
         Ok(Value::Object(members))
     }
@@ -114,8 +128,8 @@ impl Json {
             &mut members,
             &[
                 ("switches", figures.switches),
-                ("preemptions", figures.preemptions),
-                ("migrations", figures.migrations),
+                ("preempted", figures.preemptions),
+                ("migrated", figures.migrations),
                 ("wakes", figures.wakes),
             ],
         )?;
@@ -213,10 +227,15 @@ impl ScheduleForm for Json {
         names: &Names,
         text: &mut String,
     ) -> Result<(), AllocError> {
-        text.push_str("{\"tasks\":[")?;
+        write!(text, "{{\"schema\":{SCHEMA},\"tasks\":[")?;
         self.write_tasks(schedule, names, text)?;
         text.push_str("\n],\"processors\":[")?;
         self.write_processors(schedule, text)?;
-        text.push_str("\n]}\n")
+        text.push_str("\n]")?;
+        if self.missed > 0 {
+            let missed = self.missed;
+            write!(text, ",\"missed_wakes\":{missed}")?;
+        }
+        text.push_str("}\n")
     }
 }

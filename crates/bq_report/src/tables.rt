@@ -1,8 +1,8 @@
 //! The tables of a report, of at most 80 columns.
 ghost use Rattle.std.specs.Prelude.{◌≡◌, ◌++◌, OnOk, string_bytes};
-ghost use Rattle.bq_report.specs.Columns.{task_columns, millis_column, latency_column, latency_columns, task_line, latency_line, processor_line, hook_line_if, hook_lines, nearest};
+ghost use Rattle.bq_report.specs.Columns.{task_columns, millis_column, latency_column, latency_columns, still_waiting_text, task_line, latency_line, missed_line, processor_line, hook_line_if, hook_lines, nearest};
 
-use crate::amounts::Decimals;
+use crate::amounts::{Decimals, Millis};
 use crate::percent::Percent;
 use bq_schedule::{HookFigures, PARTS, Percentiles, ProcessorFigures, TaskFigures};
 use std::alloc::AllocError;
@@ -80,30 +80,55 @@ pub fn write_task_line(
     write!(text, " {switches:>8} {preemptions:>9} {migrations:>8}\n")
 }
 
-/// The line of a task's latencies, from wake to run.
+/// The line of a task's latencies, from wake to run; behind them how long it waits, where it has not run since its last wake.
 pub fn write_latency_line(
     text: &mut String,
     task: u16,
     name: &str,
     wakes: u64,
     percentiles: &Percentiles,
+    still_waiting: Option<u64>,
 ) -> Result<(), AllocError>
-    ensures { OnOk result (string_bytes text.new ≡ string_bytes text.old ++ latency_line task name.now wakes percentiles.now) }
+    ensures { OnOk result (string_bytes text.new ≡ string_bytes text.old ++ latency_line task name.now wakes percentiles.now still_waiting) }
 {
     write_task(text, task, name)?;
     write!(text, " {wakes:>9}")?;
-    write_latencies(text, percentiles)
+    write_latencies(text, percentiles)?;
+    write_still_waiting(text, still_waiting)?;
+    text.push_str("\n")
 }
 
-/// A task's latencies, to the end of the line.
+/// How long a task waits that has not run since its last wake, where it does.
+fn write_still_waiting(text: &mut String, time: Option<u64>) -> Result<(), AllocError>
+    ensures { OnOk result (string_bytes text.new ≡ string_bytes text.old ++ still_waiting_text time) }
+{
+    match time {
+        Some(time) => {
+            let time = Millis(time);
+            write!(text, "  still waiting {time} ms")
+        }
+        None => Ok(()),
+    }
+}
+
+/// A task's latencies.
 fn write_latencies(text: &mut String, percentiles: &Percentiles) -> Result<(), AllocError>
     ensures { OnOk result (string_bytes text.new ≡ string_bytes text.old ++ latency_columns percentiles.now) }
 {
     write_latency(text, percentiles.p50)?;
     write_latency(text, percentiles.p95)?;
     write_latency(text, percentiles.p99)?;
-    write_latency(text, percentiles.greatest)?;
-    text.push_str("\n")
+    write_latency(text, percentiles.greatest)
+}
+
+/// How many wakes did nothing since their task did not wait, where any did.
+pub fn write_missed_line(text: &mut String, missed: u64) -> Result<(), AllocError>
+    ensures { OnOk result (string_bytes text.new ≡ string_bytes text.old ++ missed_line missed) }
+{
+    if missed == 0 {
+        return Ok(());
+    }
+    write!(text, "\nwakes that found no task waiting: {missed}\n")
 }
 
 /// The line of a processor: how much of its time a task ran.

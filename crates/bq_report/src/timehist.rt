@@ -1,6 +1,12 @@
 //! The runs as `perf sched timehist` lists them.
-ghost use Rattle.std.specs.Prelude.{◌≡◌, ◌++◌, ◌/◌, OnOk, string_bytes};
+ghost use Rattle.std.specs.Prelude.{◌≡◌, ◌↔◌, ◌++◌, ◌/◌, List, ℕ, Option, IsTrue, OnOk, string_bytes};
+ghost use Rattle.bq_schedule.specs.declared.change.Start.{Start};
+ghost use Rattle.bq_schedule.specs.declared.change.Stop.{Stop};
+ghost use Rattle.bq_schedule.specs.declared.change.Wake.{Wake};
 ghost use Rattle.bq_report.specs.Columns.{moment_columns, run_columns, thousandths_cell};
+ghost use Rattle.bq_report.specs.Names.{name_of};
+ghost use Rattle.bq_report.specs.Timehist.{AreLastLines, awakened_text, IsShownMigration, IsShownRunner, IsShownStop, IsShownWake, change_text, head_lines, migration_text, named_task, origin_text, runner_columns, runner_text, stop_text, target_text, wake_text};
+ghost use Rattle.bq_report.specs.Windows.{Shows};
 
 use crate::amounts::Decimals;
 use crate::form::ScheduleForm;
@@ -8,8 +14,9 @@ use crate::names::Names;
 use crate::tables::write_task;
 use crate::window::Window;
 use bq_disc::limits::PROCESSORS;
-use bq_schedule::{Change, Schedule, Start, Stop, Wake};
+use bq_schedule::{Change, ProcessorFigures, Schedule, Start, Stop, Wake};
 use std::alloc::AllocError;
+use std::marker::Model;
 
 /// Above the lines.
 pub const HEAD: &str = concat!(
@@ -19,65 +26,225 @@ pub const HEAD: &str = concat!(
 );
 
 /// A line for each time that a task ran, at the moment at which it ceased, and lines that mark wakes and migrations. Lines
-/// stand in the order of the trace. A task that runs when the trace is over has a line at the end.
+/// stand in the order of the trace. A task that runs when the trace is over has a line at the end. Contracts see its window.
 #[derive(Drop)]
 pub struct Timehist {
     window: Window,
 }
 
+impl Model for Timehist {
+    ghost use Rattle.bq_report.specs.declared.window.Window.{Window};
+
+    ghost Value = { Window };
+
+    ghost view = { λ t. t.window };
+}
+
 impl Timehist {
     /// The lines of the window.
-    pub fn new(window: Window) -> Timehist {
+    pub fn new(window: Window) -> Timehist
+        ensures { result ≡ window }
+    {
         Timehist { window }
     }
 
-    fn write_wake(
-        &self,
-        wake: &Wake,
-        schedule: &Schedule,
-        names: &Names,
-        text: &mut String,
-    ) -> Result<(), AllocError> {
-        if !self.window.shows(wake.from, wake.task, wake.at) {
-            return Ok(());
+    /// A wake, if it is shown.
+    fn shown_wake(&self, wake: Option<Wake>) -> Option<Wake>
+        ensures { IsShownWake self.now wake result }
+    {
+        let wake = wake?;
+        if self.window.shows(wake.from, wake.task, wake.at) {
+            Some(wake)
+        } else {
+            None
         }
-        write_moment(text, wake.at, wake.from)?;
-        match schedule.processor(wake.from).running {
-            Some(start) => write_task(text, start.task, names.of(start.task).unwrap_or(""))?,
-            None => text.push_str("<idle>              ")?,
-        }
-        let to = wake.to;
-        text.push_str("  awakened: ")?;
-        write_named(text, wake.task, names)?;
-        write!(text, " on cpu {to}\n")
     }
 
-    fn write_stop(&self, stop: &Stop, names: &Names, text: &mut String) -> Result<(), AllocError> {
-        let start = stop.start;
-        if !self.window.shows(start.processor, start.task, stop.at) {
-            return Ok(());
+    /// A run that ceased, if it is shown.
+    fn shown_stop(&self, stop: Option<Stop>) -> Option<Stop>
+        ensures { IsShownStop self.now stop result }
+    {
+        let stop = stop?;
+        if self.shows_run(&stop.start, stop.at) {
+            Some(stop)
+        } else {
+            None
         }
-        write_run(text, &start, stop.at, names.of(start.task).unwrap_or(""))?;
-        text.push_str("\n")
     }
 
-    fn write_start(
-        &self,
-        start: &Start,
-        names: &Names,
-        text: &mut String,
-    ) -> Result<(), AllocError> {
-        let Some(before) = start.before else {
-            return Ok(());
-        };
-        if !start.has_migrated() || !self.window.shows(start.processor, start.task, start.at) {
-            return Ok(());
-        }
-        let processor = start.processor;
-        write_moment(text, start.at, start.processor)?;
-        write_task(text, start.task, names.of(start.task).unwrap_or(""))?;
-        write!(text, "  migrated: cpu {before} => {processor}\n")
+    /// Whether a run is shown that ceases then.
+    fn shows_run(&self, start: &Start, at: u64) -> bool
+        ensures { IsTrue result ↔ Shows self.now start.now.processor start.now.task at }
+    {
+        self.window.shows(start.processor, start.task, at)
     }
+
+    /// How a task began to run on another processor than before, if that is shown.
+    fn shown_migration(&self, start: Option<Start>) -> Option<Start>
+        ensures { IsShownMigration self.now start result }
+    {
+        let start = start?;
+        if start.has_migrated() && self.shows_run(&start, start.at) {
+            Some(start)
+        } else {
+            None
+        }
+    }
+}
+
+/// The lines of a change: of its wake, of the run that ends by it, and of the migration by which another begins, as far as
+/// there are any.
+fn write_change(
+    text: &mut String,
+    wake: Option<Wake>,
+    stop: Option<Stop>,
+    migration: Option<Start>,
+    schedule: &Schedule,
+    names: &Names,
+) -> Result<(), AllocError>
+    ensures { OnOk result (string_bytes text.new ≡ string_bytes text.old ++ change_text names.now schedule.now wake stop migration) }
+{
+    write_wake(text, wake, schedule, names)?;
+    write_stop(text, stop, names)?;
+    write_migration(text, migration, names)
+}
+
+/// The line of a wake, if there is one.
+fn write_wake(
+    text: &mut String,
+    wake: Option<Wake>,
+    schedule: &Schedule,
+    names: &Names,
+) -> Result<(), AllocError>
+    ensures { OnOk result (string_bytes text.new ≡ string_bytes text.old ++ wake_text names.now schedule.now wake) }
+{
+    let Some(wake) = wake else {
+        return Ok(());
+    };
+    write_moment(text, wake.at, wake.from)?;
+    write_runner(text, schedule.processor(wake.from).running, names)?;
+    write_awakened(text, &wake, names)
+}
+
+/// Which task a wake wakes, and where it goes.
+fn write_awakened(text: &mut String, wake: &Wake, names: &Names) -> Result<(), AllocError>
+    ensures { OnOk result (string_bytes text.new ≡ string_bytes text.old ++ awakened_text names.now wake.now) }
+{
+    text.push_str("  awakened: ")?;
+    write_named(text, wake.task, names)?;
+    write_target(text, wake.to)
+}
+
+/// Where a wake goes, to the end of its line.
+fn write_target(text: &mut String, processor: u8) -> Result<(), AllocError>
+    ensures { OnOk result (string_bytes text.new ≡ string_bytes text.old ++ target_text processor) }
+{
+    write!(text, " on cpu {processor}\n")
+}
+
+/// Who runs, in the columns of a task.
+fn write_runner(text: &mut String, running: Option<Start>, names: &Names) -> Result<(), AllocError>
+    ensures { OnOk result (string_bytes text.new ≡ string_bytes text.old ++ runner_columns names.now running) }
+{
+    match running {
+        Some(start) => write_task(text, start.task, names.text(start.task)),
+        None => text.push_str("<idle>              "),
+    }
+}
+
+/// The line of a run that ceased, if there is one.
+fn write_stop(text: &mut String, stop: Option<Stop>, names: &Names) -> Result<(), AllocError>
+    ensures { OnOk result (string_bytes text.new ≡ string_bytes text.old ++ stop_text names.now stop) }
+{
+    let Some(stop) = stop else {
+        return Ok(());
+    };
+    let start = stop.start;
+    write_run(text, &start, stop.at, names.text(start.task))?;
+    text.push_str("\n")
+}
+
+/// The line of a migration, if there is one.
+fn write_migration(text: &mut String, start: Option<Start>, names: &Names) -> Result<(), AllocError>
+    ensures { OnOk result (string_bytes text.new ≡ string_bytes text.old ++ migration_text names.now start) }
+{
+    let Some(start) = start else {
+        return Ok(());
+    };
+    write_moment(text, start.at, start.processor)?;
+    write_task(text, start.task, names.text(start.task))?;
+    write_origin(text, &start)
+}
+
+/// From which processor a task migrates to which, if it ran before.
+fn write_origin(text: &mut String, start: &Start) -> Result<(), AllocError>
+    ensures { OnOk result (string_bytes text.new ≡ string_bytes text.old ++ origin_text start.now) }
+{
+    let Some(before) = start.before else {
+        return Ok(());
+    };
+    let processor = start.processor;
+    write!(text, "  migrated: cpu {before} => {processor}\n")
+}
+
+/// The lines of the runs that go on where the schedule ends, of those that are shown.
+fn write_runners(
+    window: &Window,
+    schedule: &Schedule,
+    names: &Names,
+    text: &mut String,
+) -> Result<(), AllocError>
+    ensures { OnOk result ((lines : List ℕ) × AreLastLines window.now names.now schedule.now 64 lines
+        × (string_bytes text.new ≡ string_bytes text.old ++ lines)) }
+{
+    for number in 0..PROCESSORS {
+        let figures = schedule.processor(number);
+        write_runner_at(window, number, &figures, names, text)?;
+    }
+    Ok(())
+}
+
+/// The line of the run that goes on at a processor, if there is one and it is shown.
+fn write_runner_at(
+    window: &Window,
+    processor: u8,
+    figures: &ProcessorFigures,
+    names: &Names,
+    text: &mut String,
+) -> Result<(), AllocError>
+    ensures { OnOk result ((part : Option Start) × IsShownRunner window.now processor figures.now.last figures.now.running part
+        × (string_bytes text.new ≡ string_bytes text.old ++ runner_text names.now figures.now.last part)) }
+{
+    let runner = shown_runner(window, processor, figures.last, figures.running);
+    write_run_on(text, runner, figures.last, names)
+}
+
+/// How the task began that runs on at a processor, if that is shown.
+fn shown_runner(window: &Window, processor: u8, last: u64, running: Option<Start>) -> Option<Start>
+    ensures { IsShownRunner window.now processor last running result }
+{
+    let start = running?;
+    if window.shows(processor, start.task, last) {
+        Some(start)
+    } else {
+        None
+    }
+}
+
+/// The line of a run that goes on, if there is one.
+fn write_run_on(
+    text: &mut String,
+    start: Option<Start>,
+    last: u64,
+    names: &Names,
+) -> Result<(), AllocError>
+    ensures { OnOk result (string_bytes text.new ≡ string_bytes text.old ++ runner_text names.now last start) }
+{
+    let Some(start) = start else {
+        return Ok(());
+    };
+    write_run(text, &start, last, names.text(start.task))?;
+    text.push_str("  runs on\n")
 }
 
 /// The columns of a run that began so and ends at this moment.
@@ -101,7 +268,9 @@ fn write_moment(text: &mut String, at: u64, processor: u8) -> Result<(), AllocEr
 }
 
 /// A task by its number and its name.
-fn write_named(text: &mut String, task: u16, names: &Names) -> Result<(), AllocError> {
+fn write_named(text: &mut String, task: u16, names: &Names) -> Result<(), AllocError>
+    ensures { OnOk result (string_bytes text.new ≡ string_bytes text.old ++ named_task task (name_of names.now task)) }
+{
     match names.of(task) {
         Some(name) => write!(text, "{task} {name}"),
         None => write!(text, "{task}"),
@@ -124,7 +293,10 @@ impl ScheduleForm for Timehist {
         _schedule: &Schedule,
         _names: &Names,
         text: &mut String,
-    ) -> Result<(), AllocError> {
+    ) -> Result<(), AllocError>
+        ensures head { OnOk result (string_bytes text.new ≡ string_bytes text.old ++ head_lines) }
+        ensures same { self.new ≡ self.old }
+    {
         text.push_str(HEAD)
     }
 
@@ -134,17 +306,16 @@ impl ScheduleForm for Timehist {
         schedule: &Schedule,
         names: &Names,
         text: &mut String,
-    ) -> Result<(), AllocError> {
-        if let Some(wake) = change.wake {
-            self.write_wake(&wake, schedule, names, text)?;
-        }
-        if let Some(stop) = change.stop {
-            self.write_stop(&stop, names, text)?;
-        }
-        if let Some(start) = change.start {
-            self.write_start(&start, names, text)?;
-        }
-        Ok(())
+    ) -> Result<(), AllocError>
+        ensures lines { OnOk result ((wake : Option Wake) × (stop : Option Stop) × (migration : Option Start)
+            × IsShownWake self.old change.now.wake wake × IsShownStop self.old change.now.stop stop × IsShownMigration self.old change.now.start migration
+            × (string_bytes text.new ≡ string_bytes text.old ++ change_text names.now schedule.now wake stop migration)) }
+        ensures same { self.new ≡ self.old }
+    {
+        let wake = self.shown_wake(change.wake);
+        let stop = self.shown_stop(change.stop);
+        let migration = self.shown_migration(change.start);
+        write_change(text, wake, stop, migration, schedule, names)
     }
 
     fn end(
@@ -152,21 +323,11 @@ impl ScheduleForm for Timehist {
         schedule: &Schedule,
         names: &Names,
         text: &mut String,
-    ) -> Result<(), AllocError> {
-        for number in 0..PROCESSORS {
-            let figures = schedule.processor(number);
-            if let Some(start) = figures.running {
-                if self.window.shows(number, start.task, figures.last) {
-                    write_run(
-                        text,
-                        &start,
-                        figures.last,
-                        names.of(start.task).unwrap_or(""),
-                    )?;
-                    text.push_str("  runs on\n")?;
-                }
-            }
-        }
-        Ok(())
+    ) -> Result<(), AllocError>
+        ensures lines { OnOk result ((lines : List ℕ) × AreLastLines self.old names.now schedule.now 64 lines
+            × (string_bytes text.new ≡ string_bytes text.old ++ lines)) }
+        ensures same { self.new ≡ self.old }
+    {
+        write_runners(&self.window, schedule, names, text)
     }
 }

@@ -29,12 +29,13 @@ name_of (form.Svg _) = named.Svg
 name_of (form.Perfetto _) = named.Perfetto
 name_of (form.Why _) = named.Why
 
--- the stretch of time, processors and tasks whose slices stand in rows of CSV
+-- the stretch of time, processors and tasks whose slices stand in rows of CSV, and whose runs in lines of a list
 abbrev pub window_of_rows : Shown → Option Window
 window_of_rows (form.Csv window) = Some window
+window_of_rows (form.Timehist window) = Some window
 window_of_rows other = None
 
--- It is the form of that name, and its rows, where it has some, are those of the window.
+-- It is the form of that name, and its rows or lines, where it has some, are those of the window.
 pub record IsShown (form : FormName) (window : Window) (shown : Shown) : Type 0 where
   pub form_is : name_of shown ≡ form
   pub window_is : IfSome (window_of_rows shown) (λ w. w ≡ window)

@@ -190,6 +190,14 @@ impl Screen {
         write!(self.notes(), "line {number}: {fault}; {NOT_READ_ON}\n")
     }
 
+    /// So many wakes did nothing, since their task did not wait. No trace tells them.
+    pub fn count_missed(&mut self, wakes: u64)
+        ensures notes { self.new.notes ≡ self.old.notes }
+        ensures named { (self.new.tasks ≡ self.old.tasks) × (self.new.processors ≡ self.old.processors) }
+    {
+        self.shown.count_missed(wakes);
+    }
+
     /// The trace is over. So many lines were bad or refused.
     pub fn end(&mut self, schedule: &Schedule, troubles: u64) -> Result<(), AllocError>
         ensures { OnOk result (string_bytes self.new.notes ≡ (string_bytes self.old.notes ++ absent_notes (Some schedule.now) self.old.tasks.items self.old.processors)

@@ -72,6 +72,15 @@ impl Shown {
         }
     }
 
+    /// So many wakes did nothing, since their task did not wait.
+    pub fn count_missed(&mut self, wakes: u64) {
+        match self {
+            Shown::Report(form) => form.count_missed(wakes),
+            Shown::Json(form) => form.count_missed(wakes),
+            _ => {}
+        }
+    }
+
     /// Takes what one answer changed.
     pub fn take(
         &mut self,

@@ -37,6 +37,15 @@ impl Viewer {
         }
     }
 
+    /// So many wakes of a simulation did nothing, since their task did not wait. No trace tells them; the report and the JSON
+    /// show them.
+    pub fn count_missed(&mut self, wakes: u64)
+        ensures schedule { self.new.schedule ≡ self.old.schedule }
+        ensures troubles { self.new.troubles ≡ self.old.troubles }
+    {
+        self.screen.count_missed(wakes);
+    }
+
     /// The trace is over.
     pub fn end(&mut self) -> Result<(), AllocError>
         ensures schedule { self.new.schedule ≡ self.old.schedule }

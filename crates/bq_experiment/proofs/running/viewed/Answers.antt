@@ -1,5 +1,5 @@
 -- The viewer took the names, and then the simulation.
-use Rattle.std.proofs.Common.{List, subst}
+use Rattle.std.proofs.Common.{List, subst, ◌∙◌}
 use Rattle.std.proofs.lemmas.Result.{err_from_is_err_and}
 use Rattle.bq_trace.specs.News.{Gets}
 use Rattle.bq_simulate.specs.Simulations.{Accepted, IsSimulation}
@@ -12,11 +12,18 @@ pub returns-clause-viewed : goal.returns-clause-viewed
 returns-clause-viewed c =
     let w = c.args.workload.now in
     let later : Later = record { viewer = c.tell_names.new.sink; above = c.in_ok-above.above } in
-    let told = subst (λ (l : List Accepted). Gets TakesLater later c.simulate.new.sink (IsSimulation l w)) c.loaded.ensures.value c.in_ok-simulate.ensures.told in
-    views_simulation c.new-viewer.result later c.simulate.new.sink (comments_of w) c.args.policies.now.loaded w
-    c.new-viewer.ensures.schedule c.new-viewer.ensures.troubles c.in_ok-simulate.ensures.sound c.in_ok-above.ensures.told told
+    let told = subst (λ (l : List Accepted). Gets TakesLater later c.simulate.new.sink (IsSimulation l w)) c.loaded.ensures.value c.in_ok-tally.ensures.told in
+    let seen = views_simulation c.new-viewer.result later c.simulate.new.sink (comments_of w) c.args.policies.now.loaded w
+    c.new-viewer.ensures.schedule c.new-viewer.ensures.troubles c.in_ok-tally.ensures.sound c.in_ok-above.ensures.told told in
+    record {
+      told = seen.told;
+      sound = seen.sound;
+      simulation = seen.simulation;
+      schedule = c.count_missed.ensures.schedule ∙ seen.schedule;
+      clean = c.count_missed.ensures.troubles ∙ seen.clean;
+    }
 
-pub returns-in_err-simulate-clause-flaw : goal.returns-in_err-simulate-clause-flaw
-returns-in_err-simulate-clause-flaw c =
-    let p = err_from_is_err_and c.from_residual-in_err-simulate.result c.from_residual-in_err-simulate.ensures.1 in
-    rw (p.1, p.2) (no_other c.args.workload.now c.in_err-simulate.field-0.0 c.in_err-simulate.ensures.flaw)
+pub returns-in_err-tally-clause-flaw : goal.returns-in_err-tally-clause-flaw
+returns-in_err-tally-clause-flaw c =
+    let p = err_from_is_err_and c.from_residual-in_err-tally.result c.from_residual-in_err-tally.ensures.1 in
+    rw (p.1, p.2) (no_other c.args.workload.now c.in_err-tally.field-0.0 c.in_err-tally.ensures.flaw)

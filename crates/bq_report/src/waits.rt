@@ -1,0 +1,65 @@
+//! Waits that go on where a schedule ends.
+ghost use Rattle.std.specs.Prelude.{◌≡◌};
+ghost use Rattle.bq_schedule.specs.Running.{running_task};
+ghost use Rattle.bq_schedule.specs.Slices.{is_this};
+ghost use Rattle.bq_report.specs.Waits.{open_wait, still_waiting, waited_in_all, waits_until};
+
+use bq_schedule::{ProcessorFigures, Schedule};
+
+/// How long a task has waited in all, in nanoseconds: the waits that are over, and one that goes on where the schedule ends. It
+/// stops at its type's greatest number.
+///
+/// A task that was placed at 2 ms on a processor whose clock was last read at 2,000 ms, and that has never run, has waited for
+/// 1,998 ms.
+pub fn waited_in_all(schedule: &Schedule, task: u16) -> u64
+    ensures { result ≡ waited_in_all schedule.now task }
+{
+    schedule
+        .task(task)
+        .waited
+        .saturating_add(open_wait(schedule, task))
+}
+
+/// How long a task waits that has not run since its last wake: from the end of that wake to the last reading of the clock of
+/// the processor where it is runnable, in nanoseconds; 0 where the clocks of the two disagree. `None` where no wake is without
+/// its run.
+pub fn still_waiting(schedule: &Schedule, task: u16) -> Option<u64>
+    ensures { result ≡ still_waiting schedule.now task }
+{
+    let last = waits_until(schedule, task)?;
+    let woken = schedule.task(task).woken?;
+    Some(last.saturating_sub(woken))
+}
+
+/// How long the wait of a task has lasted that goes on; 0 where it does not wait.
+fn open_wait(schedule: &Schedule, task: u16) -> u64
+    ensures { result ≡ open_wait schedule.now task }
+{
+    match waits_until(schedule, task) {
+        Some(last) => last.saturating_sub(schedule.task(task).since),
+        None => 0,
+    }
+}
+
+/// The last reading of the clock of the processor where a task waits; `None` where it does not wait.
+fn waits_until(schedule: &Schedule, task: u16) -> Option<u64>
+    ensures { result ≡ waits_until schedule.now task }
+{
+    let place = schedule.task(task).place?;
+    let processor = schedule.processor(place);
+    if runs(&processor, task) {
+        None
+    } else {
+        Some(processor.last)
+    }
+}
+
+/// Whether a task is the one that runs at a processor.
+fn runs(processor: &ProcessorFigures, task: u16) -> bool
+    ensures { result ≡ is_this task (running_task processor.now) }
+{
+    match processor.running {
+        Some(start) => start.task == task,
+        None => false,
+    }
+}
