@@ -8,7 +8,7 @@ more for this machine. Drawn traces install them. In the model (tests/model), wh
 alone, both are asked: the answers, the maps and the counters have to be the same after each ask. The replies of BQSIM to the
 trace have to be those of the model.
 
-Needs clang and llvm-objcopy for BPF: CLANG and OBJCOPY name them (clang-19 and llvm-objcopy-19 if they do not), CPU says for
+Needs clang for BPF: CLANG names it (clang-19 if it does not), CPU says for
 which BPF (v4), LEVEL how they optimize (-O2). It is run by hand, and is no part of the gate.
 """
 import ctypes
@@ -28,7 +28,6 @@ from model import draw, images, machine
 HERE = pathlib.Path(__file__).resolve().parent
 HEADER = HERE.parent / "policies/c"
 CLANG = os.environ.get("CLANG", "clang-19")
-OBJCOPY = os.environ.get("OBJCOPY", "llvm-objcopy-19")
 CPU = os.environ.get("CPU", "v4")
 LEVEL = os.environ.get("LEVEL", "-O2")
 WORD = ctypes.c_uint64
@@ -90,11 +89,10 @@ def said(source, key):
 
 def image(bqsim, source, room):
     """The policy as an image, by BQSIM."""
-    code, section, text = (room / f"{source.stem}.{end}" for end in ("o", "text", "s"))
+    code, text = (room / f"{source.stem}.{end}" for end in ("o", "s"))
     run([CLANG, "-target", "bpf", f"-mcpu={CPU}", LEVEL, "-Wall", "-Wextra", f"-I{HEADER}", "-c", source, "-o", code])
-    run([OBJCOPY, "-O", "binary", "--only-section=.text", code, section])
     options = [word for key in ("hook", "maps", "format") if said(source, key) for word in (f"--{key}", said(source, key))]
-    text.write_bytes(run([bqsim, "import", *options, section]))
+    text.write_bytes(run([bqsim, "import", *options, code]))
     return images.load(bytes.fromhex(run([bqsim, "asm", *options], input=text.read_bytes()).decode()))
 
 

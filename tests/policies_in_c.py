@@ -3,15 +3,14 @@
 
     tests/policies_in_c.py BQSIM [COUNT [SEED]]   so many drawn policies (200 if left out), at -O2 and -O1, for v3 and v4
 
-Needs clang and llvm-objcopy for BPF: CLANG and OBJCOPY name them (clang-19 and llvm-objcopy-19 if they do not). It prints for
-each way to compile how many were imported and accepted, and the causes of the rest. Nothing here decides whether a program
-is safe: the shares say how much of what people write is taken.
+Needs clang for BPF: CLANG names it (clang-19 if it does not). It prints for each way to compile how many were imported and
+accepted, and the causes of the rest. Nothing here decides whether a program is safe: the shares say how much of what people
+write is taken.
 """
 import collections, os, pathlib, random, subprocess, sys, tempfile
 
 HERE = pathlib.Path(__file__).resolve().parent
 CLANG = os.environ.get('CLANG', 'clang-19')
-OBJCOPY = os.environ.get('OBJCOPY', 'llvm-objcopy-19')
 WAYS = [(level, cpu) for level in ('-O2', '-O1') for cpu in ('v4', 'v3')]
 
 HEADS = {
@@ -132,14 +131,13 @@ def run(words, **more):
 
 def judged(bqsim, room, drawn, level, cpu):
     """What comes of one policy, compiled one way."""
-    source, code, section = room / 'p.c', room / 'p.o', room / 'p.text'
+    source, code = room / 'p.c', room / 'p.o'
     source.write_text(drawn.text())
     built = run([CLANG, '-target', 'bpf', f'-mcpu={cpu}', level, '-w', f'-I{HERE.parent}/policies/c', '-c', source, '-o', code])
     if built.returncode:
         return 'not compiled: ' + built.stderr.decode().splitlines()[0]
-    run([OBJCOPY, '-O', 'binary', '--only-section=.text', code, section])
     options = ['--hook', drawn.hook] + (['--maps', ','.join(drawn.maps)] if drawn.maps else [])
-    text = run([bqsim, 'import', *options, section])
+    text = run([bqsim, 'import', *options, code])
     if text.returncode:
         return 'not imported: ' + text.stderr.decode().split(': ', 1)[-1].split(';')[0].strip()
     image = run([bqsim, 'asm', *options], input=text.stdout)

@@ -21,7 +21,7 @@ TREE = ["README.md", "CHANGELOG.md", "CONTRIBUTING.md", "SECURITY.md", "LICENSE"
 # What is not run, by how it begins, and why.
 SKIPPED = [
     (r"rt |\./test|\./bqsim --(prove|build)|tools/", "proves and builds all, or is this very test"),
-    (r"clang-19 |llvm-objcopy-19 ", "needs clang 19"),
+    (r"clang-19 ", "needs clang 19"),
     (r"\./bqsim (import|asm|check|simulate) .*turns\.", "reads what clang compiles"),
     (r"studies/policies/run_all\.sh ", "takes GNU parallel, for 1,600 runs"),
     (r"studies/policies/gather\.py ", "reads the answers of those 1,600 runs"),

@@ -10,6 +10,7 @@ use bq_console::status::BAD_INPUT;
 use bq_console::{WordsFault, name_of, refused_words, say_out_of_memory, whole_input, written};
 use bq_hooks::Version;
 use bq_import::{ImportRefusal, ImportSettings, imported};
+use bq_object::{is_object, others};
 use bq_policy_check::{PolicyWords, said_by};
 use bq_policy_file::{Head, ImageForm};
 use clap::ArgMatches;
@@ -56,7 +57,7 @@ pub fn import_settings(alloc: Global, words: &PolicyWords) -> Result<ImportSetti
     Ok(ImportSettings { form, maps })
 }
 
-/// Imports the text section in the file that is named, or on standard input.
+/// Imports the object or the text section in the file that is named, or on standard input.
 pub(crate) fn do_import(rt: &HostRuntime, words: &PolicyWords) -> Result<ExitCode, WordsFault> {
     let settings = import_settings(rt.alloc(), words)?;
     match whole_input(rt, &words.file) {
@@ -65,19 +66,30 @@ pub(crate) fn do_import(rt: &HostRuntime, words: &PolicyWords) -> Result<ExitCod
     }
 }
 
-/// Writes the text of a section, or says why it has none.
+/// Writes the text of a program, or says why it has none.
 fn import_bytes(rt: &HostRuntime, name: &str, settings: &ImportSettings, bytes: &[u8]) -> ExitCode {
     match imported(rt.alloc(), settings, bytes) {
-        Ok(text) => written(rt, text.as_str(), ExitCode::SUCCESS),
+        Ok(text) => {
+            name_others(rt, name, bytes);
+            written(rt, text.as_str(), ExitCode::SUCCESS)
+        }
         Err(ImportRefusal::OutOfMemory) => say_out_of_memory(rt),
         Err(refusal) => {
             let _ = eprintln!(rt; "{name}: {refusal}");
-            if bytes.starts_with(b"\x7fELF") {
-                let _ = eprintln!(rt;
-                    "bqsim: that is an object file, of which import reads the text section alone: llvm-objcopy -O binary --only-section=.text"
-                );
-            }
             ExitCode::from(BAD_INPUT)
         }
+    }
+}
+
+/// Names the functions of an object that are left out.
+fn name_others(rt: &HostRuntime, name: &str, bytes: &[u8]) {
+    if !is_object(bytes) {
+        return;
+    }
+    let Ok(others) = others(rt.alloc(), bytes) else {
+        return;
+    };
+    for other in others {
+        let _ = eprintln!(rt; "{name}: note: the function {other} is left out; only policy is imported");
     }
 }

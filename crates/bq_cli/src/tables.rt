@@ -74,9 +74,9 @@ const RUN_OPTIONS: &[OptionText] = options! {
     ("repeat", Once("N"), "Runs the policy N times, each time on the maps and counters that the run before left. Writes the last run with its calls of counters, the entries of maps that the runs changed, and the mean time of a run")
 };
 
-/// The section of `import`, and the image that it is for.
+/// The program of `import`, and the image that it is for.
 const IMPORT_OPTIONS: &[OptionText] = options! {
-    ("file", Alone("FILE"), "The text section; standard input without it, or as -"),
+    ("file", Alone("FILE"), "The object file or the text section; standard input without it, or as -"),
     ("hook", Needed("HOOK"), with_hooks!("The choice that the program makes: ")),
     ("maps", Once("MAPS"), "The value size and the entries of each map, as in 8:2,16:4"),
     ("format", Once("FORMAT"), with_versions!("The version of the image: ", "; 1 without this"))
@@ -143,7 +143,7 @@ static PROGRAM_COMMANDS: [CommandText<'static>; 2] = [
     },
     CommandText {
         name: "import",
-        about: "Reads the text section of a compiled program, as bytes or as hex, and writes it as an assembler text",
+        about: "Reads a compiled policy, as an object file or as the bytes or the hex of its text section, and writes it as an assembler text",
         options: &[IMPORT_OPTIONS],
     },
 ];

@@ -7,6 +7,7 @@ use Rattle.bq_import.specs.declared.text.ImportRefusal.TheVariants as refusal
 -- an input whose section is not imported has no text, for that reason
 pub refused_by : (input bytes : List ℕ) (r : ImportRefusal) → IsSection input bytes → IsUnimported bytes r → IsRefused input r
 refused_by input bytes refusal.Hex s u = absurd u
+refused_by input bytes (refusal.Object fault) s u = absurd u
 refused_by input bytes (refusal.Import named) s u = (bytes, s, u)
 refused_by input bytes refusal.OutOfMemory s u = tt
 

@@ -5,6 +5,8 @@ use Rattle.std.specs.List.{list_all}
 use Rattle.std.specs.declared.alloc.Global.{Global}
 use Rattle.bq_insn.specs.declared.Insn.{Insn}
 use Rattle.bq_asm.specs.Text.{listing_text}
+use Rattle.bq_object.specs.Faults.{IsObjectFault}
+use Rattle.bq_object.specs.Objects.{IsObject, IsPolicyOf}
 use Rattle.bq_import.specs.Importing.{Imports, IsImportFault}
 use Rattle.bq_import.specs.declared.text.ImportSettings.{ImportSettings}
 use Rattle.bq_import.specs.declared.text.ImportRefusal.{ImportRefusal}
@@ -16,19 +18,25 @@ use Rattle.bq_policy_file.specs.MarkLines.{marks_text}
 abbrev pub is_hex_byte : ℕ → Bool
 is_hex_byte b = is_ascii_hexdigit b || is_blank b
 
--- the section that is read: what the input spells if all of it is hex, and else the input itself
+-- the bytes that are read of what is no object: what the input spells if all of it is hex, and else the input itself
+abbrev pub AreRaw : List ℕ → List ℕ → Type 0
+AreRaw input bytes = ((list_all is_hex_byte input ≡ true) × SpellsBytes input bytes) ⊎ ((list_all is_hex_byte input ≡ false) × (bytes ≡ input))
+
+-- the program that is read: the policy of an object, and else the bytes of a text section
 abbrev pub IsSection : List ℕ → List ℕ → Type 0
-IsSection input bytes = ((list_all is_hex_byte input ≡ true) × SpellsBytes input bytes) ⊎ ((list_all is_hex_byte input ≡ false) × (bytes ≡ input))
+IsSection input bytes = (IsObject input × IsPolicyOf input bytes) ⊎ ((IsObject input → ⊥) × AreRaw input bytes)
 
 -- why bytes are not imported; that memory runs out says nothing of them
 abbrev pub IsUnimported : List ℕ → ImportRefusal → Type 0
 IsUnimported bytes refusal.Hex = ⊥
+IsUnimported bytes (refusal.Object fault) = ⊥
 IsUnimported bytes (refusal.Import named) = IsImportFault bytes named
 IsUnimported bytes refusal.OutOfMemory = Unit {0}
 
--- why there is no text: all of the input is hex and yet spells no bytes, or its section is not imported
+-- why there is no text: all of the input is hex and yet spells no bytes, it is an object without a policy, or its program is not imported
 abbrev pub IsRefused : List ℕ → ImportRefusal → Type 0
 IsRefused input refusal.Hex = (list_all is_hex_byte input ≡ true) × IsNoHex input
+IsRefused input (refusal.Object fault) = IsObject input × IsObjectFault input fault
 IsRefused input (refusal.Import named) = (bytes : List ℕ) × IsSection input bytes × IsImportFault bytes named
 IsRefused input refusal.OutOfMemory = Unit {0}
 

@@ -3,11 +3,14 @@ ghost use Rattle.std.specs.Prelude.{◌≡◌, ℕ, IfErr, IfOk, List};
 ghost use Rattle.std.specs.List.{list_all};
 ghost use Rattle.std.specs.String.{string_bytes};
 ghost use Rattle.bq_import.specs.declared.text.ImportRefusal.TheVariants.{OutOfMemory};
+ghost use Rattle.bq_object.specs.Objects.{IsObject};
+ghost use Rattle.bq_object.specs.Faults.{IsObjectFault};
 ghost use Rattle.bq_import.specs.Text.{IsRefused, IsSection, IsTextOf, IsUnimported, is_hex_byte, maps_line, settings_marks};
 
 use crate::fault::Disorder;
 use crate::section::{ImportFault, import};
 use bq_asm::listing;
+use bq_object::{ObjectFault, is_object, policy_of};
 use bq_policy_file::{ImageForm, bytes_of, is_blank, marks_text};
 use std::alloc::{AllocError, AllocFailed, Global};
 use thiserror::Error;
@@ -27,6 +30,9 @@ pub enum ImportRefusal {
     /// All of the input is digits of hex and blanks, and the number of digits is odd.
     #[error("the hex has a half byte at its end")]
     Hex,
+    /// It is an object file that has no policy.
+    #[error("{0}")]
+    Object(ObjectFault),
     /// The program is not imported.
     #[error("{0}")]
     Import(ImportFault),
@@ -50,8 +56,9 @@ impl<T: Drop> From<AllocFailed<T>> for ImportRefusal {
     }
 }
 
-/// The assembler text of the program whose text section this is: the marks of the settings, and the listing of a copy of the program in
-/// which every jump goes forward. An input of nothing but digits of hex and blanks is read as hex, any other as bytes.
+/// The assembler text of a compiled program: the marks of the settings, and the listing of a copy of the program in which every jump
+/// goes forward. The input is an object file, whose function `policy` is the program, or the bytes of a text section. If it is
+/// nothing but digits of hex and blanks, these spell the bytes.
 #[tactic(auto, using(crate::proofs::RefusalLemmas::refused_by, crate::proofs::RefusalLemmas::refused_for_memory))]
 pub fn imported(
     alloc: Global,
@@ -61,12 +68,32 @@ pub fn imported(
     ensures text { IfOk result (λ text. (bytes : List ℕ) × IsSection input.now bytes × IsTextOf settings.now bytes (string_bytes text)) }
     ensures refused { IfErr result (IsRefused input.now) }
 {
+    if is_object(input) {
+        return imported_object(alloc, settings, input);
+    }
     if !is_hex(input) {
         return imported_bytes(alloc, settings, input);
     }
     match bytes_of(alloc, input)? {
         Some(bytes) => imported_bytes(alloc, settings, bytes.as_slice()),
         None => Err(ImportRefusal::Hex),
+    }
+}
+
+/// The text of the policy of an object file.
+#[tactic(auto, using(crate::proofs::RefusalLemmas::refused_by))]
+fn imported_object(
+    alloc: Global,
+    settings: &ImportSettings,
+    file: &[u8],
+) -> Result<String, ImportRefusal>
+    requires { IsObject file.now }
+    ensures text { IfOk result (λ text. (bytes : List ℕ) × IsSection file.now bytes × IsTextOf settings.now bytes (string_bytes text)) }
+    ensures refused { IfErr result (IsRefused file.now) }
+{
+    match policy_of(file) {
+        Ok(policy) => imported_bytes(alloc, settings, policy),
+        Err(fault) => Err(ImportRefusal::Object(fault)),
     }
 }
 

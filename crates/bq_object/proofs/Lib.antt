@@ -1,0 +1,2 @@
+pub mod SameLemmas
+pub mod RelocationLemmas

@@ -1,0 +1,52 @@
+//! Why an object file has no policy that can be read.
+
+use thiserror::Error;
+
+/// What a file has to hold, and ends before.
+#[derive(Clone, Copy, Debug, PartialEq, Eq, Error)]
+pub enum Piece {
+    #[error("header")]
+    Header,
+    #[error("section headers")]
+    Headers,
+    #[error("symbols")]
+    Symbols,
+    #[error("names")]
+    Names,
+    #[error("function `policy`")]
+    Policy,
+    #[error("relocations")]
+    Relocations,
+}
+
+/// What a linker fills in, and what to write instead.
+#[derive(Clone, Copy, Debug, PartialEq, Eq, Error)]
+pub enum Filled {
+    #[error("the address of a function; put BQ_INLINE before that function, so that it is copied in")]
+    Function,
+    #[error("an address of a global, a table of constants, or a map of a section; for a map write BQ_MAP(k), in place of the others an entry of a map, or tests")]
+    Data,
+}
+
+/// Why an object file has no policy that can be read.
+#[derive(Clone, Copy, Debug, PartialEq, Eq, Error)]
+pub enum ObjectFault {
+    /// It is of 32 bits, or big-endian.
+    #[error("the object is not ELF64, little-endian; compile with -target bpf (or bpfel)")]
+    Class,
+    /// It is for another processor.
+    #[error("the object is not for BPF; compile with -target bpf")]
+    Machine,
+    /// Its section headers have another size than those of ELF64.
+    #[error("the object's section headers are not of 64 bytes")]
+    HeaderSize,
+    /// It has no function of that name.
+    #[error("the object has no function `policy`; name the policy so, without `static`")]
+    NoPolicy,
+    /// The instruction at this slot of the policy is one that a linker completes.
+    #[error("slot {slot}: a linker would fill in {what}")]
+    Relocation { slot: u64, what: Filled },
+    /// The file does not hold all that its headers name.
+    #[error("the object is cut off: its {0} are not all there")]
+    Cut(Piece),
+}

@@ -1,0 +1,14 @@
+//! The object files that clang makes for BPF (ELF64, little-endian), as far as a policy needs them: the bytes of the function
+//! `policy`, wherever it stands, and the other functions, which are left out. Each read is checked; nothing here needs memory.
+#![tactic(auto)]
+
+pub mod fault;
+pub mod header;
+pub mod numbers;
+pub mod object;
+pub mod relocation;
+pub mod section;
+pub mod symbol;
+
+pub use fault::{Filled, ObjectFault, Piece};
+pub use object::{is_object, others, policy_of};

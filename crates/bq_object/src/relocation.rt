@@ -1,0 +1,101 @@
+//! Relocations: the instructions that a linker completes.
+ghost use Rattle.std.specs.Prelude.{◌≡◌, ◌≤◌, ◌↔◌, ℕ, IsTrue, OnOk, IfErr};
+ghost use Rattle.bq_object.specs.declared.section.Section.{Section as Header};
+ghost use Rattle.bq_object.specs.Sections.{IsSection};
+ghost use Rattle.bq_object.specs.Relocations.{AreClear, IsEntryFault, IsRelocation, IsRelocationFault, IsSectionClear, IsSectionFault, IsWithin, entry_size, filled};
+
+use crate::fault::{Filled, ObjectFault, Piece};
+use crate::numbers::{part, wide, word};
+use crate::section::{Section, section_at};
+use crate::symbol::Symbol;
+
+/// How long a relocation of a section is; 0 if the section has none.
+fn entry_size(kind: u32) -> u64
+    ensures { result ≡ entry_size kind }
+{
+    match kind {
+        4 => 24,
+        9 => 16,
+        _ => 0,
+    }
+}
+
+/// Refuses a function that a linker would complete: the first relocation within it.
+pub fn check(file: &[u8], headers: &[u8], policy: Symbol) -> Result<(), ObjectFault>
+    ensures ok { OnOk result (AreClear file.now headers.now policy) }
+    ensures err { IfErr result (IsRelocationFault file.now headers.now policy) }
+{
+    let count = headers.len() as u64 / 64;
+    for index in 0..count {
+        check_at(file, headers, index, policy)?;
+    }
+    Ok(())
+}
+
+/// The same, of the relocations of the section of that number.
+fn check_at(file: &[u8], headers: &[u8], index: u64, policy: Symbol) -> Result<(), ObjectFault>
+    ensures ok { OnOk result ((section : Header) → IsSection headers.now index section → IsSectionClear file.now section policy) }
+    ensures err { IfErr result (IsRelocationFault file.now headers.now policy) }
+{
+    match section_at(headers, index) {
+        Some(section) => check_section(file, section, policy),
+        None => Ok(()),
+    }
+}
+
+/// The same, of those of one section.
+fn check_section(file: &[u8], section: Section, policy: Symbol) -> Result<(), ObjectFault>
+    ensures ok { OnOk result (IsSectionClear file.now section policy) }
+    ensures err { IfErr result (IsSectionFault file.now section policy) }
+{
+    let size = entry_size(section.kind);
+    if size == 0 || section.info != u32::from(policy.section) {
+        return Ok(());
+    }
+    let Some(entries) = section.contents(file) else {
+        return Err(ObjectFault::Cut(Piece::Relocations));
+    };
+    for index in 0..entries.len() as u64 / size {
+        check_entry(entries, size, index, policy)?;
+    }
+    Ok(())
+}
+
+/// The same, of the relocation of that number.
+fn check_entry(entries: &[u8], size: u64, index: u64, policy: Symbol) -> Result<(), ObjectFault>
+    requires { 16 ≤ size }
+    ensures ok { OnOk result ((at kind : ℕ) → IsRelocation entries.now size index at kind → ¬ IsWithin policy at) }
+    ensures err { IfErr result (IsEntryFault entries.now size policy) }
+{
+    let Some(start) = size.checked_mul(index) else {
+        return Ok(());
+    };
+    let Some(entry) = part(entries, start, size) else {
+        return Ok(());
+    };
+    let at = wide(entry, 0);
+    if !is_within(policy, at) {
+        return Ok(());
+    }
+    Err(ObjectFault::Relocation {
+        slot: (at - policy.at) / 8,
+        what: filled(word(entry, 8)),
+    })
+}
+
+/// What a relocation of that kind fills in.
+fn filled(kind: u32) -> Filled
+    ensures { result ≡ filled kind }
+{
+    match kind {
+        10 => Filled::Function,
+        _ => Filled::Data,
+    }
+}
+
+/// Whether what stands at the offset belongs to the function.
+fn is_within(policy: Symbol, at: u64) -> bool
+    ensures { IsTrue result ↔ IsWithin policy at }
+{
+    policy.at <= at && at - policy.at < policy.long
+}
