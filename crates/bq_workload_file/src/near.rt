@@ -3,12 +3,18 @@
 use bq_words::Near;
 use std::alloc::{AllocError, Global};
 
+/// How many bytes a word has at most that may be a misspelling.
+const SHORT: usize = 40;
+
 /// The nearest of some words, if one is near.
 pub(crate) fn nearest_word(
     alloc: Global,
     meant: &str,
     words: &[&'static str],
 ) -> Result<Option<&'static str>, AllocError> {
+    if meant.len() > SHORT {
+        return Ok(None);
+    }
     let mut best: Option<&'static str> = None;
     let mut near = Near::of(meant);
     for known in words {
@@ -25,6 +31,9 @@ pub(crate) fn nearest_name<'a>(
     meant: &str,
     names: &'a [String],
 ) -> Result<Option<&'a str>, AllocError> {
+    if meant.len() > SHORT {
+        return Ok(None);
+    }
     let mut best: Option<&'a str> = None;
     let mut near = Near::of(meant);
     for known in names {

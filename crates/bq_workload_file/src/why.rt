@@ -96,7 +96,7 @@ pub(crate) enum Why<'a> {
 impl fmt::Display for Why<'_> {
     fn fmt<W: fmt::Write>(&self, f: &mut fmt::Formatter<W>) -> fmt::Result {
         match self {
-            Why::UnknownKey { key, known: _ } => write!(f, "unknown key {key:?}"),
+            Why::UnknownKey { key, known: _ } => write!(f, "unknown key {}", Quoted(key)),
             Why::Missing(key) => write!(f, "{key} is missing"),
             Why::NoSuch { key, value, wanted } => {
                 write!(f, "{key}: ")?;
@@ -104,11 +104,11 @@ impl fmt::Display for Why<'_> {
             }
             Why::NoItem { value, wanted } => misfit(f, value, wanted),
             Why::UnknownTask { name, names: _ } => {
-                write!(f, "wake: no task has the name {name:?}")
+                write!(f, "wake: no task has the name {}", Quoted(name))
             }
             Why::LongName => write!(f, "name: it has more than {LONGEST_NAME} bytes"),
             Why::TwoOfName { name, first } => {
-                write!(f, "name: {name:?} is the name of task {first} too")
+                write!(f, "name: {} is the name of task {first} too", Quoted(name))
             }
             Why::TwoForms => f.write_str("do stands beside run or sleep, which are short for one"),
             Why::NoTime => f.write_str("do: nothing in it takes time; let it run or sleep"),
@@ -167,7 +167,8 @@ fn no_draw<W: fmt::Write>(f: &mut fmt::Formatter<W>, table: &Table) -> fmt::Resu
         }
         Some((key, _)) => write!(
             f,
-            "unknown key {key:?}; a length is drawn by uniform or exponential"
+            "unknown key {}; a length is drawn by uniform or exponential",
+            Quoted(key)
         ),
         None => write!(
             f,
@@ -246,10 +247,30 @@ fn described(wanted: &Wanted) -> &'static str {
     }
 }
 
+/// How many characters of a text are quoted.
+const QUOTED: usize = 40;
+
+/// A text in quotes, cut behind 40 characters, and then `..`.
+#[derive(Clone, Copy)]
+struct Quoted<'a>(&'a str);
+
+impl fmt::Display for Quoted<'_> {
+    fn fmt<W: fmt::Write>(&self, f: &mut fmt::Formatter<W>) -> fmt::Result {
+        let cut = self.0.char_indices().nth(QUOTED);
+        match cut.and_then(|(at, _)| self.0.get(..at)) {
+            Some(beginning) => {
+                fmt::Debug::fmt(beginning, f)?;
+                f.write_str("..")
+            }
+            None => fmt::Debug::fmt(self.0, f),
+        }
+    }
+}
+
 /// Writes a value on one line.
 fn shown<W: fmt::Write>(f: &mut fmt::Formatter<W>, value: &Value) -> fmt::Result {
     match value {
-        Value::String(text) => fmt::Debug::fmt(text.as_str(), f),
+        Value::String(text) => fmt::Display::fmt(&Quoted(text.as_str()), f),
         Value::Integer(number) => fmt::Display::fmt(number, f),
         Value::Boolean(truth) => fmt::Display::fmt(truth, f),
         Value::Float(number) => fmt::Display::fmt(number, f),

@@ -131,13 +131,19 @@ fn tables(document: &Table) -> Result<&[Value], Why<'_>>
     }
 }
 
-/// The names of the tasks, of which no two are the same.
+/// The names of the tasks, of which no two are the same. Each is of one task at least, so there are at most 1,024.
 fn names<'a>(alloc: Global, tables: &'a [Value]) -> Result<Vec<String>, Trouble<'a>>
     ensures names { IfOk result (λ v. AreNames (items_view tables.now) v.items) }
     ensures others { IfOk result (λ v. AreOthers [] v.items) }
 {
     let mut names = Vec::new(alloc);
     for (index, value) in tables.iter().enumerate() {
+        if index >= usize::from(TASKS) {
+            return Err(Trouble::At {
+                place: Location::Document,
+                why: Why::TooMany,
+            });
+        }
         let place = Location::Task {
             number: index + 1,
             name: None,
