@@ -5,13 +5,17 @@ use Rattle.clap.specs.Simple.{new_shape, on_top}
 use Rattle.clap.specs.Words.{App, Rule, Shape, Text, new_app, new_rule, with_subcommand}
 use Rattle.clap.specs.declared.builder.action.ArgAction.TheVariants.{Append, SetTrue}
 use Rattle.bq_console.specs.declared.tables.Given.{Given}
-use Rattle.bq_console.specs.declared.tables.Given.TheVariants.{Alone, Once, Needed, Often, Flag}
+use Rattle.bq_console.specs.declared.tables.Given.TheVariants.{Alone, Several, Once, Needed, Often, Flag}
 use Rattle.bq_console.specs.declared.tables.OptionText.{OptionText}
 use Rattle.bq_console.specs.declared.tables.CommandText.{CommandText}
 
 -- a word without a name
 abbrev pub word_rule : Text → Rule
 word_rule name = record (new_rule name) { value_names = 1 }
+
+-- several words without a name
+abbrev pub words_rule : Text → Rule
+words_rule name = record (word_rule name) { action = Some Append }
 
 -- an option that takes one value
 abbrev pub option_rule : Text → Rule
@@ -32,6 +36,7 @@ flag_rule name = record (new_rule name) { long = Some name; action = Some SetTru
 -- an option by how it is given
 abbrev pub rule_given : Text → Given → Rule
 rule_given name (Alone value) = word_rule name
+rule_given name (Several value) = words_rule name
 rule_given name (Once value) = option_rule name
 rule_given name (Needed value) = needed_rule name
 rule_given name (Often value) = often_rule name

@@ -3,24 +3,52 @@ ghost use Rattle.std.specs.Prelude.{◌≡◌, IfOk, map};
 ghost use Rattle.std.specs.String.{string_bytes};
 
 use crate::fault::{WordsFault, words_fault};
+use crate::printable::NO_TEXT;
 use std::alloc::{AllocError, Global};
 use std::env;
-use std::io::{Error, ErrorKind};
+use std::env::{Env, FillError};
+use std::io::ErrorKind;
 
-/// The words after the program's name, in order. One that is no UTF-8 text is refused.
+/// The most bytes that the system hands on as one word.
+const WORD: usize = 1 << 17;
+
+/// The words after the program's name, in order. In one that is no UTF-8 text each byte that is no part of such text stands as
+/// two hex digits behind `NO_TEXT`, which no word has otherwise.
 pub fn given_words(rt: &HostRuntime) -> Result<Vec<String>, WordsFault> {
     match env::args(rt) {
         Ok(args) => Ok(args.skip(1).collect(rt.alloc())?),
-        Err(error) => Err(no_words(rt.alloc(), &error)),
+        Err(error) if error.kind() == ErrorKind::OutOfMemory => Err(WordsFault::OutOfMemory),
+        Err(_) => words_of_bytes(rt),
     }
 }
 
-/// Why there are no words.
-fn no_words(alloc: Global, error: &Error) -> WordsFault {
-    if error.kind() == ErrorKind::OutOfMemory {
-        return WordsFault::OutOfMemory;
+/// The same, word by word.
+fn words_of_bytes(rt: &HostRuntime) -> Result<Vec<String>, WordsFault> {
+    let alloc = rt.alloc();
+    let mut buffer = vec![in alloc; 0u8; WORD]?;
+    let mut words = Vec::new(alloc);
+    for number in 1..usize::MAX {
+        match rt.arg(number, buffer.as_mut_slice()) {
+            Ok(length) => words.push(text_of(alloc, &buffer.as_slice()[..length])?)?,
+            Err(FillError::NotPresent) => break,
+            Err(FillError::TooLong) => {
+                return Err(words_fault(String::from_str(alloc, "error: a word is too long\n")));
+            }
+        }
     }
-    words_fault(String::from_str(alloc, "error: a word is no UTF-8 text\n"))
+    Ok(words)
+}
+
+/// The text of these bytes.
+fn text_of(alloc: Global, bytes: &[u8]) -> Result<String, AllocError> {
+    let mut text = String::new(alloc);
+    for chunk in bytes.utf8_chunks() {
+        text.push_str(chunk.valid())?;
+        for byte in chunk.invalid() {
+            write!(text, "{NO_TEXT}{byte:02x}")?;
+        }
+    }
+    Ok(text)
 }
 
 /// The texts of words, in their order.

@@ -3,10 +3,12 @@
 //! what clap found, and a command ends by the exit status of its outcome, by contract. Texts on standard error are only safe.
 #![tactic(auto)]
 
+mod bounded;
 mod ending;
 pub mod fault;
 pub mod found;
 mod given;
+mod printable;
 mod reading;
 mod reasons;
 mod refused;
@@ -16,14 +18,16 @@ pub mod tables;
 pub mod words;
 mod writing;
 
+pub use bounded::Bounded;
 pub use ending::ended;
 pub use fault::{WordsFault, words_fault};
 pub use found::{all_words, is_set, value, word};
 pub use given::{as_texts, given_words};
-pub use reading::{file_named, name_of, standard_input, waiting_input, whole_file, whole_input};
+pub use printable::{Lines, NO_TEXT, Name, Quoted};
+pub use reading::{MOST_BYTES, file_named, name_of, opened, read_input, waiting_input, whole_file, whole_input};
 pub use reasons::reason;
 pub use refused::{refused_value, refused_words};
 pub use saying::{say_out_of_memory, say_refused, say_unread, say_unwritten};
 pub use status::{OUT_OF_MEMORY, exit_status};
 pub use tables::{CommandText, Given, OptionText, found_in, program, with_commands};
-pub use writing::written;
+pub use writing::{written};

@@ -4,10 +4,17 @@ ghost use Rattle.std.specs.Borrow.{Bor};
 ghost use Rattle.bq_console.specs.Files.{file_named, name_of};
 ghost use Rattle.bq_console.specs.Status.{EndsFailed};
 
+use crate::bounded::Bounded;
+use crate::printable::NO_TEXT;
 use crate::saying::say_unread;
 use std::fs;
-use std::io::{IsTerminal, Read, Stdin};
+use std::fs::File;
+use std::io;
+use std::io::{Error, ErrorKind, IsTerminal, Read, Stdin};
 use std::process::ExitCode;
+
+/// What is said of a name that is no UTF-8 text.
+const NO_TEXT_NAME: &str = "the name is no UTF-8 text, so it can't be opened";
 
 /// The file that is named, unless it is `-`, which stands for standard input.
 pub fn file_named(file: &Option<String>) -> Option<&str>
@@ -29,25 +36,55 @@ pub fn name_of(file: &Option<String>) -> &str
     }
 }
 
-/// All bytes of the file that is named, or of standard input. Where they can't be read, standard error says why, and the error
-/// is the exit status.
-pub fn whole_input(rt: &HostRuntime, file: &Option<String>) -> Result<Vec<u8>, ExitCode>
+/// How many bytes a file that is read whole may have, unless `--max-bytes` says another number.
+pub const MOST_BYTES: u64 = 1 << 24;
+
+/// All bytes of the file that is named, or of standard input, of at most so many. Where they can't be read, standard error says
+/// why, and the error is the exit status.
+pub fn whole_input(
+    rt: &HostRuntime,
+    file: &Option<String>,
+    most: u64,
+) -> Result<Vec<u8>, ExitCode>
     ensures { IfErr result EndsFailed }
 {
-    match file_named(file) {
-        Some(path) => whole_file(rt, path),
-        None => standard_input(rt),
+    let name = file_named(file);
+    match read_input(rt, name, most) {
+        Ok(bytes) => Ok(bytes),
+        Err(error) => Err(say_unread(rt, name, &error)),
     }
 }
 
-/// All bytes of a file.
+/// All bytes of a file, of at most `MOST_BYTES`.
 pub fn whole_file(rt: &HostRuntime, path: &str) -> Result<Vec<u8>, ExitCode>
     ensures { IfErr result EndsFailed }
 {
-    match fs::read(rt, path) {
+    match read_input(rt, Some(path), MOST_BYTES) {
         Ok(bytes) => Ok(bytes),
         Err(error) => Err(say_unread(rt, Some(path), &error)),
     }
+}
+
+/// All bytes of the file of that name, or of standard input where no name is given, of at most so many.
+pub fn read_input(rt: &HostRuntime, name: Option<&str>, most: u64) -> io::Result<Vec<u8>> {
+    let mut bytes = Vec::new(rt.alloc());
+    match name {
+        Some(path) => {
+            Bounded::new(opened(rt, path)?, Some(most)).read_to_end(&mut bytes)?;
+        }
+        None => {
+            Bounded::new(waiting_input(rt), Some(most)).read_to_end(&mut bytes)?;
+        }
+    }
+    Ok(bytes)
+}
+
+/// The file of that name, to be read. A name that is no UTF-8 text names none.
+pub fn opened(rt: &HostRuntime, path: &str) -> io::Result<File> {
+    if path.contains(NO_TEXT) {
+        return Err(Error::new(ErrorKind::InvalidFilename, NO_TEXT_NAME));
+    }
+    fs::open(rt, path)
 }
 
 /// Standard input. On a terminal it says that it waits.
@@ -57,16 +94,4 @@ pub fn waiting_input(rt: &HostRuntime) -> Stdin {
         let _ = rt.eprintln("bqsim: waiting for standard input; Ctrl-D ends it");
     }
     input
-}
-
-/// All bytes of standard input.
-pub fn standard_input(rt: &HostRuntime) -> Result<Vec<u8>, ExitCode>
-    ensures { IfErr result EndsFailed }
-{
-    let mut input = waiting_input(rt);
-    let mut bytes = Vec::new(rt.alloc());
-    match input.read_to_end(&mut bytes) {
-        Ok(_) => Ok(bytes),
-        Err(error) => Err(say_unread(rt, None, &error)),
-    }
 }

@@ -5,6 +5,7 @@ ghost use Rattle.std.specs.Process.{exit_status};
 ghost use Rattle.bq_console.specs.Status.{EndsFor, refused_status};
 
 use crate::fault::WordsFault;
+use crate::printable::{Lines, Name};
 use crate::reasons::reason;
 use crate::status::{IO_FAILED, OUT_OF_MEMORY, REFUSED};
 use bq_streams::StreamFault;
@@ -26,7 +27,7 @@ pub fn say_refused(rt: &HostRuntime, fault: &WordsFault) -> ExitCode
 {
     match fault {
         WordsFault::Words(text) => {
-            let _ = rt.eprint(text);
+            let _ = rt.eprint(Lines(text.as_str()));
             ExitCode::from(REFUSED)
         }
         WordsFault::OutOfMemory => say_out_of_memory(rt),
@@ -39,7 +40,7 @@ pub fn say_unread(rt: &HostRuntime, name: Option<&str>, error: &Error) -> ExitCo
     ensures { EndsFor (error_kind error.now) result }
 {
     match name {
-        Some(name) => say_failed(rt, &name, error),
+        Some(name) => say_failed(rt, &Name(name), error),
         None => say_failed(rt, &StreamFault::Read, error),
     }
 }

@@ -14,6 +14,8 @@ use std::alloc::{AllocError, Global};
 pub enum Given {
     /// As a word without the option's name. The text names the value on a help page.
     Alone(&'static str),
+    /// The same, as several such words.
+    Several(&'static str),
     /// By its name, and then one value.
     Once(&'static str),
     /// The same, and it may not be left out.
@@ -49,6 +51,7 @@ fn option<'a>(alloc: Global, text: &OptionText) -> Arg<'a>
     let option = Arg::new(alloc, text.name).help(text.help);
     match &text.given {
         Given::Alone(value) => option.value_name(value),
+        Given::Several(value) => option.value_name(value).action(ArgAction::Append),
         Given::Once(value) => option.long(text.name).value_name(value),
         Given::Needed(value) => option.long(text.name).value_name(value).required(true),
         Given::Often(value) => option
