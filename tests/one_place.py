@@ -107,6 +107,7 @@ ALLOWED = {
     'the same lemma: bq_comparison/proofs/RangeLemmas.antt: flat_map-range_more, bq_policy_run/proofs/ChangeLemmas.antt: flat_map-range_more': 'a fact of the library\'s ranges, which it has no lemma for; neither crate stands on the other',
     'the list of the helpers: bq_explain/src/summary.rt': 'the order in which a summary names helpers; a helper that it lacked would only not be named',
     'which helpers are of counters: bq_interp/src/counters.rt': 'asked at each call of a run, of the number alone, by a function that stands in its loop',
+    'the word of a key of marks: bq_explain/src/measure.rt': 'what the limit of maps is called, as its option --max-maps is',
     'the word of a hook: bq_drawing/src/perfetto.rt': 'the category of a mark in a Perfetto file: the event, not the hook',
     'the word of a hook: bq_report/src/summary.rt': 'keys of a form in JSON, which stay what they are whatever traces call a hook',
     'the word of a hook: bq_report/src/tables.rt': 'the column of a report, which stays what it is whatever traces call a hook',

@@ -26,13 +26,15 @@ use Rattle.bq_explain.specs.declared.trail.Made.{Made}
 use Rattle.bq_explain.specs.Verdicts.{IsVerdict}
 use Rattle.bq_explain.specs.declared.limits.Limits.{Limits}
 use Rattle.bq_explain.specs.declared.verdict.Verdict.{Verdict}
-use Rattle.bq_explain.specs.declared.verdict.Verdict.TheVariants.{Accepted, OverSteps, Forbidden, Refused}
+use Rattle.bq_explain.specs.declared.verdict.Verdict.TheVariants.{Accepted, OverSteps, Forbidden, OtherHook, Beyond, Refused}
 
 -- a refusal is the verifier's
 pub of_verifier : (p : PolicySource) (l : Limits) (verdict : Verdict) → IsVerdict p l verdict → IsOfVerifier p verdict
 of_verifier p l (Accepted budget) is = tt
 of_verifier p l (OverSteps budget most) is = tt
 of_verifier p l (Forbidden helper) is = tt
+of_verifier p l OtherHook is = tt
+of_verifier p l (Beyond over) is = tt
 of_verifier p l (Refused slot named) is = is
 
 -- an instruction with a fault begins at its slot

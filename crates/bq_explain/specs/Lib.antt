@@ -2,6 +2,7 @@ pub mod Beginnings
 pub mod Complaints
 pub mod Explained
 pub mod Makers
+pub mod Measures
 pub mod Telling
 pub mod Texts
 pub mod Verdicts

@@ -9,7 +9,7 @@ use Rattle.bq_verify.specs.Paths.{IsGreatest, PathOut}
 use Rattle.bq_bpf.specs.Safe.{Safe}
 use Rattle.bq_load.specs.declared.fault.LoadFault.TheVariants as load
 use Rattle.bq_load.specs.Naming.{fault_text}
-use Rattle.bq_hooks.specs.Hooks.{context_length_of}
+use Rattle.bq_hooks.specs.Hooks.{context_length_of, hook_word}
 use Rattle.bq_verify.specs.Refusals.{IsRefusal}
 use Rattle.bq_verify.specs.Straight.{IsStraightProgram}
 use Rattle.bq_hooks.specs.declared.hook.Hook.{Hook}
@@ -18,9 +18,13 @@ use Rattle.bq_verify.specs.declared.refused.Refused.TheVariants as refused
 use Rattle.bq_words.specs.Refused.{refused_line}
 use Rattle.bq_policy_file.specs.Check.{accepted_line}
 use Rattle.bq_policy_file.specs.declared.policy_source.PolicySource.{PolicySource}
+use Rattle.bq_explain.specs.Measures.{measure_of, measure_word}
 use Rattle.bq_explain.specs.declared.limits.Limits.{Limits}
+use Rattle.bq_explain.specs.declared.limits.Over.{Over}
+use Rattle.bq_explain.specs.declared.measure.Measure.{Measure}
+use Rattle.bq_explain.specs.declared.measure.Measure.TheVariants.{Maps, MapBytes, Counters}
 use Rattle.bq_explain.specs.declared.verdict.Verdict.{Verdict}
-use Rattle.bq_explain.specs.declared.verdict.Verdict.TheVariants.{Accepted, OverSteps, Forbidden, Refused}
+use Rattle.bq_explain.specs.declared.verdict.Verdict.TheVariants.{Accepted, OverSteps, Forbidden, OtherHook, Beyond, Refused}
 
 -- the program's control graph has no fault, and it is safe within its budget, which is the longest path
 pub record IsSafePolicy (p : PolicySource) (budget : ℕ) : Type 0 where
@@ -59,20 +63,62 @@ pub record IsCalledAgainst (helpers : Option (List ℤ)) (insns : List Insn) (he
   pub first : All (CallsNoOther helpers) (take place insns)
   pub against : ¬ (CallsNoOther helpers (Call helper))
 
+-- without a list of hooks each is allowed
+abbrev pub IsAmong : Option (List Hook) → Hook → Type 0
+IsAmong None hook = Unit {0}
+IsAmong (Some hooks) hook = Contains hooks hook
+
+-- a policy may be for that hook
+abbrev pub AllowsHook : Limits → Hook → Type 0
+AllowsHook l hook = IsAmong (option_map (λ hooks. hooks.items) l.hooks) hook
+
+-- the most that is allowed of that measure
+abbrev pub most_of : Limits → Measure → Option ℕ
+most_of l Maps = l.maps
+most_of l MapBytes = l.map_bytes
+most_of l Counters = l.counters
+
+-- the policy is within the limits of its maps, their bytes and its calls of counters
+pub record KeepsMeasures (p : PolicySource) (l : Limits) : Type 0 where
+  pub maps : IsWithin (measure_of p Maps) l.maps
+  pub map_bytes : IsWithin (measure_of p MapBytes) l.map_bytes
+  pub counters : IsWithin (measure_of p Counters) l.counters
+
+-- it uses more of that measure than is allowed
+pub record IsOver (p : PolicySource) (l : Limits) (over : Over) : Type 0 where
+  pub most : most_of l over.measure ≡ Some over.most
+  pub used : over.used ≡ measure_of p over.measure
+  pub more : over.most < over.used
+
+-- the policy is within all limits
+pub record KeepsLimits (p : PolicySource) (l : Limits) (budget : ℕ) : Type 0 where
+  pub steps : IsWithin budget l.steps
+  pub helpers : All (CallsNoOther (allowed l)) p.insns.items
+  pub hook : AllowsHook l p.hook
+  pub measures : KeepsMeasures p l
+
 -- the verifier's answer, or what is beyond the limits of a program that is safe
 abbrev pub IsVerdict : PolicySource → Limits → Verdict → Type 0
-IsVerdict p l (Accepted budget) = IsSafePolicy p budget × IsWithin budget l.steps × All (CallsNoOther (allowed l)) p.insns.items
+IsVerdict p l (Accepted budget) = IsSafePolicy p budget × KeepsLimits p l budget
 IsVerdict p l (OverSteps budget most) = IsSafePolicy p budget × (l.steps ≡ Some most) × (most < budget)
 IsVerdict p l (Forbidden helper) = (budget : ℕ) × IsSafePolicy p budget × IsWithin budget l.steps × IsCalledAgainst (allowed l) p.insns.items helper
+IsVerdict p l OtherHook = (budget : ℕ) × IsSafePolicy p budget × (¬ (AllowsHook l p.hook))
+IsVerdict p l (Beyond over) = (budget : ℕ) × IsSafePolicy p budget × IsOver p l over
 IsVerdict p l (Refused slot cause) = IsRefusedPolicy p slot cause
 
 abbrev pub is_accepted : Verdict → Bool
 is_accepted (Accepted budget) = true
 is_accepted other = false
 
+-- the line on a limit that a policy is beyond
+abbrev pub over_line : Over → List ℕ
+over_line over = refused_line (codes "limit " ++ (measure_word over.measure ++ (codes " " ++ (decimal over.used ++ (codes " of " ++ decimal over.most)))))
+
 -- the line that tells a verdict
 abbrev pub verdict_line : Hook → Verdict → List ℕ
 verdict_line hook (Accepted budget) = accepted_line hook budget
 verdict_line hook (OverSteps budget most) = refused_line (codes "limit steps " ++ (decimal budget ++ (codes " of " ++ decimal most)))
 verdict_line hook (Forbidden helper) = refused_line (codes "limit helper " ++ signed_decimal helper)
+verdict_line hook OtherHook = refused_line (codes "limit hook " ++ hook_word hook)
+verdict_line hook (Beyond over) = over_line over
 verdict_line hook (Refused slot cause) = refused_line (fault_text (load.Refused slot cause))

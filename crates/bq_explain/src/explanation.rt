@@ -54,7 +54,9 @@ fn detail_of(alloc: Global, policy: &PolicySource, verdict: Verdict) -> Result<D
             let summary = summary_of(alloc, policy)?;
             Ok(Detail::Accepted(summary))
         }
-        Verdict::OverSteps { .. } => Ok(Detail::Limited(None)),
+        Verdict::OverSteps { .. } | Verdict::OtherHook | Verdict::Beyond(_) => {
+            Ok(Detail::Limited(None))
+        }
         Verdict::Forbidden { helper } => Ok(Detail::Limited(call_of(policy, helper))),
         Verdict::Refused { slot, cause } => {
             let refusal = refusal_of(alloc, policy, slot, cause)?;

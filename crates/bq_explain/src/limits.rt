@@ -1,8 +1,12 @@
 //! A keeper's own limits on programs.
-ghost use Rattle.std.specs.Prelude.{◌≡◌, MatchOption, All, None, Some};
-ghost use Rattle.bq_explain.specs.Verdicts.{CallsNoOther, IsBeside, IsCalledAgainst};
+ghost use Rattle.std.specs.Prelude.{◌≡◌, ◌↔◌, IsTrue, MatchOption, All, None, Some};
+ghost use Rattle.bq_explain.specs.Verdicts.{AllowsHook, CallsNoOther, IsBeside, IsCalledAgainst, IsOver, IsWithin, KeepsMeasures, most_of};
+ghost use Rattle.bq_explain.specs.Measures.{measure_of};
 
+use crate::measure::Measure;
+use bq_hooks::Hook;
 use bq_insn::Insn;
+use bq_policy_file::PolicySource;
 
 /// The limits that a program has to keep beside being safe.
 #[derive(Drop)]
@@ -11,6 +15,22 @@ pub struct Limits {
     pub steps: Option<u32>,
     /// The helpers that may be called.
     pub helpers: Option<Vec<i32>>,
+    /// The hooks that a policy may be for.
+    pub hooks: Option<Vec<Hook>>,
+    /// The most maps.
+    pub maps: Option<u32>,
+    /// The most bytes that the values of all maps have.
+    pub map_bytes: Option<u32>,
+    /// The most instructions that call a counter.
+    pub counters: Option<u32>,
+}
+
+/// A limit that a policy is beyond: it uses so much, where `most` is allowed.
+#[derive(Clone, Copy)]
+pub struct Over {
+    pub measure: Measure,
+    pub used: u64,
+    pub most: u32,
 }
 
 impl Limits {
@@ -20,10 +40,68 @@ impl Limits {
     pub fn none() -> Limits
         ensures steps { result.steps ≡ None }
         ensures helpers { result.helpers ≡ None }
+        ensures hooks { result.hooks ≡ None }
+        ensures maps { result.maps ≡ None }
+        ensures map_bytes { result.map_bytes ≡ None }
+        ensures counters { result.counters ≡ None }
     {
         Limits {
             steps: None,
             helpers: None,
+            hooks: None,
+            maps: None,
+            map_bytes: None,
+            counters: None,
+        }
+    }
+
+    /// Whether a policy may be for that hook.
+    pub(crate) fn allows(&self, hook: Hook) -> bool
+        ensures { IsTrue result ↔ AllowsHook self.now hook }
+    {
+        match &self.hooks {
+            None => true,
+            Some(hooks) => hooks.contains(&hook),
+        }
+    }
+
+    /// The first limit of maps, their bytes and counters that the policy is beyond.
+    pub(crate) fn exceeded(&self, policy: &PolicySource) -> Option<Over>
+        ensures { MatchOption result (KeepsMeasures policy.now self.now) (IsOver policy.now self.now) }
+    {
+        if let Some(over) = self.beyond(policy, Measure::Maps) {
+            return Some(over);
+        }
+        if let Some(over) = self.beyond(policy, Measure::MapBytes) {
+            return Some(over);
+        }
+        self.beyond(policy, Measure::Counters)
+    }
+
+    /// The limit of that measure, where the policy is beyond it.
+    fn beyond(&self, policy: &PolicySource, measure: Measure) -> Option<Over>
+        ensures { MatchOption result (IsWithin (measure_of policy.now measure) (most_of self.now measure)) (IsOver policy.now self.now) }
+    {
+        let most = self.most(measure)?;
+        let used = measure.of(policy);
+        if used <= u64::from(most) {
+            return None;
+        }
+        Some(Over {
+            measure,
+            used,
+            most,
+        })
+    }
+
+    /// The most that is allowed of that measure.
+    fn most(&self, measure: Measure) -> Option<u32>
+        ensures { result ≡ most_of self.now measure }
+    {
+        match measure {
+            Measure::Maps => self.maps,
+            Measure::MapBytes => self.map_bytes,
+            Measure::Counters => self.counters,
         }
     }
 

@@ -3,9 +3,9 @@ ghost use Rattle.std.specs.Prelude.{◌≡◌, IfOk, string_bytes};
 ghost use Rattle.bq_insn.specs.Appending.{StartsWith};
 ghost use Rattle.bq_explain.specs.Beginnings.{accepted_words, maps_text};
 
+use crate::measure::counter_calls;
 use bq_bpf::MapShape;
 use bq_bpf::helper::{ADD_COUNTER, LOOKUP, NOW, PROCESSOR, READ_COUNTER, UPDATE};
-use bq_bpf::instruction::is_counter_call;
 use bq_insn::{Insn, SLOTS};
 use bq_policy_file::{PolicySource, more_maps};
 use std::alloc::{AllocError, Global};
@@ -123,15 +123,4 @@ fn calls(insns: &[Insn], number: i32) -> bool {
         }
     }
     false
-}
-
-/// How many of the instructions call a counter.
-fn counter_calls(insns: &[Insn]) -> usize {
-    let mut count: usize = 0;
-    for insn in insns {
-        if is_counter_call(*insn) {
-            count = count.saturating_add(1);
-        }
-    }
-    count
 }

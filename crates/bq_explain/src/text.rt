@@ -8,6 +8,7 @@ ghost use Rattle.bq_explain.specs.Verdicts.{is_accepted};
 use crate::advice::advice_text;
 use crate::explanation::{Detail, Explanation};
 use crate::graph_fault::graph_text;
+use crate::limits::Over;
 use crate::meeting::{Coming, Meeting};
 use crate::place::{Place, instruction_line, place_text};
 use crate::refusal::{Finding, Refusal};
@@ -93,6 +94,15 @@ fn limit_text(
             format!(in alloc;
                 "{at}\n  calls helper {helper}, which is none of those that the limit of --helpers allows\n"
             )
+        }
+        (Verdict::OtherHook, _) => String::from_str(
+            alloc,
+            "  the policy is for a hook that the limit of --hooks leaves out\n",
+        ),
+        (Verdict::Beyond(over), _) => {
+            let word = over.measure.word();
+            let Over { used, most, .. } = over;
+            format!(in alloc; "  the policy has {word} {used}, and the limit of --max-{word} is {most}\n")
         }
         _ => Ok(String::new(alloc)),
     }

@@ -1,9 +1,9 @@
 //! What the verifier and a keeper's limits answer to a policy.
 ghost use Rattle.std.specs.Prelude.{◌≡◌, IfOk};
 ghost use Rattle.std.specs.String.{string_bytes};
-ghost use Rattle.bq_explain.specs.Verdicts.{IsSafePolicy, IsVerdict, is_accepted, verdict_line};
+ghost use Rattle.bq_explain.specs.Verdicts.{IsSafePolicy, IsVerdict, is_accepted, over_line, verdict_line};
 
-use crate::limits::Limits;
+use crate::limits::{Limits, Over};
 use bq_hooks::Hook;
 use bq_load::LoadFault;
 use bq_policy_file::{PolicySource, accepted_line, fault_text};
@@ -19,6 +19,10 @@ pub enum Verdict {
     OverSteps { budget: u32, most: u32 },
     /// It calls a helper that is not allowed.
     Forbidden { helper: i32 },
+    /// It is for a hook that is not allowed.
+    OtherHook,
+    /// It is beyond another limit.
+    Beyond(Over),
     /// It is not shown to be safe: the slot that is named, and the cause.
     Refused { slot: usize, cause: Cause },
 }
@@ -34,7 +38,7 @@ impl Verdict {
     }
 }
 
-/// The verdict on a policy. The verifier is asked first, then the limit of steps, then the helpers.
+/// The verdict on a policy. The verifier is asked first, then the limits: steps, helpers, hook, maps, their bytes, counters.
 pub fn judge(alloc: Global, policy: &PolicySource, limits: &Limits) -> Result<Verdict, AllocError>
     ensures { IfOk result (IsVerdict policy.now limits.now) }
 {
@@ -56,8 +60,14 @@ fn limited(policy: &PolicySource, limits: &Limits, budget: u32) -> Verdict
             return Verdict::OverSteps { budget, most };
         }
     }
-    match limits.forbidden(policy.insns.as_slice()) {
-        Some(helper) => Verdict::Forbidden { helper },
+    if let Some(helper) = limits.forbidden(policy.insns.as_slice()) {
+        return Verdict::Forbidden { helper };
+    }
+    if !limits.allows(policy.hook) {
+        return Verdict::OtherHook;
+    }
+    match limits.exceeded(policy) {
+        Some(over) => Verdict::Beyond(over),
         None => Verdict::Accepted { budget },
     }
 }
@@ -87,9 +97,24 @@ pub fn verdict_line(alloc: Global, hook: Hook, verdict: Verdict) -> Result<Strin
             format!(in alloc; "refused limit steps {budget} of {most}\n")
         }
         Verdict::Forbidden { helper } => format!(in alloc; "refused limit helper {helper}\n"),
+        Verdict::OtherHook => {
+            let hook = hook.word();
+            format!(in alloc; "refused limit hook {hook}\n")
+        }
+        Verdict::Beyond(over) => over_line(alloc, over),
         Verdict::Refused { slot, cause } => {
             let named = fault_text(alloc, LoadFault::Refused { slot, cause })?;
             format!(in alloc; "refused {named}\n")
         }
     }
+}
+
+/// The line on a limit that a policy is beyond.
+fn over_line(alloc: Global, over: Over) -> Result<String, AllocError>
+    ensures { IfOk result (λ text. string_bytes text ≡ over_line over) }
+{
+    let word = over.measure.word();
+    let used = over.used;
+    let most = over.most;
+    format!(in alloc; "refused limit {word} {used} of {most}\n")
 }

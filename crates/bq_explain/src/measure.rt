@@ -1,0 +1,69 @@
+//! How much a policy uses of what a keeper may limit.
+ghost use Rattle.std.specs.Prelude.{◌≡◌, ◌≤◌, count_by, length, sum_by};
+ghost use Rattle.bq_bpf.specs.Instructions.{asks_counter};
+ghost use Rattle.bq_explain.specs.Measures.{bytes_of, measure_of, measure_word};
+
+use bq_bpf::MapShape;
+use bq_bpf::instruction::is_counter_call;
+use bq_insn::Insn;
+use bq_policy_file::PolicySource;
+
+/// What a keeper may limit, beside the steps of a run.
+#[derive(Clone, Copy)]
+pub enum Measure {
+    /// How many maps the policy has.
+    Maps,
+    /// How many bytes the values of all its maps have.
+    MapBytes,
+    /// How many of its instructions call a counter.
+    Counters,
+}
+
+impl Measure {
+    /// How much of it the policy uses.
+    pub fn of(self, policy: &PolicySource) -> u64
+        ensures { result ≡ measure_of policy.now self }
+    {
+        match self {
+            Measure::Maps => policy.shapes.len() as u64,
+            Measure::MapBytes => value_bytes(policy.shapes.as_slice()),
+            Measure::Counters => counter_calls(policy.insns.as_slice()) as u64,
+        }
+    }
+
+    /// What answers call it.
+    pub fn word(self) -> &'static str
+        ensures { result.now ≡ measure_word self }
+    {
+        match self {
+            Measure::Maps => "maps",
+            Measure::MapBytes => "map-bytes",
+            Measure::Counters => "counters",
+        }
+    }
+}
+
+/// The bytes of the values of these maps.
+fn value_bytes(shapes: &[MapShape]) -> u64
+    requires { length shapes.now ≤ 8 }
+    ensures { result ≡ sum_by bytes_of shapes.now }
+{
+    let mut sum: u64 = 0;
+    for shape in shapes {
+        sum += u64::from(shape.value_size) * u64::from(shape.entries);
+    }
+    sum
+}
+
+/// How many of the instructions call a counter.
+pub(crate) fn counter_calls(insns: &[Insn]) -> usize
+    ensures { result ≡ count_by asks_counter insns.now }
+{
+    let mut count: usize = 0;
+    for insn in insns {
+        if is_counter_call(*insn) {
+            count += 1;
+        }
+    }
+    count
+}
