@@ -1,19 +1,26 @@
 -- The program's commands and their options, as clap's words on command lines have them.
 use Rattle.std.specs.Prelude.{List, [], ◌∷◌, ◌++◌, codes}
 use Rattle.clap.specs.Words.{App, Rule, Shape}
-use Rattle.bq_console.specs.Tables.{command, empty_program, flag_rule, needed_rule, often_rule, option_rule, with_commands, word_rule}
+use Rattle.bq_console.specs.Tables.{command, empty_program, flag_rule, needed_rule, often_rule, option_rule, with_commands, word_rule, words_rule}
 
--- a file, and what is said beside it: its hook, its maps and its format
+-- what is said of a file beside it: its hook, its maps and its format, and how much of it is read
+abbrev pub head_rules : List Rule
+head_rules = option_rule (codes "hook") ∷ option_rule (codes "maps") ∷ option_rule (codes "format") ∷ option_rule (codes "max-bytes") ∷ []
+
+-- a file, and what is said of it
 abbrev pub policy_rules : List Rule
-policy_rules = word_rule (codes "file") ∷ option_rule (codes "hook") ∷ option_rule (codes "maps") ∷ option_rule (codes "format") ∷ []
+policy_rules = word_rule (codes "file") ∷ head_rules
 
 -- the same, of which the hook may not be left out
 abbrev pub import_rules : List Rule
-import_rules = word_rule (codes "file") ∷ needed_rule (codes "hook") ∷ option_rule (codes "maps") ∷ option_rule (codes "format") ∷ []
+import_rules = word_rule (codes "file") ∷ needed_rule (codes "hook") ∷ option_rule (codes "maps") ∷ option_rule (codes "format") ∷ option_rule (codes "max-bytes") ∷ []
 
--- what `check` answers and refuses
+-- files, what is said of them, and what `check` answers, refuses and writes
 abbrev pub check_rules : List Rule
-check_rules = flag_rule (codes "explain") ∷ flag_rule (codes "json") ∷ option_rule (codes "max-steps") ∷ option_rule (codes "helpers") ∷ []
+check_rules =
+    (words_rule (codes "file") ∷ head_rules)
+    ++ flag_rule (codes "explain") ∷ flag_rule (codes "json") ∷ option_rule (codes "max-steps") ∷ option_rule (codes "helpers") ∷ option_rule (codes "hooks")
+    ∷ option_rule (codes "max-maps") ∷ option_rule (codes "max-map-bytes") ∷ option_rule (codes "max-counters") ∷ option_rule (codes "image") ∷ []
 
 -- what a run begins with, and how it is reported
 abbrev pub run_rules : List Rule
@@ -47,7 +54,7 @@ program_commands = command (codes "asm") policy_rules ∷ command (codes "import
 -- the commands on policies
 abbrev pub policy_commands : List Shape
 policy_commands =
-    command (codes "check") (policy_rules ++ check_rules)
+    command (codes "check") check_rules
     ∷ command (codes "dis") (policy_rules ++ flag_rule (codes "slots") ∷ [])
     ∷ command (codes "run") (policy_rules ++ run_rules) ∷ []
 
@@ -55,7 +62,7 @@ policy_commands =
 abbrev pub machine_commands : List Shape
 machine_commands =
     command (codes "par") par_rules
-    ∷ command (codes "replay") (word_rule (codes "file") ∷ [])
+    ∷ command (codes "replay") (word_rule (codes "file") ∷ option_rule (codes "max-bytes") ∷ [])
     ∷ command (codes "timeline") (word_rule (codes "file") ∷ option_rule (codes "as") ∷ part_rules)
     ∷ command (codes "simulate") (workload_rules ++ simulate_rules ++ part_rules) ∷ []
 

@@ -7,6 +7,7 @@ use Rattle.bq_console.specs.Words.{SaysWord}
 use Rattle.bq_words.specs.Quantities.{size_of, decimal_of}
 use Rattle.bq_policy_check.specs.Saying.{option_bytes}
 use Rattle.bq_policy_check.specs.declared.words.CheckWords.{CheckWords}
+use Rattle.bq_policy_check.specs.declared.words.LimitWords.{LimitWords}
 use Rattle.bq_policy_check.specs.declared.words.ListWords.{ListWords}
 use Rattle.bq_policy_check.specs.declared.words.PolicyWords.{PolicyWords}
 use Rattle.bq_policy_check.specs.declared.words.RunWords.{RunWords}
@@ -38,6 +39,7 @@ AreAll option rows words = map (λ w. string_bytes w) words ≡ unwrap_or (all_o
 -- the values of `asm`: the hook and the version that the words name, and the text of the maps as it is
 pub record AreAsmWords (rows : List Row) (w : AsmWords) : Type 0 where
   pub file : IsFirst (codes "file") rows w.file
+  pub max_bytes : IsFirst (codes "max-bytes") rows w.max_bytes
   pub hook : SaysWord (λ word hook. hook_of word ≡ Some hook) (first_of (codes "hook") rows) w.options.hook
   pub maps : maps_text w.options ≡ first_of (codes "maps") rows
   pub format : SaysWord (λ word version. version_of word ≡ Some version) (first_of (codes "format") rows) w.options.format
@@ -48,14 +50,25 @@ pub record ArePolicyWords (rows : List Row) (w : PolicyWords) : Type 0 where
   pub hook : IsFirst (codes "hook") rows w.hook
   pub maps : IsFirst (codes "maps") rows w.maps
   pub format : IsFirst (codes "format") rows w.format
+  pub max_bytes : IsFirst (codes "max-bytes") rows w.max_bytes
+
+-- the keeper's own limits
+pub record AreLimitWords (rows : List Row) (w : LimitWords) : Type 0 where
+  pub steps : IsFirst (codes "max-steps") rows w.steps
+  pub helpers : IsFirst (codes "helpers") rows w.helpers
+  pub hooks : IsFirst (codes "hooks") rows w.hooks
+  pub maps : IsFirst (codes "max-maps") rows w.maps
+  pub map_bytes : IsFirst (codes "max-map-bytes") rows w.map_bytes
+  pub counters : IsFirst (codes "max-counters") rows w.counters
 
 -- the values of `check`
 pub record AreCheckWords (rows : List Row) (w : CheckWords) : Type 0 where
   pub policy : ArePolicyWords rows w.policy
+  pub files : AreAll (codes "file") rows w.files.items
   pub explained : IsSet (codes "explain") rows w.is_explained
   pub json : IsSet (codes "json") rows w.is_json
-  pub steps : IsFirst (codes "max-steps") rows w.max_steps
-  pub helpers : IsFirst (codes "helpers") rows w.helpers
+  pub limits : AreLimitWords rows w.limits
+  pub image : IsFirst (codes "image") rows w.image
 
 -- the values of `dis`
 pub record AreListWords (rows : List Row) (w : ListWords) : Type 0 where
@@ -91,6 +104,7 @@ pub record IsParallel (rows : List Row) (p : Parallel) : Type 0 where
 -- the values of `replay`
 pub record AreReplayWords (rows : List Row) (w : ReplayWords) : Type 0 where
   pub file : IsFirst (codes "file") rows w.file
+  pub max_bytes : IsFirst (codes "max-bytes") rows w.max_bytes
 
 -- the values of `timeline`: a file, and how it is shown
 pub record AreTimelineWords (rows : List Row) (w : Words) : Type 0 where
@@ -125,13 +139,18 @@ pub record AreSimulateWords (rows : List Row) (w : StudyWords) : Type 0 where
   pub against : AreAll (codes "against") rows w.against.items
   pub shown : AreTimelineWords rows w.shown
 
--- no word names a file, a hook, maps or a format
+-- no word names a file, a hook, maps, a format or a number of bytes
 abbrev pub name_nothing : PolicyWords → Bool
-name_nothing w = not (is_some w.file) && (not (is_some w.hook) && (not (is_some w.maps) && not (is_some w.format)))
+name_nothing w = not (is_some w.file) && (not (is_some w.hook) && (not (is_some w.maps) && (not (is_some w.format) && not (is_some w.max_bytes))))
+
+-- no word sets a limit
+abbrev pub limit_nothing : LimitWords → Bool
+limit_nothing w = not (is_some w.steps) && (not (is_some w.helpers) && (not (is_some w.hooks)
+    && (not (is_some w.maps) && (not (is_some w.map_bytes) && not (is_some w.counters)))))
 
 -- `check` without file and options
 abbrev pub is_plain_check : CheckWords → Bool
-is_plain_check w = name_nothing w.policy && (not w.is_explained && (not w.is_json && (not (is_some w.max_steps) && not (is_some w.helpers))))
+is_plain_check w = name_nothing w.policy && (not w.is_explained && (not w.is_json && (limit_nothing w.limits && not (is_some w.image))))
 
 -- `dis` without file and options
 abbrev pub is_plain_dis : ListWords → Bool

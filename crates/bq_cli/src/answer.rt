@@ -5,7 +5,7 @@ ghost use Rattle.bq_console.specs.Status.{EndsFailed};
 ghost use Rattle.bq_cli.specs.Status.{status_of};
 
 use bq_console::status::{BAD_INPUT, REFUSED};
-use bq_console::{OUT_OF_MEMORY, say_out_of_memory, written};
+use bq_console::{Lines, OUT_OF_MEMORY, say_out_of_memory, written};
 use bq_policy_check::Answered;
 use std::alloc::AllocError;
 use std::process::ExitCode;
@@ -32,6 +32,7 @@ pub fn written_answer(rt: &HostRuntime, answer: &Result<Answered, AllocError>) -
             written(rt, text.as_str(), ExitCode::from(exit_status_of(answer)))
         }
         Ok(Answered::Words(why)) => {
+            let why = Lines(why.as_str());
             let _ = eprintln!(rt; "error: {why}");
             ExitCode::from(exit_status_of(answer))
         }

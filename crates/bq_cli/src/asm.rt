@@ -6,9 +6,9 @@ ghost use Rattle.bq_cli.specs.declared.asm.AsmWords.{AsmWords as Words};
 
 use crate::command::Command;
 use crate::dispatch::perform_from;
-use crate::policy_words::{format_in, hook_in, policy_words};
+use crate::policy_words::{format_in, hook_in, most_bytes, policy_words};
 use bq_console::status::BAD_INPUT;
-use bq_console::{WordsFault, say_out_of_memory, whole_input, written};
+use bq_console::{Lines, WordsFault, say_out_of_memory, whole_input, written};
 use bq_explain::complaint;
 use bq_policy_check::{AsmRefusal, PolicyWords, asm_note, asm_refusal, options_complaint};
 use bq_policy_file::Options;
@@ -23,6 +23,8 @@ use std::thread::Threads;
 pub struct AsmWords {
     /// The text; standard input without it, or as `-`.
     pub file: Option<String>,
+    /// The most bytes that are read.
+    pub max_bytes: Option<String>,
     /// What it is assembled to.
     pub options: Options,
 }
@@ -35,9 +37,15 @@ pub(crate) fn asm_words(alloc: Global, matches: &ArgMatches<'_>) -> Result<AsmWo
     let words = policy_words(alloc, matches)?;
     let hook = hook_in(alloc, &words.hook)?;
     let format = format_in(alloc, &words.format)?;
-    let PolicyWords { file, maps, .. } = words;
+    let PolicyWords {
+        file,
+        maps,
+        max_bytes,
+        ..
+    } = words;
     Ok(AsmWords {
         file,
+        max_bytes,
         options: Options { hook, maps, format },
     })
 }
@@ -48,11 +56,24 @@ pub(crate) fn do_asm<T: Threads + Wait + Sync>(
     threads: &T,
     command: &Command,
     words: &AsmWords,
+) -> Result<ExitCode, WordsFault> {
+    let most = most_bytes(rt.alloc(), &words.max_bytes)?;
+    Ok(assemble_form(rt, threads, command, words, most))
+}
+
+/// The same, of at most so many bytes.
+fn assemble_form<T: Threads + Wait + Sync>(
+    rt: &HostRuntime,
+    threads: &T,
+    command: &Command,
+    words: &AsmWords,
+    most: u64,
 ) -> ExitCode {
     match options_complaint(rt.alloc(), &words.options) {
-        Ok(None) => assemble_input(rt, threads, command, words),
+        Ok(None) => assemble_input(rt, threads, command, words, most),
         Ok(Some(why)) => {
             let code = perform_from(rt, threads, command, None, rt.stdin());
+            let why = Lines(why.as_str());
             let _ = eprintln!(rt; "bqsim: {why}");
             code
         }
@@ -66,8 +87,9 @@ fn assemble_input<T: Threads + Wait + Sync>(
     threads: &T,
     command: &Command,
     words: &AsmWords,
+    most: u64,
 ) -> ExitCode {
-    let text = match whole_input(rt, &words.file) {
+    let text = match whole_input(rt, &words.file, most) {
         Ok(text) => text,
         Err(code) => return code,
     };
@@ -84,7 +106,7 @@ fn assemble_input<T: Threads + Wait + Sync>(
 
 /// Refuses options that the marks of the text contradict.
 fn refuse(rt: &HostRuntime, refusal: &AsmRefusal) -> ExitCode {
-    let reason = &refusal.reason;
+    let reason = Lines(refusal.reason.as_str());
     let _ = eprintln!(rt; "bqsim: {reason}");
     written(rt, refusal.line.as_str(), ExitCode::from(BAD_INPUT))
 }
@@ -92,10 +114,12 @@ fn refuse(rt: &HostRuntime, refusal: &AsmRefusal) -> ExitCode {
 /// Says on standard error what is wrong with a text, and which of its marks the answer leaves out.
 fn say_beside(rt: &HostRuntime, options: &Options, text: &[u8]) {
     if let Ok(Some(why)) = complaint(rt.alloc(), text) {
+        let why = Lines(why.as_str());
         let _ = eprint!(rt; "bqsim: {why}");
     }
     if let Ok(note) = asm_note(rt.alloc(), options, text) {
         for line in note.lines() {
+            let line = Lines(line);
             let _ = eprintln!(rt; "bqsim: {line}");
         }
     }

@@ -1,29 +1,63 @@
-//! `check`: whether a policy is accepted, and why not.
+//! `check`: whether policies are accepted, and why not.
 ghost use Rattle.std.specs.Prelude.{◌≡◌, IfOk};
 ghost use Rattle.clap.specs.Words.{found_of, rows_of};
-ghost use Rattle.bq_cli.specs.Words.{AreCheckWords, is_plain_check};
+ghost use Rattle.bq_cli.specs.Status.{EndsBy, status_of};
+ghost use Rattle.bq_cli.specs.Words.{AreCheckWords, AreLimitWords, is_plain_check, limit_nothing};
 
-use crate::answer::written_answer;
-use crate::policy_words::{name_nothing, policy_words};
-use bq_console::{is_set, whole_input, word};
-use bq_policy_check::{CheckWords, check};
+use crate::answer::exit_status_of;
+use crate::policy_words::{most_bytes, name_nothing, policy_words};
+use bq_console::status::{IO_FAILED, OUT_OF_MEMORY, REFUSED};
+use bq_console::{
+    Lines, Name, WordsFault, all_words, is_set, read_input, reason, refused_words, say_unread,
+    say_unwritten, word,
+};
+use bq_policy_check::{
+    Answered, CheckWords, LimitWords, accepted_image, check, unanswered_json,
+};
 use clap::ArgMatches;
 use std::alloc::{AllocError, Global};
+use std::fs;
+use std::io::{Error, ErrorKind, Write};
 use std::process::ExitCode;
+
+/// The line of JSON where memory is wanted for another.
+const NO_MEMORY: &str = "{\"accepted\":false,\"answer\":null,\"explanation\":[],\"file\":null,\"need\":\"out of memory\",\"schema\":1,\"stage\":\"memory\"}\n";
 
 /// The words that were found.
 pub(crate) fn check_words(alloc: Global, matches: &ArgMatches<'_>) -> Result<CheckWords, AllocError>
     ensures { IfOk result (AreCheckWords (rows_of (found_of matches.now))) }
 {
     let policy = policy_words(alloc, matches)?;
-    let max_steps = word(alloc, matches, "max-steps")?;
-    let helpers = word(alloc, matches, "helpers")?;
+    let files = all_words(alloc, matches, "file")?;
+    let limits = limit_words(alloc, matches)?;
+    let image = word(alloc, matches, "image")?;
     Ok(CheckWords {
         policy,
+        files,
         is_explained: is_set(matches, "explain"),
         is_json: is_set(matches, "json"),
-        max_steps,
+        limits,
+        image,
+    })
+}
+
+/// The words of the keeper's own limits.
+fn limit_words(alloc: Global, matches: &ArgMatches<'_>) -> Result<LimitWords, AllocError>
+    ensures { IfOk result (AreLimitWords (rows_of (found_of matches.now))) }
+{
+    let steps = word(alloc, matches, "max-steps")?;
+    let helpers = word(alloc, matches, "helpers")?;
+    let hooks = word(alloc, matches, "hooks")?;
+    let maps = word(alloc, matches, "max-maps")?;
+    let map_bytes = word(alloc, matches, "max-map-bytes")?;
+    let counters = word(alloc, matches, "max-counters")?;
+    Ok(LimitWords {
+        steps,
         helpers,
+        hooks,
+        maps,
+        map_bytes,
+        counters,
     })
 }
 
@@ -34,14 +68,202 @@ pub(crate) fn is_plain_check(words: &CheckWords) -> bool
     name_nothing(&words.policy)
         && !words.is_explained
         && !words.is_json
-        && words.max_steps.is_none()
-        && words.helpers.is_none()
+        && limit_nothing(&words.limits)
+        && words.image.is_none()
 }
 
-/// Checks the policy in the file that is named, or on standard input.
-pub(crate) fn do_check(rt: &HostRuntime, words: &CheckWords) -> ExitCode {
-    match whole_input(rt, &words.policy.file) {
-        Ok(bytes) => written_answer(rt, &check(rt.alloc(), words, bytes.as_slice())),
-        Err(code) => code,
+/// Whether no word sets a limit.
+fn limit_nothing(words: &LimitWords) -> bool
+    ensures { result ≡ limit_nothing words.now }
+{
+    words.steps.is_none()
+        && words.helpers.is_none()
+        && words.hooks.is_none()
+        && words.maps.is_none()
+        && words.map_bytes.is_none()
+        && words.counters.is_none()
+}
+
+/// Checks the policies in the files that are named, or on standard input. The exit status is the greatest of those of the files.
+pub(crate) fn do_check(rt: &HostRuntime, words: &CheckWords) -> Result<ExitCode, WordsFault> {
+    let most = match most_read(rt.alloc(), words) {
+        Ok(most) => most,
+        Err(fault) => {
+            if let WordsFault::Words(why) = &fault {
+                let _ = unanswered(rt, words, None, "words", why.trim(), REFUSED);
+            }
+            return Err(fault);
+        }
+    };
+    let mut worst = 0u8;
+    if words.files.is_empty() {
+        worst = check_one(rt, words, None, most);
+    }
+    for file in &words.files {
+        let name = file.as_str();
+        let named = if name == "-" { None } else { Some(name) };
+        worst = worst.max(check_one(rt, words, named, most));
+    }
+    Ok(ExitCode::from(worst))
+}
+
+/// What is said of `--image` with several files, or as `-`.
+const NO_IMAGE: &str =
+    "--image names the file for the image of one policy: check one file at a time";
+
+/// The most bytes that are read of a file. Words that want one image of several policies are refused.
+fn most_read(alloc: Global, words: &CheckWords) -> Result<u64, WordsFault> {
+    if let Some(path) = &words.image {
+        if words.files.len() > 1 || path.as_str() == "-" {
+            return Err(refused_words(alloc, &NO_IMAGE));
+        }
+    }
+    most_bytes(alloc, &words.policy.max_bytes)
+}
+
+/// Checks the policy in the file of that name, or on standard input, and answers its exit status.
+fn check_one(rt: &HostRuntime, words: &CheckWords, name: Option<&str>, most: u64) -> u8 {
+    let bytes = match read_input(rt, name, most) {
+        Ok(bytes) => bytes,
+        Err(error) => return unread(rt, words, name, &error),
+    };
+    let answer = check(rt.alloc(), words, name, bytes.as_slice());
+    if let (Ok(Answered::Done(_)), Some(path)) = (&answer, &words.image) {
+        if let Err(status) = write_image(rt, words, name, path, bytes.as_slice()) {
+            return status;
+        }
+    }
+    answer_of(rt, words, name, &answer)
+}
+
+/// Writes the answer to a file, and answers its exit status.
+fn answer_of(
+    rt: &HostRuntime,
+    words: &CheckWords,
+    name: Option<&str>,
+    answer: &Result<Answered, AllocError>,
+) -> u8
+    ensures { EndsBy (status_of answer.now) result }
+{
+    let status = exit_status_of(answer);
+    match answer {
+        Ok(Answered::Done(text) | Answered::Refused(text)) => {
+            say_answer(rt, words, name, text.as_str(), status)
+        }
+        Ok(Answered::Words(why)) => {
+            let shown = Lines(why.as_str());
+            let _ = eprintln!(rt; "error: {shown}");
+            unanswered(rt, words, name, "words", why.as_str(), REFUSED)
+        }
+        Err(_) => {
+            let _ = rt.eprintln("bqsim: out of memory");
+            unanswered(rt, words, name, "memory", "out of memory", OUT_OF_MEMORY)
+        }
+    }
+}
+
+/// Says why a file can't be read, and answers the exit status.
+fn unread(rt: &HostRuntime, words: &CheckWords, name: Option<&str>, error: &Error) -> u8 {
+    let _ = say_unread(rt, name, error);
+    failed(rt, words, name, "reading", error)
+}
+
+/// Writes the image of the policy that is accepted. The error is the exit status.
+fn write_image(
+    rt: &HostRuntime,
+    words: &CheckWords,
+    name: Option<&str>,
+    path: &String,
+    bytes: &[u8],
+) -> Result<(), u8> {
+    let image = match accepted_image(rt.alloc(), words, bytes) {
+        Ok(Some(image)) => image,
+        Ok(None) => return Ok(()),
+        Err(_) => return Err(answer_of(rt, words, name, &Err(AllocError))),
+    };
+    match fs::write(rt, path.as_str(), image.as_slice()) {
+        Ok(()) => Ok(()),
+        Err(error) => {
+            let _ = say_unread(rt, Some(path.as_str()), &error);
+            Err(failed(rt, words, name, "writing", &error))
+        }
+    }
+}
+
+/// The exit status where a call on a file failed; as JSON there is a line.
+fn failed(
+    rt: &HostRuntime,
+    words: &CheckWords,
+    name: Option<&str>,
+    stage: &str,
+    error: &Error,
+) -> u8 {
+    if error.kind() == ErrorKind::OutOfMemory {
+        return unanswered(rt, words, name, "memory", "out of memory", OUT_OF_MEMORY);
+    }
+    match reason(rt.alloc(), error) {
+        Ok(why) => unanswered(rt, words, name, stage, why.as_str(), IO_FAILED),
+        Err(_) => unanswered(rt, words, name, stage, "a call of the system failed", IO_FAILED),
+    }
+}
+
+/// Writes, as JSON, the line on a file to which no answer comes, and answers the exit status.
+fn unanswered(
+    rt: &HostRuntime,
+    words: &CheckWords,
+    name: Option<&str>,
+    stage: &str,
+    why: &str,
+    status: u8,
+) -> u8
+    ensures { EndsBy status result }
+{
+    if !words.is_json {
+        return status;
+    }
+    match unanswered_json(rt.alloc(), name, stage, why) {
+        Ok(line) => say_line(rt, line.as_str(), status),
+        Err(_) => say_line(rt, NO_MEMORY, status),
+    }
+}
+
+/// Writes an answer, in prose behind the file's name where there are several, and answers the exit status.
+fn say_answer(
+    rt: &HostRuntime,
+    words: &CheckWords,
+    name: Option<&str>,
+    text: &str,
+    status: u8,
+) -> u8
+    ensures { EndsBy status result }
+{
+    if words.is_json || words.files.len() < 2 {
+        return say_line(rt, text, status);
+    }
+    let name = Name(name.unwrap_or("-"));
+    match format!(in rt.alloc(); "{name}: {text}") {
+        Ok(named) => say_line(rt, named.as_str(), status),
+        Err(_) => {
+            let _ = rt.eprintln("bqsim: out of memory");
+            OUT_OF_MEMORY
+        }
+    }
+}
+
+/// Writes to standard output, and answers the exit status, which is another where that fails.
+fn say_line(rt: &HostRuntime, text: &str, status: u8) -> u8
+    ensures { EndsBy status result }
+{
+    let mut output = rt.stdout();
+    match output.write_all(text.as_bytes()) {
+        Ok(()) => status,
+        Err(error) => {
+            let _ = say_unwritten(rt, &error);
+            if error.kind() == ErrorKind::OutOfMemory {
+                OUT_OF_MEMORY
+            } else {
+                IO_FAILED
+            }
+        }
     }
 }

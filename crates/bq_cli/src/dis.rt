@@ -4,8 +4,8 @@ ghost use Rattle.clap.specs.Words.{found_of, rows_of};
 ghost use Rattle.bq_cli.specs.Words.{AreListWords, is_plain_dis};
 
 use crate::answer::written_answer;
-use crate::policy_words::{name_nothing, policy_words};
-use bq_console::{is_set, whole_input};
+use crate::policy_words::{most_bytes, name_nothing, policy_words};
+use bq_console::{WordsFault, is_set, whole_input};
 use bq_policy_check::{ListWords, list};
 use clap::ArgMatches;
 use std::alloc::{AllocError, Global};
@@ -30,9 +30,10 @@ pub(crate) fn is_plain_dis(words: &ListWords) -> bool
 }
 
 /// Lists the policy in the file that is named, or on standard input.
-pub(crate) fn do_dis(rt: &HostRuntime, words: &ListWords) -> ExitCode {
-    match whole_input(rt, &words.policy.file) {
-        Ok(bytes) => written_answer(rt, &list(rt.alloc(), words, bytes.as_slice())),
-        Err(code) => code,
+pub(crate) fn do_dis(rt: &HostRuntime, words: &ListWords) -> Result<ExitCode, WordsFault> {
+    let most = most_bytes(rt.alloc(), &words.policy.max_bytes)?;
+    match whole_input(rt, &words.policy.file, most) {
+        Ok(bytes) => Ok(written_answer(rt, &list(rt.alloc(), words, bytes.as_slice()))),
+        Err(code) => Ok(code),
     }
 }

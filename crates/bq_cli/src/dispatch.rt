@@ -11,7 +11,9 @@ use crate::run::do_run;
 use crate::simulate::do_simulate;
 use crate::tables::VERSION;
 use crate::timeline::do_timeline;
-use bq_console::{WordsFault, ended, say_out_of_memory, waiting_input, written};
+use bq_console::{
+    Bounded, MOST_BYTES, WordsFault, ended, say_out_of_memory, waiting_input, written,
+};
 use bq_lines::with_first_line;
 use bq_streams::{Counted, Kept};
 use std::io::Read;
@@ -30,16 +32,17 @@ pub fn execute<T: Threads + Wait + Sync>(
     command: &Command,
 ) -> Result<ExitCode, WordsFault> {
     match command {
-        Command::Asm(words) => Ok(do_asm(rt, threads, command, words)),
-        Command::Check(words) if !is_plain_check(words) => Ok(do_check(rt, words)),
-        Command::Dis(words) if !is_plain_dis(words) => Ok(do_dis(rt, words)),
+        Command::Asm(words) => do_asm(rt, threads, command, words),
+        Command::Check(words) if !is_plain_check(words) => do_check(rt, words),
+        Command::Dis(words) if !is_plain_dis(words) => do_dis(rt, words),
         Command::Check(_) | Command::Dis(_) => {
-            Ok(perform_from(rt, threads, command, None, waiting_input(rt)))
+            let input = Bounded::new(waiting_input(rt), Some(MOST_BYTES));
+            Ok(perform_from(rt, threads, command, None, input))
         }
-        Command::Run(words) => Ok(do_run(rt, words)),
+        Command::Run(words) => do_run(rt, words),
         Command::Import(words) => do_import(rt, words),
         Command::Par(_) => Ok(perform_from(rt, threads, command, None, rt.stdin())),
-        Command::Replay(words) => Ok(do_replay(rt, threads, command, words)),
+        Command::Replay(words) => do_replay(rt, threads, command, words),
         Command::Timeline(words) => do_timeline(rt, words),
         Command::Simulate(words) => do_simulate(rt, threads, words),
     }

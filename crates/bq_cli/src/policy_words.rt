@@ -8,9 +8,10 @@ ghost use Rattle.bq_console.specs.Words.{SaysWord};
 ghost use Rattle.bq_policy_check.specs.Saying.{option_bytes};
 ghost use Rattle.bq_cli.specs.Words.{ArePolicyWords, name_nothing};
 
-use bq_console::{WordsFault, refused_value, word};
+use bq_console::{MOST_BYTES, WordsFault, refused_value, word};
 use bq_hooks::{Hook, Version, with_hooks, with_versions};
 use bq_policy_check::PolicyWords;
+use bq_words::number;
 use clap::ArgMatches;
 use std::alloc::{AllocError, Global};
 
@@ -25,19 +26,25 @@ pub(crate) fn policy_words(
     let hook = word(alloc, matches, "hook")?;
     let maps = word(alloc, matches, "maps")?;
     let format = word(alloc, matches, "format")?;
+    let max_bytes = word(alloc, matches, "max-bytes")?;
     Ok(PolicyWords {
         file,
         hook,
         maps,
         format,
+        max_bytes,
     })
 }
 
-/// Whether no word names a file, a hook, maps or a format.
+/// Whether no word names a file, a hook, maps, a format or a number of bytes.
 pub(crate) fn name_nothing(words: &PolicyWords) -> bool
     ensures { result ≡ name_nothing words.now }
 {
-    words.file.is_none() && words.hook.is_none() && words.maps.is_none() && words.format.is_none()
+    words.file.is_none()
+        && words.hook.is_none()
+        && words.maps.is_none()
+        && words.format.is_none()
+        && words.max_bytes.is_none()
 }
 
 /// The values of `--hook`, as its refusal lists them.
@@ -70,5 +77,27 @@ pub(crate) fn format_in(alloc: Global, word: &Option<String>) -> Result<Option<V
     match Version::of_word(word.as_bytes()) {
         Some(version) => Ok(Some(version)),
         None => Err(refused_value(alloc, "format", word, FORMATS)),
+    }
+}
+
+/// The most bytes that are read, by the word of `--max-bytes` if there is one.
+pub(crate) fn most_bytes(alloc: Global, word: &Option<String>) -> Result<u64, WordsFault> {
+    match limit_of_bytes(alloc, word)? {
+        Some(most) => Ok(most),
+        None => Ok(MOST_BYTES),
+    }
+}
+
+/// The number that the word of `--max-bytes` says, if there is one.
+pub(crate) fn limit_of_bytes(
+    alloc: Global,
+    word: &Option<String>,
+) -> Result<Option<u64>, WordsFault> {
+    let Some(word) = word else {
+        return Ok(None);
+    };
+    match number(word.as_bytes(), 10) {
+        Some(most) => Ok(Some(most)),
+        None => Err(refused_value(alloc, "max-bytes", word, "a number of bytes")),
     }
 }

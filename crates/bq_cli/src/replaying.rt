@@ -5,10 +5,10 @@ ghost use Rattle.bq_cli.specs.Words.{AreReplayWords};
 
 use crate::command::Command;
 use crate::dispatch::perform_from;
-use bq_console::{file_named, say_unread, waiting_input, word};
+use crate::policy_words::limit_of_bytes;
+use bq_console::{Bounded, WordsFault, file_named, opened, say_unread, waiting_input, word};
 use clap::ArgMatches;
 use std::alloc::{AllocError, Global};
-use std::fs;
 use std::process::ExitCode;
 use std::sync::Wait;
 use std::thread::Threads;
@@ -18,6 +18,8 @@ use std::thread::Threads;
 pub struct ReplayWords {
     /// The trace; standard input without it, or as `-`.
     pub file: Option<String>,
+    /// The most bytes that are read.
+    pub max_bytes: Option<String>,
 }
 
 /// The words that were found.
@@ -28,7 +30,8 @@ pub(crate) fn replay_words(
     ensures { IfOk result (AreReplayWords (rows_of (found_of matches.now))) }
 {
     let file = word(alloc, matches, "file")?;
-    Ok(ReplayWords { file })
+    let max_bytes = word(alloc, matches, "max-bytes")?;
+    Ok(ReplayWords { file, max_bytes })
 }
 
 /// Replays the trace in the file that is named, or on standard input.
@@ -37,12 +40,17 @@ pub(crate) fn do_replay<T: Threads + Wait + Sync>(
     threads: &T,
     command: &Command,
     words: &ReplayWords,
-) -> ExitCode {
+) -> Result<ExitCode, WordsFault> {
+    let most = limit_of_bytes(rt.alloc(), &words.max_bytes)?;
     let Some(path) = file_named(&words.file) else {
-        return perform_from(rt, threads, command, None, waiting_input(rt));
+        let input = Bounded::new(waiting_input(rt), most);
+        return Ok(perform_from(rt, threads, command, None, input));
     };
-    match fs::open(rt, path) {
-        Ok(trace) => perform_from(rt, threads, command, Some(path), trace),
-        Err(error) => say_unread(rt, Some(path), &error),
+    match opened(rt, path) {
+        Ok(trace) => {
+            let input = Bounded::new(trace, most);
+            Ok(perform_from(rt, threads, command, Some(path), input))
+        }
+        Err(error) => Ok(say_unread(rt, Some(path), &error)),
     }
 }

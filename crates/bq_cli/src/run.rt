@@ -5,8 +5,8 @@ ghost use Rattle.bq_policy_check.specs.Saying.{option_bytes};
 ghost use Rattle.bq_cli.specs.Words.{AreAll, AreRunWords, AreTellingWords};
 
 use crate::answer::written_answer;
-use crate::policy_words::policy_words;
-use bq_console::{all_words, is_set, whole_input, word};
+use crate::policy_words::{most_bytes, policy_words};
+use bq_console::{WordsFault, all_words, is_set, whole_input, word};
 use bq_policy_check::{RunWords, TellingWords};
 use bq_policy_run::run;
 use clap::ArgMatches;
@@ -73,9 +73,10 @@ fn telling_words(alloc: Global, matches: &ArgMatches<'_>) -> Result<TellingWords
 }
 
 /// Runs the policy in the file that is named, or on standard input. The clock measures how long runs take.
-pub(crate) fn do_run(rt: &HostRuntime, words: &RunWords) -> ExitCode {
-    match whole_input(rt, &words.policy.file) {
-        Ok(bytes) => written_answer(rt, &run(rt.alloc(), rt, words, bytes.as_slice())),
-        Err(code) => code,
+pub(crate) fn do_run(rt: &HostRuntime, words: &RunWords) -> Result<ExitCode, WordsFault> {
+    let most = most_bytes(rt.alloc(), &words.policy.max_bytes)?;
+    match whole_input(rt, &words.policy.file, most) {
+        Ok(bytes) => Ok(written_answer(rt, &run(rt.alloc(), rt, words, bytes.as_slice()))),
+        Err(code) => Ok(code),
     }
 }

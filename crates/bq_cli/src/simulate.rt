@@ -9,10 +9,10 @@ use bq_comparison::{
     Comparing, ComparingFault, MachineSize, SeedsFault, asked_comparison, compare, comparison_text,
     size_of_machine,
 };
-use bq_console::status::BAD_INPUT;
+use bq_console::status::{BAD_INPUT, REFUSED};
 use bq_console::{
-    WordsFault, all_words, name_of, refused_words, say_out_of_memory, whole_file, whole_input,
-    word, written,
+    MOST_BYTES, Name, WordsFault, all_words, file_named, name_of, refused_words,
+    say_out_of_memory, whole_file, whole_input, word, written,
 };
 use bq_experiment::{
     AskedFault, AttachFault, HookWords, MachineWords, Policies, ShownAs, StudyWords, asked_changes,
@@ -267,7 +267,7 @@ fn others(rt: &HostRuntime, words: &StudyWords) -> Result<Option<Policies>, Exit
     let mut policies = Policies::new(rt.alloc());
     for path in &words.against {
         if path.as_str() != "none" {
-            let bytes = whole_file(rt, path.as_str())?;
+            let bytes = policy_bytes(rt, words, path)?;
             let taken = policies.add_as_said(rt.alloc(), bytes.as_slice());
             attached(rt, path.as_str(), None, taken)?;
         }
@@ -278,8 +278,9 @@ fn others(rt: &HostRuntime, words: &StudyWords) -> Result<Option<Policies>, Exit
 /// The workload of the file that the words name.
 fn workload(rt: &HostRuntime, words: &StudyWords, changes: Changes) -> Result<Workload, ExitCode> {
     let name = name_of(&words.shown.file);
-    let bytes = whole_input(rt, &words.shown.file)?;
+    let bytes = whole_input(rt, &words.shown.file, MOST_BYTES)?;
     let Ok(text) = from_utf8(bytes.as_slice()) else {
+        let name = Name(name);
         let _ = eprintln!(rt; "{name}: no UTF-8 text");
         return Err(ExitCode::from(BAD_INPUT));
     };
@@ -287,6 +288,7 @@ fn workload(rt: &HostRuntime, words: &StudyWords, changes: Changes) -> Result<Wo
         Ok(workload) => Ok(workload),
         Err(Fault::OutOfMemory) => Err(say_out_of_memory(rt)),
         Err(fault) => {
+            let name = Name(name);
             let _ = eprintln!(rt; "{name}{fault}");
             Err(ExitCode::from(BAD_INPUT))
         }
@@ -296,15 +298,16 @@ fn workload(rt: &HostRuntime, words: &StudyWords, changes: Changes) -> Result<Wo
 /// The policies that the words install at the hooks.
 fn policies(rt: &HostRuntime, words: &StudyWords) -> Result<Policies, ExitCode> {
     let mut policies = Policies::new(rt.alloc());
-    add(rt, &mut policies, Hook::Place, &words.hooks.place)?;
-    add(rt, &mut policies, Hook::Preempt, &words.hooks.preempt)?;
-    add(rt, &mut policies, Hook::Pull, &words.hooks.pull)?;
+    add(rt, words, &mut policies, Hook::Place, &words.hooks.place)?;
+    add(rt, words, &mut policies, Hook::Preempt, &words.hooks.preempt)?;
+    add(rt, words, &mut policies, Hook::Pull, &words.hooks.pull)?;
     Ok(policies)
 }
 
 /// Adds the policy of a file, unless there is none or it is called `none`.
 fn add(
     rt: &HostRuntime,
+    words: &StudyWords,
     policies: &mut Policies,
     hook: Hook,
     file: &Option<String>,
@@ -315,9 +318,21 @@ fn add(
     if path.as_str() == "none" {
         return Ok(());
     }
-    let bytes = whole_file(rt, path.as_str())?;
+    let bytes = policy_bytes(rt, words, path)?;
     let taken = policies.add(rt.alloc(), hook, bytes.as_slice());
     attached(rt, path.as_str(), Some(hook), taken)
+}
+
+/// The bytes of the file of a policy, or of standard input for `-`, unless the workload is that.
+fn policy_bytes(rt: &HostRuntime, words: &StudyWords, path: &String) -> Result<Vec<u8>, ExitCode> {
+    if path.as_str() != "-" {
+        return whole_file(rt, path.as_str());
+    }
+    if file_named(&words.shown.file).is_none() {
+        let _ = rt.eprintln("error: standard input is the workload: name the file of the policy");
+        return Err(ExitCode::from(REFUSED));
+    }
+    whole_input(rt, &None, MOST_BYTES)
 }
 
 /// Says why a file is no policy for the hook that the words name, or if they name none, for the hook that it says.
@@ -332,6 +347,7 @@ fn attached(
         Err(AttachFault::OutOfMemory) => Err(say_out_of_memory(rt)),
         Err(AttachFault::Program(fault)) => Err(unaccepted(rt, path, hook, fault)),
         Err(fault) => {
+            let path = Name(path);
             let _ = eprintln!(rt; "{path}: {fault}");
             Err(ExitCode::from(BAD_INPUT))
         }
@@ -344,6 +360,7 @@ fn unaccepted(rt: &HostRuntime, path: &str, hook: Option<Hook>, fault: LoadFault
     let Ok(named) = fault_text(rt.alloc(), fault) else {
         return say_out_of_memory(rt);
     };
+    let path = Name(path);
     match hook {
         Some(hook) => {
             let hook = hook.word();

@@ -6,7 +6,7 @@ ghost use Rattle.bq_cli.specs.BqsimApp.{bqsim_app, machine_commands, policy_comm
 
 use crate::with_ticks;
 use bq_bpf::with_helper;
-use bq_console::tables::Given::{Alone, Flag, Needed, Often, Once};
+use bq_console::tables::Given::{Alone, Flag, Needed, Often, Once, Several};
 use bq_console::{CommandText, OptionText, with_commands};
 use bq_drawing::with_themes;
 use bq_hooks::{with_hooks, with_versions};
@@ -37,9 +37,23 @@ const ASM_OPTIONS: &[OptionText] = options! {
     ("format", Once("FORMAT"), with_versions!("The version of the image: ", "; 1 without this"))
 };
 
-/// A policy, and what its file leaves unsaid.
+/// The file of a policy.
+const POLICY_FILE: &[OptionText] = options! {
+    ("file", Alone("FILE"), "The policy: an image, its hex, or assembler text with ;@ lines that describe it; standard input without it, or as -")
+};
+
+/// The files of policies.
+const POLICY_FILES: &[OptionText] = options! {
+    ("file", Several("FILE"), "The policies, each an image, its hex, or assembler text with ;@ lines that describe it; standard input without one, or as -")
+};
+
+/// How much is read.
+const READING_OPTIONS: &[OptionText] = options! {
+    ("max-bytes", Once("N"), "Reads no file of more than N bytes; without this a file that is read whole has 16777216 at most")
+};
+
+/// What the file of a policy leaves unsaid.
 const POLICY_OPTIONS: &[OptionText] = options! {
-    ("file", Alone("FILE"), "The policy: an image, its hex, or assembler text with ;@ lines that describe it; standard input without it, or as -"),
     ("hook", Once("HOOK"), with_hooks!("The choice that the program makes, if the file does not say it: ")),
     ("maps", Once("MAPS"), "The value size and the entries of each map, if the file does not say them, as in 8:2,16:4"),
     ("format", Once("FORMAT"), with_versions!("The version of the image, if the file does not say it: ", "; 1 if neither says it"))
@@ -50,7 +64,12 @@ const CHECK_OPTIONS: &[OptionText] = options! {
     ("explain", Flag, "Explains the verdict: for a refused policy its line, what is missing, what is known there and what helps"),
     ("json", Flag, "Writes the answer and its explanation as one line of JSON"),
     ("max-steps", Once("N"), "Refuses a policy whose runs may take more than N instructions"),
-    ("helpers", Once("LIST"), "Refuses a policy that calls a helper other than these, as in 1,2,5,8")
+    ("helpers", Once("LIST"), "Refuses a policy that calls a helper other than these, as in 1,2,5,8"),
+    ("hooks", Once("LIST"), "Refuses a policy for a hook other than these, as in place,pull"),
+    ("max-maps", Once("N"), "Refuses a policy with more than N maps"),
+    ("max-map-bytes", Once("N"), "Refuses a policy whose maps have more than N bytes in all"),
+    ("max-counters", Once("N"), "Refuses a policy with more than N instructions that call a counter"),
+    ("image", Once("OUT"), "Writes the image of the policy, if it is accepted, as this file")
 };
 
 /// What `dis` writes.
@@ -152,18 +171,24 @@ static PROGRAM_COMMANDS: [CommandText<'static>; 2] = [
 static POLICY_COMMANDS: [CommandText<'static>; 3] = [
     CommandText {
         name: "check",
-        about: "Says whether a policy is accepted, and if not, why; without file and options it reads the hex of an image from standard input and writes its hook and its budget",
-        options: &[POLICY_OPTIONS, CHECK_OPTIONS],
+        about: "Says whether policies are accepted, and if not, why; without file and options it reads the hex of an image from standard input and writes its hook and its budget",
+        options: &[POLICY_FILES, POLICY_OPTIONS, READING_OPTIONS, CHECK_OPTIONS],
     },
     CommandText {
         name: "dis",
         about: "Lists a policy under the marks that describe it; without file and options it reads the hex of a program from standard input and writes its listing",
-        options: &[POLICY_OPTIONS, DIS_OPTIONS],
+        options: &[POLICY_FILE, POLICY_OPTIONS, READING_OPTIONS, DIS_OPTIONS],
     },
     CommandText {
         name: "run",
         about: "Runs an accepted policy once, and says what it answered, whether that is permitted, how many instructions it took, and which maps and counters changed",
-        options: &[POLICY_OPTIONS, INPUT_OPTIONS, RUN_OPTIONS],
+        options: &[
+            POLICY_FILE,
+            POLICY_OPTIONS,
+            READING_OPTIONS,
+            INPUT_OPTIONS,
+            RUN_OPTIONS,
+        ],
     },
 ];
 
@@ -177,7 +202,7 @@ static MACHINE_COMMANDS: [CommandText<'static>; 4] = [
     CommandText {
         name: "replay",
         about: "Reads a trace and writes the reply to each line",
-        options: &[REPLAY_OPTIONS],
+        options: &[REPLAY_OPTIONS, READING_OPTIONS],
     },
     CommandText {
         name: "timeline",

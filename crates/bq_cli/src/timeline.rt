@@ -4,12 +4,13 @@ ghost use Rattle.clap.specs.Words.{found_of, rows_of};
 ghost use Rattle.bq_cli.specs.Words.{AreTimelineWords};
 ghost use Rattle.bq_timeline.specs.Settings.{AsksFor};
 
-use bq_console::{WordsFault, ended, file_named, refused_words, say_unread, waiting_input, word};
+use bq_console::{
+    Lines, WordsFault, ended, file_named, opened, refused_words, say_unread, waiting_input, word,
+};
 use bq_streams::{Counted, Kept};
 use bq_timeline::{Settings, SettingsFault, Words, show};
 use clap::ArgMatches;
 use std::alloc::{AllocError, Global};
-use std::fs;
 use std::io::Read;
 use std::process::ExitCode;
 
@@ -56,7 +57,7 @@ pub(crate) fn do_timeline(rt: &HostRuntime, words: &Words) -> Result<ExitCode, W
     let Some(path) = file_named(&words.file) else {
         return Ok(show_from(rt, settings, None, waiting_input(rt)));
     };
-    match fs::open(rt, path) {
+    match opened(rt, path) {
         Ok(trace) => Ok(show_from(rt, settings, Some(path), trace)),
         Err(error) => Ok(say_unread(rt, Some(path), &error)),
     }
@@ -74,7 +75,7 @@ fn show_from<R: Read + Drop>(
     let mut errors = rt.stderr();
     let outcome = match show(rt.alloc(), settings, &mut input, &mut output, &mut errors) {
         Ok(outcome) => {
-            let notes = outcome.notes;
+            let notes = Lines(outcome.notes.as_str());
             let _ = eprint!(rt; "{notes}");
             Ok(outcome.clean)
         }

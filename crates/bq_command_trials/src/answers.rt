@@ -1,8 +1,9 @@
 // Files, words and answers. The numbers were counted by hand.
 
 use crate::done::holds;
+use bq_console::file_named;
 use bq_policy_check::{
-    Answered, CheckWords, ListWords, PolicyWords, RunWords, TellingWords, check, list,
+    Answered, CheckWords, LimitWords, ListWords, PolicyWords, RunWords, TellingWords, check, list,
 };
 use bq_policy_run::run;
 use std::alloc::{AllocError, Global};
@@ -62,6 +63,7 @@ fn policy_words(alloc: Global, file: &str, hook: &str) -> Result<PolicyWords, Al
         hook: text_of(alloc, hook)?,
         maps: None,
         format: None,
+        max_bytes: None,
     })
 }
 
@@ -169,14 +171,22 @@ pub fn check_words(
         policy: policy_words(alloc, "p.s", hook)?,
         is_explained: form == "e",
         is_json: form == "j",
-        max_steps: text_of(alloc, steps)?,
-        helpers: text_of(alloc, helpers)?,
+        files: Vec::new(alloc),
+        limits: LimitWords {
+            steps: text_of(alloc, steps)?,
+            helpers: text_of(alloc, helpers)?,
+            hooks: None,
+            maps: None,
+            map_bytes: None,
+            counters: None,
+        },
+        image: None,
     })
 }
 
 /// What `check` tells of a policy.
 fn checked(alloc: Global, words: &CheckWords, policy: &str) -> Result<String, AllocError> {
-    let answer = check(alloc, words, policy.as_bytes())?;
+    let answer = check(alloc, words, file_named(&words.policy.file), policy.as_bytes())?;
     told(alloc, &answer)
 }
 
@@ -433,6 +443,7 @@ fn no_words(alloc: Global) -> RunWords {
             hook: None,
             maps: None,
             format: None,
+            max_bytes: None,
         },
         telling: TellingWords {
             is_traced: false,

@@ -97,11 +97,11 @@ fn complained(
 
 /// What `asm` says of the marks that it leaves.
 const MAPS_LEFT: &str =
-    "the text says maps, and the image has none: asm takes them from --maps alone\n";
+    "the text says maps, and the image has none: asm takes them only from --maps; check --image OUT writes the image with them\n";
 
 /// The same, of the version.
 const FORMAT_LEFT: &str =
-    "the text says format 2, and the image has version 1: asm takes it from --format alone\n";
+    "the text says format 2, and the image has version 1: asm takes it only from --format; check --image OUT writes version 2\n";
 
 /// The words of `--maps` and whether a hook is named, a text, and how what `asm` says of its marks begins, and ends.
 static LEFT: [(Option<&str>, bool, &str, &str, &str); 9] = [
@@ -191,7 +191,7 @@ fn maps_words(alloc: Global, maps: &str) -> Result<CheckWords, AllocError> {
 
 /// What `check` says of these words.
 fn refused(alloc: Global, words: &CheckWords) -> Result<String, Fail> {
-    match check(alloc, words, KEEP_HOME.as_bytes())? {
+    match check(alloc, words, None, KEEP_HOME.as_bytes())? {
         Answered::Words(why) => Ok(why),
         _ => Err(Fail::from("the words were taken")),
     }

@@ -1,2 +1,3 @@
 mod DifferenceLemmas
-mod HelperLemmas
+mod ImageLemmas
+mod ListLemmas

@@ -72,13 +72,13 @@ pub record ChecksAsked (w : CheckWords) (bytes : List ℕ) (answer : Answered) :
   pub head : Head
   pub says : SaysHead w.policy head
   pub limits : Limits
-  pub has : HasLimits w limits
+  pub has : HasLimits w.limits limits
   pub checks : ChecksFile w bytes head limits answer
 
 -- the words say this head, and these limits
 pub record SaysTerms (w : CheckWords) (terms : Head × Limits) : Type 0 where
   pub head : SaysHead w.policy terms.0
-  pub limits : HasLimits w terms.1
+  pub limits : HasLimits w.limits terms.1
 
 -- words that say none are refused, and no others
 abbrev pub ChecksTo : CheckWords → List ℕ → Answered → Type 0

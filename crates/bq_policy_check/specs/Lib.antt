@@ -1,3 +1,4 @@
+pub mod Accepting
 pub mod Checking
 pub mod Complaining
 pub mod Disagreeing

@@ -7,7 +7,9 @@ use Rattle.bq_words.specs.Numbers.{below, number_of}
 use Rattle.bq_explain.specs.declared.limits.Limits.{Limits}
 use Rattle.bq_words.specs.Words.{parts}
 use Rattle.bq_console.specs.Words.{SaysWord}
-use Rattle.bq_policy_check.specs.declared.words.CheckWords.{CheckWords}
+use Rattle.bq_hooks.specs.Hooks.{hook_of}
+use Rattle.bq_hooks.specs.declared.hook.Hook.{Hook}
+use Rattle.bq_policy_check.specs.declared.words.LimitWords.{LimitWords}
 use Rattle.bq_policy_check.specs.Saying.{IsNumberBelow, option_bytes}
 
 -- a number of 32 bits in decimal, behind a `-` where it is below 0
@@ -20,24 +22,40 @@ helper_of word =
 abbrev pub IsHelper : List ℕ → ℤ → Type 0
 IsHelper word helper = helper_of word ≡ Some helper
 
+-- the word is that of the hook
+abbrev pub IsHook : List ℕ → Hook → Type 0
+IsHook word hook = hook_of word ≡ Some hook
+
 -- the parts between commas; an empty text has none
-abbrev pub helper_words : List ℕ → List (List ℕ)
-helper_words [] = []
-helper_words (c ∷ rest) = parts 44 (c ∷ rest)
+abbrev pub words_of_list : List ℕ → List (List ℕ)
+words_of_list [] = []
+words_of_list (c ∷ rest) = parts 44 (c ∷ rest)
 
--- each word writes a helper, in its turn
-abbrev pub AreHelpers : List (List ℕ) → List ℤ → Type 0
-AreHelpers words helpers = AllZip IsHelper words helpers
-
--- each part writes a helper
+-- each part writes a helper, in its turn
 abbrev pub NamesHelpers : List ℕ → Vec ℤ Global → Type 0
-NamesHelpers text helpers = AreHelpers (helper_words text) helpers.items
+NamesHelpers text helpers = AllZip IsHelper (words_of_list text) helpers.items
 
 -- the text names no helpers
 abbrev pub NamesNoHelpers : List ℕ → Type 0
 NamesNoHelpers text = (helpers : Vec ℤ Global) → ¬ NamesHelpers text helpers
 
--- the limit of steps is the number that is said, of 32 bits; helpers are limited where a list of them is said, to those
-pub record HasLimits (w : CheckWords) (l : Limits) : Type 0 where
-  pub steps : SaysWord (IsNumberBelow (2 ^ 32)) (option_bytes w.max_steps) l.steps
+-- each part is the word of a hook, in its turn
+abbrev pub NamesHooks : List ℕ → Vec Hook Global → Type 0
+NamesHooks text hooks = AllZip IsHook (words_of_list text) hooks.items
+
+-- the text names no hooks
+abbrev pub NamesNoHooks : List ℕ → Type 0
+NamesNoHooks text = (hooks : Vec Hook Global) → ¬ NamesHooks text hooks
+
+-- the word writes a number of 32 bits
+abbrev pub IsMost : List ℕ → ℕ → Type 0
+IsMost word most = IsNumberBelow (2 ^ 32) word most
+
+-- a limit is the number that is said, of 32 bits; helpers and hooks are limited where a list of them is said, to those
+pub record HasLimits (w : LimitWords) (l : Limits) : Type 0 where
+  pub steps : SaysWord IsMost (option_bytes w.steps) l.steps
   pub helpers : SaysWord NamesHelpers (option_bytes w.helpers) l.helpers
+  pub hooks : SaysWord NamesHooks (option_bytes w.hooks) l.hooks
+  pub maps : SaysWord IsMost (option_bytes w.maps) l.maps
+  pub map_bytes : SaysWord IsMost (option_bytes w.map_bytes) l.map_bytes
+  pub counters : SaysWord IsMost (option_bytes w.counters) l.counters

@@ -26,8 +26,8 @@ leaves_format h p = not (is_some h.format) && is_second p.version
 -- the lines on the maps and on the version that the options leave out
 abbrev pub left_text : Head → PolicySource → List ℕ
 left_text h p =
-    (if leaves_maps h p then codes "the text says maps, and the image has none: asm takes them from --maps alone\n" else [])
-    ++ (if leaves_format h p then codes "the text says format 2, and the image has version 1: asm takes it from --format alone\n" else [])
+    (if leaves_maps h p then codes "the text says maps, and the image has none: asm takes them only from --maps; check --image OUT writes the image with them\n" else [])
+    ++ (if leaves_format h p then codes "the text says format 2, and the image has version 1: asm takes it only from --format; check --image OUT writes version 2\n" else [])
 
 -- the line on a mark that is none, where that is the fault
 abbrev pub TellsHead : PolicyFault → List ℕ → Type 0

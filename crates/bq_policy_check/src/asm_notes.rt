@@ -12,7 +12,7 @@ use std::alloc::{AllocError, Global};
 /// where there is nothing to say.
 ///
 /// ```text
-/// the text says maps, and the image has none: asm takes them from --maps alone
+/// the text says maps, and the image has none: asm takes them only from --maps; check --image OUT writes the image with them
 /// ```
 pub fn asm_note(alloc: Global, options: &Options, text: &[u8]) -> Result<String, AllocError>
     ensures { IfOk result (λ note. IsAsmNote options.now text.now (string_bytes note)) }
@@ -65,12 +65,12 @@ fn left_text(alloc: Global, given: &Head, policy: &PolicySource) -> Result<Strin
     let mut note = String::new(alloc);
     if leaves_maps(given, policy) {
         note.push_str(
-            "the text says maps, and the image has none: asm takes them from --maps alone\n",
+            "the text says maps, and the image has none: asm takes them only from --maps; check --image OUT writes the image with them\n",
         )?;
     }
     if leaves_format(given, policy) {
         note.push_str(
-            "the text says format 2, and the image has version 1: asm takes it from --format alone\n",
+            "the text says format 2, and the image has version 1: asm takes it only from --format; check --image OUT writes version 2\n",
         )?;
     }
     Ok(note)

@@ -10,23 +10,28 @@ ghost use Rattle.bq_policy_check.specs.Saying.{SaysHead};
 
 use crate::answered::Answered;
 use crate::given::said_by;
-use crate::json_text::{explanation_json, reason_json};
+use crate::json_text::{explanation_json, name_text, reason_json};
 use crate::limits::limits_of;
 use crate::listing::reasoned;
 use crate::reasons::{fault_line, reason_of};
 use crate::words::CheckWords;
-use bq_console::{WordsFault, file_named};
+use bq_console::WordsFault;
 use bq_explain::{Explanation, Limits, explain, explanation_text, judge, verdict_line};
 use bq_policy_file::{Head, PolicyFault, PolicySource, read_policy};
 use std::alloc::{AllocError, Global};
 
-/// The verdict on the policy whose file has these bytes, or why the file is none. Words are refused only where they say no head or no
-/// limits.
-pub fn check(alloc: Global, words: &CheckWords, bytes: &[u8]) -> Result<Answered, AllocError>
+/// The verdict on the policy whose file has that name and these bytes, or why the file is none. Words are refused only where they say
+/// no head or no limits. Standard input has no name.
+pub fn check(
+    alloc: Global,
+    words: &CheckWords,
+    name: Option<&str>,
+    bytes: &[u8],
+) -> Result<Answered, AllocError>
     ensures { IfOk result (ChecksTo words.now bytes.now) }
 {
     match terms_of(alloc, words) {
-        Ok(terms) => check_file(alloc, words, bytes, &terms.head, &terms.limits),
+        Ok(terms) => check_file(alloc, words, name, bytes, &terms),
         Err(WordsFault::Words(why)) => Ok(Answered::Words(why)),
         Err(WordsFault::OutOfMemory) => Err(AllocError),
     }
@@ -34,34 +39,34 @@ pub fn check(alloc: Global, words: &CheckWords, bytes: &[u8]) -> Result<Answered
 
 /// What a check goes by: what is said beside the file, and the limits.
 #[derive(Drop)]
-struct Terms {
-    head: Head,
-    limits: Limits,
+pub(crate) struct Terms {
+    pub(crate) head: Head,
+    pub(crate) limits: Limits,
 }
 
 /// What the words say beside the file, and the limits that they set.
-fn terms_of(alloc: Global, words: &CheckWords) -> Result<Terms, WordsFault>
+pub(crate) fn terms_of(alloc: Global, words: &CheckWords) -> Result<Terms, WordsFault>
     ensures says { IfOk result (λ terms. SaysHead words.now.policy terms.head) }
-    ensures has { IfOk result (λ terms. HasLimits words.now terms.limits) }
+    ensures has { IfOk result (λ terms. HasLimits words.now.limits terms.limits) }
     ensures none { IfErr result (SaysNone (SaysTerms words.now)) }
 {
     let head = said_by(alloc, &words.policy)?;
-    let limits = limits_of(alloc, words)?;
+    let limits = limits_of(alloc, &words.limits)?;
     Ok(Terms { head, limits })
 }
 
 fn check_file(
     alloc: Global,
     words: &CheckWords,
+    name: Option<&str>,
     bytes: &[u8],
-    head: &Head,
-    limits: &Limits,
+    terms: &Terms,
 ) -> Result<Answered, AllocError>
-    ensures { IfOk result (ChecksFile words.now bytes.now head.now limits.now) }
+    ensures { IfOk result (ChecksFile words.now bytes.now terms.now.head terms.now.limits) }
 {
-    match read_policy(alloc, bytes, head) {
-        Ok(policy) => check_policy(alloc, words, &policy, limits),
-        Err(fault) => Ok(Answered::Refused(refusal(alloc, words, bytes, fault)?)),
+    match read_policy(alloc, bytes, &terms.head) {
+        Ok(policy) => check_policy(alloc, words, name, &policy, &terms.limits),
+        Err(fault) => Ok(Answered::Refused(refusal(alloc, words, name, bytes, fault)?)),
     }
 }
 
@@ -69,6 +74,7 @@ fn check_file(
 fn check_policy(
     alloc: Global,
     words: &CheckWords,
+    name: Option<&str>,
     policy: &PolicySource,
     limits: &Limits,
 ) -> Result<Answered, AllocError>
@@ -76,7 +82,7 @@ fn check_policy(
 {
     if words.is_explained || words.is_json {
         let explanation = explain(alloc, policy, limits)?;
-        let text = shown(alloc, words, policy, &explanation)?;
+        let text = shown(alloc, words, name, policy, &explanation)?;
         return Ok(answered(explanation.verdict.is_accepted(), text));
     }
     judge_policy(alloc, words, policy, limits)
@@ -101,6 +107,7 @@ fn judge_policy(
 fn refusal(
     alloc: Global,
     words: &CheckWords,
+    name: Option<&str>,
     bytes: &[u8],
     fault: PolicyFault,
 ) -> Result<String, AllocError>
@@ -110,7 +117,7 @@ fn refusal(
 {
     let line = fault_line(alloc, fault)?;
     if words.is_explained || words.is_json {
-        return reasoned_refusal(alloc, words, bytes, fault, &line);
+        return reasoned_refusal(alloc, words, name, bytes, fault, &line);
     }
     Ok(line)
 }
@@ -130,17 +137,17 @@ fn answered(accepted: bool, text: String) -> Answered
 fn reasoned_refusal(
     alloc: Global,
     words: &CheckWords,
+    name: Option<&str>,
     bytes: &[u8],
     fault: PolicyFault,
     line: &String,
 ) -> Result<String, AllocError>
     ensures { IfOk result (λ text. IsShown words.now false (string_bytes text)) }
 {
-    let file = &words.policy.file;
     let reason = reason_of(alloc, bytes, fault)?;
-    let text = reasoned(alloc, file, &reason, line)?;
+    let text = reasoned(alloc, name, &reason, line)?;
     if words.is_json {
-        return reason_json(alloc, file, fault, &reason, text.as_str());
+        return reason_json(alloc, name, fault, &reason, text.as_str());
     }
     Ok(text)
 }
@@ -149,14 +156,15 @@ fn reasoned_refusal(
 fn shown(
     alloc: Global,
     words: &CheckWords,
+    name: Option<&str>,
     policy: &PolicySource,
     explanation: &Explanation,
 ) -> Result<String, AllocError>
     ensures { IfOk result (λ text. IsShown words.now (is_accepted explanation.now.verdict) (string_bytes text)) }
 {
-    let file = &words.policy.file;
     if words.is_json {
-        return explanation_json(alloc, file, policy, explanation);
+        return explanation_json(alloc, name, policy, explanation);
     }
-    explanation_text(alloc, policy, file_named(file), explanation)
+    let shown = name_text(alloc, name)?;
+    explanation_text(alloc, policy, shown.as_deref(), explanation)
 }

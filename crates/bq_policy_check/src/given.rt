@@ -8,7 +8,7 @@ ghost use Rattle.bq_hooks.specs.Hooks.{hook_of, version_of};
 use crate::asm_options::maps_option_words;
 use crate::words::PolicyWords;
 use bq_bpf::MapShape;
-use bq_console::{WordsFault, words_fault};
+use bq_console::{Quoted, WordsFault, words_fault};
 use bq_hooks::hook::{NO_HOOK, NO_VERSION};
 use bq_hooks::{Hook, Version};
 use bq_policy_file::{Head, shapes_of};
@@ -35,7 +35,10 @@ fn hook_in(alloc: Global, word: &Option<String>) -> Result<Option<Hook>, WordsFa
     };
     match Hook::of_word(word.as_bytes()) {
         Some(hook) => Ok(Some(hook)),
-        None => Err(words_fault(format!(in alloc; "--hook {word} {NO_HOOK}"))),
+        None => {
+            let word = Quoted(word.as_str());
+            Err(words_fault(format!(in alloc; "--hook {word} {NO_HOOK}")))
+        }
     }
 }
 
@@ -49,7 +52,10 @@ fn format_in(alloc: Global, word: &Option<String>) -> Result<Option<Version>, Wo
     };
     match Version::of_word(word.as_bytes()) {
         Some(version) => Ok(Some(version)),
-        None => Err(words_fault(format!(in alloc; "--format {word} {NO_VERSION}"))),
+        None => {
+            let word = Quoted(word.as_str());
+            Err(words_fault(format!(in alloc; "--format {word} {NO_VERSION}")))
+        }
     }
 }
 

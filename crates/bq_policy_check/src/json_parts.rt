@@ -1,7 +1,7 @@
 //! The fields of an answer of `check` as JSON.
 
 use bq_bpf::MapShape;
-use bq_console::file_named;
+use bq_console::{NO_TEXT, Name};
 use bq_explain::{Finding, Made, Place, Refusal, Summary, Verdict, advice_text, need_words};
 use bq_needs::known_text;
 use bq_policy_file::{PolicySource, instruction_text};
@@ -86,6 +86,12 @@ pub(crate) fn fields_of_limit(
         Verdict::Forbidden { helper } => {
             put_text(&mut fields, alloc, "cause", "helper")?;
             put(&mut fields, alloc, "helper", Value::from(i64::from(helper)))?;
+        }
+        Verdict::OtherHook => put_text(&mut fields, alloc, "cause", "hook")?,
+        Verdict::Beyond(over) => {
+            put_text(&mut fields, alloc, "cause", over.measure.word())?;
+            put(&mut fields, alloc, "used", Value::from(over.used))?;
+            put(&mut fields, alloc, "limit", Value::from(u64::from(over.most)))?;
         }
         Verdict::Accepted { .. } | Verdict::Refused { .. } => {}
     }
@@ -182,9 +188,14 @@ fn known_or_null(alloc: Global, known: Option<AbstractValue>) -> Result<Value, A
     }
 }
 
-/// The name of the file, or null of standard input.
-pub(crate) fn file_value(alloc: Global, file: &Option<String>) -> Result<Value, AllocError> {
-    match file_named(file) {
+/// The name of the file, or null of standard input. Bytes that are no UTF-8 text are escaped, as `\xff`.
+pub(crate) fn file_value(alloc: Global, name: Option<&str>) -> Result<Value, AllocError> {
+    match name {
+        Some(name) if name.contains(NO_TEXT) => {
+            let name = Name(name);
+            let shown = format!(in alloc; "{name}")?;
+            Value::try_from_str(alloc, shown.as_str())
+        }
         Some(name) => Value::try_from_str(alloc, name),
         None => Ok(Value::Null),
     }

@@ -5,6 +5,7 @@
 //! both, with a contract: the verdict, the listing. `run` is in bq_policy_run.
 #![tactic(auto)]
 
+mod accepted_image;
 mod answered;
 mod asm_head;
 mod asm_notes;
@@ -21,14 +22,16 @@ mod numbers;
 mod reasons;
 mod words;
 
+pub use accepted_image::accepted_image;
 pub use answered::Answered;
 pub use asm_head::{AsmRefusal, asm_refusal};
 pub use asm_notes::asm_note;
 pub use asm_options::{maps_option_words, options_complaint};
 pub use checking::check;
 pub use given::said_by;
+pub use json_text::unanswered_json;
 pub use limits::limits_of;
 pub use listing::{list, refused_file};
 pub use numbers::small_number;
 pub use reasons::{HOOK_UNSAID, Reason, fault_line, fault_reason};
-pub use words::{CheckWords, ListWords, PolicyWords, RunWords, TellingWords};
+pub use words::{CheckWords, LimitWords, ListWords, PolicyWords, RunWords, TellingWords};

@@ -1,42 +1,114 @@
 //! A keeper's own limits from the words of a command.
-ghost use Rattle.std.specs.Prelude.{◌≡◌, ◌^◌, [], List, ℤ, IfErr, IfOk, MatchBool, MatchOption};
+ghost use Rattle.std.specs.Prelude.{◌≡◌, [], List, ℤ, IfErr, IfOk, MatchBool, MatchOption};
+ghost use Rattle.std.specs.List.{AllZip};
 ghost use Rattle.bq_words.specs.Words.{parts};
 ghost use Rattle.bq_console.specs.Words.{SaysNone, SaysWord};
-ghost use Rattle.bq_policy_check.specs.Saying.{IsNumberBelow, option_bytes};
-ghost use Rattle.bq_policy_check.specs.Limiting.{AreHelpers, HasLimits, NamesHelpers, NamesNoHelpers};
+ghost use Rattle.bq_hooks.specs.declared.hook.Hook.{Hook as Place};
+ghost use Rattle.bq_policy_check.specs.Saying.{option_bytes};
+ghost use Rattle.bq_policy_check.specs.Limiting.{HasLimits, IsHelper, IsHook, IsMost, NamesHelpers, NamesHooks, NamesNoHelpers, NamesNoHooks};
 
 use crate::numbers::{helper, small_number};
-use crate::words::CheckWords;
-use bq_console::{WordsFault, words_fault};
+use crate::words::LimitWords;
+use bq_console::{Quoted, WordsFault, words_fault};
 use bq_explain::Limits;
+use bq_hooks::{Hook, with_hooks};
 use bq_words::with_32_bits;
 use std::alloc::{AllocError, Global};
 
 /// What a limit of steps is.
 const STEPS: &str = with_32_bits!("a limit is a number of instructions below ", ", as 100");
+/// What another limit is.
+const MOST: &str = with_32_bits!("a limit is a number below ", ", as 100");
+/// What a list of hooks is.
+const HOOKS: &str = with_hooks!("each is one of ", ", with commas between them");
 
 /// The limits that the words set. They are refused only where they set none.
-pub fn limits_of(alloc: Global, words: &CheckWords) -> Result<Limits, WordsFault>
+pub fn limits_of(alloc: Global, words: &LimitWords) -> Result<Limits, WordsFault>
     ensures has { IfOk result (HasLimits words.now) }
     ensures none { IfErr result (SaysNone (HasLimits words.now)) }
 {
-    let steps = steps_in(alloc, &words.max_steps)?;
+    let steps = most_in(alloc, &words.steps, "max-steps", STEPS)?;
     let helpers = helpers_in(alloc, &words.helpers)?;
-    Ok(Limits { steps, helpers })
+    let hooks = hooks_in(alloc, &words.hooks)?;
+    let maps = most_in(alloc, &words.maps, "max-maps", MOST)?;
+    let map_bytes = most_in(alloc, &words.map_bytes, "max-map-bytes", MOST)?;
+    let counters = most_in(alloc, &words.counters, "max-counters", MOST)?;
+    Ok(Limits {
+        steps,
+        helpers,
+        hooks,
+        maps,
+        map_bytes,
+        counters,
+    })
 }
 
-/// The most instructions of a run, if there is a word of it.
-fn steps_in(alloc: Global, word: &Option<String>) -> Result<Option<u32>, WordsFault>
-    ensures says { IfOk result (SaysWord (IsNumberBelow (2 ^ 32)) (option_bytes word.now)) }
-    ensures none { IfErr result (SaysNone (SaysWord (IsNumberBelow (2 ^ 32)) (option_bytes word.now))) }
+/// The number of a limit, if there is a word of it.
+fn most_in(
+    alloc: Global,
+    word: &Option<String>,
+    option: &'static str,
+    what: &'static str,
+) -> Result<Option<u32>, WordsFault>
+    ensures says { IfOk result (SaysWord IsMost (option_bytes word.now)) }
+    ensures none { IfErr result (SaysNone (SaysWord IsMost (option_bytes word.now))) }
 {
     let Some(word) = word else {
         return Ok(None);
     };
     match small_number(word.as_str()) {
-        Some(steps) => Ok(Some(steps)),
-        None => Err(words_fault(format!(in alloc; "--max-steps {word}: {STEPS}"))),
+        Some(most) => Ok(Some(most)),
+        None => {
+            let word = Quoted(word.as_str());
+            Err(words_fault(format!(in alloc; "--{option} {word}: {what}")))
+        }
     }
+}
+
+/// The hooks that a policy may be for, if there is a word of them: their words with commas between.
+fn hooks_in(alloc: Global, word: &Option<String>) -> Result<Option<Vec<Hook>>, WordsFault>
+    ensures says { IfOk result (SaysWord NamesHooks (option_bytes word.now)) }
+    ensures none { IfErr result (SaysNone (SaysWord NamesHooks (option_bytes word.now))) }
+{
+    let Some(word) = word else {
+        return Ok(None);
+    };
+    match hooks_of(alloc, word.as_str())? {
+        Some(hooks) => Ok(Some(hooks)),
+        None => {
+            let word = Quoted(word.as_str());
+            Err(words_fault(format!(in alloc; "--hooks {word}: {HOOKS}")))
+        }
+    }
+}
+
+/// The hooks of a text with commas between; none of an empty text.
+#[tactic(auto, using(crate::proofs::ListLemmas::none_named, crate::proofs::ListLemmas::all_named, crate::proofs::ListLemmas::not_named))]
+fn hooks_of(alloc: Global, text: &str) -> Result<Option<Vec<Hook>>, AllocError>
+    ensures { IfOk result (λ named. MatchOption named (NamesNoHooks text.now) (NamesHooks text.now)) }
+{
+    let mut hooks = Vec::new(alloc);
+    if text.is_empty() {
+        return Ok(Some(hooks));
+    }
+    if push_hooks(&mut hooks, text)? {
+        return Ok(Some(hooks));
+    }
+    Ok(None)
+}
+
+/// Adds the hooks of a text with commas between, up to a part that is none; whether there is no such part.
+fn push_hooks(hooks: &mut Vec<Hook>, text: &str) -> Result<bool, AllocError>
+    requires { hooks.old.items ≡ [] }
+    ensures { IfOk result (λ all. MatchBool all (AllZip IsHook (parts 44 text.now) hooks.new.items) ((hooks : List Place) → ¬ AllZip IsHook (parts 44 text.now) hooks)) }
+{
+    for part in text.split(',') {
+        match Hook::of_word(part.as_bytes()) {
+            Some(hook) => hooks.push(hook)?,
+            None => return Ok(false),
+        }
+    }
+    Ok(true)
 }
 
 /// The helpers that may be called, if there is a word of them: numbers with commas between.
@@ -49,14 +121,17 @@ fn helpers_in(alloc: Global, word: &Option<String>) -> Result<Option<Vec<i32>>, 
     };
     match numbers_of(alloc, word.as_str())? {
         Some(numbers) => Ok(Some(numbers)),
-        None => Err(words_fault(format!(in alloc;
-            "--helpers {word}: helpers are numbers with commas between, as 1,2,5,8"
-        ))),
+        None => {
+            let word = Quoted(word.as_str());
+            Err(words_fault(format!(in alloc;
+                "--helpers {word}: helpers are numbers with commas between, as 1,2,5,8"
+            )))
+        }
     }
 }
 
 /// The numbers of a text with commas between; none of an empty text.
-#[tactic(auto, using(crate::proofs::HelperLemmas::none_named, crate::proofs::HelperLemmas::all_named, crate::proofs::HelperLemmas::not_named))]
+#[tactic(auto, using(crate::proofs::ListLemmas::none_named, crate::proofs::ListLemmas::all_named, crate::proofs::ListLemmas::not_named))]
 fn numbers_of(alloc: Global, text: &str) -> Result<Option<Vec<i32>>, AllocError>
     ensures { IfOk result (λ named. MatchOption named (NamesNoHelpers text.now) (NamesHelpers text.now)) }
 {
@@ -73,7 +148,7 @@ fn numbers_of(alloc: Global, text: &str) -> Result<Option<Vec<i32>>, AllocError>
 /// Adds the numbers of a text with commas between, up to a part that is none; whether there is no such part.
 fn push_numbers(numbers: &mut Vec<i32>, text: &str) -> Result<bool, AllocError>
     requires { numbers.old.items ≡ [] }
-    ensures { IfOk result (λ all. MatchBool all (AreHelpers (parts 44 text.now) numbers.new.items) ((helpers : List ℤ) → ¬ AreHelpers (parts 44 text.now) helpers)) }
+    ensures { IfOk result (λ all. MatchBool all (AllZip IsHelper (parts 44 text.now) numbers.new.items) ((helpers : List ℤ) → ¬ AllZip IsHelper (parts 44 text.now) helpers)) }
 {
     for part in text.split(',') {
         match helper(part.as_bytes()) {

@@ -56,18 +56,18 @@ pub fn refused_file(
 {
     let line = fault_line(alloc, fault)?;
     let reason = reason_of(alloc, bytes, fault)?;
-    reasoned(alloc, file, &reason, &line)
+    reasoned(alloc, file_named(file), &reason, &line)
 }
 
 /// A line that refuses a file, and the reason behind it.
 pub(crate) fn reasoned(
     alloc: Global,
-    file: &Option<String>,
+    name: Option<&str>,
     reason: &Reason,
     line: &String,
 ) -> Result<String, AllocError>
     ensures { IfOk result (λ text. (reason : List ℕ) × (string_bytes text ≡ string_bytes line.now ++ reason)) }
 {
-    let reason = reason_text(alloc, file_named(file), reason)?;
+    let reason = reason_text(alloc, name, reason)?;
     format!(in alloc; "{line}{reason}\n")
 }

@@ -1,5 +1,6 @@
 //! What is wrong with a text of maps, in words.
 use bq_bpf::shape::{ENTRIES_WORDS, MAPS, SIZE_WORDS};
+use bq_console::Quoted;
 use bq_policy_file::shapes_of;
 use std::alloc::{AllocError, Global};
 
@@ -39,6 +40,7 @@ fn part_words(alloc: Global, number: usize, part: &str) -> Result<String, AllocE
 
 /// What is wrong with the part of that number, and why.
 fn wrong_words(alloc: Global, number: usize, part: &str, why: &str) -> Result<String, AllocError> {
+    let part = Quoted(part);
     format!(in alloc; "part {number} \"{part}\": {why}")
 }
 
@@ -78,7 +80,9 @@ fn got(alloc: Global, word: &str) -> Result<String, AllocError> {
         return String::from_str(alloc, "nothing");
     }
     if word.as_bytes().iter().all(|byte| byte.is_ascii_digit()) {
-        return String::from_str(alloc, word);
+        let number = Quoted(word);
+        return format!(in alloc; "{number}");
     }
+    let word = Quoted(word);
     format!(in alloc; "{word}, which is no number")
 }

@@ -7,6 +7,7 @@ use crate::image_words::{image_words, spelling_words};
 use crate::json_parts::{number_value, put_text};
 use crate::maps_words::maps_words;
 use bq_asm::Cause;
+use bq_console::{Lines, Name, Quoted};
 use bq_explain::assembly_words;
 use bq_hooks::hook::{NO_HOOK, NO_VERSION};
 use bq_insn::fault::Cause as Spelling;
@@ -56,6 +57,14 @@ fn at_line(line: usize, why: String) -> Reason {
     }
 }
 
+/// Whether the file of these bytes is an object file.
+fn is_object(bytes: &[u8]) -> bool {
+    bytes.starts_with(b"\x7fELF")
+}
+
+/// What is said of an object file.
+const OBJECT: &str = "the file is an ELF object file, and no policy: bqsim import makes a policy of its text section (docs/POLICIES_IN_C.md)";
+
 /// What is wrong with the file of these bytes.
 pub(crate) fn reason_of(
     alloc: Global,
@@ -63,6 +72,8 @@ pub(crate) fn reason_of(
     fault: PolicyFault,
 ) -> Result<Reason, AllocError> {
     match fault {
+        PolicyFault::Text if is_object(bytes) => plain(alloc, OBJECT),
+        PolicyFault::Assembly { .. } if is_object(bytes) => plain(alloc, OBJECT),
         PolicyFault::Text => plain(alloc, "the file is no UTF-8 text"),
         PolicyFault::Hex => plain(alloc, "the file begins as hex does, and is none"),
         PolicyFault::Head { line, cause } => head_reason(alloc, bytes, line, cause),
@@ -101,7 +112,7 @@ pub(crate) fn reason_text(
 ) -> Result<String, AllocError> {
     let at = place_text(alloc, reason)?;
     let why = reason.why.as_str();
-    match name {
+    match name.map(Name) {
         Some(name) if at.is_empty() => format!(in alloc; "{name}: {why}"),
         Some(name) => format!(in alloc; "{name} {at}: {why}"),
         None if at.is_empty() => String::from_str(alloc, why),
@@ -163,7 +174,9 @@ fn assembly_reason(
     cause: Cause,
 ) -> Result<Reason, AllocError> {
     let text = std::str::from_utf8(bytes).unwrap_or("");
-    let why = assembly_words(alloc, text, line, cause)?;
+    let said = assembly_words(alloc, text, line, cause)?;
+    let shown = Lines(said.as_str());
+    let why = format!(in alloc; "{shown}")?;
     if line == 0 {
         return Ok(whole(why));
     }
@@ -188,13 +201,14 @@ fn head_reason(
 
 /// What is wrong with what a line says of a key.
 fn value_words(alloc: Global, key: Key, value: &str) -> Result<String, AllocError> {
+    let quoted = Quoted(value);
     match key {
-        Key::Hook => format!(in alloc; "{value} {NO_HOOK}"),
+        Key::Hook => format!(in alloc; "{quoted} {NO_HOOK}"),
         Key::Maps => {
             let why = maps_words(alloc, value)?;
             format!(in alloc; "maps: {why}")
         }
-        Key::Format => format!(in alloc; "{value} {NO_VERSION}"),
+        Key::Format => format!(in alloc; "{quoted} {NO_VERSION}"),
     }
 }
 

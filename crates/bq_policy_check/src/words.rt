@@ -11,20 +11,42 @@ pub struct PolicyWords {
     pub maps: Option<String>,
     /// The version of its image.
     pub format: Option<String>,
+    /// The most bytes that are read.
+    pub max_bytes: Option<String>,
 }
 
 /// The words after `check`.
 #[derive(Drop)]
 pub struct CheckWords {
+    /// What is said of each policy; its file is the first of the files.
     pub policy: PolicyWords,
+    /// All files, in their order.
+    pub files: Vec<String>,
     /// Whether a refusal is explained, and an accepted policy told in full.
     pub is_explained: bool,
     /// Whether the answer is JSON.
     pub is_json: bool,
+    /// The keeper's own limits.
+    pub limits: LimitWords,
+    /// The file to which the image of an accepted policy goes.
+    pub image: Option<String>,
+}
+
+/// The words that limit what a policy may take and use.
+#[derive(Drop)]
+pub struct LimitWords {
     /// The most instructions of a run.
-    pub max_steps: Option<String>,
+    pub steps: Option<String>,
     /// The helpers that may be called.
     pub helpers: Option<String>,
+    /// The hooks that a policy may be for.
+    pub hooks: Option<String>,
+    /// The most maps.
+    pub maps: Option<String>,
+    /// The most bytes that the values of all maps have.
+    pub map_bytes: Option<String>,
+    /// The most instructions that call a counter.
+    pub counters: Option<String>,
 }
 
 /// Which run is told, and how.

@@ -5,8 +5,8 @@ use Rattle.bq_policy_check.proofs.checking.check_file.Goals as goal
 
 pub returns-in-Ok : goal.returns-in-Ok
 returns-in-Ok c =
-    IfOk-weaker c.check_policy.result (TellsVerdict c.args.words.now c.in-Ok.policy c.args.limits.now)
-    (ChecksFile c.args.words.now c.args.bytes.now c.args.head.now c.args.limits.now)
+    IfOk-weaker c.check_policy.result (TellsVerdict c.args.words.now c.in-Ok.policy c.args.terms.now.limits)
+    (ChecksFile c.args.words.now c.args.bytes.now c.args.terms.now.head c.args.terms.now.limits)
     (λ answer tells. inr record { policy = c.in-Ok.policy; is_policy = c.in-Ok.ensures.policy; tells = tells }) c.check_policy.ensures
 
 pub returns-in_ok-refusal-in-Err : goal.returns-in_ok-refusal-in-Err

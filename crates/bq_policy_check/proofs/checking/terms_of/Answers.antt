@@ -15,4 +15,4 @@ returns-in_err-head-clause-none c =
 pub returns-in_err-limits-clause-none : goal.returns-in_err-limits-clause-none
 returns-in_err-limits-clause-none c =
     let error = err_from_is_err_and c.from_residual-in_err-limits.result c.from_residual-in_err-limits.ensures.1 in
-    rw (error.1, error.2) (none_whole (HasLimits c.args.words.now) (SaysTerms c.args.words.now) (λ (terms : Head × Limits). terms.1) c.in_err-limits.field-0.0 (λ terms says. says.limits) c.in_err-limits.ensures.none)
+    rw (error.1, error.2) (none_whole (HasLimits c.args.words.now.limits) (SaysTerms c.args.words.now) (λ (terms : Head × Limits). terms.1) c.in_err-limits.field-0.0 (λ terms says. says.limits) c.in_err-limits.ensures.none)

@@ -1,0 +1,8 @@
+use Rattle.std.proofs.Common.{length}
+use Rattle.bq_words.specs.Words.{parts}
+use Rattle.bq_policy_check.proofs.ListLemmas.{ReadsOn}
+use Rattle.bq_policy_check.specs.Limiting.{IsHook}
+use Rattle.bq_policy_check.proofs.limits.push_hooks.Given as goal
+
+abbrev pub invariant-loop-part : goal.invariant-loop-part
+invariant-loop-part l = ReadsOn IsHook (parts 44 l.text) (length l.yielded) l.hooks.items

@@ -1,0 +1,45 @@
+//! The image of a policy that `check` accepts.
+ghost use Rattle.std.specs.Prelude.{IfOk, MatchOption};
+ghost use Rattle.bq_policy_check.specs.Accepting.{HasNoImage, IsAcceptedImage, IsImageUnder, IsNoImage};
+
+use crate::checking::{Terms, terms_of};
+use crate::words::CheckWords;
+use bq_console::WordsFault;
+use bq_explain::judge;
+use bq_policy_file::{PolicyFault, read_policy};
+use std::alloc::{AllocError, Global};
+
+/// The bytes of the image of the policy whose file has these bytes, where `check` with these words accepts it; None where it does not.
+pub fn accepted_image(
+    alloc: Global,
+    words: &CheckWords,
+    bytes: &[u8],
+) -> Result<Option<Vec<u8>>, AllocError>
+    ensures { IfOk result (λ found. MatchOption found (IsNoImage words.now bytes.now) (λ image. IsAcceptedImage words.now bytes.now image.items)) }
+{
+    match terms_of(alloc, words) {
+        Ok(terms) => image_under(alloc, &terms, bytes),
+        Err(WordsFault::Words(_)) => Ok(None),
+        Err(WordsFault::OutOfMemory) => Err(AllocError),
+    }
+}
+
+/// The same, by what the words say beside the file, and their limits.
+fn image_under(
+    alloc: Global,
+    terms: &Terms,
+    bytes: &[u8],
+) -> Result<Option<Vec<u8>>, AllocError>
+    ensures { IfOk result (λ found. MatchOption found (HasNoImage bytes.now terms.now.head terms.now.limits) (λ image. IsImageUnder bytes.now terms.now.head terms.now.limits image.items)) }
+{
+    let policy = match read_policy(alloc, bytes, &terms.head) {
+        Ok(policy) => policy,
+        Err(PolicyFault::OutOfMemory) => return Err(AllocError),
+        Err(_) => return Ok(None),
+    };
+    let verdict = judge(alloc, &policy, &terms.limits)?;
+    if !verdict.is_accepted() {
+        return Ok(None);
+    }
+    Ok(Some(policy.image(alloc)?))
+}
