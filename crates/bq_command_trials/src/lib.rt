@@ -19,6 +19,8 @@ mod filters;
 #[cfg(test)]
 mod images;
 #[cfg(test)]
+mod keeping;
+#[cfg(test)]
 mod options;
 #[cfg(test)]
 mod slips;
