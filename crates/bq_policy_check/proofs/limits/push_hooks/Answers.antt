@@ -13,13 +13,13 @@ loop-part-preserved c =
     let words = parts 44 c.args.text.now in
     let yielded = c.loop-part.yielded in
     let turn = YieldsList-turn (YieldsList-from_str_split 44 c.args.text.now (omega arith) (cc) (cc) (cc)) yielded _ c.loop-part.yielded_by _ _ c.in-Some.part c.in-Some.is c.next.ensures.steps in
-    let read : IsHook c.in-Some.part.now c.in-Some-hook.hook = search rules in
-    let is : IsHook (get_or words (length yielded) c.in-Some.part.now) c.in-Some-hook.hook = subst (λ (part : List ℕ). IsHook part c.in-Some-hook.hook) turn.1 read in
-    let more = read_more IsHook words (length yielded) c.in-Some.part.now c.loop-part.hooks.items c.push.new.self.items c.in-Some-hook.hook turn.0 is c.in_ok-push-in-Some-hook.ensures.items c.loop-part.invariant in
+    let read : IsHook c.in-Some.part.now c.in-Some-of_word.hook = search rules in
+    let is : IsHook (get_or words (length yielded) c.in-Some.part.now) c.in-Some-of_word.hook = subst (λ (part : List ℕ). IsHook part c.in-Some-of_word.hook) turn.1 read in
+    let more = read_more IsHook words (length yielded) c.in-Some.part.now c.loop-part.hooks.items c.push.new.self.items c.in-Some-of_word.hook turn.0 is c.in_ok-push-in-Some-of_word.ensures.items c.loop-part.invariant in
     subst (λ (k : ℕ). ReadsOn IsHook words k c.push.new.self.items) (sym (length-append yielded (c.in-Some.part ∷ []))) more
 
-pub returns-in-None-hook : goal.returns-in-None-hook
-returns-in-None-hook c =
+pub returns-in-None-of_word : goal.returns-in-None-of_word
+returns-in-None-of_word c =
     let words = parts 44 c.args.text.now in
     let yielded = c.loop-part.yielded in
     let turn = YieldsList-turn (YieldsList-from_str_split 44 c.args.text.now (omega arith) (cc) (cc) (cc)) yielded _ c.loop-part.yielded_by _ _ c.in-Some.part c.in-Some.is c.next.ensures.steps in
