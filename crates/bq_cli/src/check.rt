@@ -11,9 +11,7 @@ use bq_console::{
     Lines, Name, WordsFault, all_words, is_set, read_input, reason, refused_words, say_unread,
     say_unwritten, word,
 };
-use bq_policy_check::{
-    Answered, CheckWords, LimitWords, accepted_image, check, unanswered_json,
-};
+use bq_policy_check::{Answered, CheckWords, LimitWords, accepted_image, check, unanswered_json};
 use clap::ArgMatches;
 use std::alloc::{AllocError, Global};
 use std::fs;
@@ -21,7 +19,8 @@ use std::io::{Error, ErrorKind, Write};
 use std::process::ExitCode;
 
 /// The line of JSON where memory is wanted for another.
-const NO_MEMORY: &str = "{\"accepted\":false,\"answer\":null,\"explanation\":[],\"file\":null,\"need\":\"out of memory\",\"schema\":1,\"stage\":\"memory\"}\n";
+const NO_MEMORY: &str =
+    "{\"accepted\":false,\"answer\":null,\"explanation\":[],\"file\":null,\"need\":\"out of memory\",\"schema\":1,\"stage\":\"memory\"}\n";
 
 /// The words that were found.
 pub(crate) fn check_words(alloc: Global, matches: &ArgMatches<'_>) -> Result<CheckWords, AllocError>
@@ -203,7 +202,14 @@ fn failed(
     }
     match reason(rt.alloc(), error) {
         Ok(why) => unanswered(rt, words, name, stage, why.as_str(), IO_FAILED),
-        Err(_) => unanswered(rt, words, name, stage, "a call of the system failed", IO_FAILED),
+        Err(_) => unanswered(
+            rt,
+            words,
+            name,
+            stage,
+            "a call of the system failed",
+            IO_FAILED,
+        ),
     }
 }
 

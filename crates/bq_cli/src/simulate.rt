@@ -11,8 +11,8 @@ use bq_comparison::{
 };
 use bq_console::status::{BAD_INPUT, REFUSED};
 use bq_console::{
-    MOST_BYTES, Name, WordsFault, all_words, file_named, name_of, refused_words,
-    say_out_of_memory, whole_file, whole_input, word, written,
+    MOST_BYTES, Name, WordsFault, all_words, file_named, name_of, refused_words, say_out_of_memory,
+    whole_file, whole_input, word, written,
 };
 use bq_experiment::{
     AskedFault, AttachFault, HookWords, MachineWords, Policies, ShownAs, StudyWords, asked_changes,
@@ -299,7 +299,13 @@ fn workload(rt: &HostRuntime, words: &StudyWords, changes: Changes) -> Result<Wo
 fn policies(rt: &HostRuntime, words: &StudyWords) -> Result<Policies, ExitCode> {
     let mut policies = Policies::new(rt.alloc());
     add(rt, words, &mut policies, Hook::Place, &words.hooks.place)?;
-    add(rt, words, &mut policies, Hook::Preempt, &words.hooks.preempt)?;
+    add(
+        rt,
+        words,
+        &mut policies,
+        Hook::Preempt,
+        &words.hooks.preempt,
+    )?;
     add(rt, words, &mut policies, Hook::Pull, &words.hooks.pull)?;
     Ok(policies)
 }

@@ -186,7 +186,12 @@ pub fn check_words(
 
 /// What `check` tells of a policy.
 fn checked(alloc: Global, words: &CheckWords, policy: &str) -> Result<String, AllocError> {
-    let answer = check(alloc, words, file_named(&words.policy.file), policy.as_bytes())?;
+    let answer = check(
+        alloc,
+        words,
+        file_named(&words.policy.file),
+        policy.as_bytes(),
+    )?;
     told(alloc, &answer)
 }
 

@@ -24,18 +24,74 @@ type LimitRow = (
 
 /// Policies within limits, and beyond them.
 static LIMITED: [LimitRow; 12] = [
-    (TWO_MAPS, "place", "2", "80", "0", "accepted place budget 2\n"),
-    (TWO_MAPS, "preempt,place", "", "", "", "accepted place budget 2\n"),
-    (TWO_MAPS, "preempt,pull", "", "", "", "refused limit hook place\n"),
+    (
+        TWO_MAPS,
+        "place",
+        "2",
+        "80",
+        "0",
+        "accepted place budget 2\n",
+    ),
+    (
+        TWO_MAPS,
+        "preempt,place",
+        "",
+        "",
+        "",
+        "accepted place budget 2\n",
+    ),
+    (
+        TWO_MAPS,
+        "preempt,pull",
+        "",
+        "",
+        "",
+        "refused limit hook place\n",
+    ),
     (TWO_MAPS, "", "1", "", "", "refused limit maps 2 of 1\n"),
-    (TWO_MAPS, "", "", "79", "", "refused limit map-bytes 80 of 79\n"),
+    (
+        TWO_MAPS,
+        "",
+        "",
+        "79",
+        "",
+        "refused limit map-bytes 80 of 79\n",
+    ),
     (TWO_MAPS, "", "1", "79", "", "refused limit maps 2 of 1\n"),
     (COUNTS, "", "0", "0", "1", "accepted preempt budget 5\n"),
     (COUNTS, "", "", "", "0", "refused limit counters 1 of 0\n"),
-    (COUNTS, "place,", "", "", "", "--hooks place,: each is one of place, preempt or pull, with commas between them"),
-    (COUNTS, "", "x", "", "", "--max-maps x: a limit is a number below 4294967296, as 100"),
-    (COUNTS, "", "", "4294967296", "", "--max-map-bytes 4294967296: a limit is a number below 4294967296, as 100"),
-    (COUNTS, "", "", "", "-1", "--max-counters -1: a limit is a number below 4294967296, as 100"),
+    (
+        COUNTS,
+        "place,",
+        "",
+        "",
+        "",
+        "--hooks place,: each is one of place, preempt or pull, with commas between them",
+    ),
+    (
+        COUNTS,
+        "",
+        "x",
+        "",
+        "",
+        "--max-maps x: a limit is a number below 4294967296, as 100",
+    ),
+    (
+        COUNTS,
+        "",
+        "",
+        "4294967296",
+        "",
+        "--max-map-bytes 4294967296: a limit is a number below 4294967296, as 100",
+    ),
+    (
+        COUNTS,
+        "",
+        "",
+        "",
+        "-1",
+        "--max-counters -1: a limit is a number below 4294967296, as 100",
+    ),
 ];
 
 /// The text, unless it is empty.
@@ -96,7 +152,8 @@ fn image_is_that_of_the_accepted(rt: HostRuntime) -> Result<(), Fail> {
 #[test]
 fn unanswered_files_have_a_line(rt: HostRuntime) -> Result<(), Fail> {
     let line = unanswered_json(rt.alloc(), Some("a\n\0ff"), "reading", "is a directory")?;
-    let wanted = "{\"accepted\":false,\"answer\":null,\"explanation\":[],\"file\":\"a\\\\n\\\\xff\",\"need\":\"is a directory\",\"schema\":1,\"stage\":\"reading\"}\n";
+    let wanted =
+        "{\"accepted\":false,\"answer\":null,\"explanation\":[],\"file\":\"a\\\\n\\\\xff\",\"need\":\"is a directory\",\"schema\":1,\"stage\":\"reading\"}\n";
     holds(&rt, line.as_str() == wanted, line.as_str(), wanted);
     Ok(())
 }

@@ -24,10 +24,12 @@ pub use fault::{WordsFault, words_fault};
 pub use found::{all_words, is_set, value, word};
 pub use given::{as_texts, given_words};
 pub use printable::{Lines, NO_TEXT, Name, Quoted};
-pub use reading::{MOST_BYTES, file_named, name_of, opened, read_input, waiting_input, whole_file, whole_input};
+pub use reading::{
+    MOST_BYTES, file_named, name_of, opened, read_input, waiting_input, whole_file, whole_input,
+};
 pub use reasons::reason;
 pub use refused::{refused_value, refused_words};
 pub use saying::{say_out_of_memory, say_refused, say_unread, say_unwritten};
 pub use status::{OUT_OF_MEMORY, exit_status};
 pub use tables::{CommandText, Given, OptionText, found_in, program, with_commands};
-pub use writing::{written};
+pub use writing::written;

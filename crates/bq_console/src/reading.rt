@@ -7,11 +7,10 @@ ghost use Rattle.bq_console.specs.Status.{EndsFailed};
 use crate::bounded::Bounded;
 use crate::printable::NO_TEXT;
 use crate::saying::say_unread;
-use std::fs;
 use std::fs::File;
-use std::io;
 use std::io::{Error, ErrorKind, IsTerminal, Read, Stdin};
 use std::process::ExitCode;
+use std::{fs, io};
 
 /// What is said of a name that is no UTF-8 text.
 const NO_TEXT_NAME: &str = "the name is no UTF-8 text, so it can't be opened";
@@ -41,11 +40,7 @@ pub const MOST_BYTES: u64 = 1 << 24;
 
 /// All bytes of the file that is named, or of standard input, of at most so many. Where they can't be read, standard error says
 /// why, and the error is the exit status.
-pub fn whole_input(
-    rt: &HostRuntime,
-    file: &Option<String>,
-    most: u64,
-) -> Result<Vec<u8>, ExitCode>
+pub fn whole_input(rt: &HostRuntime, file: &Option<String>, most: u64) -> Result<Vec<u8>, ExitCode>
     ensures { IfErr result EndsFailed }
 {
     let name = file_named(file);

@@ -102,7 +102,9 @@ fn limit_text(
         (Verdict::Beyond(over), _) => {
             let word = over.measure.word();
             let Over { used, most, .. } = over;
-            format!(in alloc; "  the policy has {word} {used}, and the limit of --max-{word} is {most}\n")
+            format!(in alloc;
+                "  the policy has {word} {used}, and the limit of --max-{word} is {most}\n"
+            )
         }
         _ => Ok(String::new(alloc)),
     }

@@ -25,11 +25,7 @@ pub fn accepted_image(
 }
 
 /// The same, by what the words say beside the file, and their limits.
-fn image_under(
-    alloc: Global,
-    terms: &Terms,
-    bytes: &[u8],
-) -> Result<Option<Vec<u8>>, AllocError>
+fn image_under(alloc: Global, terms: &Terms, bytes: &[u8]) -> Result<Option<Vec<u8>>, AllocError>
     ensures { IfOk result (λ found. MatchOption found (HasNoImage bytes.now terms.now.head terms.now.limits) (λ image. IsImageUnder bytes.now terms.now.head terms.now.limits image.items)) }
 {
     let policy = match read_policy(alloc, bytes, &terms.head) {

@@ -91,7 +91,12 @@ pub(crate) fn fields_of_limit(
         Verdict::Beyond(over) => {
             put_text(&mut fields, alloc, "cause", over.measure.word())?;
             put(&mut fields, alloc, "used", Value::from(over.used))?;
-            put(&mut fields, alloc, "limit", Value::from(u64::from(over.most)))?;
+            put(
+                &mut fields,
+                alloc,
+                "limit",
+                Value::from(u64::from(over.most)),
+            )?;
         }
         Verdict::Accepted { .. } | Verdict::Refused { .. } => {}
     }

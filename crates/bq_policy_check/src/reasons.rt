@@ -63,7 +63,8 @@ fn is_object(bytes: &[u8]) -> bool {
 }
 
 /// What is said of an object file.
-const OBJECT: &str = "the file is an ELF object file, and no policy: bqsim import makes a policy of its text section (docs/POLICIES_IN_C.md)";
+const OBJECT: &str =
+    "the file is an ELF object file, and no policy: bqsim import makes a policy of its text section (docs/POLICIES_IN_C.md)";
 
 /// What is wrong with the file of these bytes.
 pub(crate) fn reason_of(
