@@ -6,13 +6,13 @@ _bqsim() {
         return
     fi
     case ${COMP_WORDS[1]} in
-        asm) words="--hook --maps --format --help" ;;
-        check) words="--hook --maps --format --explain --json --max-steps --helpers --help" ;;
-        dis) words="--hook --maps --format --slots --help" ;;
-        import) words="--hook --maps --format --help" ;;
+        asm) words="--hook --maps --format --max-bytes --help" ;;
+        check) words="--hook --maps --format --max-bytes --explain --json --max-steps --helpers --hooks --max-maps --max-map-bytes --max-counters --image --help" ;;
+        dis) words="--hook --maps --format --max-bytes --slots --help" ;;
+        import) words="--hook --maps --format --max-bytes --help" ;;
         par) words="--rule --processors --ticks --help" ;;
-        replay) words="--help" ;;
-        run) words="--hook --maps --format --ctx --set --map --time --processor --counter --trace --repeat --help" ;;
+        replay) words="--max-bytes --help" ;;
+        run) words="--hook --maps --format --max-bytes --ctx --set --map --time --processor --counter --trace --repeat --help" ;;
         simulate) words="--discipline --processors --duration --seed --seeds --place --preempt --pull --against --as --from --to --cpus --tasks --width --theme --title --help" ;;
         timeline) words="--as --from --to --cpus --tasks --width --theme --title --help" ;;
         help) words="asm check dis import par replay run simulate timeline" ;;
