@@ -113,12 +113,19 @@ pub(crate) fn reason_text(
 ) -> Result<String, AllocError> {
     let at = place_text(alloc, reason)?;
     let why = reason.why.as_str();
-    match name.map(Name) {
-        Some(name) if at.is_empty() => format!(in alloc; "{name}: {why}"),
-        Some(name) => format!(in alloc; "{name} {at}: {why}"),
+    match name {
+        Some(name) => named_text(alloc, Name(name), at.as_str(), why),
         None if at.is_empty() => String::from_str(alloc, why),
         None => format!(in alloc; "{at}: {why}"),
     }
+}
+
+/// The same, behind the file's name.
+fn named_text(alloc: Global, name: Name<'_>, at: &str, why: &str) -> Result<String, AllocError> {
+    if at.is_empty() {
+        return format!(in alloc; "{name}: {why}");
+    }
+    format!(in alloc; "{name} {at}: {why}")
 }
 
 /// Where it is; nothing of the whole file.
