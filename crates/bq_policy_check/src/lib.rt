@@ -5,7 +5,7 @@
 //! both, with a contract: the verdict, the listing. `run` is in bq_policy_run.
 #![tactic(auto)]
 
-mod accepted_image;
+mod accepting;
 mod answered;
 mod asm_head;
 mod asm_notes;
@@ -22,7 +22,7 @@ mod numbers;
 mod reasons;
 mod words;
 
-pub use accepted_image::accepted_image;
+pub use accepting::accepted_image;
 pub use answered::Answered;
 pub use asm_head::{AsmRefusal, asm_refusal};
 pub use asm_notes::asm_note;

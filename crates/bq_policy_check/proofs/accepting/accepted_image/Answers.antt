@@ -5,7 +5,7 @@ use Rattle.bq_policy_check.specs.Accepting.{HasNoImage, IsAcceptedImage, IsImage
 use Rattle.bq_policy_check.specs.Checking.{SaysTerms}
 use Rattle.bq_policy_check.proofs.ImageLemmas.{by_terms}
 use Rattle.bq_console.proofs.SayingLemmas.{said_none}
-use Rattle.bq_policy_check.proofs.accepted_image.accepted_image.Goals as goal
+use Rattle.bq_policy_check.proofs.accepting.accepted_image.Goals as goal
 
 pub returns-in-Ok : goal.returns-in-Ok
 returns-in-Ok c =
