@@ -62,7 +62,7 @@ static REFUSED: [(&str, &str, &str, &str); 23] = [
     (
         ";@ hook preempt\nmov64 r0, 0\nagain:\nadd64 r0, 1\njlt64 r0, 4, again\nexit\n",
         "refused L8 V1 2\n",
-        "line 5, slot 2:  jlt64 r0, 4, -2\n  jumps to slot 1, which is not forward; there are no loops\n",
+        "line 5, slot 2:  jlt64 r0, 4, -2\n  jumps back to line 4, slot 1: a policy has no loops\n",
         "write a loop out as often as it may run",
     ),
     // an unknown helper
@@ -211,7 +211,7 @@ fn refusals_say_what_helps(rt: HostRuntime) -> Result<(), Fail> {
 }
 
 /// Texts that do not assemble, and what is said of them.
-static COMPLAINED: [(&str, &str); 17] = [
+static COMPLAINED: [(&str, &str); 32] = [
     (
         "mov r0, 1\nexit\n",
         "line 1: unknown word \"mov\", did you mean \"mov64\"?\n",
@@ -282,7 +282,70 @@ static COMPLAINED: [(&str, &str); 17] = [
     ),
     (
         "mov64 r0, 5000000000\nexit\n",
-        "line 1: a number in \"mov64 r0, 5000000000\" is out of its range: numbers of instructions have 32 bits",
+        "line 1: 5000000000 does not fit the 32 bits of mov64 (-2147483648 to 2147483647); load it by lddw, as in lddw r0, 5000000000\n",
+    ),
+    // 2^32 - 1 is how a pull policy answers none
+    (
+        "mov64 r0, 0xffffffff\nexit\n",
+        "line 1: 0xffffffff does not fit the 32 bits of mov64 (-2147483648 to 2147483647); load it by lddw, as in lddw r0, 0xffffffff, which is also how a pull policy answers none\n",
+    ),
+    (
+        "mov64 r0, 1ms\nexit\n",
+        "line 1: \"1ms\" is not a number; write a time in nanoseconds: 1000000\n",
+    ),
+    (
+        "mov64 r0, 12x\nexit\n",
+        "line 1: \"12x\" is not a number of up to 64 bits; numbers are decimal, as 100, or hex, as 0x64\n",
+    ),
+    (
+        "lddw r0, -1\nexit\n",
+        "line 1: lddw takes 0 to 18446744073709551615, without a sign; -1 is 0xffffffffffffffff\n",
+    ),
+    (
+        "ldxw r0, [r1+40000]\nexit\n",
+        "line 1: the offset in [r1+40000] is not a number from -32768 to +32767\n",
+    ),
+    (
+        "jeq64 r1, 0, +40000\nexit\n",
+        "line 1: +40000 does not fit the 16 bits of a jump's distance (-32768 to +32767); jump to a label\n",
+    ),
+    (
+        "ja 5\nexit\n",
+        "line 1: ja goes to a label, as end, or over a distance with its sign, as +5\n",
+    ),
+    (
+        "beq r1, 0, end\nend:\nexit\n",
+        "line 1: unknown word \"beq\", did you mean \"jeq64\"?\n",
+    ),
+    (
+        "MOV64 r0, 1\nexit\n",
+        "line 1: unknown word \"MOV64\", did you mean \"mov64\"?\n",
+    ),
+    (
+        "MOV r0, 1\nexit\n",
+        "line 1: unknown word \"MOV\", did you mean \"mov64\"?\n",
+    ),
+    // a byte order mark, whatever comes after it
+    (
+        "\u{feff}mov64 r0, 0\nexit\n",
+        "line 1: the text begins with a byte order mark (the bytes ef bb bf); save it as UTF-8 without one\n",
+    ),
+    (
+        "\u{feff};@ hook pull\nexit\n",
+        "line 1: the text begins with a byte order mark (the bytes ef bb bf); save it as UTF-8 without one\n",
+    ),
+    // texts that were not written for the assembler
+    (
+        "/* hook: place */\n#include \"bqsim.h\"\nlong policy(void *c) { return 0; }\n",
+        "line 1: this is C; compile it for BPF",
+    ),
+    (
+        "# two tasks\n[machine]\nprocessors = 2\n",
+        "line 1: this is a workload, not a policy; bqsim simulate runs it\n",
+    ),
+    (
+        "# one task\n\nmachine cfs 1\nadmit 1 0 1 3000000\n",
+        "line 1: this is a trace, not a policy; bqsim timeline shows it\n",
     ),
 ];
 

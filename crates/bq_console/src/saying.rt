@@ -45,10 +45,14 @@ pub fn say_unread(rt: &HostRuntime, name: Option<&str>, error: &Error) -> ExitCo
     }
 }
 
-/// Says why standard output can't be written: `bqsim: a write failed: no space left on device`.
+/// Says why standard output can't be written: `bqsim: a write failed: no space left on device`. Nothing is said where the reader of a
+/// pipe has gone, as `head` does once it has its lines.
 pub fn say_unwritten(rt: &HostRuntime, error: &Error) -> ExitCode
     ensures { EndsFor (error_kind error.now) result }
 {
+    if error.kind() == ErrorKind::BrokenPipe {
+        return ExitCode::from(IO_FAILED);
+    }
     say_failed(rt, &StreamFault::Write, error)
 }
 

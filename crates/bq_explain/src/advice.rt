@@ -301,7 +301,7 @@ fn plain_text(advice: Advice) -> &'static str {
         Advice::CopyFrame => "copy it first: mov64 r2, r10, and change r2",
         Advice::FewerCalls => "call counters on fewer ways, or add larger amounts at once",
         Advice::UsePointer => {
-            "use a pointer: r1 at the begin is the context, r10 the stack's end"
+            "use a pointer: at the start r1 points to the context, r10 to the end of the stack"
         }
         Advice::LookUp => with_helper!(LOOKUP, "look an entry up first, by helper ", ""),
         _ => more_text(advice),

@@ -4,10 +4,9 @@ ghost use Rattle.std.specs.Str.{IsUtf8};
 ghost use Rattle.bq_insn.specs.Appending.{StartsWith};
 ghost use Rattle.bq_explain.specs.Complaints.{ComplainsOf, NamesLine, line_words};
 
-use crate::forms::form_of;
-use crate::vocabulary::nearest;
-use bq_asm::{AsmFault, Cause, assemble, named};
-use bq_insn::SLOTS;
+use crate::line_reason::line_reason;
+use crate::text_kind::{TextKind, text_kind};
+use bq_asm::{AsmFault, Cause, assemble};
 use std::alloc::{AllocError, Global};
 
 /// One line on what is wrong with the text, by the number of the line at fault; None exactly where the assembler takes it.
@@ -37,8 +36,7 @@ fn line_complaint(
     if number == 0 {
         return String::from_str(alloc, "the text has no instruction\n");
     }
-    let said = line_numbered(text, number);
-    let why = reason(alloc, said, cause)?;
+    let why = reason(alloc, text, number, cause)?;
     format!(in alloc; "line {number}: {why}\n")
 }
 
@@ -52,7 +50,7 @@ pub fn assembly_words(
     if number == 0 {
         return String::from_str(alloc, "the text has no instruction");
     }
-    reason(alloc, line_numbered(text, number), cause)
+    reason(alloc, text, number, cause)
 }
 
 /// The line of that number, counted from 1; empty where there is none.
@@ -67,106 +65,27 @@ fn line_numbered(text: &str, number: usize) -> &str {
     ""
 }
 
-fn reason(alloc: Global, line: &str, cause: Cause) -> Result<String, AllocError> {
-    match cause {
-        Cause::Word => word_reason(alloc, line),
-        Cause::Number => {
-            let said = line.trim();
-            format!(in alloc;
-                "a number in \"{said}\" is out of its range: numbers of instructions have 32 bits, those of lddw 64, offsets in brackets 16"
-            )
-        }
-        Cause::LabelTwice => {
-            let said = without_comment(line).trim();
-            format!(in alloc; "the label \"{said}\" was set before; one of them wants another name")
-        }
-        Cause::LabelMissing => {
-            let said = without_comment(line).trim();
-            format!(in alloc;
-                "\"{said}\" jumps to a label that is set nowhere; a label is set by a line of its own, as end:"
-            )
-        }
-        Cause::Slots => format!(in alloc; "the program has more than {SLOTS} slots"),
+/// Why the assembler refuses the line of that number; where the text is none of the assembler's, what it is.
+fn reason(alloc: Global, text: &str, number: usize, cause: Cause) -> Result<String, AllocError> {
+    match foreign_text(text) {
+        Some(what) => String::from_str(alloc, what),
+        None => line_reason(alloc, line_numbered(text, number), cause),
     }
 }
 
-fn without_comment(line: &str) -> &str {
-    match line.split_once(';') {
-        Some((said, _)) => said,
-        None => line,
-    }
-}
-
-/// Why the words of a line are none that the language has.
-fn word_reason(alloc: Global, line: &str) -> Result<String, AllocError> {
-    let said = without_comment(line).trim();
-    if let Some(mark) = foreign_comment(said) {
-        return format!(in alloc; "\"{mark}\" begins no comment here: a comment begins with ;");
-    }
-    if let Some(inside) = blank_in_brackets(said) {
-        return format!(in alloc; "[{inside}]: no blank inside brackets");
-    }
-    let first = first_word(said);
-    if first.ends_with(':') {
-        return label_reason(alloc, said, first);
-    }
-    let Some(mnemonic) = named(first.as_bytes()) else {
-        return unknown(alloc, first);
-    };
-    let form = form_of(alloc, first, mnemonic)?;
-    format!(in alloc; "\"{said}\" has other operands than {first} takes; write it as {form}")
-}
-
-/// The first word of a line that begins with none of the marks between words: space, tab and comma.
-fn first_word(said: &str) -> &str {
-    match said.split(is_between).next() {
-        Some(first) => first,
-        None => said,
-    }
-}
-
-/// Whether the letter stands between words.
-fn is_between(letter: char) -> bool {
-    letter == ' ' || letter == '\t' || letter == ','
-}
-
-/// Why a line whose first word ends with a colon sets no label.
-fn label_reason(alloc: Global, said: &str, first: &str) -> Result<String, AllocError> {
-    if said == first {
-        return format!(in alloc;
-            "\"{said}\" is no label: a label is a letter or _, then up to 31 letters, digits or _, and a colon"
+/// What a text is that was not written for the assembler, and what to do with it.
+fn foreign_text(text: &str) -> Option<&'static str> {
+    if text.as_bytes().starts_with(b"\xef\xbb\xbf") {
+        return Some(
+            "the text begins with a byte order mark (the bytes ef bb bf); save it as UTF-8 without one",
         );
     }
-    format!(in alloc; "\"{said}\" has words after its label: a label stands alone on its line")
-}
-
-/// A word that no instruction begins with, and the one that may be meant.
-fn unknown(alloc: Global, word: &str) -> Result<String, AllocError> {
-    match nearest(alloc, word)? {
-        Some(known) => format!(in alloc; "unknown word \"{word}\", did you mean \"{known}\"?"),
-        None => format!(in alloc;
-            "unknown word \"{word}\"; docs/ASSEMBLER.md has those that there are"
+    match text_kind(text.as_bytes()) {
+        TextKind::C => Some(
+            "this is C; compile it for BPF and let bqsim import make a policy of it, as docs/POLICIES_IN_C.md shows",
         ),
+        TextKind::Workload => Some("this is a workload, not a policy; bqsim simulate runs it"),
+        TextKind::Trace => Some("this is a trace, not a policy; bqsim timeline shows it"),
+        TextKind::Policy | TextKind::Other => None,
     }
-}
-
-/// How other languages begin a comment.
-fn foreign_comment(said: &str) -> Option<&'static str> {
-    if said.contains("//") {
-        return Some("//");
-    }
-    if said.contains("#") {
-        return Some("#");
-    }
-    None
-}
-
-/// What stands in brackets, if a blank is among it.
-fn blank_in_brackets(said: &str) -> Option<&str> {
-    let (_, rest) = said.split_once('[')?;
-    let (inside, _) = rest.split_once(']')?;
-    if inside.contains(" ") || inside.contains("\t") {
-        return Some(inside);
-    }
-    None
 }

@@ -2,9 +2,11 @@
 ghost use Rattle.std.specs.Prelude.{◌≡◌};
 ghost use Rattle.bq_explain.specs.Explained.{graph_cause_of};
 
+use crate::place::line_at;
 use bq_bpf::instruction::distance;
 use bq_bpf::{with_helper_numbers, with_most_calls};
 use bq_insn::Insn;
+use bq_policy_file::PolicySource;
 use bq_verify::GraphCause;
 use std::alloc::{AllocError, Global};
 
@@ -67,18 +69,34 @@ fn called(insn: Insn) -> i32 {
     }
 }
 
-/// The fault in words.
-pub(crate) fn graph_text(alloc: Global, fault: GraphFault) -> Result<String, AllocError> {
+/// The fault of the policy in words.
+pub(crate) fn graph_text(
+    alloc: Global,
+    policy: &PolicySource,
+    fault: GraphFault,
+) -> Result<String, AllocError> {
     match fault {
         GraphFault::JumpsOut(to) => { format!(in alloc; "jumps to slot {to}, out of the program") }
-        GraphFault::JumpsBack(to) => {
-            format!(in alloc; "jumps to slot {to}, which is not forward; there are no loops")
-        }
+        GraphFault::JumpsBack(to) => loop_text(alloc, policy, to),
         GraphFault::JumpsInside(to) => {
             format!(in alloc; "jumps to slot {to}, into a wide instruction")
         }
         GraphFault::Helper(helper) => called_text(alloc, helper),
         other => String::from_str(alloc, plain_text(other)),
+    }
+}
+
+/// A jump back to that slot; where the policy came as a text, with the line of the instruction behind the label.
+fn loop_text(alloc: Global, policy: &PolicySource, to: i64) -> Result<String, AllocError> {
+    let line = match usize::try_from(to) {
+        Ok(slot) => line_at(policy, slot),
+        Err(_) => None,
+    };
+    match line {
+        Some(line) => format!(in alloc;
+            "jumps back to line {line}, slot {to}: a policy has no loops"
+        ),
+        None => format!(in alloc; "jumps back to slot {to}: a policy has no loops"),
     }
 }
 

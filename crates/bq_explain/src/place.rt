@@ -35,7 +35,7 @@ pub(crate) fn place_at(policy: &PolicySource, slots: &[Option<Insn>], slot: usiz
 }
 
 /// The line of the text on which the instruction at the slot stands.
-fn line_at(policy: &PolicySource, slot: usize) -> Option<usize> {
+pub(crate) fn line_at(policy: &PolicySource, slot: usize) -> Option<usize> {
     let index = index_at(policy.insns.as_slice(), slot)?;
     policy.lines.as_slice().get(index).copied()
 }

@@ -125,7 +125,7 @@ fn refusal_text(
     let after = after_text(alloc, refusal)?;
     match refusal.finding {
         Finding::Graph(fault) => {
-            let need = graph_text(alloc, fault)?;
+            let need = graph_text(alloc, policy, fault)?;
             format!(in alloc; "{line}{at}\n  {need}\n{after}")
         }
         Finding::Unknown => format!(in alloc; "{line}{at}\n  is not shown to be safe\n{after}"),
@@ -144,7 +144,7 @@ pub fn need_words(
     refusal: &Refusal,
 ) -> Result<String, AllocError> {
     match refusal.finding {
-        Finding::Graph(fault) => graph_text(alloc, fault),
+        Finding::Graph(fault) => graph_text(alloc, policy, fault),
         Finding::Unknown => String::from_str(alloc, "is not shown to be safe"),
         Finding::State { need, known } => {
             need_text(alloc, policy, &known, refusal.place.insn, need)

@@ -3,6 +3,25 @@ use bq_asm::mnemonics;
 use bq_words::Near;
 use std::alloc::{AllocError, Global};
 
+/// Words of other assemblers that are far from the one that they mean here.
+const FOREIGN: [(&str, &str); 15] = [
+    ("b", "ja"),
+    ("beq", "jeq64"),
+    ("bne", "jne64"),
+    ("bgt", "jgt64"),
+    ("bge", "jge64"),
+    ("blt", "jlt64"),
+    ("ble", "jle64"),
+    ("goto", "ja"),
+    ("jmp", "ja"),
+    ("jz", "jeq64"),
+    ("jnz", "jne64"),
+    ("ld", "ldxdw"),
+    ("ldr", "ldxdw"),
+    ("ret", "exit"),
+    ("return", "exit"),
+];
+
 /// The first word of the language that is the same.
 fn known_as(word: &str) -> Option<&'static str> {
     for (known, _) in mnemonics() {
@@ -13,12 +32,27 @@ fn known_as(word: &str) -> Option<&'static str> {
     None
 }
 
-/// The known word that is meant: the word with its width, where only that is left out, else the nearest, if one is near.
+/// What a word of another assembler means here.
+fn meant_by(word: &str) -> Option<&'static str> {
+    for (foreign, known) in &FOREIGN {
+        if *foreign == word {
+            return Some(known);
+        }
+    }
+    None
+}
+
+/// The known word that is meant, whatever its case: the word with its width, where only that is left out, what a word of another
+/// assembler means here, else the nearest, if one is near.
 pub(crate) fn nearest(alloc: Global, word: &str) -> Result<Option<&'static str>, AllocError> {
+    let word = word.to_ascii_lowercase(alloc)?;
     let with_width = format!(in alloc; "{word}64")?;
-    match known_as(with_width.as_str()) {
+    if let Some(known) = known_as(with_width.as_str()) {
+        return Ok(Some(known));
+    }
+    match meant_by(word.as_str()) {
         Some(known) => Ok(Some(known)),
-        None => nearest_known(alloc, word),
+        None => nearest_known(alloc, word.as_str()),
     }
 }
 

@@ -12,6 +12,7 @@ use bq_explain::assembly_words;
 use bq_hooks::hook::{NO_HOOK, NO_VERSION};
 use bq_insn::fault::Cause as Spelling;
 use bq_policy_file::{HeadCause, Key, PolicyFault, SHAPES_FORM};
+use bq_words::Near;
 use serde_json::{Map, Value, put};
 use std::alloc::{AllocError, Global};
 

@@ -7,7 +7,7 @@ ghost use Rattle.bq_workload_file.specs.Positions.{column_after, line_after};
 ghost use Rattle.bq_workload_file.specs.Workloads.{IsReadFault};
 
 use crate::blame::Location;
-use crate::near::{nearest_name, nearest_word};
+use crate::near::{meant_word, nearest_name};
 use crate::why::Why;
 use std::alloc::{AllocError, Global};
 use std::fmt::Write;
@@ -102,7 +102,7 @@ pub(crate) fn meaning(
     let mut text = String::new(alloc);
     write!(text, "{place}{why}")?;
     let near = match why {
-        Why::UnknownKey { key, known } => nearest_word(alloc, key, known)?,
+        Why::UnknownKey { key, known } => meant_word(alloc, key, known)?,
         Why::UnknownTask { name, names } => nearest_name(alloc, name, names)?,
         _ => None,
     };

@@ -1,0 +1,107 @@
+//! Why the assembler refuses a line.
+use crate::forms::form_of;
+use crate::number_reason::number_reason;
+use crate::vocabulary::nearest;
+use bq_asm::{Cause, named};
+use bq_insn::SLOTS;
+use std::alloc::{AllocError, Global};
+
+/// Why the assembler refuses the line, for that cause.
+pub(crate) fn line_reason(alloc: Global, line: &str, cause: Cause) -> Result<String, AllocError> {
+    match cause {
+        Cause::Word => word_reason(alloc, line),
+        Cause::Number => number_reason(alloc, without_comment(line).trim()),
+        Cause::LabelTwice => {
+            let said = without_comment(line).trim();
+            format!(in alloc; "the label \"{said}\" was set before; one of them wants another name")
+        }
+        Cause::LabelMissing => {
+            let said = without_comment(line).trim();
+            format!(in alloc;
+                "\"{said}\" jumps to a label that is set nowhere; a label is set by a line of its own, as end:"
+            )
+        }
+        Cause::Slots => format!(in alloc; "the program has more than {SLOTS} slots"),
+    }
+}
+
+fn without_comment(line: &str) -> &str {
+    match line.split_once(';') {
+        Some((said, _)) => said,
+        None => line,
+    }
+}
+
+/// Why the words of a line are none that the language has.
+fn word_reason(alloc: Global, line: &str) -> Result<String, AllocError> {
+    let said = without_comment(line).trim();
+    if let Some(mark) = foreign_comment(said) {
+        return format!(in alloc; "\"{mark}\" begins no comment here: a comment begins with ;");
+    }
+    if let Some(inside) = blank_in_brackets(said) {
+        return format!(in alloc; "[{inside}]: no blank inside brackets");
+    }
+    let first = first_word(said);
+    if first.ends_with(':') {
+        return label_reason(alloc, said, first);
+    }
+    let Some(mnemonic) = named(first.as_bytes()) else {
+        return unknown(alloc, first);
+    };
+    let form = form_of(alloc, first, mnemonic)?;
+    format!(in alloc; "\"{said}\" has other operands than {first} takes; write it as {form}")
+}
+
+/// The first word of a line that begins with none of the marks between words: space, tab and comma.
+pub(crate) fn first_word(said: &str) -> &str {
+    match said.split(is_between).next() {
+        Some(first) => first,
+        None => said,
+    }
+}
+
+/// Whether the letter stands between words.
+pub(crate) fn is_between(letter: char) -> bool {
+    letter == ' ' || letter == '\t' || letter == ','
+}
+
+/// Why a line whose first word ends with a colon sets no label.
+fn label_reason(alloc: Global, said: &str, first: &str) -> Result<String, AllocError> {
+    if said == first {
+        return format!(in alloc;
+            "\"{said}\" is no label: a label is a letter or _, then up to 31 letters, digits or _, and a colon"
+        );
+    }
+    format!(in alloc; "\"{said}\" has words after its label: a label stands alone on its line")
+}
+
+/// A word that no instruction begins with, and the one that may be meant.
+fn unknown(alloc: Global, word: &str) -> Result<String, AllocError> {
+    match nearest(alloc, word)? {
+        Some(known) => format!(in alloc; "unknown word \"{word}\", did you mean \"{known}\"?"),
+        None => format!(in alloc;
+            "unknown word \"{word}\"; docs/ASSEMBLER.md has those that there are"
+        ),
+    }
+}
+
+/// How other languages begin a comment.
+fn foreign_comment(said: &str) -> Option<&'static str> {
+    if said.contains("//") {
+        return Some("//");
+    }
+    if said.contains("#") {
+        return Some("#");
+    }
+    None
+}
+
+/// What stands in brackets, if a blank is among it.
+fn blank_in_brackets(said: &str) -> Option<&str> {
+    let (_, rest) = said.split_once('[')?;
+    let (inside, _) = rest.split_once(']')?;
+    if inside.contains(" ") || inside.contains("\t") {
+        return Some(inside);
+    }
+    None
+}

@@ -1,0 +1,96 @@
+//! What a file holds, by its first line that says something.
+use bq_asm::named;
+use bq_policy_file::{FileKind, kind_of};
+use std::str::from_utf8;
+
+/// What a file holds.
+#[derive(Clone, Copy, Debug, PartialEq, Eq)]
+pub enum TextKind {
+    /// A policy, as an image or as assembler text.
+    Policy,
+    /// A policy in C, which has to be compiled.
+    C,
+    /// A workload.
+    Workload,
+    /// A trace.
+    Trace,
+    /// None of these begins so.
+    Other,
+}
+
+/// The first letters of an image, BQPI, in hex.
+const IMAGE_IN_HEX: &str = "42515049";
+
+/// How a line of C begins that none of the other texts has.
+const BEGINNINGS_OF_C: [&str; 9] = [
+    "#include",
+    "#define",
+    "#pragma",
+    "#ifndef",
+    "static ",
+    "struct ",
+    "typedef ",
+    "int ",
+    "unsigned ",
+];
+
+/// What a file of these bytes holds. A text is judged by its first line that is neither empty nor a comment of C, of a workload or of a
+/// trace.
+///
+/// `machine cfs 2` begins a trace, `[machine]` a workload, `mov64 r0, 0` or `;@ hook place` a policy, and `#include "bqsim.h"` C.
+pub fn text_kind(bytes: &[u8]) -> TextKind {
+    if kind_of(bytes) == FileKind::Image {
+        return TextKind::Policy;
+    }
+    let Ok(text) = from_utf8(bytes) else {
+        return TextKind::Other;
+    };
+    for line in text.lines() {
+        let line = line.trim();
+        if begins_c(line) {
+            return TextKind::C;
+        }
+        if !is_foreign_comment(line) {
+            return kind_of_line(line);
+        }
+    }
+    TextKind::Other
+}
+
+/// Whether the line begins as one of C does.
+fn begins_c(line: &str) -> bool {
+    BEGINNINGS_OF_C
+        .iter()
+        .any(|beginning| line.starts_with(*beginning))
+}
+
+/// Whether the line is empty or a comment, of another language than the assembler's.
+fn is_foreign_comment(line: &str) -> bool {
+    line.is_empty()
+        || line.starts_with("#")
+        || line.starts_with("//")
+        || line.starts_with("/*")
+        || line.starts_with("*")
+}
+
+/// What a text is that begins with this line.
+fn kind_of_line(line: &str) -> TextKind {
+    if line.starts_with("[machine]") || line.starts_with("[[task]]") {
+        return TextKind::Workload;
+    }
+    if line.starts_with("machine ") {
+        return TextKind::Trace;
+    }
+    if line.starts_with(";") || line.starts_with(IMAGE_IN_HEX) || begins_instruction(line) {
+        return TextKind::Policy;
+    }
+    TextKind::Other
+}
+
+/// Whether the line's first word is one of an instruction.
+fn begins_instruction(line: &str) -> bool {
+    match line.split(' ').next() {
+        Some(first) => named(first.as_bytes()).is_some(),
+        None => false,
+    }
+}
