@@ -73,8 +73,8 @@ class Explained:
             return
         cpu, reply = int(numbers[0]), answers[-1].split()
         here = self.world.processors[cpu]
-        if name == "wake":
-            heading = f"wake of {self.who(int(reply[1]))} at cpu {cpu}"
+        if name in ("wake", "end"):
+            heading = f"{'end of the ' if name == 'end' else ''}wake of {self.who(int(reply[1]))} at cpu {cpu}"
         else:
             heading = " ".join([name, *map(str, map(int, numbers[:-1]))])
         self.say(f"{millis(here.last)} ms  line {number}: {heading}")

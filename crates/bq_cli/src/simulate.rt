@@ -18,9 +18,10 @@ use bq_experiment::{
     AskedFault, AttachFault, HookWords, MachineWords, Policies, ShownAs, StudyWords, asked_changes,
     run_as,
 };
+use bq_explain::{TextKind, text_kind};
 use bq_hooks::Hook;
 use bq_load::LoadFault;
-use bq_policy_file::fault_text;
+use bq_policy_file::{Head, fault_text, read_policy};
 use bq_simulate::SimulateFault;
 use bq_timeline::SettingsFault;
 use bq_workload::Workload;
@@ -292,6 +293,20 @@ fn workload(rt: &HostRuntime, words: &StudyWords, changes: Changes) -> Result<Wo
             let _ = eprintln!(rt; "{name}{fault}");
             Err(ExitCode::from(BAD_INPUT))
         }
+    }
+}
+
+/// What a file is that was given as a workload and is none, and what to do with it, if that can be told.
+fn foreign_text(bytes: &[u8]) -> Option<&'static str> {
+    match text_kind(bytes) {
+        TextKind::Policy => Some(
+            "this is a policy, not a workload; give a workload, and this by --place, --preempt or --pull",
+        ),
+        TextKind::C => Some(
+            "this is C, not a workload; docs/POLICIES_IN_C.md makes a policy of it",
+        ),
+        TextKind::Trace => Some("this is a trace, not a workload; bqsim timeline shows it"),
+        TextKind::Workload | TextKind::Other => None,
     }
 }
 

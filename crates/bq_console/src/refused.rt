@@ -6,7 +6,7 @@ ghost use Rattle.bq_console.specs.Words.{IsRefusedBy};
 
 use crate::fault::{WordsFault, words_fault};
 use clap::error::ErrorKind;
-use std::alloc::Global;
+use std::alloc::{AllocError, Global};
 use std::fmt;
 
 /// The fault of words that clap refuses, with its text.
@@ -16,9 +16,25 @@ pub(crate) fn fault_of(alloc: Global, error: &clap::Error) -> WordsFault
     if error.kind() == ErrorKind::OutOfMemory {
         return WordsFault::OutOfMemory;
     }
-    match error.to_string(alloc) {
+    match error_text(alloc, error) {
         Ok(text) => WordsFault::Words(text),
         Err(_) => WordsFault::OutOfMemory,
+    }
+}
+
+/// What clap says of the words. Beside an option that there is not, its usage line has the near one as if that were required, so
+/// the line is left out.
+fn error_text(alloc: Global, error: &clap::Error) -> Result<String, AllocError> {
+    let text = error.to_string(alloc)?;
+    if error.kind() != ErrorKind::UnknownArgument {
+        return Ok(text);
+    }
+    let Some((before, usage)) = text.as_str().split_once("Usage: ") else {
+        return Ok(text);
+    };
+    match usage.split_once("\n\n") {
+        Some((_, behind)) => format!(in alloc; "{before}{behind}"),
+        None => String::from_str(alloc, text.as_str()),
     }
 }
 

@@ -46,9 +46,10 @@ IsNoChange w other = ⊥
 abbrev pub NamesTrace : StudyWords → Type 0
 NamesTrace w = option_bytes w.shown.form ≡ Some (codes "trace")
 
--- the words choose what is shown: a stretch of time, processors, tasks or a width
+-- the words choose what is shown, and how: a stretch of time, processors, tasks, a width, a theme or a title
 abbrev pub chooses_part : Words → Bool
-chooses_part w = is_some w.from || (is_some w.to || (is_some w.cpus || (is_some w.tasks || is_some w.width)))
+chooses_part w =
+    is_some w.from || (is_some w.to || (is_some w.cpus || (is_some w.tasks || (is_some w.width || (is_some w.theme || is_some w.title)))))
 
 -- a trace, which is written whole, where the form is called so, else what a timeline shows by these words
 abbrev pub AskToShow : StudyWords → ShownAs → Type 0

@@ -51,7 +51,7 @@ pub enum AskedFault {
     Seed,
     #[error("{words}", words = FORMS)]
     Form,
-    #[error("--as trace writes the whole run: --from, --to, --cpus, --tasks and --width choose nothing of it")]
+    #[error("--as trace writes the whole run: --from, --to, --cpus, --tasks, --width, --theme and --title change nothing of it")]
     WholeTrace,
     #[error("{0}")]
     Settings(SettingsFault),
@@ -87,7 +87,7 @@ fn names_trace(form: &Option<String>) -> bool
     }
 }
 
-/// Whether the words choose what is shown: a stretch of time, processors, tasks or a width.
+/// Whether the words choose what is shown, and how: a stretch of time, processors, tasks, a width, a theme or a title.
 fn chooses_part(words: &Words) -> bool
     ensures { result ≡ chooses_part words.now }
 {
@@ -96,6 +96,8 @@ fn chooses_part(words: &Words) -> bool
         || words.cpus.is_some()
         || words.tasks.is_some()
         || words.width.is_some()
+        || words.theme.is_some()
+        || words.title.is_some()
 }
 
 /// What the words put in the place of a workload's own machine.

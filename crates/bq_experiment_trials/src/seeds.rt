@@ -256,17 +256,40 @@ fn tables_written(rt: HostRuntime) -> Result<(), Fail> {
 }
 
 /// Words that ask for one run, and as what it is shown, or why it is not.
-static SHOWN: [(&[&str], &str); 4] = [
+static SHOWN: [(&[&str], &str); 9] = [
     (&["simulate", "--as", "trace"], "trace"),
     (
         &["simulate", "--as", "trace", "--to", "1ms"],
-        "--as trace writes the whole run: --from, --to, --cpus, --tasks and --width choose nothing of it",
+        "--as trace writes the whole run: --from, --to, --cpus, --tasks, --width, --theme and --title change nothing of it",
     ),
     (
         &["simulate", "--as", "trace", "--cpus", "nonsense"],
-        "--as trace writes the whole run: --from, --to, --cpus, --tasks and --width choose nothing of it",
+        "--as trace writes the whole run: --from, --to, --cpus, --tasks, --width, --theme and --title change nothing of it",
+    ),
+    (
+        &["simulate", "--as", "trace", "--title", "lab"],
+        "--as trace writes the whole run: --from, --to, --cpus, --tasks, --width, --theme and --title change nothing of it",
     ),
     (&["simulate", "--as", "map", "--width", "100"], "timeline"),
+    (
+        &[
+            "simulate", "--as", "svg", "--theme", "dark", "--title", "lab",
+        ],
+        "timeline",
+    ),
+    // an option that the form does not heed
+    (
+        &["simulate", "--width", "100"],
+        "--width: only a map has a width; say --as map too",
+    ),
+    (
+        &["simulate", "--as", "perfetto", "--theme", "dark"],
+        "--theme: only an svg has a theme; say --as svg too",
+    ),
+    (
+        &["simulate", "--as", "map", "--title", "lab"],
+        "--title: only an svg has a title; say --as svg too",
+    ),
 ];
 
 /// As what a run is shown with these words, or why it is not.

@@ -1,5 +1,5 @@
 -- What the words of a timeline's options ask for.
-use Rattle.std.specs.Prelude.{◌≡◌, ◌<◌, ◌≤◌, ℕ, Bool, not, ◌+◌, ◌*◌, ◌/◌, ◌-◌, ◌^◌, ◌&&◌, ◌||◌, ◌==◌, nat_le, nat_lt, List, [], ◌∷◌, ◌++◌, length, take, drop, position, Option, Some, None, ⊤, String, if◌then◌else◌, codes, option_and_then, option_map, string_bytes}
+use Rattle.std.specs.Prelude.{◌≡◌, ◌<◌, ◌≤◌, ℕ, Bool, true, false, not, ◌+◌, ◌*◌, ◌/◌, ◌-◌, ◌^◌, ◌&&◌, ◌||◌, ◌==◌, nat_le, nat_lt, List, [], ◌∷◌, ◌++◌, length, take, drop, position, Option, Some, None, ⊤, String, if◌then◌else◌, codes, option_and_then, option_map, string_bytes}
 use Rattle.std.specs.Global.{Global}
 use Rattle.std.specs.Char.{digit_value, is_ascii_digit}
 use Rattle.std.specs.List.{list_all, range_with_len, slice_split}
@@ -140,7 +140,22 @@ theme_asked w = asked_or Light theme_of w.theme
 abbrev pub text_of : Option (String Global) → Option (List ℕ)
 text_of word = option_map (λ (t : String Global). string_bytes t) word
 
--- the words ask for these settings
+-- the form is as wide as it is asked to be
+abbrev pub has_width : FormName → Bool
+has_width Map = true
+has_width other = false
+
+-- the form has a theme and a title
+abbrev pub has_look : FormName → Bool
+has_look Svg = true
+has_look other = false
+
+-- an option is not given, or the form heeds it
+abbrev pub is_heeded : Bool → Option (String Global) → Bool
+is_heeded heeds None = true
+is_heeded heeds (Some word) = heeds
+
+-- the words ask for these settings, and for no option that their form does not heed
 pub record AsksFor (w : Words) (s : Settings) : Type 0 where
   pub form : form_asked w ≡ Some s.form
   pub from : from_asked w ≡ Some s.window.from
@@ -152,12 +167,20 @@ pub record AsksFor (w : Words) (s : Settings) : Type 0 where
   pub width : width_asked w ≡ Some s.width
   pub theme : theme_asked w ≡ Some s.look.theme
   pub title : text_of s.look.title ≡ text_of w.title
+  pub width_heeded : is_heeded (has_width s.form) w.width ≡ true
+  pub theme_heeded : is_heeded (has_look s.form) w.theme ≡ true
+  pub title_heeded : is_heeded (has_look s.form) w.title ≡ true
 
 -- both moments are named, and the last is before the first
 abbrev pub RunBackwards : Words → Type 0
 RunBackwards w = (from : ℕ) × (to : ℕ) × (from_asked w ≡ Some from) × (to_asked w ≡ Some to) × (to < from)
 
--- the word that the fault names is none of its kind, or the moments run backwards; memory may run out whatever the words are
+-- the form that is asked for does not heed the option, which is given
+abbrev pub IsUnheeded : Words → (FormName → Bool) → Option (String Global) → Type 0
+IsUnheeded w heeds word = (form : FormName) × (form_asked w ≡ Some form) × (is_heeded (heeds form) word ≡ false)
+
+-- the word that the fault names is none of its kind, or the moments run backwards, or the form does not heed an option; memory may run out
+-- whatever the words are
 abbrev pub IsNoSettings : Words → SettingsFault → Type 0
 IsNoSettings w fault.Form = form_asked w ≡ None
 IsNoSettings w fault.From = from_asked w ≡ None
@@ -167,4 +190,7 @@ IsNoSettings w fault.Processors = processors_asked w ≡ None
 IsNoSettings w fault.Tasks = tasks_asked w ≡ None
 IsNoSettings w fault.Width = width_asked w ≡ None
 IsNoSettings w fault.Theme = theme_asked w ≡ None
+IsNoSettings w fault.WidthUnused = IsUnheeded w has_width w.width
+IsNoSettings w fault.ThemeUnused = IsUnheeded w has_look w.theme
+IsNoSettings w fault.TitleUnused = IsUnheeded w has_look w.title
 IsNoSettings w fault.OutOfMemory = ⊤

@@ -1,6 +1,6 @@
 //! The forms by their names.
 ghost use Rattle.std.specs.Prelude.{◌≡◌};
-ghost use Rattle.bq_timeline.specs.Settings.{form_of};
+ghost use Rattle.bq_timeline.specs.Settings.{form_of, has_look, has_width};
 ghost use Rattle.bq_timeline.specs.Shown.{is_read_by_lines};
 
 /// A form in which a schedule is shown.
@@ -40,6 +40,20 @@ impl FormName {
             "perfetto" => Some(FormName::Perfetto),
             _ => None,
         }
+    }
+
+    /// Whether it is as wide as it is asked to be.
+    pub fn has_width(self) -> bool
+        ensures { result ≡ has_width self }
+    {
+        matches!(self, FormName::Map)
+    }
+
+    /// Whether it has a theme and a title.
+    pub fn has_look(self) -> bool
+        ensures { result ≡ has_look self }
+    {
+        matches!(self, FormName::Svg)
     }
 
     /// Whether a person reads it line by line, so that notes on lines may stand in it.

@@ -5,6 +5,7 @@
 #![tactic(auto)]
 
 pub mod bounds_table;
+mod foreign;
 pub mod form_names;
 pub mod numbers;
 pub mod screen;

@@ -6,6 +6,7 @@ ghost use Rattle.bq_schedule.specs.Figures.{task_of};
 ghost use Rattle.bq_timeline.specs.Shown.{IsAskedFor, is_read_by_lines};
 
 use crate::bounds_table::BoundsTable;
+use crate::foreign::foreign_text;
 use crate::settings::Settings;
 use crate::shown::Shown;
 use bq_disc::limits::{PROCESSORS, TASKS};
@@ -183,6 +184,11 @@ impl Screen {
         line: Option<&[u8]>,
         is_open: bool,
     ) -> Result<(), AllocError> {
+        if let (Some(line), false) = (line, is_open) {
+            if let Some(what) = foreign_text(line) {
+                return write!(self.notes(), "line {number}: {what}\n");
+            }
+        }
         let fault = why_bad(line, is_open);
         if is_open || matches!(fault, Fault::NoMachine) {
             return write!(self.notes(), "line {number}: {fault}\n");

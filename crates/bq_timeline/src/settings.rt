@@ -2,7 +2,7 @@
 ghost use Rattle.std.specs.Prelude.{◌≡◌, IfErr, IfOk};
 ghost use Rattle.bq_words.specs.ProcessorSets.{processors_of};
 ghost use Rattle.bq_drawing.specs.Themes.{theme_of};
-ghost use Rattle.bq_timeline.specs.Settings.{AsksFor, IsNoSettings, asked_or, form_of, text_of, time_of, width_of};
+ghost use Rattle.bq_timeline.specs.Settings.{AsksFor, IsNoSettings, asked_or, form_of, is_heeded, text_of, time_of, width_of};
 ghost use Rattle.bq_timeline.specs.declared.settings.SettingsFault.TheVariants.{OutOfMemory};
 
 use crate::form_names::FormName;
@@ -96,6 +96,15 @@ pub enum SettingsFault {
     /// No theme has that name.
     #[error("{words}", words = THEMES)]
     Theme,
+    /// A width is said, and the form is no map.
+    #[error("--width: only a map has a width; say --as map too")]
+    WidthUnused,
+    /// A theme is said, and the form is no picture.
+    #[error("--theme: only an svg has a theme; say --as svg too")]
+    ThemeUnused,
+    /// A title is said, and the form is no picture.
+    #[error("--title: only an svg has a title; say --as svg too")]
+    TitleUnused,
     #[error("out of memory")]
     OutOfMemory,
 }
@@ -123,7 +132,7 @@ impl Settings {
     /// What the words ask for: all of a trace, in a report, unless they say otherwise.
     ///
     /// A fault other than `OutOfMemory` names a word that is none of its kind (a form, a time, processors, tasks, a width or a theme), or says
-    /// that the first moment is after the last.
+    /// that the first moment is after the last, or names an option that the form does not heed.
     #[tactic(auto, using(crate::proofs::TaskLemmas::runs_backwards))]
     pub fn of(alloc: Global, words: &Words) -> Result<Settings, SettingsFault>
         ensures asked { IfOk result (AsksFor words.now) }
@@ -146,6 +155,15 @@ impl Settings {
         let width = width_or(&words.width, COLUMNS).ok_or(SettingsFault::Width)?;
         let theme = theme_or(&words.theme, Theme::Light).ok_or(SettingsFault::Theme)?;
         let title = copied(alloc, &words.title)?;
+        if !is_heeded(form.has_width(), &words.width) {
+            return Err(SettingsFault::WidthUnused);
+        }
+        if !is_heeded(form.has_look(), &words.theme) {
+            return Err(SettingsFault::ThemeUnused);
+        }
+        if !is_heeded(form.has_look(), &words.title) {
+            return Err(SettingsFault::TitleUnused);
+        }
         Ok(Settings {
             form,
             window,
@@ -153,6 +171,16 @@ impl Settings {
             width,
             look: Look { theme, title },
         })
+    }
+}
+
+/// Whether an option is not given, or the form heeds it.
+fn is_heeded(heeds: bool, word: &Option<String>) -> bool
+    ensures { result ≡ is_heeded heeds word.now }
+{
+    match word {
+        Some(_) => heeds,
+        None => true,
     }
 }
 

@@ -125,7 +125,7 @@ impl Why {
         self.write_reply(text, names, machine, processor, done)
     }
 
-    /// Adds when an event was done, and the words of its line. A wake that one line begins and ends is named by its task.
+    /// Adds when an event was done, and the words of its line. A wake is named by its task, and so is its end on a line of its own.
     fn write_heading(
         &self,
         text: &mut String,
@@ -137,11 +137,16 @@ impl Why {
         let time = Millis(at);
         let number = done.number;
         match done.reply {
-            Reply::Placed { task, .. } if self.begun == Some(number) => {
+            Reply::Placed { task, .. } => {
                 let who = Who { names, task: *task };
+                let part = if self.begun == Some(number) {
+                    ""
+                } else {
+                    "end of the "
+                };
                 write!(
                     text,
-                    "{time} ms  line {number}: wake of {who} at cpu {processor}\n"
+                    "{time} ms  line {number}: {part}wake of {who} at cpu {processor}\n"
                 )
             }
             _ => {

@@ -1,0 +1,14 @@
+//! A text that is no trace, by its first line.
+
+/// What a text is that begins with this line, and what to do with it, if it is a workload or a policy.
+pub(crate) fn foreign_text(line: &[u8]) -> Option<&'static str> {
+    if line.starts_with(b"[machine]") || line.starts_with(b"[[task]]") {
+        Some("this is a workload, not a trace; bqsim simulate runs it")
+    } else if line.starts_with(b";") || line.starts_with(b"BQPI") || line.starts_with(b"42515049") {
+        Some(
+            "this is a policy, not a trace; bqsim check judges it, and simulate runs a workload with it",
+        )
+    } else {
+        None
+    }
+}
