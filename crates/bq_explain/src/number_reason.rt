@@ -48,8 +48,8 @@ fn slip_of(first: &str, word: &str) -> Option<Slip> {
     match value(digits_of(word).as_bytes()) {
         Some(size) => size_slip(first, word, size),
         None => match duration(word.as_bytes()) {
-            Some(time) => Some(Slip::Time(time)),
-            None => Some(Slip::NoNumber),
+            Some(time) if word.ends_with('s') => Some(Slip::Time(time)),
+            _ => Some(Slip::NoNumber),
         },
     }
 }
