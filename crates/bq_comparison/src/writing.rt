@@ -6,12 +6,12 @@ use crate::json_text::json_text;
 use crate::line::lines;
 use crate::sides::Sides;
 use crate::table::table_text;
-use bq_experiment::{plain, task_names};
+use bq_experiment::{shown_name, task_names};
 use bq_workload::Workload;
 use std::alloc::{AllocError, Global};
 
 /// What is shown of the two sides of a workload's comparison, as it is asked for. A table has the head of both sides just where
-/// there are both, even if no line is left. Tasks have the names that they have in a trace.
+/// there are both, even if no line is left. Tasks have the names that the forms of one run show.
 pub fn comparison_text(
     alloc: Global,
     workload: &Workload,
@@ -20,7 +20,7 @@ pub fn comparison_text(
 ) -> Result<String, AllocError> {
     let lines = lines(alloc, sides, &asked.window)?;
     let lines = lines.as_slice();
-    let names = plain_names(alloc, workload)?;
+    let names = shown_names(alloc, workload)?;
     let names = names.as_slice();
     match asked.form {
         TableForm::Report => table_text(alloc, sides.theirs.is_some(), lines, names),
@@ -29,11 +29,11 @@ pub fn comparison_text(
     }
 }
 
-/// The names of the tasks, as lines of a trace can have them.
-fn plain_names(alloc: Global, workload: &Workload) -> Result<Vec<String>, AllocError> {
+/// The names of the tasks, as forms show them.
+fn shown_names(alloc: Global, workload: &Workload) -> Result<Vec<String>, AllocError> {
     let mut names = Vec::new(alloc);
     for name in &task_names(alloc, workload)? {
-        names.push(plain(alloc, name.as_str())?)?;
+        names.push(shown_name(alloc, name.as_str())?)?;
     }
     Ok(names)
 }

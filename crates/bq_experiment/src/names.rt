@@ -4,6 +4,7 @@ ghost use Rattle.bq_trace.specs.News.{TakesAll};
 ghost use Rattle.bq_experiment.specs.Names.{comments_of, name_in, names_in, names_of, plain_name, plain_of};
 ghost use Rattle.bq_experiment.specs.Traces.{skipped};
 
+use bq_timeline::screen::Screen;
 use bq_trace::Sink;
 use bq_workload::{TaskKind, Workload};
 use std::alloc::{AllocError, Global};
@@ -57,6 +58,37 @@ pub fn tell_names<S: Sink>(
         sink.skipped(0, comment.as_bytes())?;
     }
     Ok(names.len() as u64)
+}
+
+/// Names each task on a screen, as the comments of a trace do; but a name that is not ASCII is shown as it is. How many tasks that are.
+pub(crate) fn show_names(
+    alloc: Global,
+    workload: &Workload,
+    screen: &mut Screen,
+) -> Result<u64, AllocError> {
+    let names = task_names(alloc, workload)?;
+    for (task, name) in names.iter().enumerate() {
+        let name = shown_name(alloc, name.as_str())?;
+        let comment = format!(in alloc; "# task {task} {name}")?;
+        screen.comment(comment.as_bytes())?;
+    }
+    Ok(names.len() as u64)
+}
+
+/// The name as a form shows it: a control character stands as `?`.
+pub fn shown_name(alloc: Global, name: &str) -> Result<String, AllocError> {
+    let mut text = String::new(alloc);
+    for letter in name.chars() {
+        text.push(shown_letter(letter))?;
+    }
+    Ok(text)
+}
+
+fn shown_letter(letter: char) -> char {
+    match letter {
+        '\u{0}'..='\u{1f}' | '\u{7f}'..='\u{9f}' => '?',
+        other => other,
+    }
 }
 
 /// The name as a line of a trace can have it: a character that is no printable ASCII stands as `?`.

@@ -7,7 +7,7 @@ ghost use Rattle.bq_experiment.specs.declared.asked.ShownAs.TheVariants.{Trace};
 
 use crate::asked::ShownAs;
 use crate::later::Later;
-use crate::names::tell_names;
+use crate::names::{show_names, tell_names};
 use crate::policies::Policies;
 use bq_simulate::{SimulateFault, TraceWriter, simulate};
 use bq_timeline::Settings;

@@ -25,91 +25,91 @@ static REFUSED: [(&str, &str); 37] = [
     // a key of a task
     (
         "[[task]]\nname = \"batch\"\nnise = 5\nrun = \"1ms\"\n",
-        ": task 1 (batch): unknown key \"nise\", did you mean \"nice\"?",
+        ": [[task]] 1 (batch): unknown key \"nise\", did you mean \"nice\"?",
     ),
     // no name
-    ("[[task]]\nrun = \"1ms\"\n", ": task 1: name is missing"),
+    ("[[task]]\nrun = \"1ms\"\n", ": [[task]] 1: name is missing"),
     // an empty name
     (
         "[[task]]\nname = \"\"\nrun = \"1ms\"\n",
-        ": task 1: name: \"\" is no name (a text with something in it)",
+        ": [[task]] 1: name: \"\" is not a name (a text with something in it)",
     ),
     // two of a name
     (
         "[[task]]\nname = \"a\"\nrun = \"1ms\"\n[[task]]\nname = \"a\"\nrun = \"1ms\"\n",
-        ": task 2: name: \"a\" is the name of task 1 too",
+        ": [[task]] 2: name: \"a\" is the name of [[task]] 1 too",
     ),
     // no list of tasks
-    ("task = 5\n", ": task: 5 is no list of tables ([[task]])"),
+    ("task = 5\n", ": task: 5 is not a list of tables ([[task]])"),
     // no table of the machine
     (
         "machine = 5\n[[task]]\nname = \"a\"\nrun = \"1ms\"\n",
-        ": machine: 5 is no table",
+        ": machine: 5 is not a table",
     ),
     // a unit that there is not
     (
         "[[task]]\nname = \"a\"\nrun = \"1ms\"\n[[task]]\nname = \"server\"\ndo = [{ run = \"2mss\" }]\n",
-        ": task 2 (server): do 1: run: \"2mss\" is no duration (a whole number and ns, us, ms or s)",
+        ": [[task]] 2 (server): do 1: run: \"2mss\" is not a duration (a whole number and ns, us, ms or s)",
     ),
     // a fraction
     (
         "[[task]]\nname = \"a\"\nrun = \"1.5ms\"\n",
-        ": task 1 (a): run: \"1.5ms\" is no duration (a whole number and ns, us, ms or s)",
+        ": [[task]] 1 (a): run: \"1.5ms\" is not a duration (a whole number and ns, us, ms or s)",
     ),
     // no time
     (
         "[[task]]\nname = \"a\"\nrun = \"0ns\"\n",
-        ": task 1 (a): run: \"0ns\" is not from 1 ns to 281474976710655 ns",
+        ": [[task]] 1 (a): run: \"0ns\" is not from 1 ns to 281474976710655 ns",
     ),
     // a number for a length
     (
         "[[task]]\nname = \"a\"\nrun = 5\n",
-        ": task 1 (a): run: 5 is no length (a duration, { uniform = [LEAST, GREATEST] } or { exponential = MEAN })",
+        ": [[task]] 1 (a): run: 5 is not a length (a duration, { uniform = [LEAST, GREATEST] } or { exponential = MEAN })",
     ),
     // a range that runs backwards
     (
         "[[task]]\nname = \"a\"\nrun = { uniform = [\"2ms\", \"1ms\"] }\n",
-        ": task 1 (a): run: uniform: the least, \"2ms\", is more than the greatest, \"1ms\"",
+        ": [[task]] 1 (a): run: uniform: the least, \"2ms\", is more than the greatest, \"1ms\"",
     ),
-    // an end that is no duration
+    // an end that is not a duration
     (
         "[[task]]\nname = \"a\"\nrun = { uniform = [\"1ms\", \"2\"] }\n",
-        ": task 1 (a): run: uniform: \"2\" is no duration (a whole number and ns, us, ms or s)",
+        ": [[task]] 1 (a): run: uniform: \"2\" is not a duration (a whole number and ns, us, ms or s)",
     ),
     // one end
     (
         "[[task]]\nname = \"a\"\nrun = \"1ms\"\nsleep = { uniform = [\"1ms\"] }\n",
-        ": task 1 (a): sleep: uniform: an array is no [LEAST, GREATEST]",
+        ": [[task]] 1 (a): sleep: uniform: an array is not [LEAST, GREATEST]",
     ),
     // a mean that takes no time
     (
         "[[task]]\nname = \"a\"\nrun = { exponential = \"0ms\" }\n",
-        ": task 1 (a): run: exponential: \"0ms\" is not from 1 ns to 281474976710655 ns",
+        ": [[task]] 1 (a): run: exponential: \"0ms\" is not from 1 ns to 281474976710655 ns",
     ),
     // no way to draw
     (
         "[[task]]\nname = \"a\"\nrun = { normal = \"1ms\" }\n",
-        ": task 1 (a): run: unknown key \"normal\"; a length is drawn by uniform or exponential",
+        ": [[task]] 1 (a): run: unknown key \"normal\"; a length is drawn by uniform or exponential",
     ),
     // two ways to draw
     (
         "[[task]]\nname = \"a\"\nrun = { uniform = [\"1ms\", \"2ms\"], exponential = \"1ms\" }\n",
-        ": task 1 (a): run: a table of 2 keys is no length; it takes one, uniform or exponential",
+        ": [[task]] 1 (a): run: a table of 2 keys is not a length; it takes one key, uniform or exponential",
     ),
     // a nice value
     (
         "[[task]]\nname = \"a\"\nnice = 20\nrun = \"1ms\"\n",
-        ": task 1 (a): nice: 20 is no nice value (a whole number from -20 to 19)",
+        ": [[task]] 1 (a): nice: 20 is not a nice value (a whole number from -20 to 19)",
     ),
     // a mask without a processor
     (
         "[machine]\nprocessors = 2\n[[task]]\nname = \"a\"\ncpus = \"4\"\nrun = \"1ms\"\n",
-        ": task 1 (a): cpus: \"4\" names none of the machine's processors, 0 to 1",
+        ": [[task]] 1 (a): cpus: \"4\" names none of the machine's processors, 0 to 1",
     ),
     // a mask that runs backwards
     (
         "[[task]]\nname = \"a\"\ncpus = \"3-1\"\nrun = \"1ms\"\n",
-        ": task 1 (a): cpus: \"3-1\" is no list of processors (numbers from 0 to 63 and ranges, as \"0-2,5\")",
+        ": [[task]] 1 (a): cpus: \"3-1\" is not a list of processors (numbers from 0 to 63 and ranges, as \"0-2,5\")",
     ),
     // more tasks than there may be
     (
@@ -119,52 +119,52 @@ static REFUSED: [(&str, &str); 37] = [
     // no task of a kind
     (
         "[[task]]\nname = \"a\"\ncount = 0\nrun = \"1ms\"\n",
-        ": task 1 (a): count: 0 is no whole number from 1 to 1024",
+        ": [[task]] 1 (a): count: 0 is not a whole number from 1 to 1024",
     ),
     // a slice
     (
         "[[task]]\nname = \"a\"\nslice = \"1us\"\nrun = \"1ms\"\n",
-        ": task 1 (a): slice: \"1us\" is not from 100000 ns to 100000000 ns",
+        ": [[task]] 1 (a): slice: \"1us\" is not from 100000 ns to 100000000 ns",
     ),
     // a date
     (
         "[[task]]\nname = \"a\"\nstart = 2020-01-01\nrun = \"1ms\"\n",
-        ": task 1 (a): start: a date is no duration (a whole number and ns, us, ms or s)",
+        ": [[task]] 1 (a): start: a date is not a duration (a whole number and ns, us, ms or s)",
     ),
     // nothing to do
     (
         "[[task]]\nname = \"a\"\n",
-        ": task 1 (a): do (or run) is missing",
+        ": [[task]] 1 (a): do (or run) is missing",
     ),
     // do beside run
     (
         "[[task]]\nname = \"a\"\ndo = [{ run = \"1ms\" }]\nrun = \"1ms\"\n",
-        ": task 1 (a): do stands beside run or sleep, which are short for one",
+        ": [[task]] 1 (a): do stands beside run or sleep, which are short for one",
     ),
     // a do that takes no time
     (
         "[[task]]\nname = \"a\"\ndo = [{ wait = true }]\n",
-        ": task 1 (a): do: nothing in it takes time; let it run or sleep",
+        ": [[task]] 1 (a): do: nothing in it takes time; let it run or sleep",
     ),
     // an action
     (
         "[[task]]\nname = \"a\"\ndo = [{ run = \"1ms\" }, { slep = \"1ms\" }]\n",
-        ": task 1 (a): do 2: unknown key \"slep\", did you mean \"sleep\"?",
+        ": [[task]] 1 (a): do 2: unknown key \"slep\", did you mean \"sleep\"?",
     ),
     // two actions in one table
     (
         "[[task]]\nname = \"a\"\ndo = [{ run = \"1ms\", sleep = \"1ms\" }]\n",
-        ": task 1 (a): do 1: no table of one key; each action is a table of its own, as { run = LENGTH }, { sleep = LENGTH }, { wait = true } or { wake = TASK }",
+        ": [[task]] 1 (a): do 1: an action is a table of one key: { run = LENGTH }, { sleep = LENGTH }, { wait = true } or { wake = TASK }",
     ),
     // a wait that is none
     (
         "[[task]]\nname = \"a\"\ndo = [{ wait = false }, { run = \"1ms\" }]\n",
-        ": task 1 (a): do 1: wait: false is not true, which is all that it takes",
+        ": [[task]] 1 (a): do 1: wait: false is not true, the only value that it takes",
     ),
     // a wake of no one
     (
         "[[task]]\nname = \"a\"\ndo = [{ wake = \"wroker\" }, { run = \"1ms\" }]\n[[task]]\nname = \"worker\"\nrun = \"1ms\"\n",
-        ": task 1 (a): do 1: wake: no task has the name \"wroker\", did you mean \"worker\"?",
+        ": [[task]] 1 (a): do 1: wake: no task has the name \"wroker\", did you mean \"worker\"?",
     ),
     // three processors
     (
@@ -174,12 +174,12 @@ static REFUSED: [(&str, &str); 37] = [
     // a discipline
     (
         "[machine]\ndiscipline = \"cfq\"\n[[task]]\nname = \"a\"\nrun = \"1ms\"\n",
-        ": machine: discipline: \"cfq\" is no discipline (\"cfs\" or \"eevdf\")",
+        ": machine: discipline: \"cfq\" is not a discipline (\"cfs\" or \"eevdf\")",
     ),
     // a seed below 0
     (
         "[machine]\nseed = -1\n[[task]]\nname = \"a\"\nrun = \"1ms\"\n",
-        ": machine: seed: -1 is no whole number from 0 to 9223372036854775807",
+        ": machine: seed: -1 is not a whole number from 0 to 9223372036854775807",
     ),
 ];
 
@@ -219,7 +219,7 @@ fn a_name_has_at_most_1024_bytes(rt: HostRuntime) -> Result<(), Fail> {
     name.push('n')?;
     let text = of_name(alloc, name.as_str())?;
     let said = said(alloc, text.as_str())?;
-    let wanted = ": task 1: name: it has more than 1024 bytes";
+    let wanted = ": [[task]] 1: name: it has more than 1024 bytes";
     holds(&rt, said.as_str() == wanted, said.as_str(), wanted);
     Ok(())
 }

@@ -14,12 +14,12 @@ pub(crate) enum Location<'a> {
     Document,
     /// The table of the machine.
     Machine,
-    /// A task by its number, from 1, and its name, if it has one.
+    /// A table `[[task]]` by its number, from 1, and its name, if it has one. Tasks have numbers of their own, from 0, in reports.
     Task {
         number: usize,
         name: Option<&'a str>,
     },
-    /// An action by its number, from 1, among those of a task.
+    /// An action by its number, from 1, among those of such a table.
     Action {
         number: usize,
         name: Option<&'a str>,
@@ -45,15 +45,15 @@ impl fmt::Display for Location<'_> {
     }
 }
 
-/// Writes a task by its number and its name.
+/// Writes a table of tasks by its number and its name.
 fn task<W: fmt::Write>(
     f: &mut fmt::Formatter<W>,
     number: usize,
     name: Option<&str>,
 ) -> fmt::Result {
     match name {
-        Some(name) => write!(f, "task {number} ({}): ", name.escape_debug()),
-        None => write!(f, "task {number}: "),
+        Some(name) => write!(f, "[[task]] {number} ({}): ", name.escape_debug()),
+        None => write!(f, "[[task]] {number}: "),
     }
 }
 

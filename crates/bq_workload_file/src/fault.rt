@@ -13,7 +13,7 @@ use std::alloc::{AllocError, Global};
 use std::fmt::Write;
 use thiserror::Error;
 
-/// Why a text is no workload. After the name of its file, as `w.toml:14:9: ..` or `w.toml: task 2 (server): ..`.
+/// Why a text is no workload. After the name of its file, as `w.toml:14:9: ..` or `w.toml: [[task]] 2 (server): ..`.
 #[derive(Debug, Drop, Error)]
 pub enum Fault {
     /// It is no TOML: the line and the column, both from 1, and what is wrong there.

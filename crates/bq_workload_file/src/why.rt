@@ -75,7 +75,7 @@ pub(crate) enum Why<'a> {
     },
     /// A name has more bytes than one may have.
     LongName,
-    /// An earlier task has the name: the one of this number.
+    /// An earlier table has the name: the one of this number.
     TwoOfName {
         name: &'a str,
         first: usize,
@@ -136,7 +136,7 @@ fn misfit<W: fmt::Write>(f: &mut fmt::Formatter<W>, value: &Value, wanted: &Want
     }
     if let (Wanted::Action, Value::Table(_)) = (wanted, value) {
         return f.write_str(
-            "no table of one key; each action is a table of its own, as { run = LENGTH }, { sleep = LENGTH }, { wait = true } or { wake = TASK }",
+            "an action is a table of one key: { run = LENGTH }, { sleep = LENGTH }, { wait = true } or { wake = TASK }",
         );
     }
     shown(f, value)?;
@@ -145,12 +145,12 @@ fn misfit<W: fmt::Write>(f: &mut fmt::Formatter<W>, value: &Value, wanted: &Want
         Wanted::Length => match value {
             Value::String(_) => no_time(f, value, &PHASE),
             _ => f.write_str(
-                " is no length (a duration, { uniform = [LEAST, GREATEST] } or { exponential = MEAN })",
+                " is not a length (a duration, { uniform = [LEAST, GREATEST] } or { exponential = MEAN })",
             ),
         },
         Wanted::Number(range) => write!(
             f,
-            " is no whole number from {} to {}",
+            " is not a whole number from {} to {}",
             range.least, range.greatest
         ),
         other => write!(f, " {}", described(other)),
@@ -172,18 +172,18 @@ fn no_draw<W: fmt::Write>(f: &mut fmt::Formatter<W>, table: &Table) -> fmt::Resu
         ),
         None => write!(
             f,
-            "a table of {} keys is no length; it takes one, uniform or exponential",
+            "a table of {} keys is not a length; it takes one key, uniform or exponential",
             table.len()
         ),
     }
 }
 
-/// Says why a value is no least and greatest of a length: it is no pair, an end is no duration, or they are not in order.
+/// Says why a value is no least and greatest of a length: it is no pair, an end is not a duration, or they are not in order.
 fn no_ends<W: fmt::Write>(f: &mut fmt::Formatter<W>, ends: &Value) -> fmt::Result {
     f.write_str("uniform: ")?;
     let Some((least, greatest)) = pair(ends) else {
         shown(f, ends)?;
-        return f.write_str(" is no [LEAST, GREATEST]");
+        return f.write_str(" is not [LEAST, GREATEST]");
     };
     if span(least, PHASE).is_none() {
         return no_phase(f, least);
@@ -197,7 +197,7 @@ fn no_ends<W: fmt::Write>(f: &mut fmt::Formatter<W>, ends: &Value) -> fmt::Resul
     shown(f, greatest)
 }
 
-/// Says that a value is no duration that a phase may have.
+/// Says that a value is not a duration that a phase may have.
 fn no_phase<W: fmt::Write>(f: &mut fmt::Formatter<W>, value: &Value) -> fmt::Result {
     shown(f, value)?;
     no_time(f, value, &PHASE)
@@ -211,7 +211,7 @@ fn pair(value: &Value) -> Option<(&Value, &Value)> {
     }
 }
 
-/// Says that a value is no duration, or none of a range.
+/// Says that a value is not a duration, or none of a range.
 fn no_time<W: fmt::Write>(f: &mut fmt::Formatter<W>, value: &Value, range: &Range) -> fmt::Result {
     let given = match value.as_str() {
         Some(word) => duration(word.as_bytes()),
@@ -223,27 +223,27 @@ fn no_time<W: fmt::Write>(f: &mut fmt::Formatter<W>, value: &Value, range: &Rang
             " is not from {} ns to {} ns",
             range.least, range.greatest
         ),
-        None => f.write_str(with_units!(" is no duration (a whole number and ", ")")),
+        None => f.write_str(with_units!(" is not a duration (a whole number and ", ")")),
     }
 }
 
 /// What a value is not, where the words are always the same.
 fn described(wanted: &Wanted) -> &'static str {
     match wanted {
-        Wanted::Nice => with_nice_values!("is no nice value (a whole number from ", ")"),
-        Wanted::Rule => with_rules!("is no discipline (\"", "\" or \"", "\")"),
+        Wanted::Nice => with_nice_values!("is not a nice value (a whole number from ", ")"),
+        Wanted::Rule => with_rules!("is not a discipline (\"", "\" or \"", "\")"),
         Wanted::Size => NO_SIZE,
         Wanted::Processors => with_processors!(
-            "is no list of processors (numbers from ",
+            "is not a list of processors (numbers from ",
             " and ranges, as \"0-2,5\")"
         ),
-        Wanted::Name => "is no name (a text with something in it)",
-        Wanted::True => "is not true, which is all that it takes",
+        Wanted::Name => "is not a name (a text with something in it)",
+        Wanted::True => "is not true, the only value that it takes",
         Wanted::Action =>
-            "is no action (one of { run = LENGTH }, { sleep = LENGTH }, { wait = true } and { wake = TASK })",
-        Wanted::Actions => "is no list of actions",
-        Wanted::Table => "is no table",
-        _ => "is no list of tables ([[task]])",
+            "is not an action (one of { run = LENGTH }, { sleep = LENGTH }, { wait = true } and { wake = TASK })",
+        Wanted::Actions => "is not a list of actions",
+        Wanted::Table => "is not a table",
+        _ => "is not a list of tables ([[task]])",
     }
 }
 
