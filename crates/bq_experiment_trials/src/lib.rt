@@ -13,6 +13,8 @@ mod files;
 #[cfg(test)]
 mod forms;
 #[cfg(test)]
+mod names;
+#[cfg(test)]
 mod pictures;
 #[cfg(test)]
 mod policies;

@@ -26,7 +26,7 @@ enum Slip {
     /// It does not fit 32 bits.
     Wide,
     /// The same, of what stands for none in contexts and answers.
-    None,
+    Nobody,
     /// It is a distance without a sign.
     NoSign,
     /// It is a distance that does not fit 16 bits.
@@ -79,7 +79,7 @@ fn size_slip(first: &str, word: &str, size: u64) -> Option<Slip> {
         return None;
     }
     if size == 0xffff_ffff {
-        Some(Slip::None)
+        Some(Slip::Nobody)
     } else {
         Some(Slip::Wide)
     }
@@ -133,7 +133,7 @@ fn slip_text(alloc: Global, first: &str, word: &str, slip: Slip) -> Result<Strin
         Slip::Wide => format!(in alloc;
             "{word} does not fit the 32 bits of {first} (-2147483648 to 2147483647); load it by lddw, as in lddw r0, {word}"
         ),
-        Slip::None => format!(in alloc;
+        Slip::Nobody => format!(in alloc;
             "{word} does not fit the 32 bits of {first} (-2147483648 to 2147483647); load it by lddw, as in lddw r0, {word}, which is also how a pull policy answers none"
         ),
         Slip::NoSign => format!(in alloc;
@@ -145,8 +145,9 @@ fn slip_text(alloc: Global, first: &str, word: &str, slip: Slip) -> Result<Strin
         Slip::Offset => format!(in alloc;
             "the offset in {word} is not a number from -32768 to +32767"
         ),
-        Slip::BelowZero => format!(in alloc;
-            "lddw takes 0 to 18446744073709551615, without a sign; -1 is 0xffffffffffffffff"
+        Slip::BelowZero => String::from_str(
+            alloc,
+            "lddw takes 0 to 18446744073709551615, without a sign; -1 is 0xffffffffffffffff",
         ),
     }
 }

@@ -1,0 +1,52 @@
+// Names that are not ASCII: a trace has `?` in their place, and every other form shows them as they are.
+
+use crate::cases::holds;
+use crate::timelines::settings_of;
+use bq_experiment::{Policies, ShownAs, run_as};
+use bq_workload::Workload;
+use bq_workload_file::{Changes, read};
+use std::alloc::Global;
+use std::process::Abort;
+use std::test::Fail;
+
+/// One task whose name has a letter beyond ASCII and a control character.
+const NAMED: &str =
+    "[machine]\nduration = \"2ms\"\n[[task]]\nname = \"caf\u{e9} \\u0007\"\nrun = \"1ms\"\nsleep = \"1ms\"\n";
+
+/// The forms that a person or a program reads.
+static FORMS: [&str; 8] = [
+    "report", "map", "timehist", "why", "svg", "perfetto", "csv", "json",
+];
+
+fn workload(alloc: Global) -> Result<Workload, Fail> {
+    match read(alloc, NAMED, Changes::NONE) {
+        Ok(workload) => Ok(workload),
+        Err(_) => Err(Fail::from("the workload is refused")),
+    }
+}
+
+/// What is written of the run in that form.
+fn written(alloc: Global, shown: ShownAs) -> Result<String, Fail> {
+    let workload = workload(alloc)?;
+    match run_as(alloc, &workload, &Policies::new(alloc), shown) {
+        Ok(written) => Ok(written.text),
+        Err(_) => Err(Fail::from("the run is refused")),
+    }
+}
+
+#[test]
+fn names_are_shown_as_they_are(rt: HostRuntime) -> Result<(), Fail> {
+    for form in &FORMS {
+        let settings = settings_of(rt.alloc(), form, None)?;
+        let text = written(rt.alloc(), ShownAs::Timeline(settings))?;
+        holds(&rt, text.contains("caf\u{e9} ?"), text.as_str(), form);
+    }
+    let text = written(rt.alloc(), ShownAs::Trace)?;
+    holds(
+        &rt,
+        text.contains("# task 0 caf? ?\n"),
+        text.as_str(),
+        "trace",
+    );
+    Ok(())
+}
