@@ -67,12 +67,13 @@ pub(crate) fn show_names(
     screen: &mut Screen,
 ) -> Result<u64, AllocError> {
     let names = task_names(alloc, workload)?;
+    let count = names.len() as u64;
     for (task, name) in names.iter().enumerate() {
         let name = shown_name(alloc, name.as_str())?;
-        let comment = format!(in alloc; "# task {task} {name}")?;
-        screen.comment(comment.as_bytes())?;
+        let line = format!(in alloc; "# task {task} {name}")?;
+        screen.comment(line.as_bytes())?;
     }
-    Ok(names.len() as u64)
+    Ok(count)
 }
 
 /// The name as a form shows it: a control character stands as `?`.
