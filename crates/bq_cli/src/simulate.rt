@@ -18,7 +18,7 @@ use bq_experiment::{
     AskedFault, AttachFault, HookWords, MachineWords, Policies, ShownAs, StudyWords, asked_changes,
     run_as,
 };
-use bq_explain::{TextKind, text_kind};
+use bq_explain::{TextKind, kind_of_text};
 use bq_hooks::Hook;
 use bq_load::LoadFault;
 use bq_policy_file::{Head, fault_text, read_policy};
@@ -298,7 +298,7 @@ fn workload(rt: &HostRuntime, words: &StudyWords, changes: Changes) -> Result<Wo
 
 /// What a file is that was given as a workload and is none, and what to do with it, if that can be told.
 fn foreign_text(bytes: &[u8]) -> Option<&'static str> {
-    match text_kind(bytes) {
+    match kind_of_text(bytes) {
         TextKind::Policy => Some(
             "this is a policy, not a workload; give a workload, and this by --place, --preempt or --pull",
         ),

@@ -5,7 +5,7 @@ ghost use Rattle.bq_insn.specs.Appending.{StartsWith};
 ghost use Rattle.bq_explain.specs.Complaints.{ComplainsOf, NamesLine, line_words};
 
 use crate::line_reason::line_reason;
-use crate::text_kind::{TextKind, text_kind};
+use crate::text_kind::{TextKind, kind_of_text};
 use bq_asm::{AsmFault, Cause, assemble};
 use std::alloc::{AllocError, Global};
 
@@ -80,7 +80,7 @@ fn foreign_text(text: &str) -> Option<&'static str> {
             "the text begins with a byte order mark (the bytes ef bb bf); save it as UTF-8 without one",
         );
     }
-    match text_kind(text.as_bytes()) {
+    match kind_of_text(text.as_bytes()) {
         TextKind::C => Some(
             "this is C; compile it for BPF and let bqsim import make a policy of it, as docs/POLICIES_IN_C.md shows",
         ),

@@ -35,6 +35,6 @@ pub use place::{Place, index_at};
 pub use refusal::{Finding, Refusal};
 pub use summary::{Summary, maps_text};
 pub use text::{explanation_text, need_words};
-pub use text_kind::{TextKind, text_kind};
+pub use text_kind::{TextKind, kind_of_text};
 pub use trail::{Made, Trail};
 pub use verdict::{Verdict, judge, verdict_line};

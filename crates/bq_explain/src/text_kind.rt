@@ -38,7 +38,7 @@ const BEGINNINGS_OF_C: [&str; 9] = [
 /// trace.
 ///
 /// `machine cfs 2` begins a trace, `[machine]` a workload, `mov64 r0, 0` or `;@ hook place` a policy, and `#include "bqsim.h"` C.
-pub fn text_kind(bytes: &[u8]) -> TextKind {
+pub fn kind_of_text(bytes: &[u8]) -> TextKind {
     if kind_of(bytes) == FileKind::Image {
         return TextKind::Policy;
     }
