@@ -82,7 +82,7 @@ const INPUT_OPTIONS: &[OptionText] = options! {
     ("ctx", Once("HEX"), "The bytes of the context; all 0 without it"),
     ("set", Often("FIELDS"), "Fields of the context by their names, as in task=3,mask=0x6,previous=none; other fields keep their bytes"),
     ("map", Often("ENTRY"), "An entry of a map by the map's number and its own, as in 0:0=0a00; bytes that are left out are 0"),
-    ("time", Once("T"), with_helper!(NOW, "The time, which helper ", " answers: in nanoseconds, or with a unit, as in 5ms; 0 without it")),
+    ("time", Once("T"), with_helper!(NOW, "The time, which helper ", " answers, as 1500us, 1.5ms or 2s; 0 without it")),
     ("processor", Once("P"), with_helper!(PROCESSOR, "The processor, which helper ", " answers; 0 without it")),
     ("counter", Often("COUNTER"), "A counter before the run, as in 3=10; others are 0")
 };
@@ -121,7 +121,7 @@ const TIMELINE_OPTIONS: &[OptionText] = options! {
 
 /// The part of a schedule that is shown.
 const PART_OPTIONS: &[OptionText] = options! {
-    ("from", Once("TIME"), "Shows only what happens from then on: 1500, 1.5ms, 2s; the figures of report and json stay those of the whole"),
+    ("from", Once("TIME"), "Shows only what happens from then on, as 1500us, 1.5ms or 2s; the figures of report and json stay those of the whole"),
     ("to", Once("TIME"), "Shows only what happens up to then; the figures of report and json stay those of the whole"),
     ("cpus", Once("LIST"), "Shows only these processors, as in 0-3,8"),
     ("tasks", Once("LIST"), "Shows only these tasks, as in 1-3,9"),
@@ -135,7 +135,7 @@ const WORKLOAD_OPTIONS: &[OptionText] = options! {
     ("file", Alone("FILE"), "The workload; standard input without it, or as -"),
     ("discipline", Once("RULE"), with_rules!("How processors choose, in place of the workload's own: ")),
     ("processors", Once("P"), with_sizes!("How many processors, in place of the workload's own: ")),
-    ("duration", Once("TIME"), "How long it runs, in place of the workload's own, as 500us or 2s"),
+    ("duration", Once("TIME"), "How long it runs, in place of the workload's own, as 1500us, 1.5ms or 2s"),
     ("seed", Once("N"), "The seed of the lengths that are drawn, in place of the workload's own"),
     ("seeds", Once("N"), "Runs it with this many seeds, from its own on, and shows means and deviations")
 };

@@ -34,8 +34,8 @@ const FORMS: &str = with_forms!("--as: a form is trace, report, ");
 
 /// What a word for the duration has to be, up to the number of the longest.
 const DURATION: &str = with_units!(
-    "--duration: a duration is a whole number and ",
-    ", as 500us or 2s, from 1ns to "
+    "--duration: a duration is a number and ",
+    ", as 1500us, 1.5ms or 2s, from 1ns to "
 );
 
 /// Why words ask for no simulation.

@@ -49,12 +49,12 @@ static REFUSED: [(&str, &str); 37] = [
     // a unit that there is not
     (
         "[[task]]\nname = \"a\"\nrun = \"1ms\"\n[[task]]\nname = \"server\"\ndo = [{ run = \"2mss\" }]\n",
-        ": [[task]] 2 (server): do 1: run: \"2mss\" is not a duration (a whole number and ns, us, ms or s)",
+        ": [[task]] 2 (server): do 1: run: \"2mss\" is not a duration (a number and ns, us, ms or s, as 1500us or 1.5ms)",
     ),
-    // a fraction
+    // two points
     (
-        "[[task]]\nname = \"a\"\nrun = \"1.5ms\"\n",
-        ": [[task]] 1 (a): run: \"1.5ms\" is not a duration (a whole number and ns, us, ms or s)",
+        "[[task]]\nname = \"a\"\nrun = \"1.5.5ms\"\n",
+        ": [[task]] 1 (a): run: \"1.5.5ms\" is not a duration (a number and ns, us, ms or s, as 1500us or 1.5ms)",
     ),
     // no time
     (
@@ -73,8 +73,8 @@ static REFUSED: [(&str, &str); 37] = [
     ),
     // an end that is not a duration
     (
-        "[[task]]\nname = \"a\"\nrun = { uniform = [\"1ms\", \"2\"] }\n",
-        ": [[task]] 1 (a): run: uniform: \"2\" is not a duration (a whole number and ns, us, ms or s)",
+        "[[task]]\nname = \"a\"\nrun = { uniform = [\"1ms\", \"2m\"] }\n",
+        ": [[task]] 1 (a): run: uniform: \"2m\" is not a duration (a number and ns, us, ms or s, as 1500us or 1.5ms)",
     ),
     // one end
     (
@@ -129,7 +129,7 @@ static REFUSED: [(&str, &str); 37] = [
     // a date
     (
         "[[task]]\nname = \"a\"\nstart = 2020-01-01\nrun = \"1ms\"\n",
-        ": [[task]] 1 (a): start: a date is not a duration (a whole number and ns, us, ms or s)",
+        ": [[task]] 1 (a): start: a date is not a duration (a number and ns, us, ms or s, as 1500us or 1.5ms)",
     ),
     // nothing to do
     (

@@ -1,11 +1,9 @@
 -- What the words of a timeline's options ask for.
 use Rattle.std.specs.Prelude.{◌≡◌, ◌<◌, ◌≤◌, ℕ, Bool, true, false, not, ◌+◌, ◌*◌, ◌/◌, ◌-◌, ◌^◌, ◌&&◌, ◌||◌, ◌==◌, nat_le, nat_lt, List, [], ◌∷◌, ◌++◌, length, take, drop, position, Option, Some, None, ⊤, String, if◌then◌else◌, codes, option_and_then, option_map, string_bytes}
 use Rattle.std.specs.Global.{Global}
-use Rattle.std.specs.Char.{digit_value, is_ascii_digit}
 use Rattle.std.specs.List.{list_all, range_with_len, slice_split}
 use Rattle.std.specs.Str.{bytes_eq}
-use Rattle.bq_words.specs.Numbers.{below}
-use Rattle.bq_words.specs.Units.{unit_of}
+use Rattle.bq_words.specs.Durations.{duration_of}
 use Rattle.bq_words.specs.Quantities.{decimal_of, task_of}
 use Rattle.bq_words.specs.ProcessorSets.{is_comma, is_dash, processors_of}
 use Rattle.bq_drawing.specs.Themes.{theme_of}
@@ -31,43 +29,6 @@ form_of word =
     else if bytes_eq word (codes "svg") then Some Svg
     else if bytes_eq word (codes "perfetto") then Some Perfetto
     else None
-
--- what the digits behind a point count together: each a tenth of what the one before it does, in whole nanoseconds
-abbrev pub parts_of : ℕ → List ℕ → ℕ
-parts_of unit [] = 0
-parts_of unit (c ∷ cs) = digit_value c * (unit / 10) + parts_of (unit / 10) cs
-
--- the nanoseconds of a fraction of a unit: one digit or more
-abbrev pub fraction_of : ℕ → List ℕ → Option ℕ
-fraction_of unit digits =
-    if nat_lt 0 (length digits) && list_all (λ c. nat_lt (digit_value c) 10) digits then Some (parts_of unit digits) else None
-
--- a point, which stands before a fraction
-abbrev pub is_point : ℕ → Bool
-is_point c = c == 46
-
--- a number of units, in nanoseconds, below 2^64: whole ones, and where there is a point a fraction behind it
-abbrev pub amount_at : ℕ → List ℕ → Option ℕ → Option ℕ
-amount_at unit number None = option_and_then (λ whole. below (2 ^ 64) (Some (whole * unit))) (decimal_of number)
-amount_at unit number (Some point) =
-    option_and_then (λ whole. option_and_then (λ part. below (2 ^ 64) (Some (whole * unit + part))) (fraction_of unit (drop (point + 1) number))) (decimal_of (take point number))
-
--- so many units of so many nanoseconds each
-abbrev pub amount_of : ℕ → List ℕ → Option ℕ
-amount_of unit number = amount_at unit number (position is_point number)
-
--- the word cut where its number ends: so many of the unit that is behind it, or so many nanoseconds where nothing is
-abbrev pub time_at : List ℕ → Option ℕ → Option ℕ
-time_at word None = amount_of 1 word
-time_at word (Some end) = option_and_then (λ unit. amount_of unit (take end word)) (unit_of (drop end word))
-
--- a byte that is neither a digit nor a point
-abbrev pub ends_number : ℕ → Bool
-ends_number c = not (is_ascii_digit c || is_point c)
-
--- the nanoseconds that a word writes: a number, and from the first byte that is neither a digit nor a point its unit
-abbrev pub time_of : List ℕ → Option ℕ
-time_of word = time_at word (position ends_number word)
 
 -- the tasks from the first to the last, unless they run backwards
 abbrev pub tasks_between : ℕ → ℕ → Option (List ℕ)
@@ -114,11 +75,11 @@ form_asked w = asked_or Report form_of w.form
 
 -- the first moment, 0 where none is named
 abbrev pub from_asked : Words → Option ℕ
-from_asked w = asked_or 0 time_of w.from
+from_asked w = asked_or 0 duration_of w.from
 
 -- the last moment, no end where none is named
 abbrev pub to_asked : Words → Option ℕ
-to_asked w = asked_or (2 ^ 64 - 1) time_of w.to
+to_asked w = asked_or (2 ^ 64 - 1) duration_of w.to
 
 -- the processors as bits, all where none is named
 abbrev pub processors_asked : Words → Option ℕ

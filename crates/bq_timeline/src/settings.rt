@@ -1,8 +1,9 @@
 //! What a timeline is to show, by the words of its options.
 ghost use Rattle.std.specs.Prelude.{◌≡◌, IfErr, IfOk};
+ghost use Rattle.bq_words.specs.Durations.{duration_of};
 ghost use Rattle.bq_words.specs.ProcessorSets.{processors_of};
 ghost use Rattle.bq_drawing.specs.Themes.{theme_of};
-ghost use Rattle.bq_timeline.specs.Settings.{AsksFor, IsNoSettings, asked_or, form_of, is_heeded, text_of, time_of, width_of};
+ghost use Rattle.bq_timeline.specs.Settings.{AsksFor, IsNoSettings, asked_or, form_of, is_heeded, text_of, width_of};
 ghost use Rattle.bq_timeline.specs.declared.settings.SettingsFault.TheVariants.{OutOfMemory};
 
 use crate::form_names::FormName;
@@ -12,7 +13,7 @@ use bq_disc::limits::LAST_PROCESSOR;
 use bq_drawing::{Look, Theme, with_themes};
 use bq_report::Window;
 use bq_words::processor_sets::processors;
-use bq_words::{with_tasks, with_units};
+use bq_words::{duration, with_tasks, with_units};
 use std::alloc::{AllocError, Global};
 use thiserror::Error;
 
@@ -58,7 +59,7 @@ pub struct Settings {
 const FORMS: &str = with_forms!("--as: a form is report, ");
 
 /// What a word for a moment has to be.
-const TIME: &str = with_units!("a time is a number with ", ", as 1500, 1.5ms or 2s");
+const TIME: &str = with_units!("a time is a number and ", ", as 1500us, 1.5ms or 2s");
 
 /// What a word for tasks has to be.
 const TASKS: &str = with_tasks!(
@@ -196,10 +197,10 @@ fn form_or(word: &Option<String>, default: FormName) -> Option<FormName>
 
 /// The nanoseconds that a word writes, or the default where there is no word. None where the word is no time.
 fn time_or(word: &Option<String>, default: u64) -> Option<u64>
-    ensures { result ≡ asked_or default time_of word.now }
+    ensures { result ≡ asked_or default duration_of word.now }
 {
     match word {
-        Some(word) => numbers::time(word.as_str()),
+        Some(word) => duration(word.as_bytes()),
         None => Some(default),
     }
 }

@@ -2,3 +2,4 @@ pub mod NumberLemmas
 pub mod WordLemmas
 pub mod SizeLemmas
 pub mod SplittingLemmas
+pub mod DurationLemmas

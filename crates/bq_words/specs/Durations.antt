@@ -1,20 +1,44 @@
--- Lengths of time as words: a whole number of a unit.
-use Rattle.std.specs.Prelude.{ℕ, Bool, not, ◌*◌, ◌^◌, nat_lt, List, take, drop, position, Option, Some, None, if◌then◌else◌, option_and_then}
-use Rattle.std.specs.Char.{is_ascii_digit}
+-- Lengths of time as words: a number, with a fraction or without, and its unit.
+use Rattle.std.specs.Prelude.{ℕ, Bool, not, ◌+◌, ◌*◌, ◌/◌, ◌^◌, ◌==◌, ◌&&◌, ◌||◌, nat_lt, List, [], ◌∷◌, length, take, drop, position, Option, Some, None, if◌then◌else◌, option_and_then}
+use Rattle.std.specs.Char.{digit_value, is_ascii_digit}
+use Rattle.std.specs.List.{list_all}
+use Rattle.bq_words.specs.Numbers.{below}
 use Rattle.bq_words.specs.Units.{unit_of}
 use Rattle.bq_words.specs.Quantities.{decimal_of}
 
--- so many of a unit, if that is below 2^64 ns
-abbrev pub times : ℕ → ℕ → Option ℕ
-times number unit = if nat_lt (number * unit) (2 ^ 64) then Some (number * unit) else None
+-- what the digits behind a point count together: each a tenth of what the one before it does, in whole nanoseconds
+abbrev pub parts_of : ℕ → List ℕ → ℕ
+parts_of unit [] = 0
+parts_of unit (c ∷ cs) = digit_value c * (unit / 10) + parts_of (unit / 10) cs
 
--- the word cut before the place: a number, and its unit
-abbrev pub cut_at : List ℕ → ℕ → Option ℕ
-cut_at word place = option_and_then (λ n. option_and_then (times n) (unit_of (drop place word))) (decimal_of (take place word))
+-- the nanoseconds of a fraction of a unit: one digit or more
+abbrev pub fraction_of : ℕ → List ℕ → Option ℕ
+fraction_of unit digits =
+    if nat_lt 0 (length digits) && list_all (λ c. nat_lt (digit_value c) 10) digits then Some (parts_of unit digits) else None
 
-abbrev pub is_no_digit : ℕ → Bool
-is_no_digit b = not (is_ascii_digit b)
+-- a point, which stands before a fraction
+abbrev pub is_point : ℕ → Bool
+is_point c = c == 46
 
--- a number, and from the first byte that is no digit its unit
+-- a number of units, in nanoseconds, below 2^64: whole ones, and where there is a point a fraction behind it
+abbrev pub amount_at : ℕ → List ℕ → Option ℕ → Option ℕ
+amount_at unit number None = option_and_then (λ whole. below (2 ^ 64) (Some (whole * unit))) (decimal_of number)
+amount_at unit number (Some point) =
+    option_and_then (λ whole. option_and_then (λ part. below (2 ^ 64) (Some (whole * unit + part))) (fraction_of unit (drop (point + 1) number))) (decimal_of (take point number))
+
+-- so many units of so many nanoseconds each
+abbrev pub amount_of : ℕ → List ℕ → Option ℕ
+amount_of unit number = amount_at unit number (position is_point number)
+
+-- the word cut where its number ends: so many of the unit that is behind it, or so many nanoseconds where nothing is
+abbrev pub duration_at : List ℕ → Option ℕ → Option ℕ
+duration_at word None = amount_of 1 word
+duration_at word (Some end) = option_and_then (λ unit. amount_of unit (take end word)) (unit_of (drop end word))
+
+-- a byte that is neither a digit nor a point
+abbrev pub ends_number : ℕ → Bool
+ends_number c = not (is_ascii_digit c || is_point c)
+
+-- the nanoseconds that a word writes: a number, and from the first byte that is neither a digit nor a point its unit
 abbrev pub duration_of : List ℕ → Option ℕ
-duration_of word = option_and_then (cut_at word) (position is_no_digit word)
+duration_of word = duration_at word (position ends_number word)

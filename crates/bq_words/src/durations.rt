@@ -1,32 +1,85 @@
 //! Lengths of time.
 ghost use Rattle.std.specs.Prelude.{◌≡◌, ◌<◌, IfSome, length, position};
-ghost use Rattle.bq_words.specs.Durations.{duration_of, is_no_digit};
+ghost use Rattle.bq_words.specs.Durations.{amount_of, duration_of, ends_number, fraction_of, is_point};
 
 use crate::nanoseconds;
 use crate::quantities::decimal;
 
-/// The nanoseconds that a word writes: a whole number and its unit, as `500us`. The unit is `ns`, `us`, `ms` or `s`.
+/// The nanoseconds that a word writes: a number, with a fraction or without, and `ns`, `us`, `ms`, `s` or nothing after it, which is `ns`.
+/// What is less than a nanosecond is cut off.
 ///
-/// None where the word is no such thing, or has 2^64 ns or more.
+/// `1500`, `1.5us` and `0.0015ms` are all 1500. None where the word is no such thing, or has 2^64 ns or more.
 pub fn duration(word: &[u8]) -> Option<u64>
     ensures { result ≡ duration_of word.now }
 {
-    let end = first_letter(word)?;
-    let number = decimal(&word[..end])?;
-    let unit = nanoseconds(&word[end..])?;
-    number.checked_mul(unit)
+    match end_of_number(word) {
+        Some(end) => {
+            let unit = nanoseconds(&word[end..])?;
+            amount(&word[..end], unit)
+        }
+        None => amount(word, 1),
+    }
 }
 
-/// Where the digits at the front end.
-fn first_letter(word: &[u8]) -> Option<usize>
-    ensures value { result ≡ position is_no_digit word.now }
+/// Where the digits and points at the front end.
+fn end_of_number(word: &[u8]) -> Option<usize>
+    ensures value { result ≡ position ends_number word.now }
     ensures within { IfSome result (λ end. end < length word.now) }
 {
-    word.iter().position(|byte| is_no_digit(*byte))
+    word.iter().position(|byte| ends_number(*byte))
 }
 
-fn is_no_digit(byte: u8) -> bool
-    ensures { result ≡ is_no_digit byte }
+fn ends_number(byte: u8) -> bool
+    ensures { result ≡ ends_number byte }
 {
-    !byte.is_ascii_digit()
+    !(byte.is_ascii_digit() || is_point(byte))
+}
+
+fn is_point(byte: u8) -> bool
+    ensures { result ≡ is_point byte }
+{
+    byte == b'.'
+}
+
+/// Where a number has its point.
+fn point(number: &[u8]) -> Option<usize>
+    ensures value { result ≡ position is_point number.now }
+    ensures within { IfSome result (λ point. point < length number.now) }
+{
+    number.iter().position(|byte| is_point(*byte))
+}
+
+/// So many units of so many nanoseconds each, as nanoseconds.
+///
+/// None where that is no number, or 2^64 ns or more.
+fn amount(number: &[u8], unit: u64) -> Option<u64>
+    ensures { result ≡ amount_of unit number.now }
+{
+    match point(number) {
+        Some(point) => {
+            let whole = decimal(&number[..point])?.checked_mul(unit)?;
+            let part = fraction(&number[point + 1..], unit)?;
+            whole.checked_add(part)
+        }
+        None => decimal(number)?.checked_mul(unit),
+    }
+}
+
+/// The nanoseconds of a fraction of a unit, by the digits behind the point. What is less than a nanosecond is cut off.
+///
+/// None where there is no digit, or something else.
+fn fraction(digits: &[u8], unit: u64) -> Option<u64>
+    ensures { result ≡ fraction_of unit digits.now }
+{
+    if digits.is_empty() {
+        return None;
+    }
+    let mut counts = unit;
+    let mut part: u64 = 0;
+    for byte in digits {
+        let digit = char::from(*byte).to_digit(10)?;
+        counts = counts / 10;
+        part += u64::from(digit) * counts;
+    }
+    Some(part)
 }

@@ -223,7 +223,7 @@ fn no_time<W: fmt::Write>(f: &mut fmt::Formatter<W>, value: &Value, range: &Rang
             " is not from {} ns to {} ns",
             range.least, range.greatest
         ),
-        None => f.write_str(with_units!(" is not a duration (a whole number and ", ")")),
+        None => f.write_str(with_units!(" is not a duration (a number and ", ", as 1500us or 1.5ms)")),
     }
 }
 

@@ -1,6 +1,6 @@
 use Rattle.std.proofs.Common.{◌≡◌, ◌+◌, ◌≤◌, drop}
-use Rattle.bq_timeline.proofs.TimeLemmas.{fraction_from}
-use Rattle.bq_timeline.proofs.numbers.fraction.Given as goal
+use Rattle.bq_words.proofs.DurationLemmas.{fraction_from}
+use Rattle.bq_words.proofs.durations.fraction.Given as goal
 
 -- the digits so far count no more than the unit leaves, and the fraction is theirs and that of the rest
 abbrev pub invariant-loop-byte : goal.invariant-loop-byte

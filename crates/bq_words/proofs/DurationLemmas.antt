@@ -2,7 +2,7 @@
 use Rattle.std.proofs.Common.{ℕ, ◌+◌, List, cond, ltb, Some, None, Option}
 use Rattle.std.specs.List.{list_all}
 use Rattle.std.specs.Char.{digit_value}
-use Rattle.bq_timeline.specs.Settings.{parts_of}
+use Rattle.bq_words.specs.Durations.{parts_of}
 
 -- a part of a unit, and that of these digits, of which the first counts a tenth of so much
 abbrev pub fraction_from : ℕ → ℕ → List ℕ → Option ℕ
