@@ -5,9 +5,11 @@ ghost use Rattle.bq_console.specs.Words.{SaysNone};
 ghost use Rattle.bq_cli.specs.Words.{ArePolicyWords};
 ghost use Rattle.bq_cli.specs.Importing.{AskFor};
 
-use crate::policy_words::policy_words;
+use crate::policy_words::{most_bytes, policy_words};
 use bq_console::status::BAD_INPUT;
-use bq_console::{WordsFault, name_of, refused_words, say_out_of_memory, whole_input, written};
+use bq_console::{
+    Name, WordsFault, name_of, refused_words, say_out_of_memory, whole_input, written,
+};
 use bq_hooks::Version;
 use bq_import::{ImportRefusal, ImportSettings, imported};
 use bq_object::{is_object, others};
@@ -60,7 +62,8 @@ pub fn import_settings(alloc: Global, words: &PolicyWords) -> Result<ImportSetti
 /// Imports the object or the text section in the file that is named, or on standard input.
 pub(crate) fn do_import(rt: &HostRuntime, words: &PolicyWords) -> Result<ExitCode, WordsFault> {
     let settings = import_settings(rt.alloc(), words)?;
-    match whole_input(rt, &words.file) {
+    let most = most_bytes(rt.alloc(), &words.max_bytes)?;
+    match whole_input(rt, &words.file, most) {
         Ok(bytes) => Ok(import_bytes(rt, name_of(&words.file), &settings, bytes.as_slice())),
         Err(code) => Ok(code),
     }
@@ -75,6 +78,7 @@ fn import_bytes(rt: &HostRuntime, name: &str, settings: &ImportSettings, bytes: 
         }
         Err(ImportRefusal::OutOfMemory) => say_out_of_memory(rt),
         Err(refusal) => {
+            let name = Name(name);
             let _ = eprintln!(rt; "{name}: {refusal}");
             ExitCode::from(BAD_INPUT)
         }
@@ -89,7 +93,9 @@ fn name_others(rt: &HostRuntime, name: &str, bytes: &[u8]) {
     let Ok(others) = others(rt.alloc(), bytes) else {
         return;
     };
+    let name = Name(name);
     for other in others {
+        let other = Name(other);
         let _ = eprintln!(rt; "{name}: note: the function {other} is left out; only policy is imported");
     }
 }

@@ -280,9 +280,14 @@ fn others(rt: &HostRuntime, words: &StudyWords) -> Result<Option<Policies>, Exit
 fn workload(rt: &HostRuntime, words: &StudyWords, changes: Changes) -> Result<Workload, ExitCode> {
     let name = name_of(&words.shown.file);
     let bytes = whole_input(rt, &words.shown.file, MOST_BYTES)?;
+    if let Some(what) = foreign_text(bytes.as_slice()) {
+        let name = Name(name);
+        let _ = eprintln!(rt; "{name}: {what}");
+        return Err(ExitCode::from(BAD_INPUT));
+    }
     let Ok(text) = from_utf8(bytes.as_slice()) else {
         let name = Name(name);
-        let _ = eprintln!(rt; "{name}: no UTF-8 text");
+        let _ = eprintln!(rt; "{name}: the file is not UTF-8 text");
         return Err(ExitCode::from(BAD_INPUT));
     };
     match read(rt.alloc(), text, changes) {
@@ -340,8 +345,28 @@ fn add(
         return Ok(());
     }
     let bytes = policy_bytes(rt, words, path)?;
-    let taken = policies.add(rt.alloc(), hook, bytes.as_slice());
-    attached(rt, path.as_str(), Some(hook), taken)
+    match policies.add(rt.alloc(), hook, bytes.as_slice()) {
+        Err(AttachFault::Hook) => Err(say_other_hook(rt, path.as_str(), hook, bytes.as_slice())),
+        taken => attached(rt, path.as_str(), Some(hook), taken),
+    }
+}
+
+/// Says that the policy of a file is not for the hook at which it is to stand, but for that which the file says.
+fn say_other_hook(rt: &HostRuntime, path: &str, hook: Hook, file: &[u8]) -> ExitCode {
+    let asked = hook.word();
+    let path = Name(path);
+    match read_policy(rt.alloc(), file, &Head::nothing()) {
+        Ok(policy) => {
+            let own = policy.hook.word();
+            let _ = eprintln!(rt;
+                "{path}: the policy is for the hook {own}, not for {asked}; give it by --{own}"
+            );
+        }
+        Err(_) => {
+            let _ = eprintln!(rt; "{path}: the policy is for another hook than {asked}");
+        }
+    }
+    ExitCode::from(BAD_INPUT)
 }
 
 /// The bytes of the file of a policy, or of standard input for `-`, unless the workload is that.

@@ -158,12 +158,12 @@ static PROGRAM_COMMANDS: [CommandText<'static>; 2] = [
     CommandText {
         name: "asm",
         about: "Reads an assembler text and writes the hex of its program",
-        options: &[ASM_OPTIONS],
+        options: &[ASM_OPTIONS, READING_OPTIONS],
     },
     CommandText {
         name: "import",
         about: "Reads a compiled policy, as an object file or as the bytes or the hex of its text section, and writes it as an assembler text",
-        options: &[IMPORT_OPTIONS],
+        options: &[IMPORT_OPTIONS, READING_OPTIONS],
     },
 ];
 

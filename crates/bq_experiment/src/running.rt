@@ -88,7 +88,7 @@ fn viewed(
     ensures flaw { IfErr result (TellsNoOther workload.now) }
 {
     let mut viewer = Viewer::new(alloc, settings);
-    let above = tell_names(alloc, workload, &mut viewer)?;
+    let above = show_names(alloc, workload, &mut viewer.screen)?;
     let mut later = Later { viewer, above };
     let tally = simulate(alloc, workload, policies.loaded(), &mut later)?;
     later.viewer.count_missed(tally.missed);

@@ -204,8 +204,41 @@ fn head_reason(
             return Ok(at_line(line, value_words(alloc, key, value)?));
         }
     }
-    let why = String::from_str(alloc, head_words(cause))?;
+    let words = head_words(cause);
+    let why = match near_key(alloc, bytes, line, cause)? {
+        Some(key) => format!(in alloc; "{words}; did you mean ;@ {key}?")?,
+        None => String::from_str(alloc, words)?,
+    };
     Ok(at_line(line, why))
+}
+
+/// The keys of such lines.
+const KEYS: [&str; 3] = ["hook", "maps", "format"];
+
+/// The key that the line of that number has misspelled, if it is a near one.
+fn near_key(
+    alloc: Global,
+    bytes: &[u8],
+    line: usize,
+    cause: HeadCause,
+) -> Result<Option<&'static str>, AllocError> {
+    let (HeadCause::Unknown, Some(text)) = (cause, line_at(bytes, line)) else {
+        return Ok(None);
+    };
+    let Some((_, behind)) = text.split_once('@') else {
+        return Ok(None);
+    };
+    let Some(written) = behind.split_whitespace().next() else {
+        return Ok(None);
+    };
+    let mut best: Option<&'static str> = None;
+    let mut near = Near::of(written);
+    for key in &KEYS {
+        if written != *key && near.takes(alloc, written, key)? {
+            best = Some(key);
+        }
+    }
+    Ok(best)
 }
 
 /// What is wrong with what a line says of a key.

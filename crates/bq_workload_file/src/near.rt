@@ -6,8 +6,36 @@ use std::alloc::{AllocError, Global};
 /// How many bytes a word has at most that may be a misspelling.
 const SHORT: usize = 40;
 
+/// Keys that are often written for another.
+const FOREIGN: [(&str, &str); 10] = [
+    ("period", "sleep"),
+    ("burst", "run"),
+    ("compute", "run"),
+    ("priority", "nice"),
+    ("affinity", "cpus"),
+    ("cpus", "processors"),
+    ("cores", "processors"),
+    ("scheduler", "discipline"),
+    ("rule", "discipline"),
+    ("time", "duration"),
+];
+
+/// The word among these that is meant by a key which is often written for it, if there is one; else the nearest, if one is near.
+pub(crate) fn meant_word(
+    alloc: Global,
+    meant: &str,
+    words: &[&'static str],
+) -> Result<Option<&'static str>, AllocError> {
+    for (foreign, known) in &FOREIGN {
+        if *foreign == meant && words.iter().any(|word| *word == *known) {
+            return Ok(Some(known));
+        }
+    }
+    nearest_word(alloc, meant, words)
+}
+
 /// The nearest of some words, if one is near.
-pub(crate) fn nearest_word(
+fn nearest_word(
     alloc: Global,
     meant: &str,
     words: &[&'static str],

@@ -108,7 +108,7 @@ impl fmt::Display for Why<'_> {
             }
             Why::LongName => write!(f, "name: it has more than {LONGEST_NAME} bytes"),
             Why::TwoOfName { name, first } => {
-                write!(f, "name: {} is the name of task {first} too", Quoted(name))
+                write!(f, "name: {} is the name of [[task]] {first} too", Quoted(name))
             }
             Why::TwoForms => f.write_str("do stands beside run or sleep, which are short for one"),
             Why::NoTime => f.write_str("do: nothing in it takes time; let it run or sleep"),

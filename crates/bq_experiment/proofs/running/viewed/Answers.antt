@@ -1,9 +1,9 @@
--- The viewer took the names, and then the simulation.
-use Rattle.std.proofs.Common.{List, subst, ◌∙◌}
+-- The viewer has the names on its screen, and then took the simulation.
+use Rattle.std.proofs.Common.{List, [], refl, subst, ◌∙◌}
 use Rattle.std.proofs.lemmas.Result.{err_from_is_err_and}
 use Rattle.bq_trace.specs.News.{Gets}
 use Rattle.bq_simulate.specs.Simulations.{Accepted, IsSimulation}
-use Rattle.bq_experiment.specs.Names.{comments_of}
+use Rattle.bq_timeline.specs.declared.viewer.Viewer.{Viewer}
 use Rattle.bq_experiment.specs.declared.later.Later.{Later}
 use Rattle.bq_experiment.proofs.ViewLemmas.{TakesLater, no_other, views_simulation}
 use Rattle.bq_experiment.proofs.running.viewed.Goals as goal
@@ -11,10 +11,11 @@ use Rattle.bq_experiment.proofs.running.viewed.Goals as goal
 pub returns-clause-viewed : goal.returns-clause-viewed
 returns-clause-viewed c =
     let w = c.args.workload.now in
-    let later : Later = record { viewer = c.tell_names.new.sink; above = c.in_ok-above.above } in
+    let shown : Viewer = record c.new-viewer.result { screen = c.show_names.new.screen } in
+    let later : Later = record { viewer = shown; above = c.in_ok-above.above } in
     let told = subst (λ (l : List Accepted). Gets TakesLater later c.simulate.new.sink (IsSimulation l w)) c.loaded.ensures.value c.in_ok-tally.ensures.told in
-    let seen = views_simulation c.new-viewer.result later c.simulate.new.sink (comments_of w) c.args.policies.now.loaded w
-    c.new-viewer.ensures.schedule c.new-viewer.ensures.troubles c.in_ok-tally.ensures.sound c.in_ok-above.ensures.told told in
+    let seen = views_simulation shown later c.simulate.new.sink [] c.args.policies.now.loaded w
+    c.new-viewer.ensures.schedule c.new-viewer.ensures.troubles c.in_ok-tally.ensures.sound refl told in
     record {
       told = seen.told;
       sound = seen.sound;
