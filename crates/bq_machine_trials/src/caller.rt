@@ -1,9 +1,10 @@
 //! A seat at play.
 
-use crate::asking::{Request, ask};
+use crate::asking::{Receipts, Request, ask};
 use crate::counting_clock::CountingClock;
+use crate::gate::Gate;
 use crate::held_queue::HeldQueue;
-use crate::play::{Held, Play};
+use crate::play::{Beside, Held, Play};
 use bq_history::{Naming, Receipt};
 use bq_hooks::Hook;
 use bq_machine::Machine;
@@ -11,7 +12,8 @@ use bq_parts::Refusal;
 use bq_recording::{Admission, Seat};
 use bq_shared::{Counting, Record};
 use std::alloc::Global;
-use std::sync::Wait;
+use std::sync::{Arc, Wait};
+use std::thread::yield_now;
 
 /// The machine that scripts are played on, of four processors.
 pub type Raced<N> = Machine<HeldQueue, CountingClock, N, 4>;
@@ -19,58 +21,83 @@ pub type Raced<N> = Machine<HeldQueue, CountingClock, N, 4>;
 /// The slice of each task.
 const SLICE: u64 = 3_000_000;
 
-/// The calls by which the task of a processor's number comes to run there.
-fn birth(processor: u8, mask: u64) -> [Request; 3] {
-    let task = u16::from(processor);
-    [
-        Request::Admit {
-            admission: Admission {
-                task,
-                nice: 0,
-                mask,
-                slice: SLICE,
-            },
+/// How many ticks a watching seat makes at most, and how often it lets others go on between two of them.
+const LOOKS: u32 = 1000;
+
+/// A task is admitted at nice 0.
+fn admit(task: u16, mask: u64) -> Request {
+    Request::Admit {
+        admission: Admission {
+            task,
+            nice: 0,
+            mask,
+            slice: SLICE,
         },
+    }
+}
+
+/// The calls by which a task comes to a processor.
+fn birth(processor: u8, task: u16, mask: u64) -> [Request; 3] {
+    [
+        admit(task, mask),
         Request::Wake { processor, task },
         Request::Drain { processor },
     ]
 }
 
-/// The call at processor 0 that is held.
+/// The call that is held.
 fn held_call(held: Held) -> Request {
+    let processor = 0;
     match held {
-        Held::Tick => Request::Tick { processor: 0 },
-        Held::Drain => Request::Drain { processor: 0 },
-        Held::Block => Request::Block { processor: 0 },
-        Held::Pull => Request::Pull {
-            processor: 0,
-            from: 1,
+        Held::Tick => Request::Tick { processor },
+        Held::Drain => Request::Drain { processor },
+        Held::Block => Request::Block { processor },
+        Held::Wake => Request::Wake { processor, task: 7 },
+        Held::Pull => Request::Pull { processor, from: 1 },
+        Held::Give => Request::Pull {
+            processor: 1,
+            from: processor,
         },
     }
 }
 
 /// The seven calls that are made while another is held.
-const OTHERS: [Request; 7] = [
-    Request::Admit {
-        admission: Admission {
-            task: 9,
-            nice: 0,
-            mask: 12,
-            slice: SLICE,
+fn life() -> [Request; 7] {
+    let (processor, task) = (2, 9);
+    [
+        admit(task, 12),
+        Request::Wake { processor, task },
+        Request::Drain { processor },
+        Request::Tick { processor },
+        Request::Block { processor },
+        Request::Pull {
+            processor: 3,
+            from: processor,
         },
-    },
-    Request::Wake {
-        processor: 2,
-        task: 9,
-    },
+        Request::Retire { task },
+    ]
+}
+
+/// A task goes from processor 2 to processor 0's inbox.
+fn to_inbox() -> [Request; 2] {
+    let (processor, task) = (2, 10);
+    [admit(task, 1), Request::Wake { processor, task }]
+}
+
+/// Ticks of two processors.
+const TICKS: [Request; 2] = [
+    Request::Tick { processor: 0 },
+    Request::Tick { processor: 1 },
+];
+
+/// Calls that take neither the lobby nor processors 0 and 1.
+const QUEUES: [Request; 3] = [
     Request::Drain { processor: 2 },
     Request::Tick { processor: 2 },
-    Request::Block { processor: 2 },
     Request::Pull {
         processor: 3,
         from: 2,
     },
-    Request::Retire { task: 9 },
 ];
 
 /// A seat with the receipts that it got.
@@ -91,14 +118,21 @@ impl<'a, N: Naming + Counting, R: Wait> Player<'a, N, R> {
         }
     }
 
-    /// Makes the call, and keeps its receipts.
-    fn call(&mut self, request: Request) -> Result<(), Refusal> {
-        let receipts = ask(self.rt, self.alloc, self.machine, &mut self.seat, request)?;
-        self.keep(receipts.first)?;
-        match receipts.second {
-            Some(second) => self.keep(second),
-            None => Ok(()),
+    /// Makes the call, and keeps its receipts. Answers the place of the first.
+    fn call(&mut self, request: Request) -> Result<u64, Refusal> {
+        let Receipts { first, second } = ask(
+            self.rt,
+            self.alloc,
+            self.machine,
+            &mut self.seat,
+            request,
+        )?;
+        let place = first.place;
+        self.keep(first)?;
+        if let Some(second) = second {
+            self.keep(second)?;
         }
+        Ok(place)
     }
 
     /// Makes calls one after another.
@@ -129,43 +163,127 @@ impl<'a, N: Naming + Counting, R: Wait> Player<'a, N, R> {
 
     /// The life of a task at a processor.
     fn live(&mut self, processor: u8, mask: u64, ticks: u32) -> Result<(), Refusal> {
-        self.call_all(&birth(processor, mask))?;
+        self.call_all(&birth(processor, u16::from(processor), mask))?;
         for _ in 0..ticks {
             self.call(Request::Tick { processor })?;
         }
         Ok(())
     }
 
-    /// Does what the play says. Answers counter 3, as it is then.
-    pub fn play(&mut self, play: Play) -> Result<u64, Refusal> {
+    /// Rounds of a task at a processor.
+    fn go_round(
+        &mut self,
+        processor: u8,
+        task: u16,
+        from: Option<u8>,
+        rounds: u32,
+    ) -> Result<(), Refusal> {
+        let mask = if from.is_some() { u64::MAX } else { 1 };
+        self.call(admit(task, mask))?;
+        for _ in 0..rounds {
+            self.call(Request::Wake { processor, task })?;
+            self.call(Request::Drain { processor })?;
+            self.call(Request::Tick { processor })?;
+            if let Some(from) = from {
+                self.call(Request::Pull { processor, from })?;
+            }
+            self.call(Request::Block { processor })?;
+        }
+        Ok(())
+    }
+
+    /// Makes a call that is held.
+    fn hold(&mut self, gate: &Arc<Gate, Global>, held: Held) -> Result<(), Refusal> {
+        self.call_all(&birth(0, 0, 3))?;
+        self.call_all(&birth(0, 8, 1))?;
+        self.call(admit(7, 1))?;
+        gate.arm();
+        self.call(held_call(held))?;
+        Ok(())
+    }
+
+    /// Makes calls beside one that is held.
+    fn go_beside(&mut self, beside: Beside) -> Result<(), Refusal> {
+        match beside {
+            Beside::Life => self.call_all(&life()),
+            Beside::Inbox => {
+                self.call_all(&life())?;
+                self.call_all(&to_inbox())
+            }
+            Beside::Ticks => {
+                self.call_all(&life())?;
+                self.call_all(&TICKS)
+            }
+            Beside::Queues => self.call_all(&QUEUES),
+        }
+    }
+
+    /// Whether another seat's event comes into the history, which has so many events, while processor 3 ticks.
+    fn sees_another(&mut self, events: u64) -> Result<bool, Refusal> {
+        let mut next = events;
+        for _ in 0..LOOKS {
+            if self.call(Request::Tick { processor: 3 })? != next {
+                return Ok(true);
+            }
+            next = next.wrapping_add(1);
+            for _ in 0..LOOKS {
+                yield_now();
+            }
+        }
+        Ok(false)
+    }
+
+    /// Counters 0, 3 and 63, as they are now.
+    fn counters(&mut self) -> [u64; 3] {
+        [
+            self.machine.counter(&mut self.seat, 0),
+            self.machine.counter(&mut self.seat, 3),
+            self.machine.counter(&mut self.seat, 63),
+        ]
+    }
+
+    /// Does what the play says. Answers counters 0, 3 and 63: as they were while a call was held, where the play reads them then,
+    /// else as they are at its end.
+    pub fn play(&mut self, play: Play) -> Result<[u64; 3], Refusal> {
         match play {
             Play::Life {
                 processor,
                 mask,
                 ticks,
             } => self.live(processor, mask, ticks)?,
+            Play::Rounds {
+                processor,
+                task,
+                from,
+                rounds,
+            } => self.go_round(processor, task, from, rounds)?,
             Play::Load(image) => self.load(image)?,
-            Play::Tick => self.call(Request::Tick { processor: 0 })?,
-            Play::Hold(gate, held) => {
-                self.call_all(&birth(0, 1))?;
-                gate.arm();
-                self.call(held_call(held))?;
-            }
-            Play::Pass(gate) => {
+            Play::Tick => self.call_all(&[Request::Tick { processor: 0 }])?,
+            Play::Hold(gate, held) => self.hold(&gate, held)?,
+            Play::Pass(gate, beside) => {
                 if gate.is_entered() {
-                    self.call_all(&OTHERS)?;
+                    self.go_beside(beside)?;
+                    gate.open();
                 }
-                gate.open();
             }
             Play::Read(gate) => {
-                let entered = gate.is_entered();
-                let read = self.machine.counter(&mut self.seat, 3);
-                gate.open();
-                if entered {
+                if gate.is_entered() {
+                    let read = self.counters();
+                    gate.open();
                     return Ok(read);
                 }
             }
+            Play::LoadBeside(gate, image) => {
+                if gate.is_entered() {
+                    self.load(image)?;
+                }
+            }
+            Play::Watch(gate, events) => {
+                if gate.is_entered() && self.sees_another(events)? {
+                    gate.open();
+                }
+            }
         }
-        Ok(self.machine.counter(&mut self.seat, 3))
+        Ok(self.counters())
     }
 }

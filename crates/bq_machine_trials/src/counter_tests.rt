@@ -61,7 +61,7 @@ fn adding(rt: &impl Abort, alloc: Global) -> Script {
 
 /// 4 times 1,000 ticks added 5 each.
 fn counts_once(rt: &impl Abort, alloc: Global, outcome: &AllPlayed) {
-    assert_eq!(rt; outcome.read, 20_000);
+    assert_eq!(rt; outcome.read, [0, 20_000, 0]);
     assert_eq!(rt; outcome.closed.counters[3], 20_000);
     assert!(rt; adds_up(rt, alloc, outcome, 4000, 20_000));
 }
@@ -69,6 +69,6 @@ fn counts_once(rt: &impl Abort, alloc: Global, outcome: &AllPlayed) {
 #[test]
 fn each_add_counts_once(rt: HostRuntime) {
     let script = adding(&rt, rt.alloc());
-    let outcome = run_script(&rt, rt.alloc(), None, None, script);
+    let outcome = run_script(&rt, rt.alloc(), None, script);
     counts_once(&rt, rt.alloc(), &outcome);
 }

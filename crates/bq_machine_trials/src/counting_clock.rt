@@ -1,6 +1,6 @@
 //! A clock whose readings at each processor are 1, 2, 3 and so on, and may be held at a gate.
 
-use crate::gate::Gate;
+use crate::gate::{Gate, Point};
 use bq_machine::Clock;
 use std::alloc::{AllocError, Global};
 use std::sync::Arc;
@@ -14,7 +14,7 @@ pub struct CountingClock {
 }
 
 impl CountingClock {
-    /// Clocks for so many processors. Each reading at processor 0 comes to the gate, if there is one.
+    /// Clocks for so many processors. Each reading at processor 0 comes to the gate, if there is one, before it is taken.
     pub fn new(
         alloc: Global,
         processors: u8,
@@ -34,7 +34,7 @@ impl Clock for CountingClock {
     fn now(&self, processor: u8) -> u64 {
         if processor == 0 {
             if let Some(gate) = &self.gate {
-                gate.pass();
+                gate.pass(Point::Clock);
             }
         }
         match self.readings.get(usize::from(processor)) {

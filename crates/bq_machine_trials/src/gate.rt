@@ -6,9 +6,21 @@ use std::thread::yield_now;
 /// How often a held thread looks whether it may go on.
 const TURNS: u32 = 1_000_000;
 
-/// Holds the first thread that comes once it is armed, until it is opened, or for so many turns.
+/// What a thread is about to do when it comes to a gate: it reads processor 0's clock, or calls processor 0's queue for its mark,
+/// whether the running task gives way, its choice, or one of its tasks.
+#[derive(Clone, Copy, PartialEq, Eq)]
+pub enum Point {
+    Clock,
+    Mark,
+    Preempt,
+    Choice,
+    Take,
+}
+
+/// Holds the first thread that comes to its point once it is armed, until it is opened, or for so many turns.
 #[derive(Drop)]
 pub struct Gate {
+    point: Point,
     armed: AtomicBool,
     entered: AtomicBool,
     opened: AtomicBool,
@@ -16,9 +28,10 @@ pub struct Gate {
 }
 
 impl Gate {
-    /// A gate that is not armed, so it holds nobody.
-    pub fn new() -> Gate {
+    /// A gate at this point. It is not armed, so it holds no thread.
+    pub fn new(point: Point) -> Gate {
         Gate {
+            point,
             armed: AtomicBool::new(false),
             entered: AtomicBool::new(false),
             opened: AtomicBool::new(false),
@@ -31,7 +44,7 @@ impl Gate {
         self.armed.store(true, Ordering::SeqCst);
     }
 
-    /// Who is held may go on.
+    /// The held thread may go on. Only a thread that saw another held here calls this, so no gate is opened before it is entered.
     pub fn open(&self) {
         self.opened.store(true, Ordering::SeqCst);
     }
@@ -47,14 +60,14 @@ impl Gate {
         false
     }
 
-    /// Whether the held thread went on because the gate was opened.
+    /// Whether a thread was held, and went on because the gate was opened.
     pub fn was_opened(&self) -> bool {
         self.seen.load(Ordering::SeqCst)
     }
 
-    /// Comes to the gate.
-    pub fn pass(&self) {
-        if !self.armed.swap(false, Ordering::SeqCst) {
+    /// A thread comes to this point.
+    pub fn pass(&self, point: Point) {
+        if point != self.point || !self.armed.swap(false, Ordering::SeqCst) {
             return;
         }
         self.entered.store(true, Ordering::SeqCst);

@@ -1,13 +1,13 @@
-//! A run queue under CFS whose mark may be held at a gate.
+//! A run queue under CFS whose calls may be held at a gate.
 ghost use Rattle.std.specs.Prelude.{◌≡◌, ◌^◌, []};
 
-use crate::gate::Gate;
+use crate::gate::{Gate, Point};
 use bq_cfs::CfsQueue;
 use bq_disc::{Movable, Node, RunQueue};
 use std::alloc::Global;
 use std::sync::Arc;
 
-/// A run queue under CFS. Whoever has it compute its mark anew may be held at a gate.
+/// A run queue under CFS. A thread that calls it may be held at a gate.
 #[derive(Drop)]
 pub struct HeldQueue {
     pub queue: CfsQueue,
@@ -15,13 +15,20 @@ pub struct HeldQueue {
 }
 
 impl HeldQueue {
-    /// A queue without tasks, whose mark comes to the gate each time, if there is one.
+    /// A queue without tasks, whose calls come to the gate, if there is one.
     pub fn at(gate: Option<Arc<Gate, Global>>) -> HeldQueue
         ensures { (result.queue.members ≡ []) × (result.queue.kept ≡ 2 ^ 32) }
     {
         HeldQueue {
             queue: CfsQueue::empty(),
             gate,
+        }
+    }
+
+    /// A thread comes to this point of its call.
+    fn come(&self, point: Point) {
+        if let Some(gate) = &self.gate {
+            gate.pass(point);
         }
     }
 }
@@ -49,6 +56,7 @@ impl RunQueue for HeldQueue {
     }
 
     fn take(&mut self, id: u16) -> Option<Box<Node>> {
+        self.come(Point::Take);
         self.queue.take(id)
     }
 
@@ -69,17 +77,17 @@ impl RunQueue for HeldQueue {
     }
 
     fn choice(&self, current: Option<&Node>) -> Option<u16> {
+        self.come(Point::Choice);
         self.queue.choice(current)
     }
 
     fn wants_preempt(&self, current: &Node) -> bool {
+        self.come(Point::Preempt);
         self.queue.wants_preempt(current)
     }
 
     fn mark(&mut self, current: Option<&Node>) -> u64 {
-        if let Some(gate) = &self.gate {
-            gate.pass();
-        }
+        self.come(Point::Mark);
         self.queue.mark(current)
     }
 

@@ -18,28 +18,37 @@ fn ticks(outcome: &AllPlayed) -> u64 {
     count
 }
 
-/// Whether the readings of each processor's events are 1, 2, 3 and so on up to this one, in the order of the history.
-fn readings_rise(outcome: &AllPlayed, greatest: u64) -> bool {
+/// The processor at whose clock an event was read, and the reading.
+fn reading(event: &Event) -> Option<(u8, u64)> {
+    match event {
+        Event::EndWake { processor, now }
+        | Event::Drain { processor, now }
+        | Event::Tick { processor, now }
+        | Event::Block { processor, now }
+        | Event::Pull { processor, now, .. } => Some((*processor, *now)),
+        Event::Admit { .. }
+        | Event::Retire { .. }
+        | Event::BeginWake { .. }
+        | Event::Draw
+        | Event::Install { .. } => None,
+    }
+}
+
+/// The last reading of each processor, where its events read 1, 2, 3 and so on in the order of the history.
+fn last_readings(outcome: &AllPlayed) -> Option<[u64; 4]> {
     let mut readings = [0u64; 4];
     for place in 0..outcome.closed.len() {
-        let Some((event, _, _)) = outcome.closed.logged(place) else {
-            return false;
+        let (event, _, _) = outcome.closed.logged(place)?;
+        let Some((processor, now)) = reading(event) else {
+            continue;
         };
-        let (processor, now) = match event {
-            Event::EndWake { processor, now } => (*processor, *now),
-            Event::Drain { processor, now } => (*processor, *now),
-            Event::Tick { processor, now } => (*processor, *now),
-            _ => continue,
-        };
-        let Some(reading) = readings.get_mut(usize::from(processor)) else {
-            return false;
-        };
-        if now != reading.wrapping_add(1) {
-            return false;
+        let last = readings.get_mut(usize::from(processor))?;
+        if now != last.wrapping_add(1) {
+            return None;
         }
-        *reading = now;
+        *last = now;
     }
-    readings.as_slice() == [greatest; 4].as_slice()
+    Some(readings)
 }
 
 /// Four lives at once.
@@ -62,7 +71,7 @@ fn is_whole(rt: &impl Abort, outcome: &AllPlayed) {
     assert_eq!(rt; outcome.closed.len(), 4016);
     assert_eq!(rt; ticks(outcome), 4000);
     assert_eq!(rt; outcome.confirmed(), 4016);
-    assert!(rt; readings_rise(outcome, 1002));
+    assert_eq!(rt; last_readings(outcome), Some([1002; 4]));
 }
 
 /// Once each seat has a receipt of another reply, that one is not confirmed.
@@ -77,7 +86,58 @@ fn bent_receipts_are_not_confirmed(rt: &impl Abort, outcome: &mut AllPlayed) {
 #[test]
 fn four_seats_share_one_history(rt: HostRuntime) {
     let script = lives(&rt, rt.alloc());
-    let mut outcome = run_script(&rt, rt.alloc(), None, None, script);
+    let mut outcome = run_script(&rt, rt.alloc(), None, script);
     is_whole(&rt, &outcome);
     bent_receipts_are_not_confirmed(&rt, &mut outcome);
+}
+
+/// Rounds by four seats at once: each at processor 0, or each at its own, which pulls from the next.
+fn rounds(rt: &impl Abort, alloc: Global, own: bool) -> Script {
+    let mut script = Script::new(alloc);
+    for seat in 0..4u8 {
+        let (processor, from) = if own {
+            (seat, Some(seat.wrapping_add(1) % 4))
+        } else {
+            (0, None)
+        };
+        let round = Play::Rounds {
+            processor,
+            task: u16::from(seat),
+            from,
+            rounds: 1000,
+        };
+        script.at_once.push(round).expect(rt, "memory");
+    }
+    script
+}
+
+/// How many events of the history read a clock.
+fn timed(outcome: &AllPlayed) -> u64 {
+    let mut count = 0u64;
+    for place in 0..outcome.closed.len() {
+        if let Some((event, _, _)) = outcome.closed.logged(place) {
+            count = count.wrapping_add(u64::from(reading(event).is_some()));
+        }
+    }
+    count
+}
+
+/// A clock is read under the lock of its processor: otherwise another seat's event may come between a reading and its own event.
+#[test]
+fn four_seats_at_one_processor_read_its_clock_in_order(rt: HostRuntime) {
+    let script = rounds(&rt, rt.alloc(), false);
+    let outcome = run_script(&rt, rt.alloc(), None, script);
+    assert_eq!(&rt; last_readings(&outcome), Some([timed(&outcome), 0, 0, 0]));
+    assert!(&rt; timed(&outcome) >= 12_000);
+    assert_eq!(&rt; outcome.confirmed(), outcome.closed.len());
+}
+
+/// A pull reads the clock of the processor that pulls, and no other event does while one seat alone calls there.
+#[test]
+fn each_processor_reads_its_own_clock(rt: HostRuntime) {
+    let script = rounds(&rt, rt.alloc(), true);
+    let outcome = run_script(&rt, rt.alloc(), None, script);
+    assert!(&rt; last_readings(&outcome).is_some());
+    assert!(&rt; timed(&outcome) >= 16_000);
+    assert_eq!(&rt; outcome.confirmed(), outcome.closed.len());
 }

@@ -1,70 +1,124 @@
-//! A call is held in its clock reading, or in its queue's mark, until another seat has its answers.
+//! A call is held in its clock reading, or where it calls its queue, until another seat has its answers.
 
-use crate::gate::Gate;
-use crate::play::{Held, Play, Script};
-use crate::script::run_script;
+use crate::gate::{Gate, Point};
+use crate::images::{ALWAYS, SUMS, ZERO};
+use crate::play::{Beside, Held, Play, Script};
+use crate::script::{AllPlayed, run_script};
 use std::alloc::Global;
 use std::process::Abort;
 use std::sync::{Arc, Wait};
 use std::thread::Threads;
 
-/// Whether another seat had its answers to seven calls at other processors while this call was held in its clock reading, or
-/// in the mark of its queue.
-fn is_answered_while_held<R: Abort + Threads + Wait + Sync>(
-    rt: &R,
-    alloc: Global,
-    held: Held,
-    in_clock: bool,
-) -> bool {
-    let gate = Arc::new(alloc, Gate::new()).expect(rt, "memory");
-    let place = again(rt, &gate);
-    let (at_clock, at_queue) = if in_clock {
-        (Some(place), None)
-    } else {
-        (None, Some(place))
-    };
-    let mut script = Script::new(alloc);
-    let hold = Play::Hold(again(rt, &gate), held);
-    script.at_once.push(hold).expect(rt, "memory");
-    let pass = Play::Pass(again(rt, &gate));
-    script.at_once.push(pass).expect(rt, "memory");
-    let outcome = run_script(rt, alloc, at_clock, at_queue, script);
-    // five events of the one seat, eight of the other (a wake is two)
-    gate.was_opened() && outcome.closed.len() == 13 && outcome.confirmed() == 13
-}
+/// A call that is held, where, and what another seat is answered meanwhile.
+///
+/// A reading is held under the lock of processor 0 alone, and that of a pull under none. A call of the queue is held under the
+/// locks that its event needs; the journal's is not among them, before a policy has run and after (the queue gives the task that
+/// comes to run once the policy has answered). A block has the lobby, too.
+const HOLDS: [(Held, Point, Beside); 18] = [
+    (Held::Tick, Point::Clock, Beside::Inbox),
+    (Held::Drain, Point::Clock, Beside::Inbox),
+    (Held::Block, Point::Clock, Beside::Inbox),
+    (Held::Wake, Point::Clock, Beside::Inbox),
+    (Held::Pull, Point::Clock, Beside::Ticks),
+    (Held::Tick, Point::Mark, Beside::Inbox),
+    (Held::Drain, Point::Mark, Beside::Life),
+    (Held::Block, Point::Mark, Beside::Queues),
+    (Held::Pull, Point::Mark, Beside::Life),
+    (Held::Tick, Point::Preempt, Beside::Inbox),
+    (Held::Drain, Point::Preempt, Beside::Life),
+    (Held::Tick, Point::Choice, Beside::Inbox),
+    (Held::Drain, Point::Choice, Beside::Life),
+    (Held::Block, Point::Choice, Beside::Queues),
+    (Held::Tick, Point::Take, Beside::Inbox),
+    (Held::Drain, Point::Take, Beside::Life),
+    (Held::Block, Point::Take, Beside::Queues),
+    (Held::Give, Point::Take, Beside::Life),
+];
 
 /// The same gate once more.
 fn again(rt: &impl Abort, gate: &Arc<Gate, Global>) -> Arc<Gate, Global> {
     Arc::try_clone(gate).expect(rt, "memory")
 }
 
-/// A call that is held, and whether in its clock reading.
-const HOLDS: [(Held, bool); 6] = [
-    (Held::Tick, true),
-    (Held::Drain, true),
-    (Held::Block, true),
-    (Held::Tick, false),
-    (Held::Drain, false),
-    (Held::Pull, false),
-];
+/// A call is held at a gate, while a policy stands at each processor's hook preempt.
+fn holding(
+    rt: &impl Abort,
+    alloc: Global,
+    gate: &Arc<Gate, Global>,
+    held: Held,
+    policy: &'static [u8],
+) -> Script {
+    let mut script = Script::new(alloc);
+    script.before.push(Play::Load(policy)).expect(rt, "memory");
+    let hold = Play::Hold(again(rt, gate), held);
+    script.at_once.push(hold).expect(rt, "memory");
+    script
+}
 
-#[test]
-fn calls_go_on_beside_a_call_that_is_held(rt: HostRuntime) {
-    for (held, in_clock) in HOLDS {
-        assert!(&rt; is_answered_while_held(&rt, rt.alloc(), held, in_clock));
-    }
+/// Whether a call was held at the gate, and another seat's play opened it; and what came of the script, to which that play is added.
+fn run_beside<R: Abort + Threads + Wait + Sync>(
+    rt: &R,
+    alloc: Global,
+    gate: &Arc<Gate, Global>,
+    mut script: Script,
+    play: Play,
+) -> (bool, AllPlayed) {
+    script.at_once.push(play).expect(rt, "memory");
+    let outcome = run_script(rt, alloc, Some(again(rt, gate)), script);
+    (gate.was_opened(), outcome)
+}
+
+/// Whether another seat had its answers while this call was held.
+fn is_answered_while_held<R: Abort + Threads + Wait + Sync>(
+    rt: &R,
+    alloc: Global,
+    held: Held,
+    at: Point,
+    beside: Beside,
+) -> bool {
+    let gate = Arc::new(alloc, Gate::new(at)).expect(rt, "memory");
+    let script = holding(rt, alloc, &gate, held, &ALWAYS);
+    let pass = Play::Pass(again(rt, &gate), beside);
+    let (opened, outcome) = run_beside(rt, alloc, &gate, script, pass);
+    opened && outcome.confirmed() == outcome.closed.len()
 }
 
 #[test]
-fn a_counter_is_read_while_a_call_is_held(rt: HostRuntime) {
-    let gate = Arc::new(rt.alloc(), Gate::new()).expect(&rt, "memory");
-    let mut script = Script::new(rt.alloc());
-    let hold = Play::Hold(again(&rt, &gate), Held::Tick);
-    script.at_once.push(hold).expect(&rt, "memory");
+fn calls_go_on_beside_a_call_that_is_held(rt: HostRuntime) {
+    for (held, at, beside) in HOLDS {
+        assert!(&rt; is_answered_while_held(&rt, rt.alloc(), held, at, beside));
+    }
+}
+
+/// Three ticks of processor 1 and the second drain of processor 0 have asked the policy before the call is held, and then the
+/// tick that was held does.
+#[test]
+fn counters_are_read_while_a_call_is_held(rt: HostRuntime) {
+    let gate = Arc::new(rt.alloc(), Gate::new(Point::Clock)).expect(&rt, "memory");
+    let mut script = holding(&rt, rt.alloc(), &gate, Held::Tick, &SUMS);
+    let life = Play::Life {
+        processor: 1,
+        mask: 2,
+        ticks: 3,
+    };
+    script.before.push(life).expect(&rt, "memory");
     let read = Play::Read(again(&rt, &gate));
-    script.at_once.push(read).expect(&rt, "memory");
-    let place = again(&rt, &gate);
-    let outcome = run_script(&rt, rt.alloc(), Some(place), None, script);
-    assert!(&rt; gate.was_opened());
-    assert_eq!(&rt; outcome.closed.counters[3], 0);
+    let (opened, outcome) = run_beside(&rt, rt.alloc(), &gate, script, read);
+    assert!(&rt; opened);
+    assert_eq!(&rt; outcome.read, [44, 20, 28]);
+    let closed = &outcome.closed.counters;
+    assert_eq!(&rt; (closed[0], closed[3], closed[63]), (55, 25, 35));
+}
+
+/// The first load has five events, and the seat whose call is held has nine before it: a load draws its number before it waits
+/// for the processor whose lock is held.
+#[test]
+fn a_number_is_drawn_while_a_processor_is_held(rt: HostRuntime) {
+    let gate = Arc::new(rt.alloc(), Gate::new(Point::Mark)).expect(&rt, "memory");
+    let mut script = holding(&rt, rt.alloc(), &gate, Held::Tick, &ALWAYS);
+    let load = Play::LoadBeside(again(&rt, &gate), &ZERO);
+    script.at_once.push(load).expect(&rt, "memory");
+    let watch = Play::Watch(again(&rt, &gate), 14);
+    let (opened, _) = run_beside(&rt, rt.alloc(), &gate, script, watch);
+    assert!(&rt; opened);
 }

@@ -7,6 +7,29 @@ pub const ZERO: [u8; 28] = [
     0x95, 0, 0, 0, 0, 0, 0, 0, // exit
 ];
 
+/// Preempt: answers 1.
+pub const ALWAYS: [u8; 28] = [
+    0x42, 0x51, 0x50, 0x49, 1, 1, 0, 0, 2, 0, 0, 0, //
+    0xb7, 0, 0, 0, 1, 0, 0, 0, // mov64 r0, 1
+    0x95, 0, 0, 0, 0, 0, 0, 0, // exit
+];
+
+/// Preempt: adds 11 to counter 0, 5 to counter 3 and 7 to counter 63, and answers 0.
+pub const SUMS: [u8; 100] = [
+    0x42, 0x51, 0x50, 0x49, 1, 1, 0, 0, 11, 0, 0, 0, //
+    0xb7, 1, 0, 0, 0, 0, 0, 0, // mov64 r1, 0
+    0xb7, 2, 0, 0, 11, 0, 0, 0, // mov64 r2, 11
+    0x85, 0, 0, 0, 100, 0, 0, 0, // call 100
+    0xb7, 1, 0, 0, 3, 0, 0, 0, // mov64 r1, 3
+    0xb7, 2, 0, 0, 5, 0, 0, 0, // mov64 r2, 5
+    0x85, 0, 0, 0, 100, 0, 0, 0, // call 100
+    0xb7, 1, 0, 0, 63, 0, 0, 0, // mov64 r1, 63
+    0xb7, 2, 0, 0, 7, 0, 0, 0, // mov64 r2, 7
+    0x85, 0, 0, 0, 100, 0, 0, 0, // call 100
+    0xb7, 0, 0, 0, 0, 0, 0, 0, // mov64 r0, 0
+    0x95, 0, 0, 0, 0, 0, 0, 0, // exit
+];
+
 /// Preempt: adds 5 to counter 3, and answers 0.
 pub const ADDS: [u8; 52] = [
     0x42, 0x51, 0x50, 0x49, 1, 1, 0, 0, 5, 0, 0, 0, //

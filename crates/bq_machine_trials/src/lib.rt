@@ -1,6 +1,7 @@
 //! Tests of the locked machine, by one thread and by many: the rows of one seat, one history of several, calls that are held,
-//! loads at once, counters, refused memory, and long races that are replayed event by event. All of it is for the tests; the
-//! library itself is empty.
+//! loads at once, counters, and long races that are replayed event by event. All of it is for the tests; the library itself is
+//! empty. No growth is refused here while threads run, since no test of the kit can refuse one: that a call whose growth is
+//! refused records nothing is proved.
 #![tactic(auto)]
 
 #[cfg(test)]

@@ -1,6 +1,6 @@
-//! Two loads at once, of which the one that drew the greater number stays.
+//! Two loads at once, one of a policy with a map: the one that drew the greater number stays.
 
-use crate::images::{ADDS, ZERO};
+use crate::images::{COUNTING, ZERO};
 use crate::play::{Play, Script};
 use crate::script::{AllPlayed, run_script};
 use bq_hooks::Hook;
@@ -42,8 +42,11 @@ fn is_newer_everywhere(rt: &impl Abort, outcome: &AllPlayed) {
 fn two_loads_at_once_leave_the_newer_policy(rt: HostRuntime) {
     let mut script = Script::new(rt.alloc());
     script.at_once.push(Play::Load(&ZERO)).expect(&rt, "memory");
-    script.at_once.push(Play::Load(&ADDS)).expect(&rt, "memory");
-    let outcome = run_script(&rt, rt.alloc(), None, None, script);
+    script
+        .at_once
+        .push(Play::Load(&COUNTING))
+        .expect(&rt, "memory");
+    let outcome = run_script(&rt, rt.alloc(), None, script);
     assert_eq!(&rt; counted(&rt, &outcome), (2, 4, 4));
     is_newer_everywhere(&rt, &outcome);
     assert_eq!(&rt; outcome.confirmed(), 10);

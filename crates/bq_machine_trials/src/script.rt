@@ -23,20 +23,20 @@ pub struct Job<N: Naming + Counting> {
     pub play: Play,
 }
 
-/// A seat with the receipts that it got, and what was read of a counter.
+/// A seat with the receipts that it got, and counters 0, 3 and 63 as it read them.
 #[derive(Drop)]
 pub struct Played<N: Naming + Counting> {
     pub seat: Seat<N>,
     pub receipts: Vec<Receipt<Record>>,
-    pub read: u64,
+    pub read: [u64; 3],
 }
 
-/// What came of all plays: the machine's end, the receipts of each play, and what was read last of counter 3.
+/// What came of all plays: the machine's end, the receipts of each play, and what the last play read of counters 0, 3 and 63.
 #[derive(Drop)]
 pub struct AllPlayed {
     pub closed: Closed<HeldQueue, 4>,
     pub receipts: Vec<Vec<Receipt<Record>>>,
-    pub read: u64,
+    pub read: [u64; 3],
 }
 
 impl AllPlayed {
@@ -78,12 +78,12 @@ fn work<N: Naming + Counting, R: Wait>(
     })
 }
 
-/// What was collected so far: seats that have come back, receipts, and what was read last of a counter.
+/// What was collected so far: seats that have come back, receipts, and what was read last of the counters.
 #[derive(Drop)]
 struct Collected<N: Naming + Counting> {
     seats: Vec<Seat<N>>,
     receipts: Vec<Vec<Receipt<Record>>>,
-    read: u64,
+    read: [u64; 3],
 }
 
 impl<N: Naming + Counting> Collected<N> {
@@ -163,7 +163,7 @@ fn play_all<N: Naming + Counting + Send + Sync, R: Abort + Threads + Wait + Sync
     let mut collected = Collected {
         seats,
         receipts: Vec::new(alloc),
-        read: 0,
+        read: [0; 3],
     };
     collected.in_turn(rt, alloc, &machine, before);
     let jobs = jobs(rt, alloc, &mut collected.seats, at_once);
@@ -189,7 +189,7 @@ fn play_all<N: Naming + Counting + Send + Sync, R: Abort + Threads + Wait + Sync
     }
 }
 
-/// Queues without tasks. The mark of the first comes to the gate, if there is one.
+/// Queues without tasks. Calls of the first come to the gate, if there is one.
 fn queues(
     alloc: Global,
     count: usize,
@@ -206,16 +206,20 @@ fn queues(
     Ok(queues)
 }
 
-/// What comes of a script on a machine of four processors, where processor 0's clock, or its queue's mark, comes to a gate.
+/// What comes of a script on a machine of four processors, where processor 0's clock and the calls of its queue come to the gate, if
+/// there is one.
 pub fn run_script<R: Abort + Threads + Wait + Sync>(
     rt: &R,
     alloc: Global,
-    at_clock: Option<Arc<Gate, Global>>,
-    at_queue: Option<Arc<Gate, Global>>,
+    gate: Option<Arc<Gate, Global>>,
     script: Script,
 ) -> AllPlayed {
+    let at_clock = match &gate {
+        Some(gate) => Some(Arc::try_clone(gate).expect(rt, "memory")),
+        None => None,
+    };
     let clock = CountingClock::new(alloc, 4, at_clock).expect(rt, "memory");
-    let Ok(queues) = queues(alloc, 4, at_queue) else {
+    let Ok(queues) = queues(alloc, 4, gate) else {
         panic!(rt; "memory")
     };
     let parts = Parts { clock, queues };
