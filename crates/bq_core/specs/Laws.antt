@@ -37,7 +37,7 @@ StepKeepsOrder = (d : Discipline) → StepKeeps (policies d)
 abbrev pub under_any_answers : Discipline → Regime
 under_any_answers d = record { discipline = d; Answers = λ policy context maps now processor r0 maps' steps calls. Unit {0} }
 
--- so it does whatever the policies answer, and indeed in every setting (proofs/Order.antt), which a contract cannot say: a
+-- so it does whatever the policies answer, and indeed in every setting (proofs/OrderLemmas.antt), which a contract cannot say: a
 -- setting is of a higher type
 abbrev pub StepKeepsOrderAnyhow : Type 0
 StepKeepsOrderAnyhow = (d : Discipline) → StepKeeps (under_any_answers d)

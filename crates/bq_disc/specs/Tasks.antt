@@ -4,7 +4,7 @@ use Rattle.std.specs.Option.{option_map}
 use Rattle.std.specs.Coded.{Coded, code_by, coded×, coded_ℕ, coded_ℤ, coded_option}
 
 -- mask is the set of processors that it may use, by bits; slice the time that it asks for; v its virtual runtime;
--- rel how far from the mark it was when it last left; prev the processor that it last left
+-- rel how far from the mark it was when it last left; prev the processor at which it last blocked
 pub record Task : Type 0 where
   pub id : ℕ
   pub weight : ℕ

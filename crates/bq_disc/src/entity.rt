@@ -113,7 +113,7 @@ impl Entity {
         self.rel
     }
 
-    /// The processor that it last left; None where it has left none.
+    /// The processor at which it last blocked; None if it has not blocked yet.
     pub fn prev(&self) -> Option<u8>
         ensures { result ≡ self.now.prev }
     {
