@@ -5,7 +5,7 @@ use lib.ListN.{get_elem?}
 use Rattle.std.proofs.lemmas.Bool.Decides.{eqb_tells}
 use Rattle.bq_history.specs.Whole.{count, total, Each}
 use Rattle.bq_history.specs.declared.shared_state.Receipt.{Receipt}
-use Rattle.bq_history.specs.History.{IsRising, Stands, SharesOutAmong, EachOnce, times_at, AreReceiptsOf}
+use Rattle.bq_history.specs.History.{PlacesRise, Stands, SharesOutAmong, EachOnce, times_at, AreReceiptsOf}
 use Rattle.bq_history.proofs.RecordingLemmas.{each_map}
 use Rattle.bq_history.proofs.SharingLemmas.{shared_total, receipts_from}
 
@@ -143,7 +143,7 @@ module _ {R : Type 0} where
   -- callers of all numbers, each once, have the receipts of the history
   pub are_receipts : (log : List R) (n : ℕ) (callers : List (ℕ × List (Receipt R))) → SharesOutAmong log n callers → EachOnce n callers → AreReceiptsOf log callers
   are_receipts log n callers shares all = record {
-    stand = each_map (λ (c : ℕ × List (Receipt R)). get_elem? shares.0 c.0 ≡ some c.1) (λ (c : ℕ × List (Receipt R)). Each (Stands log) c.1 × IsRising 0 c.1) callers
+    stand = each_map (λ (c : ℕ × List (Receipt R)). get_elem? shares.0 c.0 ≡ some c.1) (λ (c : ℕ × List (Receipt R)). Each (Stands log) c.1 × PlacesRise 0 c.1) callers
         (λ c at. let own = shares.2.1 c.0 c.1 at in (own.1, own.0)) shares.3;
     once = λ p lt.
         sym (total_same (λ (c : ℕ × List (Receipt R)). total (λ (x : Receipt R). cond {A = ℕ} (eqb x.place p) 1 0) c.1) (λ (c : ℕ × List (Receipt R)). times_at p c.1) callers (λ c. total_count (λ (x : Receipt R). eqb x.place p) c.1))

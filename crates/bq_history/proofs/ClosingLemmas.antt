@@ -1,7 +1,7 @@
 -- What is known of the whole where one holder has the parts, the journal and the callers.
 use Rattle.std.proofs.Common.{◌≡◌, ℕ, List, [], ◌∷◌, ◌≤◌, ◌++◌, Bool, map, refl, sym, ap, subst, ◌∙◌, arith}
 use Rattle.bq_history.specs.Whole.{count, Each, Has}
-use Rattle.bq_history.specs.History.{Leaves, SharesOut, SharesOutAmong}
+use Rattle.bq_history.specs.History.{IsHistory, SharesOut, SharesOutAmong}
 use Rattle.bq_history.specs.Items.{part_item, journal_item, caller_of, parts_of, callers_of, IsGood, fits_item, same_item}
 use Rattle.bq_history.specs.declared.shared_state.Receipt.{Receipt}
 use Rattle.bq_history.specs.declared.shared_state.SharedState.{SharedState}
@@ -67,7 +67,7 @@ module _ {R P D W : Type 0} (step : W → R → W → Type 0) (kept : W → D) (
 
   -- the history, the world that it leaves, that no part is there twice, and the receipts
   abbrev pub Known : W → ℕ → List P → List R → D → List (ℕ × List (Receipt R)) → Type 0
-  Known opening n ps log d cs = ((w : W) × Leaves step opening log w × (kept w ≡ d) × Each (fits w) ps) × ((p : P) → count (same p) ps ≤ 1) × SharesOutAmong log n cs
+  Known opening n ps log d cs = ((w : W) × IsHistory step opening log w × (kept w ≡ d) × Each (fits w) ps) × ((p : P) → count (same p) ps ≤ 1) × SharesOutAmong log n cs
 
   knows : (opening : W) (n : ℕ) (ps : List P) (log : List R) (d : D) (cs : List (ℕ × List (Receipt R))) → Has (same_item same) (IsGood step opening n) (fits_item kept fits) ((map part_item ps ++ map caller_of cs) ++ journal_item log d ∷ []) → Known opening n ps log d cs
   knows opening n ps log d cs e =
@@ -75,7 +75,7 @@ module _ {R P D W : Type 0} (step : W → R → W → Type 0) (kept : W → D) (
       let first : Each (fits_item kept fits t) (map part_item ps ++ map caller_of cs) = each_front (fits_item kept fits t) (map part_item ps ++ map caller_of cs) (journal_item log d ∷ []) e.3 in
       let j = each_back (fits_item kept fits t) (map part_item ps ++ map caller_of cs) (journal_item log d ∷ []) e.3 in
       let same_log : t.log ≡ log = sym j.0.0 in (
-        (t.world, subst (λ (k : List R). Leaves step opening k t.world) same_log e.1.0, sym j.0.1, parts_of_world t ps (each_front (fits_item kept fits t) (map part_item ps) (map caller_of cs) first)),
+        (t.world, subst (λ (k : List R). IsHistory step opening k t.world) same_log e.1.0, sym j.0.1, parts_of_world t ps (each_front (fits_item kept fits t) (map part_item ps) (map caller_of cs) first)),
         (λ p.
             let l = e.2 (Part p) in
             let a = count-append (same_item {R = R} {D = D} same (Part p)) (map part_item ps ++ map caller_of cs) (journal_item log d ∷ []) in

@@ -3,7 +3,7 @@ use Rattle.std.proofs.Common.{◌≡◌, ◌≢◌, ℕ, zero, suc, ◌+◌, ◌
 use mathlib.Core.Option.{some, some-ne-none, some-injective}
 use lib.ListN.{get_elem?}
 use Rattle.atomic_table.proofs.Lists.{at_set, at_snoc, set_else}
-use Rattle.bq_history.specs.Whole.{total, count, Each, first_of, others_of, Keeps, Has, Changes}
+use Rattle.bq_history.specs.Whole.{total, count, Each, first_of, others_of, Keeps, Has, MayExchange}
 
 module _ {A : Type 0} (f : A → ℕ) where
   -- an item in place of another changes the total by their difference
@@ -133,17 +133,17 @@ module _ {E T : Type 0} (same : E → E → Bool) (good : T → Type 0) (fits : 
   )
 
   -- one holder changes its parts, together with the whole
-  pub changes : (views : List (List E)) (id : ℕ) (v w : List E) → Keeps same good fits views → get_elem? views id ≡ some v → Changes same good fits v w → Keeps same good fits (set views id w)
+  pub changes : (views : List (List E)) (id : ℕ) (v w : List E) → Keeps same good fits views → get_elem? views id ≡ some v → MayExchange same good fits v w → Keeps same good fits (set views id w)
   changes views id v w k at c =
-      let s = c.2 k.0 k.1 (k.3 id v at) in (
+      let s = c.exchanges k.0 k.1 (k.3 id v at) in (
         s.0,
-        s.1,
-        (λ e. let a = total_set (count (same e)) views id v w at in let b = c.1 e in let d = k.2 e in omega arith),
+        s.1.is_good,
+        (λ e. let a = total_set (count (same e)) views id v w at in let b = c.as_many e in let d = k.2 e in omega arith),
         λ by x e. ⊎_elim
-            (λ (y : (by ≡ id) × (w ≡ x)). subst (Each (fits s.0)) y.1 s.2)
+            (λ (y : (by ≡ id) × (w ≡ x)). subst (Each (fits s.0)) y.1 s.1.has)
             (λ (y : (by ≢ id) × (get_elem? views by ≡ some x)).
-            each_moves c.0 k.0 s.0 (λ i. count (same i) x) x (λ i. omega arith)
-            (λ i some_there. s.3 i (let t = total_two (count (same i)) views [] id by v x refl y.0 at y.1 in let d = k.2 i in omega arith))
+            each_moves c.itself k.0 s.0 (λ i. count (same i) x) x (λ i. omega arith)
+            (λ i some_there. s.1.elsewhere i (let t = total_two (count (same i)) views [] id by v x refl y.0 at y.1 in let d = k.2 i in omega arith))
             (k.3 by x y.1))
             (at_set views id by w x e),
       )

@@ -6,7 +6,7 @@ use native.Mathlib.Decide.{ℕ_discrete}
 use lib.ListN.{get_elem?}
 use Rattle.bq_history.specs.Whole.{count, Each, Has}
 use Rattle.bq_history.proofs.MoveLemmas.{count-append, each-append}
-use Rattle.bq_history.specs.History.{IsRising, Stands, SharesOut}
+use Rattle.bq_history.specs.History.{PlacesRise, Stands, SharesOut}
 use Rattle.bq_history.specs.Items.{part_item, same_item, callers_from, first_items, IsGood, fits_item}
 use Rattle.bq_history.specs.declared.shared_state.Receipt.{Receipt}
 use Rattle.bq_history.specs.declared.shared_state.SharedState.{SharedState}
@@ -86,7 +86,7 @@ module _ {R P D W : Type 0} (step : W → R → W → Type 0) (kept : W → D) (
   nothing_shared n = (
     (λ p. 0),
     (λ s l e.
-        let P' : List (Receipt R) → Type 0 = λ k. IsRising 0 k × Each (Stands []) k × Each (λ (x : Receipt R). 0 ≡ s) k in
+        let P' : List (Receipt R) → Type 0 = λ k. PlacesRise 0 k × Each (Stands []) k × Each (λ (x : Receipt R). 0 ≡ s) k in
         subst P' (at_replicate n s [] l e) (tt, tt, tt)),
     λ p b. absurd (omega arith),
   )

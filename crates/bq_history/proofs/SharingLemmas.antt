@@ -7,7 +7,7 @@ use Rattle.std.proofs.lemmas.Bool.Decides.{eqb_tells}
 use Rattle.std.proofs.lemmas.Option.{none-some, same_Some}
 use Rattle.bq_history.specs.Whole.{total, Each}
 use Rattle.bq_history.specs.declared.shared_state.Receipt.{Receipt}
-use Rattle.bq_history.specs.History.{IsRising, HasPlace, Stands, SharesOut}
+use Rattle.bq_history.specs.History.{PlacesRise, HasReceiptFor, Stands, SharesOut}
 use Rattle.bq_history.proofs.RecordingLemmas.{at_below}
 
 abbrev receipt : {R : Type 0} → ℕ → R → Receipt R
@@ -31,7 +31,7 @@ module _ {R : Type 0} (f : Receipt R → ℕ) (owner : ℕ → ℕ) where
   abbrev StandsFrom : ℕ → List R → Receipt R → Type 0
   StandsFrom n rest x = (k : ℕ) × (x.place ≡ n + k) × (slice_get rest k ≡ Some x.entry)
 
-  rising_has : (m p : ℕ) (l : List (Receipt R)) → IsRising m l → HasPlace p l → m ≤ p
+  rising_has : (m p : ℕ) (l : List (Receipt R)) → PlacesRise m l → HasReceiptFor p l → m ≤ p
   rising_has m p [] rising has = absurd has
   rising_has m p (x ∷ xs) (le, rest) (inl e) = omega arith
   rising_has m p (x ∷ xs) (le, rest) (inr has) = let h = rising_has (x.place + 1) p xs rest has in omega arith
@@ -40,7 +40,7 @@ module _ {R : Type 0} (f : Receipt R → ℕ) (owner : ℕ → ℕ) where
   shift_at n r rs x le (zero, e, at) = absurd (omega arith)
   shift_at n r rs x le (suc k, e, at) = (k, omega arith, at)
 
-  shift : (n m : ℕ) (r : R) (rs : List R) (l : List (Receipt R)) → n + 1 ≤ m → IsRising m l → Each (StandsFrom n (r ∷ rs)) l → Each (StandsFrom (n + 1) rs) l
+  shift : (n m : ℕ) (r : R) (rs : List R) (l : List (Receipt R)) → n + 1 ≤ m → PlacesRise m l → Each (StandsFrom n (r ∷ rs)) l → Each (StandsFrom (n + 1) rs) l
   shift n m r rs [] le rising each = tt
   shift n m r rs (x ∷ xs) le (low, rest) (first, others) = (shift_at n r rs x (omega arith) first, shift n (x.place + 1) r rs xs (omega arith) rest others)
 
@@ -48,20 +48,20 @@ module _ {R : Type 0} (f : Receipt R → ℕ) (owner : ℕ → ℕ) where
   first_entry n r rs x e (zero, is, at) = same_Some r x.entry at
   first_entry n r rs x e (suc k, is, at) = absurd (omega arith)
 
-  at_test : (s n : ℕ) (r : R) (rs : List R) (l : List (Receipt R)) (b : Bool) → ((b ≡ true) × (owner n ≡ s)) ⊎ ((b ≡ false) × (owner n ≢ s)) → IsRising n l → Each (StandsFrom n (r ∷ rs)) l → Each (λ (x : Receipt R). owner x.place ≡ s) l → ((p : ℕ) → n ≤ p → p < n + length (r ∷ rs) → owner p ≡ s → HasPlace p l) → ((m : List (Receipt R)) → IsRising (n + 1) m → Each (StandsFrom (n + 1) rs) m → Each (λ (x : Receipt R). owner x.place ≡ s) m → ((p : ℕ) → n + 1 ≤ p → p < n + 1 + length rs → owner p ≡ s → HasPlace p m) → told m ≡ weigh s (n + 1) rs) → told l ≡ cond {A = ℕ} b (f (receipt n r)) 0 + weigh s (n + 1) rs
+  at_test : (s n : ℕ) (r : R) (rs : List R) (l : List (Receipt R)) (b : Bool) → ((b ≡ true) × (owner n ≡ s)) ⊎ ((b ≡ false) × (owner n ≢ s)) → PlacesRise n l → Each (StandsFrom n (r ∷ rs)) l → Each (λ (x : Receipt R). owner x.place ≡ s) l → ((p : ℕ) → n ≤ p → p < n + length (r ∷ rs) → owner p ≡ s → HasReceiptFor p l) → ((m : List (Receipt R)) → PlacesRise (n + 1) m → Each (StandsFrom (n + 1) rs) m → Each (λ (x : Receipt R). owner x.place ≡ s) m → ((p : ℕ) → n + 1 ≤ p → p < n + 1 + length rs → owner p ≡ s → HasReceiptFor p m) → told m ≡ weigh s (n + 1) rs) → told l ≡ cond {A = ℕ} b (f (receipt n r)) 0 + weigh s (n + 1) rs
   at_test s n r rs [] b (inl (e, same)) rising stands owned has ih = absurd (has n (omega arith) (omega arith) same)
   at_test s n r rs (x ∷ xs) b (inl (e, same)) rising stands owned has ih =
       let place : x.place ≡ n = here (has n (omega arith) (omega arith) same) in
       let value : f (receipt n r) ≡ f x = ap (λ (k : ℕ). f (receipt k r)) (sym place) ∙ ap (λ (e : R). f (receipt x.place e)) (first_entry n r rs x place stands.0) in
-      let later : IsRising (n + 1) xs = rw place at rising.1 in
+      let later : PlacesRise (n + 1) xs = rw place at rising.1 in
       let rest = ih xs later (shift n (n + 1) r rs xs (omega arith) later stands.1) owned.1 (λ p low high is. after p low (has p (omega arith) (omega arith) is) place) in
       rw e (omega (arith, value, rest))
     where
-      here : HasPlace n (x ∷ xs) → x.place ≡ n
+      here : HasReceiptFor n (x ∷ xs) → x.place ≡ n
       here (inl p) = p
       here (inr p) = absurd (let h = rising_has (x.place + 1) n xs rising.1 p in let low = rising.0 in omega arith)
 
-      after : (p : ℕ) → n + 1 ≤ p → HasPlace p (x ∷ xs) → x.place ≡ n → HasPlace p xs
+      after : (p : ℕ) → n + 1 ≤ p → HasReceiptFor p (x ∷ xs) → x.place ≡ n → HasReceiptFor p xs
       after p low (inl q) place = absurd (omega arith)
       after p low (inr q) place = q
   at_test s n r rs l b (inr (e, other)) rising stands owned has ih =
@@ -69,14 +69,14 @@ module _ {R : Type 0} (f : Receipt R → ℕ) (owner : ℕ → ℕ) where
       let rest = ih l later (shift n (n + 1) r rs l (omega arith) later stands) owned (λ p low high is. has p (omega arith) (omega arith) is) in
       rw e (omega (arith, rest))
     where
-      past : (l : List (Receipt R)) → IsRising n l → Each (λ (x : Receipt R). owner x.place ≡ s) l → IsRising (n + 1) l
+      past : (l : List (Receipt R)) → PlacesRise n l → Each (λ (x : Receipt R). owner x.place ≡ s) l → PlacesRise (n + 1) l
       past [] rising owned = tt
       past (x ∷ xs) rising owned =
           let apart : x.place ≢ n = λ same. other (rw same at owned.0) in
           let low = rising.0 in
           (omega (arith, apart), rising.1)
 
-  list_weighs : (s n : ℕ) (rest : List R) (l : List (Receipt R)) → IsRising n l → Each (StandsFrom n rest) l → Each (λ (x : Receipt R). owner x.place ≡ s) l → ((p : ℕ) → n ≤ p → p < n + length rest → owner p ≡ s → HasPlace p l) → told l ≡ weigh s n rest
+  list_weighs : (s n : ℕ) (rest : List R) (l : List (Receipt R)) → PlacesRise n l → Each (StandsFrom n rest) l → Each (λ (x : Receipt R). owner x.place ≡ s) l → ((p : ℕ) → n ≤ p → p < n + length rest → owner p ≡ s → HasReceiptFor p l) → told l ≡ weigh s n rest
   list_weighs s n [] [] rising stands owned has = refl
   list_weighs s n [] (x ∷ xs) rising stands owned has = absurd (none-some x.entry (stands.0.2))
   list_weighs s n (r ∷ rs) l rising stands owned has = at_test s n r rs l _ (eqb_tells (owner n) s) rising stands owned has (list_weighs s (n + 1) rs)
@@ -146,5 +146,5 @@ shared_total f log lists (owner, own, each) =
     in
     by_list ∙ weighs_all f owner (length lists) 0 log (λ p low high. let m = each p (omega arith) in at_below lists (owner p) m.0 m.1)
   where
-    owned_there : {R : Type 0} (f : Receipt R → ℕ) (owner : ℕ → ℕ) (lists : List (List (Receipt R))) (j : ℕ) (l : List (Receipt R)) → get_elem? lists j ≡ some l → (p : ℕ) (m : List (Receipt R)) → get_elem? lists j ≡ some m → HasPlace p m → HasPlace p l
-    owned_there f owner lists j l at p m at' has = subst (λ (x : List (Receipt _)). HasPlace p x) (some-injective m l (sym at' ∙ at)) has
+    owned_there : {R : Type 0} (f : Receipt R → ℕ) (owner : ℕ → ℕ) (lists : List (List (Receipt R))) (j : ℕ) (l : List (Receipt R)) → get_elem? lists j ≡ some l → (p : ℕ) (m : List (Receipt R)) → get_elem? lists j ≡ some m → HasReceiptFor p m → HasReceiptFor p l
+    owned_there f owner lists j l at p m at' has = subst (λ (x : List (Receipt _)). HasReceiptFor p x) (some-injective m l (sym at' ∙ at)) has

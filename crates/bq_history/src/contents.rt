@@ -6,7 +6,7 @@ ghost use Rattle.bq_history.specs.Places.{times};
 use crate::order::{Placed, in_order};
 
 /// What has content apart from its place.
-pub trait Holds<C> {
+pub trait HasContent<C> {
     ghost content: { Self → C };
 
     /// The content.
@@ -17,7 +17,7 @@ pub trait Holds<C> {
 /// The contents of items in the order of their places, where each place is below their number and no place is that of two.
 /// So they are any list that has each item's content at the item's place. They come into a vector that is empty and has room
 /// for them; no memory is taken.
-pub fn contents_in_order<C: Drop, T: Placed + Holds<C> + Drop>(
+pub fn contents_in_order<C: Drop, T: Placed + HasContent<C> + Drop>(
     items: Vec<T>,
     room: Vec<C>,
 ) -> Vec<C>
@@ -32,7 +32,7 @@ pub fn contents_in_order<C: Drop, T: Placed + Holds<C> + Drop>(
 }
 
 /// The contents of items, in their order.
-fn contents<C: Drop, T: Holds<C> + Drop>(items: Vec<T>, room: Vec<C>) -> Vec<C>
+fn contents<C: Drop, T: HasContent<C> + Drop>(items: Vec<T>, room: Vec<C>) -> Vec<C>
     requires { (vec_len room ≡ 0) × (vec_len items ≤ vec_capacity room) }
     ensures { result.items ≡ map T.content items.items }
 {

@@ -1,6 +1,6 @@
 //! What the holders share.
 ghost use Rattle.std.specs.Prelude.{◌≡◌, ◌++◌, IfOk, []};
-ghost use Rattle.bq_history.specs.Whole.{Changes, Has, first_of, others_of};
+ghost use Rattle.bq_history.specs.Whole.{MayExchange, Has, first_of, others_of};
 
 use crate::holder::Holder;
 use crate::law::{Apart, Fact, Holding, Law, Look, Naming, Ruled, Step, Together, Whole};
@@ -120,7 +120,7 @@ impl<E, T, K, L: Law<E, T, K>, N: Naming> Owner<E, T, K, L, N> {
 
     /// Changes the parts that one holder has, together.
     pub fn change<C: Holding<E>>(&self, holder: &mut Holder<E, N>)
-        requires changes { Changes L.same (L.good self.now) L.fits holder.old C.items }
+        requires changes { MayExchange L.same (L.good self.now) L.fits holder.old C.items }
         ensures { holder.new ≡ C.items }
     {
         self.table.shared.load::<Step<C>>(&mut holder.seat, 0);

@@ -1,6 +1,6 @@
 //! The end of a machine: with its locks and all its seats in one hand again, all that happened is known.
 ghost use Rattle.std.specs.Prelude.{◌↔◌, IsTrue};
-ghost use Rattle.bq_history.specs.History.{Leaves, EachOnce, AreReceiptsOf};
+ghost use Rattle.bq_history.specs.History.{IsHistory, EachOnce, AreReceiptsOf};
 ghost use Rattle.bq_shared.specs.Sums.{AreSumsOf};
 ghost use Rattle.bq_shared.specs.Calls.{calls_in};
 ghost use Rattle.bq_parts.specs.World.{opening_world};
@@ -32,7 +32,7 @@ impl<Q: RunQueue + Drop, K: Clock + Drop, N: Naming + Counting, const P: usize> 
     /// receipt of just one seat. Each counter is the sum, modulo 2^64, of the adds that the history tells. No memory is taken.
     pub fn close(self, seats: Vec<Seat<N>>) -> Closed<Q, P>
         requires { EachOnce self.recorder.history.callers seats.items }
-        ensures history { Leaves (RecordStep Q.R.discipline) (opening_world P) result.history result.core }
+        ensures history { IsHistory (RecordStep Q.R.discipline) (opening_world P) result.history result.core }
         ensures receipts { AreReceiptsOf result.history seats.items }
         ensures counters { AreSumsOf (calls_in told_calls result.history) result.counters }
     {

@@ -3,7 +3,7 @@ use Rattle.std.specs.Prelude.{◌≡◌, ℕ, ◌*◌, List, ◌++◌, length, c
 use Rattle.std.specs.Fmt.{decimal}
 use Rattle.bq_disc.specs.Discipline.{Discipline}
 use Rattle.bq_history.specs.Whole.{total, Each}
-use Rattle.bq_history.specs.History.{EachOnce, Leaves, AreReceiptsOf}
+use Rattle.bq_history.specs.History.{EachOnce, IsHistory, AreReceiptsOf}
 use Rattle.bq_history.specs.declared.shared_state.Receipt.{Receipt}
 use Rattle.bq_parts.specs.World.{World, opening_world}
 use Rattle.bq_shared.specs.Parts.{RecordStep}
@@ -18,7 +18,7 @@ pub record IsSummary (d : Discipline) (processors ticks : ℕ) (s : HistorySumma
   pub world : World
   pub callers : List (ℕ × List (Receipt Record))
   -- each record is a step of the scheduler
-  pub leaves : Leaves (RecordStep d) (opening_world processors) log world
+  pub is_history : IsHistory (RecordStep d) (opening_world processors) log world
   -- the receipts of the callers share the records out, each at its place
   pub receipts : AreReceiptsOf log callers
   -- there is just one caller for each processor, whose number it has, and its receipts are those of that processor's shift: its task comes, is woken and is drained there, and then it ticks just as often as was asked for

@@ -1,9 +1,9 @@
--- What is known where one holder has all parts: they are the world that the history leaves.
+-- What is known where one holder has all parts: they are the world to which the history leads.
 use Rattle.std.proofs.Common.{◌≡◌, ℕ, ◌+◌, ◌≤◌, cond, eqb, List, [], ◌∷◌, ◌++◌, map, refl, sym, ap, ◌∙◌, subst, arith}
 use Rattle.bq_history.specs.Whole.{count, Each}
 use Rattle.bq_history.proofs.MoveLemmas.{count-append}
 use Rattle.bq_history.specs.Items.{part_item, parts_of}
-use Rattle.bq_history.specs.History.{Leaves}
+use Rattle.bq_history.specs.History.{IsHistory}
 use Rattle.bq_history.specs.Places.{times}
 use Rattle.bq_history.proofs.OrderedLemmas.{times_turned}
 use Rattle.bq_parts.specs.Processors.{Processor, opening}
@@ -111,12 +111,12 @@ only_parts v ps is = is ∙ ap (λ (l : List WorldPart). map part_item l) (sym (
 pub once_known : (v : List ItemOf) (ps : List WorldPart) → v ≡ map part_item ps → ((p : WorldPart) → count (same_part p) (parts_of v) ≤ 1) → (p : WorldPart) → count (same_part p) ps ≤ 1
 once_known v ps is once p = subst (λ (l : List WorldPart). count (same_part p) l ≤ 1) (parts_are v ps is) (once p)
 
--- the world that a history leaves is in order, and has the parts
+-- the world to which a history leads is in order, and has the parts
 pub world_has_parts : (d : Discipline) (n about : ℕ) (log : List Record) (v : List ItemOf) (ps : List WorldPart) (kept : JournalState) → about ≡ n → v ≡ map part_item ps
-    → ((w : World) × Leaves (RecordStep d) (opening_world about) log w × (kept_of w ≡ kept) × Each (HasPart w) (parts_of v))
-    → (w : World) × Leaves (RecordStep d) (opening_world n) log w × IsSound n w × (w.drawn ≡ kept.drawn) × Each (HasPart w) ps
+    → ((w : World) × IsHistory (RecordStep d) (opening_world about) log w × (kept_of w ≡ kept) × Each (HasPart w) (parts_of v))
+    → (w : World) × IsHistory (RecordStep d) (opening_world n) log w × IsSound n w × (w.drawn ≡ kept.drawn) × Each (HasPart w) ps
 world_has_parts d n about log v ps kept same is k =
-    let leads : Leaves (RecordStep d) (opening_world n) log k.0 = subst (λ (m : ℕ). Leaves (RecordStep d) (opening_world m) log k.0) same k.1 in (
+    let leads : IsHistory (RecordStep d) (opening_world n) log k.0 = subst (λ (m : ℕ). IsHistory (RecordStep d) (opening_world m) log k.0) same k.1 in (
       k.0,
       leads,
       reached_sound d n k.0 (log, leads),

@@ -2,7 +2,7 @@
 ghost use Rattle.std.specs.Prelude.{◌≡◌, ◌≤◌, map, length, vec_len, vec_capacity};
 ghost use Rattle.bq_history.specs.Whole.{count, Each};
 ghost use Rattle.bq_history.specs.Items.{part_item};
-ghost use Rattle.bq_history.specs.History.{Leaves, EachOnce, AreReceiptsOf};
+ghost use Rattle.bq_history.specs.History.{IsHistory, EachOnce, AreReceiptsOf};
 ghost use Rattle.bq_shared.specs.Sums.{AreSumsOf};
 ghost use Rattle.bq_shared.specs.Calls.{calls_in};
 ghost use Rattle.bq_parts.specs.World.{World, opening_world, count_in};
@@ -48,7 +48,7 @@ pub fn close<Q: RunQueue + Drop, N: Naming + Counting, const P: usize>(
     seats: Vec<Seat<Record, WorldPart, JournalState, N>>,
 ) -> Closed<Q, P>
     requires { EachOnce locks.history.callers seats.items }
-    ensures history { Leaves (RecordStep Q.R.discipline) (opening_world P) result.history result.core }
+    ensures history { IsHistory (RecordStep Q.R.discipline) (opening_world P) result.history result.core }
     ensures receipts { AreReceiptsOf result.history seats.items }
     ensures counters { AreSumsOf (calls_in told_calls result.history) result.counters }
 {

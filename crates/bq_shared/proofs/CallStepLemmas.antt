@@ -33,7 +33,7 @@ use Rattle.bq_shared.specs.Parts.{cpu_part, inbox_part, lobby_part, kept_of, one
 use Rattle.bq_shared.proofs.ReachedLemmas.{IsSound}
 use Rattle.bq_shared.proofs.WantLemmas.{admits_named, retires_named, blocks_named, begins_named, installs_named}
 use Rattle.bq_shared.proofs.LoadLemmas.{loads_set, loads_same, loads_moved, load_kept, loads_box}
-use Rattle.bq_shared.proofs.ShapeLemmas.{MovesHere, moves_none, moves_lobby, moves_cpu, moves_cpu_lobby, moves_cpu_inbox}
+use Rattle.bq_shared.proofs.ShapeLemmas.{MayCommitHere, moves_none, moves_lobby, moves_cpu, moves_cpu_lobby, moves_cpu_inbox}
 
 -- each task counts once
 abbrev pub ones : ℕ → ℕ → ℕ
@@ -80,19 +80,19 @@ module _ (d : Discipline) (n : ℕ) where
   kept_same w c p q k kw at e = ap (λ (ls : List ℕ). record { drawn = w.drawn; loads = ls }) (loads_same w.processors w.inboxes c q (e ∙ sym (ap size_of at))) ∙ kw
 
   pub admit_moves : (id : ℕ) (nice : ℤ) (mask slice : ℕ) (l m : List LobbyEntry) (k : JournalState) (r : Result Reply Refusal) → argument_refusal n (Admit id nice mask slice) ≡ None →
-      Admits id (admitted n id nice mask slice) l r m → MovesHere d n k (lobby_part l ∷ []) (record { event = Admit id nice mask slice; reply = r; calls = [] }) k (lobby_part m ∷ [])
+      Admits id (admitted n id nice mask slice) l r m → MayCommitHere d n k (lobby_part l ∷ []) (record { event = Admit id nice mask slice; reply = r; calls = [] }) k (lobby_part m ∷ [])
   admit_moves id nice mask slice l m k r fits share =
       moves_lobby d n l m k (record { event = Admit id nice mask slice; reply = r; calls = [] })
       (λ w s is. (admits_step d w id nice mask slice r m (rw s.many fits) (rw (s.many, is) share), rw s.many fits, admits_named id (admitted n id nice mask slice) l r m share))
 
   pub retire_moves : (id : ℕ) (l m : List LobbyEntry) (k : JournalState) (r : Result Reply Refusal) → id < 1024 → argument_refusal n (Retire id) ≡ None → Retires id l r m →
-      MovesHere d n k (lobby_part l ∷ []) (record { event = Retire id; reply = r; calls = [] }) k (lobby_part m ∷ [])
+      MayCommitHere d n k (lobby_part l ∷ []) (record { event = Retire id; reply = r; calls = [] }) k (lobby_part m ∷ [])
   retire_moves id l m k r bound fits share =
       moves_lobby d n l m k (record { event = Retire id; reply = r; calls = [] })
       (λ w s is. (retires_step d w id r m bound (rw is share), fits, retires_named id l r m share))
 
   pub tick_moves : (c now : ℕ) (p q : Processor) (calls : List Asked) (k : JournalState) (r : Reply) → Ticks (policies d) c now p calls r q →
-      MovesHere d n k (cpu_part c p ∷ []) (record { event = Tick c now; reply = Ok r; calls = calls }) k (cpu_part c q ∷ [])
+      MayCommitHere d n k (cpu_part c p ∷ []) (record { event = Tick c now; reply = Ok r; calls = calls }) k (cpu_part c q ∷ [])
   tick_moves c now p q calls k r t =
       let size : size_of q ≡ size_of p = ap size_of t.1.1 ∙ decided_size (policies d) (after_time d now p) t.0 ∙ time_size d now p in
       moves_cpu d n c p q k k (record { event = Tick c now; reply = Ok r; calls = calls })
@@ -106,7 +106,7 @@ module _ (d : Discipline) (n : ℕ) where
       omega (arith, size, time_size d now p, length_is (present_at (enter_all d a.running xs)), length_is (present_at a.running), length_is xs, tally-enter_all ones d a.running xs)
 
   pub drain_moves : (c now : ℕ) (p q : Processor) (xs : List Task) (calls : List Asked) (k : JournalState) (r : Reply) → Drains (policies d) c now p xs calls r q →
-      MovesHere d n k (cpu_part c p ∷ inbox_part c xs ∷ []) (record { event = Drain c now; reply = Ok r; calls = calls }) k (cpu_part c q ∷ inbox_part c [] ∷ [])
+      MayCommitHere d n k (cpu_part c p ∷ inbox_part c xs ∷ []) (record { event = Drain c now; reply = Ok r; calls = calls }) k (cpu_part c q ∷ inbox_part c [] ∷ [])
   drain_moves c now p q xs calls k r t =
       moves_cpu_inbox d n c c p q xs [] k k (record { event = Drain c now; reply = Ok r; calls = calls })
       (λ w s kw l at m box. (
@@ -126,13 +126,13 @@ module _ (d : Discipline) (n : ℕ) where
   block_kept w c now p q l m k (Ok r) s kw there at b = kept_less w c p q k (s.boxes ∙ sym s.many) kw there at (block_load c now p q l m r b)
 
   pub block_moves : (c now : ℕ) (p q : Processor) (l m : List LobbyEntry) (k : JournalState) (r : Result Reply Refusal) → Blocks d c now p l r q m →
-      MovesHere d n k (cpu_part c p ∷ lobby_part l ∷ []) (record { event = Block c now; reply = r; calls = [] }) (kept_by_block c r k) (cpu_part c q ∷ lobby_part m ∷ [])
+      MayCommitHere d n k (cpu_part c p ∷ lobby_part l ∷ []) (record { event = Block c now; reply = r; calls = [] }) (kept_by_block c r k) (cpu_part c q ∷ lobby_part m ∷ [])
   block_moves c now p q l m k r b =
       moves_cpu_lobby d n c p q l m k (kept_by_block c r k) (record { event = Block c now; reply = r; calls = [] })
       (λ w s kw there at is. ((blocks_step d w c now r q m there (rw (at, is) b), rw (in_range_not_refused w c there) refl, blocks_named d c now p l r q m b), block_kept w c now p q l m k r s kw there at b))
 
   pub begin_moves : (c id : ℕ) (p q : Processor) (l m : List LobbyEntry) (k : JournalState) (r : Result Reply Refusal) → id < 1024 → Begins id k.loads p l r q m →
-      MovesHere d n k (cpu_part c p ∷ lobby_part l ∷ []) (record { event = BeginWake c id; reply = r; calls = [] }) k (cpu_part c q ∷ lobby_part m ∷ [])
+      MayCommitHere d n k (cpu_part c p ∷ lobby_part l ∷ []) (record { event = BeginWake c id; reply = r; calls = [] }) k (cpu_part c q ∷ lobby_part m ∷ [])
   begin_moves c id p q l m k r bound b =
       moves_cpu_lobby d n c p q l m k k (record { event = BeginWake c id; reply = r; calls = [] })
       (λ w s kw there at is. (
@@ -144,7 +144,7 @@ module _ (d : Discipline) (n : ℕ) where
   place_size c now p q calls x k = ap size_of k.4.5 ∙ time_size d now p
 
   pub place_moves : (c now task : ℕ) (p q : Processor) (xs : List Task) (calls : List Asked) (k : JournalState) (x : Placement) → task ≡ x.task.id → Places (policies d) n c now p calls (Some x) q →
-      MovesHere d n k (cpu_part c p ∷ inbox_part x.to xs ∷ []) (record { event = EndWake c now; reply = Ok (Placed task x.to x.by x.steps); calls = calls }) (one_more x.to k) (cpu_part c q ∷ inbox_part x.to (xs ++ x.task ∷ []) ∷ [])
+      MayCommitHere d n k (cpu_part c p ∷ inbox_part x.to xs ∷ []) (record { event = EndWake c now; reply = Ok (Placed task x.to x.by x.steps); calls = calls }) (one_more x.to k) (cpu_part c q ∷ inbox_part x.to (xs ++ x.task ∷ []) ∷ [])
   place_moves c now task p q xs calls k x own b =
       moves_cpu_inbox d n c x.to p q xs (xs ++ x.task ∷ []) k (one_more x.to k) (record { event = EndWake c now; reply = Ok (Placed task x.to x.by x.steps); calls = calls })
       (λ w s kw l at m box.
@@ -165,7 +165,7 @@ module _ (d : Discipline) (n : ℕ) where
           ∙ ap (one_more x.to) kw
 
 module _ (d : Discipline) (n : ℕ) where
-  pub draw_moves : (k : JournalState) → MovesHere d n k [] (record { event = Draw; reply = Ok (Drawn (min (k.drawn + 1) (2 ^ 64 - 1))); calls = [] }) (record k { drawn = min (k.drawn + 1) (2 ^ 64 - 1) }) []
+  pub draw_moves : (k : JournalState) → MayCommitHere d n k [] (record { event = Draw; reply = Ok (Drawn (min (k.drawn + 1) (2 ^ 64 - 1))); calls = [] }) (record k { drawn = min (k.drawn + 1) (2 ^ 64 - 1) }) []
   draw_moves k =
       let g = min (k.drawn + 1) (2 ^ 64 - 1) in
       moves_none d n g k (record k { drawn = g }) (record { event = Draw; reply = Ok (Drawn g); calls = [] })
@@ -177,7 +177,7 @@ module _ (d : Discipline) (n : ℕ) where
 
   pub install_moves : (c g : ℕ) (h : Hook) (o : Option Accepted) (p q : Processor) (k : JournalState) (r : Result Reply Refusal) → argument_refusal n (Install c h g o) ≡ None →
       Installs h k.drawn p (record { policy = o; generation = g; maps = fresh_maps o }) r q →
-      MovesHere d n k (cpu_part c p ∷ []) (record { event = Install c h g o; reply = r; calls = [] }) k (cpu_part c q ∷ [])
+      MayCommitHere d n k (cpu_part c p ∷ []) (record { event = Install c h g o; reply = r; calls = [] }) k (cpu_part c q ∷ [])
   install_moves c g h o p q k r fits i =
       moves_cpu d n c p q k k (record { event = Install c h g o; reply = r; calls = [] })
       (λ w s kw l at. ((installs_step d w c g h o r q (rw s.many fits) (rw (at, ap (λ (x : JournalState). x.drawn) kw) i), rw s.many fits, installs_named h k.drawn p (record { policy = o; generation = g; maps = fresh_maps o }) r q i), kept_same d n w c p q k kw at (install_size h k.drawn p (record { policy = o; generation = g; maps = fresh_maps o }) r q i)))

@@ -1,4 +1,4 @@
--- What a look at parts tells: the world has them, and every world that a history leaves is sound.
+-- What a look at parts tells: the world has them, and every world to which a history leads is sound.
 use Rattle.std.proofs.Common.{◌≡◌, ◌≢◌, ℕ, ◌≤◌, List, ◌++◌, length, Option, Some, None, refl, ap, ◌∙◌, subst, arith}
 use Rattle.std.specs.Prelude.{IfSome, slice_index_or}
 use Rattle.bq_history.specs.History.{IsReached}

@@ -30,7 +30,7 @@ use Rattle.bq_core.proofs.ShareStepLemmas.{pulls_step}
 use Rattle.bq_shared.specs.declared.law.JournalState.{JournalState}
 use Rattle.bq_shared.specs.Parts.{cpu_part, kept_of, one_less, kept_by_pull}
 use Rattle.bq_shared.proofs.ReachedLemmas.{IsSound}
-use Rattle.bq_shared.proofs.ShapeLemmas.{MovesHere, moves_two_cpus}
+use Rattle.bq_shared.proofs.ShapeLemmas.{MayCommitHere, moves_two_cpus}
 use Rattle.bq_shared.proofs.CallStepLemmas.{ones, length_is, time_size, kept_same, kept_less, kept_more}
 
 -- the puller has one more, if a task is taken
@@ -125,7 +125,7 @@ module _ (d : Discipline) (n : ℕ) where
       )
 
   pub pull_moves : (c b now : ℕ) (p q o r : Processor) (calls : List Asked) (k : JournalState) (x : Reply) → c ≢ b → Pulls (policies d) c b now p o calls x q r →
-      MovesHere d n k (cpu_part c p ∷ cpu_part b o ∷ []) (record { event = Pull c b now; reply = Ok x; calls = calls }) (kept_by_pull c b x k) (cpu_part c q ∷ cpu_part b r ∷ [])
+      MayCommitHere d n k (cpu_part c p ∷ cpu_part b o ∷ []) (record { event = Pull c b now; reply = Ok x; calls = calls }) (kept_by_pull c b x k) (cpu_part c q ∷ cpu_part b r ∷ [])
   pull_moves c b now p q o r calls k x apart u =
       moves_two_cpus d n c b p q o r k (kept_by_pull c b x k) (record { event = Pull c b now; reply = Ok x; calls = calls }) apart
       (λ w s kw here at there at'. ((pulls_step d w c b now calls x q r here there apart (rw (at, at') u), rw (in_range_not_refused w c here, in_range_not_refused w b there, ne_eqb c b apart) refl, tt), pull_kept w c b now p q o r calls k x s kw here at there at' apart u))

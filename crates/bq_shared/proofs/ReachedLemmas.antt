@@ -1,4 +1,4 @@
--- What every world has that a history leaves.
+-- What every world has to which a history leads.
 use Rattle.std.proofs.Common.{◌≡◌, ℕ, List, [], length, ap, ◌∙◌}
 use Rattle.std.specs.Prelude.{Result, Ok, Err}
 use Rattle.std.proofs.lemmas.List.{length-set, length-replicate}
@@ -57,6 +57,6 @@ step_sound d n v x u s told =
 opening_sound : (n : ℕ) → IsSound n (opening_world n)
 opening_sound n = record { many = length-replicate n opening; boxes = length-replicate n []; lobby = length-replicate 1024 Absent; orderly = opening_is_orderly n }
 
--- every world that a history leaves is sound
+-- every world to which a history leads is sound
 pub reached_sound : (d : Discipline) (n : ℕ) (w : World) → IsReached (RecordStep d) (opening_world n) w → IsSound n w
 reached_sound d n w r = reached_keeps (RecordStep d) (IsSound n) (opening_world n) (opening_sound n) (step_sound d n) w r

@@ -2,7 +2,7 @@
 use Rattle.std.proofs.Common.{◌≡◌, ◌≢◌, ℕ, ◌<◌, List, [], ◌∷◌, length, Bool, true, cond, eqb, eq-eqb, refl, ap, ◌∙◌, arith}
 use Rattle.std.proofs.lemmas.List.{length-set, get_or-set_same, get_or-set_other}
 use Rattle.bq_history.specs.Whole.{count}
-use Rattle.bq_history.specs.Items.{Moves}
+use Rattle.bq_history.specs.Items.{MayCommit}
 use Rattle.bq_disc.specs.Tasks.{Task}
 use Rattle.bq_disc.specs.Discipline.{Discipline}
 use Rattle.bq_parts.specs.declared.lobby_entry.LobbyEntry.{LobbyEntry}
@@ -32,13 +32,17 @@ pub others_are_as_before : (w : World) (c d : ℕ) (q r : Processor) → d ≢ c
 others_are_as_before w c d q r n f = (rw length-set f.0, get_or-set_other w.processors c d q opening n ∙ f.1)
 
 module _ (d : Discipline) (n : ℕ) where
-  -- what a commit asks
-  abbrev pub MovesHere : JournalState → List WorldPart → Record → JournalState → List WorldPart → Type 0
-  MovesHere = Moves (RecordStep d) (opening_world n) kept_of same_part HasPart
+  -- what a commit asks, of the world
+  abbrev pub MayCommitHere : JournalState → List WorldPart → Record → JournalState → List WorldPart → Type 0
+  MayCommitHere = MayCommit (RecordStep d) (opening_world n) kept_of same_part HasPart
 
   -- no part
-  pub moves_none : (g : ℕ) (k m : JournalState) (e : Record) → ((w : World) → IsSound n w → kept_of w ≡ k → RecordStep d w e (record w { drawn = g }) × (kept_of (record w { drawn = g }) ≡ m)) → MovesHere k [] e m []
-  moves_none g k m e steps = (same_self, (λ x. refl), λ w reached kw h. let s = steps w (reached_sound d n w reached) kw in (record w { drawn = g }, s.0, s.1, tt, others w))
+  pub moves_none : (g : ℕ) (k m : JournalState) (e : Record) → ((w : World) → IsSound n w → kept_of w ≡ k → RecordStep d w e (record w { drawn = g }) × (kept_of (record w { drawn = g }) ≡ m)) → MayCommitHere k [] e m []
+  moves_none g k m e steps = record {
+    itself = same_self;
+    as_many = λ x. refl;
+    commits = λ w reached kw h. let s = steps w (reached_sound d n w reached) kw in (record w { drawn = g }, record { steps = s.0; keeps = s.1; has = tt; elsewhere = others w });
+  }
     where
       others : (w : World) (x : WorldPart) → count (same_part x) [] ≡ 0 → HasPart w x → HasPart (record w { drawn = g }) x
       others w (part.Cpu b r) none f = f
@@ -46,8 +50,12 @@ module _ (d : Discipline) (n : ℕ) where
       others w (part.Lobby o) none f = f
 
   -- the lobby alone
-  pub moves_lobby : (l m : List LobbyEntry) (k : JournalState) (e : Record) → ((w : World) → IsSound n w → w.lobby ≡ l → RecordStep d w e (record w { lobby = m })) → MovesHere k (lobby_part l ∷ []) e k (lobby_part m ∷ [])
-  moves_lobby l m k e steps = (same_self, counts, λ w reached kw h. (record w { lobby = m }, steps w (reached_sound d n w reached) h.0, kw, (refl, tt), others w))
+  pub moves_lobby : (l m : List LobbyEntry) (k : JournalState) (e : Record) → ((w : World) → IsSound n w → w.lobby ≡ l → RecordStep d w e (record w { lobby = m })) → MayCommitHere k (lobby_part l ∷ []) e k (lobby_part m ∷ [])
+  moves_lobby l m k e steps = record {
+    itself = same_self;
+    as_many = counts;
+    commits = λ w reached kw h. (record w { lobby = m }, record { steps = steps w (reached_sound d n w reached) h.0; keeps = kw; has = (refl, tt); elsewhere = others w });
+  }
     where
       counts : (x : WorldPart) → count (same_part x) (lobby_part m ∷ []) ≡ count (same_part x) (lobby_part l ∷ [])
       counts (part.Cpu b r) = refl
@@ -62,14 +70,14 @@ module _ (d : Discipline) (n : ℕ) where
   -- one processor
   pub moves_cpu : (c : ℕ) (p q : Processor) (k m : JournalState) (e : Record) →
       ((w : World) → IsSound n w → kept_of w ≡ k → c < count_in w → processor_at w c ≡ p → RecordStep d w e (with_processor w c q) × (kept_of (with_processor w c q) ≡ m)) →
-      MovesHere k (cpu_part c p ∷ []) e m (cpu_part c q ∷ [])
-  moves_cpu c p q k m e steps = (
-    same_self,
-    counts,
-    λ w reached kw h.
+      MayCommitHere k (cpu_part c p ∷ []) e m (cpu_part c q ∷ [])
+  moves_cpu c p q k m e steps = record {
+    itself = same_self;
+    as_many = counts;
+    commits = λ w reached kw h.
         let s = steps w (reached_sound d n w reached) kw h.0.0 h.0.1 in
-        (with_processor w c q, s.0, s.1, (written_is_there w c q h.0.0, tt), others w),
-  )
+        (with_processor w c q, record { steps = s.0; keeps = s.1; has = (written_is_there w c q h.0.0, tt); elsewhere = others w });
+  }
     where
       counts : (x : WorldPart) → count (same_part x) (cpu_part c q ∷ []) ≡ count (same_part x) (cpu_part c p ∷ [])
       counts (part.Cpu b r) = refl
@@ -84,14 +92,14 @@ module _ (d : Discipline) (n : ℕ) where
   -- one processor and the lobby
   pub moves_cpu_lobby : (c : ℕ) (p q : Processor) (l o : List LobbyEntry) (k m : JournalState) (e : Record) →
       ((w : World) → IsSound n w → kept_of w ≡ k → c < count_in w → processor_at w c ≡ p → w.lobby ≡ l → RecordStep d w e (record (with_processor w c q) { lobby = o }) × (kept_of (with_processor w c q) ≡ m)) →
-      MovesHere k (cpu_part c p ∷ lobby_part l ∷ []) e m (cpu_part c q ∷ lobby_part o ∷ [])
-  moves_cpu_lobby c p q l o k m e steps = (
-    same_self,
-    counts,
-    λ w reached kw h.
+      MayCommitHere k (cpu_part c p ∷ lobby_part l ∷ []) e m (cpu_part c q ∷ lobby_part o ∷ [])
+  moves_cpu_lobby c p q l o k m e steps = record {
+    itself = same_self;
+    as_many = counts;
+    commits = λ w reached kw h.
         let s = steps w (reached_sound d n w reached) kw h.0.0 h.0.1 h.1.0 in
-        (record (with_processor w c q) { lobby = o }, s.0, s.1, (written_is_there w c q h.0.0, (refl, tt)), others w),
-  )
+        (record (with_processor w c q) { lobby = o }, record { steps = s.0; keeps = s.1; has = (written_is_there w c q h.0.0, (refl, tt)); elsewhere = others w });
+  }
     where
       counts : (x : WorldPart) → count (same_part x) (cpu_part c q ∷ lobby_part o ∷ []) ≡ count (same_part x) (cpu_part c p ∷ lobby_part l ∷ [])
       counts (part.Cpu b r) = refl
@@ -107,14 +115,14 @@ module _ (d : Discipline) (n : ℕ) where
   pub moves_cpu_inbox : (c b : ℕ) (p q : Processor) (xs ys : List Task) (k m : JournalState) (e : Record) →
       ((w : World) → IsSound n w → kept_of w ≡ k → c < count_in w → processor_at w c ≡ p → b < length w.inboxes → inbox w b ≡ xs →
       RecordStep d w e (with_inbox (with_processor w c q) b ys) × (kept_of (with_inbox (with_processor w c q) b ys) ≡ m)) →
-      MovesHere k (cpu_part c p ∷ inbox_part b xs ∷ []) e m (cpu_part c q ∷ inbox_part b ys ∷ [])
-  moves_cpu_inbox c b p q xs ys k m e steps = (
-    same_self,
-    counts,
-    λ w reached kw h.
+      MayCommitHere k (cpu_part c p ∷ inbox_part b xs ∷ []) e m (cpu_part c q ∷ inbox_part b ys ∷ [])
+  moves_cpu_inbox c b p q xs ys k m e steps = record {
+    itself = same_self;
+    as_many = counts;
+    commits = λ w reached kw h.
         let s = steps w (reached_sound d n w reached) kw h.0.0 h.0.1 h.1.0.0 h.1.0.1 in
-        (with_inbox (with_processor w c q) b ys, s.0, s.1, (written_is_there w c q h.0.0, ((rw length-set h.1.0.0, get_or-set_same w.inboxes b ys [] h.1.0.0), tt)), others w),
-  )
+        (with_inbox (with_processor w c q) b ys, record { steps = s.0; keeps = s.1; has = (written_is_there w c q h.0.0, ((rw length-set h.1.0.0, get_or-set_same w.inboxes b ys [] h.1.0.0), tt)); elsewhere = others w });
+  }
     where
       counts : (x : WorldPart) → count (same_part x) (cpu_part c q ∷ inbox_part b ys ∷ []) ≡ count (same_part x) (cpu_part c p ∷ inbox_part b xs ∷ [])
       counts (part.Cpu a r) = refl
@@ -130,16 +138,16 @@ module _ (d : Discipline) (n : ℕ) where
   pub moves_two_cpus : (c b : ℕ) (p q o r : Processor) (k m : JournalState) (e : Record) → c ≢ b →
       ((w : World) → IsSound n w → kept_of w ≡ k → c < count_in w → processor_at w c ≡ p → b < count_in w → processor_at w b ≡ o →
       RecordStep d w e (with_processor (with_processor w c q) b r) × (kept_of (with_processor (with_processor w c q) b r) ≡ m)) →
-      MovesHere k (cpu_part c p ∷ cpu_part b o ∷ []) e m (cpu_part c q ∷ cpu_part b r ∷ [])
-  moves_two_cpus c b p q o r k m e two steps = (
-    same_self,
-    counts,
-    λ w reached kw h.
+      MayCommitHere k (cpu_part c p ∷ cpu_part b o ∷ []) e m (cpu_part c q ∷ cpu_part b r ∷ [])
+  moves_two_cpus c b p q o r k m e two steps = record {
+    itself = same_self;
+    as_many = counts;
+    commits = λ w reached kw h.
         let s = steps w (reached_sound d n w reached) kw h.0.0 h.0.1 h.1.0.0 h.1.0.1 in
         let u = with_processor w c q in
         let there : b < count_in u = rw length-set h.1.0.0 in
-        (with_processor u b r, s.0, s.1, (others_are_as_before u b c r q two (written_is_there w c q h.0.0), (written_is_there u b r there, tt)), others w),
-  )
+        (with_processor u b r, record { steps = s.0; keeps = s.1; has = (others_are_as_before u b c r q two (written_is_there w c q h.0.0), (written_is_there u b r there, tt)); elsewhere = others w });
+  }
     where
       counts : (x : WorldPart) → count (same_part x) (cpu_part c q ∷ cpu_part b r ∷ []) ≡ count (same_part x) (cpu_part c p ∷ cpu_part b o ∷ [])
       counts (part.Cpu a z) = refl

@@ -3,7 +3,7 @@
 use crate::law::{JournalState, WorldPart};
 use crate::record::Record;
 use bq_disc::RunQueue;
-use bq_history::{AsPart, Holds, Locked, Placed};
+use bq_history::{AsPart, HasContent, Locked, Placed};
 use bq_installed::Scratch;
 use bq_parts::{Cpu, Inbox, Lobby};
 
@@ -69,7 +69,7 @@ impl Placed for NumberedInbox {
     }
 }
 
-impl<Q: RunQueue> Holds<Cpu<Q>> for NumberedCpu<Q> {
+impl<Q: RunQueue> HasContent<Cpu<Q>> for NumberedCpu<Q> {
     ghost content = { λ c. c.state };
 
     fn into_content(self) -> Cpu<Q> {
@@ -78,7 +78,7 @@ impl<Q: RunQueue> Holds<Cpu<Q>> for NumberedCpu<Q> {
     }
 }
 
-impl Holds<Inbox> for NumberedInbox {
+impl HasContent<Inbox> for NumberedInbox {
     ghost content = { λ c. c.state };
 
     fn into_content(self) -> Inbox {

@@ -1,7 +1,7 @@
 //! The end of both tables.
 ghost use Rattle.std.specs.Prelude.{◌≡◌, ◌≤◌, ◌++◌, map};
 ghost use Rattle.bq_history.specs.Whole.{count, Each};
-ghost use Rattle.bq_history.specs.History.{Leaves, EachOnce, AreReceiptsOf};
+ghost use Rattle.bq_history.specs.History.{IsHistory, EachOnce, AreReceiptsOf};
 ghost use Rattle.bq_history.specs.Items.{caller_of, part_item, parts_of};
 ghost use Rattle.bq_shared.specs.Sums.{AreSumsOf};
 ghost use Rattle.bq_shared.specs.Calls.{account_by, calls_in};
@@ -23,7 +23,7 @@ pub fn close<R: TellsCalls + Drop, W, P, D: Drop, K, M: World<R, W, P, D, K>, N:
     requires seats { EachOnce history.callers seats.items }
     requires same { counters ≡ history.callers }
     ensures history { result.0 ≡ journal.0 }
-    ensures world { (w : W) × Leaves (M.step history.about) (M.opening history.about) result.0 w × (M.kept w ≡ journal.1) × Each (M.fits w) (parts_of parts) }
+    ensures world { (w : W) × IsHistory (M.step history.about) (M.opening history.about) result.0 w × (M.kept w ≡ journal.1) × Each (M.fits w) (parts_of parts) }
     ensures once { (p : P) → count (M.same p) (parts_of parts) ≤ 1 }
     ensures receipts { AreReceiptsOf result.0 seats.items }
     ensures counters { AreSumsOf (calls_in R.calls result.0) result.1 }

@@ -5,7 +5,7 @@ use Rattle.bq_history.proofs.commits.commit_parts.Goals as goal
 
 pub change_jointly-requires : goal.change_jointly-requires
 change_jointly-requires g c =
-    let m = c.requires.moves in
+    let m = c.requires.may in
     let j = c.journal.inside in
     let k = c.caller.inside in
     let is : (j.holder ++ k.holder) ++ c.args.parts.now ≡ journal_item j.log j.kept ∷ caller_item k.number (receipts_of k.holder) ∷ map part_item m.0 =

@@ -10,5 +10,5 @@ invariant-loop-item g l =
       whole : l.yielded ++ rest ≡ into_iter_items l.initial.item-iterator;
       left : into_iter_len l.item-iterator ≡ length rest;
       room : vec_len l.contents + length rest ≤ vec_capacity l.contents;
-      out : l.contents.items ≡ map g.T.Holds.content l.yielded;
+      out : l.contents.items ≡ map g.T.HasContent.content l.yielded;
     }

@@ -6,7 +6,7 @@ use Rattle.bq_history.proofs.contents.contents_in_order.Goals as goal
 
 pub returns : goal.returns
 returns g c = λ list d long each.
-    let content = g.T.Holds.content in
+    let content = g.T.HasContent.content in
     let before = c.args.items.items in
     let after = c.in_order.new.items in
     let was : c.deref_mut.result.now ≡ before = c.deref_mut.ensures.value in

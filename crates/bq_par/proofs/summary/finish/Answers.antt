@@ -1,6 +1,6 @@
 use Rattle.std.proofs.Common.{◌≡◌, ◌*◌, ℕ, length, map, rules, arith, sym, ap, subst, ◌∙◌}
 use Rattle.std.specs.List.{sum_by}
-use Rattle.bq_history.specs.History.{EachOnce, Stands, IsRising}
+use Rattle.bq_history.specs.History.{EachOnce, Stands, PlacesRise}
 use Rattle.bq_history.proofs.RecordingLemmas.{each_map}
 use Rattle.bq_par.specs.Shifts.{IsShift}
 use Rattle.bq_par.specs.Ticks.{one_tick, ticks_in}
@@ -21,7 +21,7 @@ confirmed_among-requires g c =
     let all : map (λ x. x.now) c.in_ok-records.records.items ≡ log = c.in_ok-records.ensures in
     let many = same_many (λ s. s.1) (λ v. v.items) back.seats.items back.lists.items back.same in
     record {
-      stand = rw (c.deref-3.ensures.value, c.deref-4.ensures.value, all) (all_items (λ s. s.1) (λ v. v.items) (Stands log) (λ s. IsRising 0 s.1) back.seats.items back.lists.items back.same r.stand);
+      stand = rw (c.deref-3.ensures.value, c.deref-4.ensures.value, all) (all_items (λ s. s.1) (λ v. v.items) (Stands log) (λ s. PlacesRise 0 s.1) back.seats.items back.lists.items back.same r.stand);
       few = rw c.deref-4.ensures.value (omega (arith, many, r.many, c.len.ensures, c.len.type_inv));
     }
 
@@ -42,7 +42,7 @@ returns g c =
       log = log;
       world = c.close-closed.result.core;
       callers = back.seats.items;
-      leaves = c.close-closed.ensures.history;
+      is_history = c.close-closed.ensures.history;
       receipts = r;
       many = many;
       numbers = subst (λ (n : ℕ). EachOnce n back.seats.items) c.requires.callers owned;

@@ -1,5 +1,5 @@
 use Rattle.std.proofs.Common.{◌≡◌, rules, arith, sym, ap, subst, ◌∙◌}
-use Rattle.bq_history.specs.History.{Leaves}
+use Rattle.bq_history.specs.History.{IsHistory}
 use Rattle.bq_parts.specs.World.{World, opening_world}
 use Rattle.bq_shared.specs.Parts.{RecordStep, cpu_part, inbox_part}
 use Rattle.bq_shared.specs.declared.cells.NumberedCpu.{NumberedCpu}
@@ -32,4 +32,4 @@ returns-clause-history g c =
     let k = world_has_parts d g.row.P c.args.locks.history.about c.close-log.result.0 c.all_out-contents.result.1 ps c.into_inner-journal.result.1 c.args.locks.about c.all_out-contents.ensures c.close-log.ensures.world in
     let s = k.2 in
     let same : c.core_of.result ≡ k.0 = c.core_of.ensures k.0 s.many s.boxes (k.3 ∙ ap (λ j. j.drawn) (sym c.kept.ensures)) k.4 in
-    subst (λ (u : World). Leaves (RecordStep d) (opening_world g.row.P) c.close-log.result.0 u) (sym same) k.1
+    subst (λ (u : World). IsHistory (RecordStep d) (opening_world g.row.P) c.close-log.result.0 u) (sym same) k.1

@@ -3,8 +3,8 @@ use Rattle.bq_shared.proofs.CallStepLemmas.{admit_moves}
 use Rattle.bq_recording.proofs.BriefLemmas.{admits_brief}
 use Rattle.bq_recording.proofs.recorder.Recorder.admit.Goals as goal
 
-pub commit_one-requires-clause-moves : goal.commit_one-requires-clause-moves
-commit_one-requires-clause-moves g c =
+pub commit_one-requires-clause-may : goal.commit_one-requires-clause-may
+commit_one-requires-clause-may g c =
     let own = c.lobby.inside.cell.content.state in
     let k = c.deref_mut-journal.result.now.1 in
     let a = c.args.admission in (

@@ -6,8 +6,8 @@ use Rattle.bq_shared.proofs.WakeLemmas.{begun_hand}
 use Rattle.bq_shared.proofs.CallStepLemmas.{begin_moves}
 use Rattle.bq_recording.proofs.recorder.Recorder.begin_wake.Goals as goal
 
-pub commit_two-requires-clause-moves : goal.commit_two-requires-clause-moves
-commit_two-requires-clause-moves g c =
+pub commit_two-requires-clause-may : goal.commit_two-requires-clause-may
+commit_two-requires-clause-may g c =
     let d = g.Q.R.Discipline.discipline in
     let n = c.args.self.now.history.about in
     let own = c.args.cpu.now.content in

@@ -15,8 +15,8 @@ block-reply-requires g c =
     let seen : Seen d n own.number own.state = rw here c.look.ensures.world in
     seen_ids d n own.number own.state seen
 
-pub commit_two-requires-clause-moves : goal.commit_two-requires-clause-moves
-commit_two-requires-clause-moves g c =
+pub commit_two-requires-clause-may : goal.commit_two-requires-clause-may
+commit_two-requires-clause-may g c =
     let d = g.Q.R.Discipline.discipline in
     let n = c.args.self.now.history.about in
     let own = c.cpu.inside.cell.content in

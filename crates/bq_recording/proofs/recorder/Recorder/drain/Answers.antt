@@ -36,8 +36,8 @@ drain-reply-requires-clause-ids g c =
     let seen : SeenBoth d n own.number own.state box.state = rw (here, there) both in
     both_ids d n own.number own.state box.state seen
 
-pub commit_two-requires-clause-moves : goal.commit_two-requires-clause-moves
-commit_two-requires-clause-moves g c =
+pub commit_two-requires-clause-may : goal.commit_two-requires-clause-may
+commit_two-requires-clause-may g c =
     let d = g.Q.R.Discipline.discipline in
     let n = c.args.self.now.history.about in
     let own = c.cpu.inside.cell.content in

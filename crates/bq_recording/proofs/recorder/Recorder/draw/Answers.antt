@@ -1,8 +1,8 @@
 use Rattle.bq_shared.proofs.CallStepLemmas.{draw_moves}
 use Rattle.bq_recording.proofs.recorder.Recorder.draw.Goals as goal
 
-pub commit-receipt-requires-clause-moves : goal.commit-receipt-requires-clause-moves
-commit-receipt-requires-clause-moves g c =
+pub commit-receipt-requires-clause-may : goal.commit-receipt-requires-clause-may
+commit-receipt-requires-clause-may g c =
     rw (c.quiet_twice-logged.ensures.entry, c.saturating_add-generation.ensures, c.again-kept.ensures, c.kept.ensures)
     (draw_moves g.Q.R.Discipline.discipline c.args.self.now.history.about c.deref_mut-journal.result.now.1)
 

@@ -28,8 +28,8 @@ push-requires g c =
     let seen : SeenInbox d n box.number box.state = rw there c.look-2.ensures.world in
     omega (arith, seen_few d n box.number box.state seen)
 
-pub commit_two-requires-clause-moves : goal.commit_two-requires-clause-moves
-commit_two-requires-clause-moves g c =
+pub commit_two-requires-clause-may : goal.commit_two-requires-clause-may
+commit_two-requires-clause-may g c =
     let d = g.Q.R.Discipline.discipline in
     let n = c.args.self.now.history.about in
     let own = c.look.new.self.content in

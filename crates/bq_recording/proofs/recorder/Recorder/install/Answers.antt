@@ -15,8 +15,8 @@ replace-reply-requires g c =
     let i = c.args.spare.installed in
     install_suits c.args.self.now.history.about c.args.cpu.now.number i.generation c.args.hook i.policy c.requires.fits
 
-pub commit_one-requires-clause-moves : goal.commit_one-requires-clause-moves
-commit_one-requires-clause-moves g c =
+pub commit_one-requires-clause-may : goal.commit_one-requires-clause-may
+commit_one-requires-clause-may g c =
     let d = g.Q.R.Discipline.discipline in
     let n = c.args.self.now.history.about in
     let h = c.args.hook in

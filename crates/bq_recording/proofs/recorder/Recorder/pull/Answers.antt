@@ -43,8 +43,8 @@ pull-reply-requires-clause-ids g c =
     let seen : SeenTwo d n own.number other.number own.state other.state apart = rw (here, there) c.look_at_both.ensures.world in
     two_ids d n own.number other.number own.state other.state apart seen
 
-pub commit_two-requires-clause-moves : goal.commit_two-requires-clause-moves
-commit_two-requires-clause-moves g c =
+pub commit_two-requires-clause-may : goal.commit_two-requires-clause-may
+commit_two-requires-clause-may g c =
     let d = g.Q.R.Discipline.discipline in
     let n = c.args.self.now.history.about in
     let own = c.cpu.inside.cell.content in

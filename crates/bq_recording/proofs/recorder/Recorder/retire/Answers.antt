@@ -9,8 +9,8 @@ use Rattle.bq_recording.proofs.recorder.Recorder.retire.Goals as goal
 pub quiet_twice-logged-requires-clause-answer : goal.quiet_twice-logged-requires-clause-answer
 quiet_twice-logged-requires-clause-answer g c = retires_brief c.args.task _ c.retire-reply.result c.retire-reply.new.self c.retire-reply.ensures.share
 
-pub commit_one-requires-clause-moves : goal.commit_one-requires-clause-moves
-commit_one-requires-clause-moves g c =
+pub commit_one-requires-clause-may : goal.commit_one-requires-clause-may
+commit_one-requires-clause-may g c =
     let own = c.lobby.inside.cell.content.state in
     let k = c.deref_mut-journal.result.now.1 in
     let a = c.args in

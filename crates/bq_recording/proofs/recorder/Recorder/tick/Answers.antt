@@ -23,8 +23,8 @@ tick-reply-requires-clause-ids g c =
     let seen : Seen d n own.number own.state = rw here c.look.ensures.world in
     seen_ids d n own.number own.state seen
 
-pub commit_one-requires-clause-moves : goal.commit_one-requires-clause-moves
-commit_one-requires-clause-moves g c =
+pub commit_one-requires-clause-may : goal.commit_one-requires-clause-may
+commit_one-requires-clause-may g c =
     let own = c.cpu.inside.cell.content in
     let k = c.deref_mut-journal.result.now.1 in
     let t = c.tick-reply in (
