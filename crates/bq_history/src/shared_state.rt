@@ -22,6 +22,9 @@ pub enum Item<R, P, D> {
     Part(P),
 }
 
+/// What one holder knows of the world `M`.
+pub type ItemOf<M> = Item<<M as World>::Record, <M as World>::Part, <M as World>::Kept>;
+
 /// All that is shared. No value of it is made.
 pub struct SharedState<R, W> {
     pub log: LinkedList<R>,
@@ -36,34 +39,45 @@ pub struct FixedAtStart<K> {
     pub callers: u64,
 }
 
-/// A world `W` that changes by steps, each told by a record `R`. It is held in parts `P`, and the journal keeps `D` of it.
-pub trait World<R, W, P, D, K> {
+/// A world that changes by steps.
+pub trait World {
+    /// Tells a step.
+    type Record: Drop;
+    /// The world as it is.
+    type State;
+    /// The world is held in parts.
+    type Part;
+    /// What the journal keeps of the world.
+    type Kept: Drop;
+    /// What is fixed at the start.
+    type Fixed;
+
     // The world at the start.
-    ghost opening: { K → W };
+    ghost opening: { Self.Fixed → Self.State };
 
     // The world before, the record, and the world after.
-    ghost step: { K → W → R → W → Type 0 };
+    ghost step: { Self.Fixed → Self.State → Self.Record → Self.State → Type 0 };
 
     // What the journal keeps of the world.
-    ghost kept: { W → D };
+    ghost kept: { Self.State → Self.Kept };
 
     // Whether two parts stand at one place.
-    ghost same: { P → P → Bool };
+    ghost same: { Self.Part → Self.Part → Bool };
 
     // That the world has this part.
-    ghost fits: { W → P → Type 0 };
+    ghost fits: { Self.State → Self.Part → Type 0 };
 
     // The parts at the start.
-    ghost first: { K → List P };
+    ghost first: { Self.Fixed → List Self.Part };
 }
 
 /// The law of a world with its history.
-pub struct Recorded<R, W, P, D, K, M> {
-    of: PhantomData<(R, W, P, D, K, M)>,
+pub struct Recorded<M> {
+    of: PhantomData<M>,
 }
 
-impl<R, W, P, D, K, M: World<R, W, P, D, K>> Law<Item<R, P, D>, SharedState<R, W>, FixedAtStart<K>>
-    for Recorded<R, W, P, D, K, M> {
+impl<M: World> Law<ItemOf<M>, SharedState<M::Record, M::State>, FixedAtStart<M::Fixed>>
+    for Recorded<M> {
     ghost use Rattle.bq_history.specs.Items.{same_item, fits_item, IsGood, first_items};
 
     ghost same = { same_item M.same };

@@ -9,22 +9,22 @@ ghost use Rattle.bq_shared.specs.Calls.{account_by, calls_in};
 use crate::seat::{Seat, TellsCalls};
 use crate::{CounterTally, Counters, Counting};
 use bq_bpf::board::COUNTERS;
-use bq_history::{ClosedRecords, History, Holder, Item, Journal, Naming, World, finish};
+use bq_history::{ClosedRecords, History, HolderOf, JournalOf, Naming, World, finish};
 
 /// The history, and the counters, which are the sums of the adds that it tells. It takes no memory.
-pub fn close<R: TellsCalls + Drop, W, P, D: Drop, K, M: World<R, W, P, D, K>, N: Naming + Counting>(
-    history: History<R, W, P, D, K, M, N>,
-    journal: Journal<R, P, D, N>,
-    parts: Holder<Item<R, P, D>, N>,
+pub fn close<R: TellsCalls + Drop, M: World<Record = R>, N: Naming + Counting>(
+    history: History<M, N>,
+    journal: JournalOf<M, N>,
+    parts: HolderOf<M, N>,
     counters: Counters<N>,
-    seats: Vec<Seat<R, P, D, N>>,
+    seats: Vec<Seat<R, M::Part, M::Kept, N>>,
 ) -> (ClosedRecords<R>, [u64; COUNTERS])
     requires parts { parts ≡ map part_item (parts_of parts) }
     requires seats { EachOnce history.callers seats.items }
     requires same { counters ≡ history.callers }
     ensures history { result.0 ≡ journal.0 }
-    ensures world { (w : W) × IsHistory (M.step history.about) (M.opening history.about) result.0 w × (M.kept w ≡ journal.1) × Each (M.fits w) (parts_of parts) }
-    ensures once { (p : P) → count (M.same p) (parts_of parts) ≤ 1 }
+    ensures world { (w : M.State) × IsHistory (M.step history.about) (M.opening history.about) result.0 w × (M.kept w ≡ journal.1) × Each (M.fits w) (parts_of parts) }
+    ensures once { (p : M.Part) → count (M.same p) (parts_of parts) ≤ 1 }
     ensures receipts { AreReceiptsOf result.0 seats.items }
     ensures counters { AreSumsOf (calls_in R.calls result.0) result.1 }
 {
@@ -36,11 +36,11 @@ pub fn close<R: TellsCalls + Drop, W, P, D: Drop, K, M: World<R, W, P, D, K>, N:
 }
 
 /// What all seats have goes to a holder, in their order; and the account of all of them.
-fn leave_all<R: TellsCalls + Drop, W, P, D, K, M: World<R, W, P, D, K>, N: Naming + Counting>(
-    history: &History<R, W, P, D, K, M, N>,
-    all: &mut Holder<Item<R, P, D>, N>,
+fn leave_all<R: TellsCalls + Drop, M: World<Record = R>, N: Naming + Counting>(
+    history: &History<M, N>,
+    all: &mut HolderOf<M, N>,
     counters: &Counters<N>,
-    seats: Vec<Seat<R, P, D, N>>,
+    seats: Vec<Seat<R, M::Part, M::Kept, N>>,
 ) -> CounterTally<N>
     ensures items { all.new ≡ all.old ++ map caller_of seats.items }
     ensures account { result ≡ account_by R.calls seats.items }

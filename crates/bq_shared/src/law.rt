@@ -113,9 +113,19 @@ pub struct Sched<Q> {
 }
 
 /// The history, as all callers share it.
-pub type Shared<Q, N> = History<Record, WorldState, WorldPart, JournalState, u64, Sched<Q>, N>;
+pub type Shared<Q, N> = History<Sched<Q>, N>;
 
-impl<Q: RunQueue> World<Record, WorldState, WorldPart, JournalState, u64> for Sched<Q> {
+impl<Q: RunQueue> World for Sched<Q> {
+    type Record = Record;
+
+    type State = WorldState;
+
+    type Part = WorldPart;
+
+    type Kept = JournalState;
+
+    type Fixed = u64;
+
     ghost use Rattle.bq_parts.specs.World.{opening_world};
     ghost use Rattle.bq_shared.specs.Parts.{RecordStep, kept_of, same_part, HasPart, first_parts};
 

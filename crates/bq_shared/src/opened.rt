@@ -7,19 +7,19 @@ ghost use Rattle.bq_shared.specs.Calls.{fresh};
 
 use crate::seat::{Seat, TellsCalls};
 use crate::{CounterTally, Counters, Counting};
-use bq_history::{Caller, History, Holder, Item, Naming, World};
+use bq_history::{Caller, History, HolderOf, Naming, World};
 use std::alloc::{AllocError, Global};
 
 /// A seat for each caller, numbered from 0 on, none of which has called anything. The callers are all that the holder has,
 /// and the account is that of all seats.
-pub fn seats<R: TellsCalls + Drop, W, P, D, K, M: World<R, W, P, D, K>, N: Naming + Counting>(
+pub fn seats<R: TellsCalls + Drop, M: World<Record = R>, N: Naming + Counting>(
     alloc: Global,
-    history: &History<R, W, P, D, K, M, N>,
-    all: &mut Holder<Item<R, P, D>, N>,
+    history: &History<M, N>,
+    all: &mut HolderOf<M, N>,
     counters: &Counters<N>,
     account: CounterTally<N>,
     count: u64,
-) -> Result<Vec<Seat<R, P, D, N>>, AllocError>
+) -> Result<Vec<Seat<R, M::Part, M::Kept, N>>, AllocError>
     requires all { all.old ≡ callers_from 0 count }
     requires account { account ≡ opened count }
     ensures { IfOk result (λ v. v.items ≡ fresh 0 count) }
@@ -33,13 +33,13 @@ pub fn seats<R: TellsCalls + Drop, W, P, D, K, M: World<R, W, P, D, K>, N: Namin
 }
 
 /// The seat of the first caller that is left, with an account of its own.
-fn next_seat<R: TellsCalls + Drop, W, P, D, K, M: World<R, W, P, D, K>, N: Naming + Counting>(
-    history: &History<R, W, P, D, K, M, N>,
-    all: &mut Holder<Item<R, P, D>, N>,
+fn next_seat<R: TellsCalls + Drop, M: World<Record = R>, N: Naming + Counting>(
+    history: &History<M, N>,
+    all: &mut HolderOf<M, N>,
     counters: &Counters<N>,
     account: &mut CounterTally<N>,
     number: u64,
-) -> Seat<R, P, D, N>
+) -> Seat<R, M::Part, M::Kept, N>
     requires first { first_of all.old ≡ caller_item number [] ∷ [] }
     requires left { (1 ≤ account.old.seats) × (account.old.calls ≡ []) }
     ensures seat { result ≡ (number, []) }

@@ -58,9 +58,9 @@ impl<R: TellsCalls + Drop, P, D, N: Naming + Counting> Seat<R, P, D, N> {
     }
 
     /// What the seat has goes to a holder and to an account of all seats.
-    pub(crate) fn leave<W, K, M: World<R, W, P, D, K>>(
+    pub(crate) fn leave<M: World<Record = R, Part = P, Kept = D>>(
         self,
-        history: &History<R, W, P, D, K, M, N>,
+        history: &History<M, N>,
         all: &mut Holder<Item<R, P, D>, N>,
         counters: &Counters<N>,
         account: &mut CounterTally<N>,

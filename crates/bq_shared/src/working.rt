@@ -42,9 +42,9 @@ impl<R: TellsCalls, P, D, N: Naming + Counting> Working<R, P, D, N> {
     }
 
     /// Commits what changes no part. The record tells the calls by which the account is ahead.
-    pub fn commit<W, K, M: World<R, W, P, D, K>>(
+    pub fn commit<M: World<Record = R, Part = P, Kept = D>>(
         &mut self,
-        history: &History<R, W, P, D, K, M, N>,
+        history: &History<M, N>,
         journal: &mut Journal<R, P, D, N>,
         draft: CommitDraft<'_, R, D>,
     ) -> Receipt<R>
@@ -66,9 +66,9 @@ impl<R: TellsCalls, P, D, N: Naming + Counting> Working<R, P, D, N> {
 
     /// Commits a change of one part. Its cell is already changed, and its holder says what the part was.
     #[inline(always)]
-    pub fn commit_one<W, K, M: World<R, W, P, D, K>, A: AsPart<P>>(
+    pub fn commit_one<M: World<Record = R, Part = P, Kept = D>, A: AsPart<P>>(
         &mut self,
-        history: &History<R, W, P, D, K, M, N>,
+        history: &History<M, N>,
         journal: &mut Journal<R, P, D, N>,
         a: &mut Cell<A, R, P, D, N>,
         draft: CommitDraft<'_, R, D>,
@@ -91,9 +91,9 @@ impl<R: TellsCalls, P, D, N: Naming + Counting> Working<R, P, D, N> {
     }
 
     /// Commits a change of two parts. Their cells are already changed, and their holders say what the parts were.
-    pub fn commit_two<W, K, M: World<R, W, P, D, K>, A: AsPart<P>, B: AsPart<P>>(
+    pub fn commit_two<M: World<Record = R, Part = P, Kept = D>, A: AsPart<P>, B: AsPart<P>>(
         &mut self,
-        history: &History<R, W, P, D, K, M, N>,
+        history: &History<M, N>,
         journal: &mut Journal<R, P, D, N>,
         a: &mut Cell<A, R, P, D, N>,
         b: &mut Cell<B, R, P, D, N>,
