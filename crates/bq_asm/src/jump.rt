@@ -5,6 +5,7 @@ ghost use Rattle.std.specs.Str.{bytes_eq};
 ghost use Rattle.bq_asm.specs.Operands.{texts};
 ghost use Rattle.bq_asm.specs.Jumps.{is_jump, target_of, aimed, awaited_by, awaited_at, with_jumps, places_of};
 
+use bq_insn::SLOTS;
 use crate::fault::AsmFault;
 use crate::line::is_label;
 use bq_insn::Insn;
@@ -81,7 +82,7 @@ pub fn set_jumps<'a>(
 fn slot_of<'a>(labels: &IndexMap<&'a [u8], usize>, label: &'a [u8]) -> Option<usize>
     requires { All (λ e. e.1 ≤ 4096) labels.now.entries }
     ensures found { result ≡ lookup (bytes_eq label.entry.now) (places_of labels.now) }
-    ensures near { IfSome result (λ slot. slot ≤ 4096) }
+    ensures near { IfSome result (λ slot. slot ≤ SLOTS) }
 {
     labels.get(&label).copied()
 }

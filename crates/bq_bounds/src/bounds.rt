@@ -5,6 +5,7 @@ ghost use Rattle.bq_bounds.specs.Glances.{IsGlance};
 ghost use Rattle.bq_bounds.specs.LagWatches.{all_lags_after, effect_of, lags_of, needs_no_look, source_forgotten, unasked};
 ghost use Rattle.bq_bounds.specs.Watches.{unwatched, source_disturbed, watches_after};
 
+use bq_disc::limits::TASKS;
 use crate::glance::Glance;
 use crate::lags::Lags;
 use crate::running_task::RunningTask;
@@ -91,7 +92,7 @@ impl Bounds {
 
     /// Under EEVDF: an event of a processor was answered, whose clock rose by so much; these are its tasks now.
     pub fn owe(&mut self, processor: u8, event: &Event, reply: &Reply, rise: u64, tasks: &[Entity])
-        requires { length tasks.now ≤ 1024 }
+        requires { length tasks.now ≤ TASKS }
         ensures rule { self.new.rule ≡ self.old.rule }
         ensures watches { self.new.watches ≡ self.old.watches }
         ensures lags { self.new.lags.items ≡ all_lags_after processor event.now reply.now rise tasks.now self.old.lags.items }

@@ -6,6 +6,7 @@ ghost use Rattle.bq_bounds.specs.Glances.{IsGlance};
 ghost use Rattle.bq_bounds.specs.Lags.{stretched};
 ghost use Rattle.bq_bounds.specs.LagWatches.{effect_by, effect_of, decided_in, forgotten, gone_on, lags_after, needs_no_look, unasked};
 
+use bq_disc::limits::TASKS;
 use crate::charge::Charge;
 use crate::glance::Glance;
 use crate::stretch::Stretch;
@@ -53,7 +54,7 @@ impl Lags {
 
     /// An event of the processor was answered, whose clock rose by so much; these are its tasks now.
     pub fn take(&mut self, event: &Event, reply: &Reply, rise: u64, tasks: &[Entity])
-        requires { length tasks.now ≤ 1024 }
+        requires { length tasks.now ≤ TASKS }
         ensures { self.new ≡ lags_after (effect_of event.now reply.now) rise tasks.now self.old }
     {
         let effect = effect_of(event, reply);
@@ -88,7 +89,7 @@ impl Lags {
 impl Lags {
     /// The stretch goes on: time is charged, and the discipline may decide.
     fn go_on(&mut self, stretch: Stretch, effect: Effect, rise: u64, tasks: &[Entity])
-        requires { length tasks.now ≤ 1024 }
+        requires { length tasks.now ≤ TASKS }
         ensures { self.new ≡ gone_on effect rise tasks.now stretch self.old }
     {
         let mut stretch = stretch;

@@ -4,6 +4,7 @@ ghost use Rattle.bq_weights.specs.VirtualTime.{IsWeight};
 ghost use Rattle.bq_bounds.specs.Glances.{at_most_owed};
 ghost use Rattle.bq_bounds.specs.Lags.{allowed, beginning, furthest, heaviest, lag_by, most_owed, stretched};
 
+use bq_disc::limits::TASKS;
 use crate::charge::Charge;
 use crate::glance::Glance;
 use crate::totals::totals;
@@ -36,7 +37,7 @@ struct Group {
 impl Stretch {
     /// A stretch begins with these tasks.
     pub fn begin(tasks: &[Entity]) -> Stretch
-        requires { length tasks.now ≤ 1024 }
+        requires { length tasks.now ≤ TASKS }
         ensures { result ≡ beginning tasks.now }
     {
         let mean = totals(tasks).mean().unwrap_or(0);
@@ -65,7 +66,7 @@ impl Stretch {
 
     /// What the task is owed that is owed most, of those that are there, and what it may be owed; of equal ones the first.
     pub fn most_owed(&self, tasks: &[Entity]) -> Option<Charge>
-        requires { length tasks.now ≤ 1024 }
+        requires { length tasks.now ≤ TASKS }
         ensures { result ≡ most_owed self.now tasks.now }
     {
         let totals = totals(tasks);

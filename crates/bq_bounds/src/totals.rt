@@ -2,11 +2,12 @@
 ghost use Rattle.std.specs.Prelude.{◌≡◌, ◌≤◌, length};
 ghost use Rattle.bq_disc.specs.Totals.{sums_of, HasBounds};
 
+use bq_disc::limits::TASKS;
 use bq_disc::{Entity, Totals};
 
 /// The totals of some tasks.
 pub fn totals(tasks: &[Entity]) -> Totals
-    requires { length tasks.now ≤ 1024 }
+    requires { length tasks.now ≤ TASKS }
     ensures sums { result ≡ sums_of tasks.now }
     ensures bounds { HasBounds result }
 {

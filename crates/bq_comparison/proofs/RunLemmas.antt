@@ -57,7 +57,7 @@ pub refused_is_no_run : (w : Workload) (why : SimulateFault) â†’ flaw_told why â
 refused_is_no_run w run_fault.OutOfMemory h = tt
 refused_is_no_run w (run_fault.Unsound flaw) h = h
 refused_is_no_run w (run_fault.Drive fault) h = h
-refused_is_no_run w run_fault.Astray h = h
+refused_is_no_run w run_fault.BrokenInvariant h = h
 refused_is_no_run w run_fault.Endless h = h
 
 -- where a run is refused, so are all

@@ -127,7 +127,7 @@ fn nth_run(
 {
     let seed = first
         .checked_add(number as u64)
-        .ok_or(SeedsFault::Run(SimulateFault::Astray))?;
+        .ok_or(SeedsFault::Run(SimulateFault::BrokenInvariant))?;
     run(alloc, experiment, seed)
 }
 
@@ -155,6 +155,6 @@ fn run(alloc: Global, experiment: &Experiment<'_>, seed: u64) -> Result<RunFigur
     let mut gathered = gather(alloc, workload, seed, policies)?;
     match &gathered.schedule {
         Some(schedule) => Ok(run_of(alloc, schedule, &mut gathered.latencies, figures)?),
-        None => Err(SeedsFault::Run(SimulateFault::Astray)),
+        None => Err(SeedsFault::Run(SimulateFault::BrokenInvariant)),
     }
 }

@@ -19,7 +19,7 @@ use Rattle.bq_parts.specs.declared.event.Event.TheVariants as event
 use Rattle.bq_parts.specs.declared.reply.Reply.{Reply}
 use Rattle.bq_parts.specs.Processors.{Processor, opening}
 use Rattle.bq_parts.specs.World.{World, processor_at, inbox, with_processor}
-use Rattle.bq_parts.specs.Choices.{Regime, Decision, SettlesBy, SettlesPreempt, decided_by}
+use Rattle.bq_parts.specs.Choices.{PolicySemantics, Decision, SettlesBy, SettlesPreempt, decided_by}
 use Rattle.bq_parts.specs.Moves.{taken_from, without_task, with_pulled, started_if_idle}
 use Rattle.bq_parts.specs.Shares.{after_time, remarked, Decides}
 use Rattle.bq_parts.specs.Steps.{Performs}
@@ -107,20 +107,20 @@ ready_with hooks Pull new h m Preempt = h Preempt
 ready_with hooks Pull new h m Pull = m
 
 -- a policy that was asked stands there as before, with maps of its shapes
-settled_stands : (s : Regime) (hook : Hook) (policy : Option Accepted) (context : Version → List ℕ) (attached : Attached) (now processor : ℕ) (permitted : ℕ → Bool) (own : ℕ) (settled : Decision) →
+settled_stands : (s : PolicySemantics) (hook : Hook) (policy : Option Accepted) (context : Version → List ℕ) (attached : Attached) (now processor : ℕ) (permitted : ℕ → Bool) (own : ℕ) (settled : Decision) →
     attached.policy ≡ policy → SettlesBy s policy context attached now processor permitted own settled → MayStand hook attached → MayStand hook settled.attached
 settled_stands s hook None context attached now processor permitted own settled is h m = rw h m
 settled_stands s hook (Some p) context attached now processor permitted own settled is h m =
     let had : IsEquipped (Some p) attached.maps = subst (λ (o : Option Accepted). IsEquipped o attached.maps) is m.1 in
     rw h.3 (m.0, subst (λ (o : Option Accepted). IsEquipped o h.1) (sym is) (had.0, h.7))
 
-preempt_stands : (s : Regime) (processor : ℕ) (p : Processor) (o : Option Task) (settled : Decision) → SettlesPreempt s processor p o settled → AreReady p.hooks → MayStand Preempt settled.attached
+preempt_stands : (s : PolicySemantics) (processor : ℕ) (p : Processor) (o : Option Task) (settled : Decision) → SettlesPreempt s processor p o settled → AreReady p.hooks → MayStand Preempt settled.attached
 preempt_stands s processor p None settled h ready = rw h (ready Preempt)
 preempt_stands s processor p (Some t) settled h ready = settled_stands s Preempt p.hooks.preempt.policy _ p.hooks.preempt p.running.last processor _ _ settled refl h (ready Preempt)
 
 -- Processors
 
-decides_well : (s : Regime) (processor : ℕ) (p : Processor) (settled : Decision) (q : Processor) → Decides s processor p settled q → IsWell p → IsWell q
+decides_well : (s : PolicySemantics) (processor : ℕ) (p : Processor) (settled : Decision) (q : Processor) → Decides s processor p settled q → IsWell p → IsWell q
 decides_well s processor p settled q h well =
     let q' : IsWell (decided_by s p settled) = record {
       rising = rising_decided s.discipline p.running p.running.current (settled.choice == 1) well.rising;
@@ -133,7 +133,7 @@ time_well : (d : Discipline) (now : ℕ) (p : Processor) → IsWell p → IsWell
 time_well d now p well = record { rising = well.rising; ready = well.ready }
 
 -- an event that is not refused keeps all processors well
-pub performs_well : (s : Regime) (w : World) (e : Event) (calls : List Asked) (r : Reply) (w' : World) → AllWell w → Performs s w e calls r w' → AllWell w'
+pub performs_well : (s : PolicySemantics) (w : World) (e : Event) (calls : List Asked) (r : Reply) (w' : World) → AllWell w → Performs s w e calls r w' → AllWell w'
 performs_well s w (event.Admit id nice mask slice) calls r w' all k = rw k.3 all
 performs_well s w (event.Retire id) calls r w' all k = rw k.3 all
 performs_well s w event.Draw calls r w' all k = rw k.2 all

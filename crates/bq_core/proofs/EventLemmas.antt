@@ -18,7 +18,7 @@ use Rattle.bq_hooks.specs.Contexts.{as_number}
 use Rattle.bq_disc.specs.Masks.{allows}
 use Rattle.bq_hooks.specs.OwnPlace.{HasPlace}
 use Rattle.bq_hooks.specs.Permitted.{may_pull, task_numbered}
-use Rattle.bq_parts.specs.Choices.{Regime, Decision, decided_by}
+use Rattle.bq_parts.specs.Choices.{PolicySemantics, Decision, decided_by}
 use Rattle.bq_parts.specs.Moves.{after_leaving, as_it_leaves, taken_from, without_task, with_pulled, started_if_idle}
 use Rattle.bq_parts.specs.Shares.{after_time}
 use Rattle.bq_parts.proofs.TallyLemmas.{tally, tally-append, tally-charge, tally-decided, tally-enter_all, tally-without, tally-present}
@@ -93,7 +93,7 @@ end_wake_tidy d count w processor now to carried hooks y l e k a =
     (omega (arith, of_suits count to carried.task a place))
 
 -- it is decided who runs
-pub tick_tidy : (s : Regime) (count : ℕ) (w : World) (processor now : ℕ) (settled : Decision) → IsTidy count [] w → processor < count → IsTidy count [] (with_processor w processor (decided_by s (charged_at s.discipline w processor now) settled))
+pub tick_tidy : (s : PolicySemantics) (count : ℕ) (w : World) (processor now : ℕ) (settled : Decision) → IsTidy count [] w → processor < count → IsTidy count [] (with_processor w processor (decided_by s (charged_at s.discipline w processor now) settled))
 tick_tidy s count w processor now settled y l =
     let p : Processor = charged_at s.discipline w processor now in
     running_tidy count [] [] w processor (decided_by s p settled) y l refl
@@ -101,7 +101,7 @@ tick_tidy s count w processor now settled y l =
     refl
 
 -- an inbox's tasks enter, and it is decided who runs
-pub drain_tidy : (s : Regime) (count : ℕ) (w : World) (processor now : ℕ) (settled : Decision) → IsTidy count [] w → processor < count →
+pub drain_tidy : (s : PolicySemantics) (count : ℕ) (w : World) (processor now : ℕ) (settled : Decision) → IsTidy count [] w → processor < count →
     IsTidy count [] (with_inbox (with_processor w processor (decided_by s (record (charged_at s.discipline w processor now) { running = enter_all s.discipline (charged_at s.discipline w processor now).running (inbox w processor) }) settled)) processor [])
 drain_tidy s count w processor now settled y l =
     let tasks : List Task = inbox w processor in

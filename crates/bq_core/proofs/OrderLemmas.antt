@@ -22,7 +22,7 @@ use Rattle.bq_parts.specs.declared.refusal.Refusal.TheVariants as no
 use Rattle.bq_parts.specs.Processors.{Processor, HasEachOnce, opening}
 use Rattle.bq_parts.specs.World.{World, opening_world, processor_at, entry, count_in, loads_of}
 use Rattle.bq_parts.specs.Refusals.{refusal, argument_refusal, state_refusal, either, is_absent, is_away}
-use Rattle.bq_parts.specs.Choices.{Regime, Decision, policies, place_bytes, own_pull}
+use Rattle.bq_parts.specs.Choices.{PolicySemantics, Decision, policies, place_bytes, own_pull}
 use Rattle.bq_parts.specs.Moves.{admitted}
 use Rattle.bq_parts.specs.Shares.{after_time, remarked}
 use Rattle.bq_parts.specs.Steps.{WorldStep, Performs}
@@ -70,25 +70,25 @@ abbrev Keeps : World → World → Type 0
 Keeps w w' = IsTidy (count_in w) [] w'
 
 -- each event by itself, as it is not refused
-admit_keeps : (s : Regime) (w : World) (id : ℕ) (nice : ℤ) (mask slice : ℕ) (calls : List Asked) (r : Reply) (w' : World) → IsTidy (count_in w) [] w → refusal w (Admit id nice mask slice) ≡ None →
+admit_keeps : (s : PolicySemantics) (w : World) (id : ℕ) (nice : ℤ) (mask slice : ℕ) (calls : List Asked) (r : Reply) (w' : World) → IsTidy (count_in w) [] w → refusal w (Admit id nice mask slice) ≡ None →
     Performs s w (Admit id nice mask slice) calls r w' → Keeps w w'
 admit_keeps s w id nice mask slice calls r w' y h k =
     let f = accepted w (Admit id nice mask slice) h in
     rw (k.3, k.1.2) (EventLemmas.admit_tidy (count_in w) w id (admitted (count_in w) id nice mask slice) y k.1.0 refl (admitted_has_place (count_in w) id nice mask slice f.0))
 
-retire_keeps : (s : Regime) (w : World) (id : ℕ) (calls : List Asked) (r : Reply) (w' : World) → IsTidy (count_in w) [] w → Performs s w (Retire id) calls r w' → Keeps w w'
+retire_keeps : (s : PolicySemantics) (w : World) (id : ℕ) (calls : List Asked) (r : Reply) (w' : World) → IsTidy (count_in w) [] w → Performs s w (Retire id) calls r w' → Keeps w w'
 retire_keeps s w id calls r w' y k =
     let later = (first_refusal_passed (is_absent (entry w id)) no.NoTask _ k.1.0).1 in
     rw (k.3, k.1.2) (EventLemmas.retire_tidy (count_in w) w id y (first_refusal_passed (is_away (entry w id)) no.NotBlocked None later).0)
 
-install_keeps : (s : Regime) (w : World) (processor : ℕ) (hook : Hook) (g : ℕ) (policy : Option Accepted) (calls : List Asked) (r : Reply) (w' : World) → IsTidy (count_in w) [] w → refusal w (Install processor hook g policy) ≡ None →
+install_keeps : (s : PolicySemantics) (w : World) (processor : ℕ) (hook : Hook) (g : ℕ) (policy : Option Accepted) (calls : List Asked) (r : Reply) (w' : World) → IsTidy (count_in w) [] w → refusal w (Install processor hook g policy) ≡ None →
     Performs s w (Install processor hook g policy) calls r w' → Keeps w w'
 install_keeps s w processor hook g policy calls r w' y h k =
     let new : Attached = record { policy = policy; generation = g; maps = fresh_maps policy } in
     let l = (not_refused_is_there (count_in w) processor _ (accepted w (Install processor hook g policy) h).0).0 in
     rw (k.3, k.1.2) (EventLemmas.install_tidy (count_in w) w processor (with_attached hook (processor_at w processor).hooks new) y l)
 
-begin_wake_keeps : (s : Regime) (w : World) (processor id : ℕ) (calls : List Asked) (r : Reply) (w' : World) → IsTidy (count_in w) [] w → refusal w (BeginWake processor id) ≡ None →
+begin_wake_keeps : (s : PolicySemantics) (w : World) (processor id : ℕ) (calls : List Asked) (r : Reply) (w' : World) → IsTidy (count_in w) [] w → refusal w (BeginWake processor id) ≡ None →
     Performs s w (BeginWake processor id) calls r w' → Keeps w w'
 begin_wake_keeps s w processor id calls r w' y h k =
     let b = k.2 in
@@ -96,7 +96,7 @@ begin_wake_keeps s w processor id calls r w' y h k =
     let later = (first_refusal_passed (is_away (entry w id)) no.NotBlocked _ (first_refusal_passed (is_absent (entry w id)) no.NoTask _ b.1).1).1 in
     rw (k.4, b.4, b.5) (EventLemmas.begin_wake_tidy (count_in w) w processor id b.0 (loads_of w.processors w.inboxes) y l b.2 (first_refusal_passed (is_some (processor_at w processor).hand) no.InHand None later).0)
 
-end_wake_keeps : (s : Regime) (w : World) (processor now : ℕ) (calls : List Asked) (r : Reply) (w' : World) → IsTidy (count_in w) [] w → refusal w (EndWake processor now) ≡ None →
+end_wake_keeps : (s : PolicySemantics) (w : World) (processor now : ℕ) (calls : List Asked) (r : Reply) (w' : World) → IsTidy (count_in w) [] w → refusal w (EndWake processor now) ≡ None →
     Performs s w (EndWake processor now) calls r w' → Keeps w w'
 end_wake_keeps s w processor now calls r w' y h k =
     let l = (not_refused_is_there (count_in w) processor None (accepted w (EndWake processor now) h).0).0 in
@@ -111,23 +111,23 @@ end_wake_keeps s w processor now calls r w' y h k =
     let fits = may_place_fits (count_in w) carried.task to (subst (λ n. may_place (count_in w) carried.task n ≡ true) (sym b.4.1) goes) in
     rw (k.4, b.4.5, b.3) (EventLemmas.end_wake_tidy s.discipline (count_in w) w processor now to carried (record p.hooks { place = settled.attached }) y l b.2 fits.0 fits.1)
 
-drain_keeps : (s : Regime) (w : World) (processor now : ℕ) (calls : List Asked) (r : Reply) (w' : World) → IsTidy (count_in w) [] w → refusal w (Drain processor now) ≡ None → Performs s w (Drain processor now) calls r w' → Keeps w w'
+drain_keeps : (s : PolicySemantics) (w : World) (processor now : ℕ) (calls : List Asked) (r : Reply) (w' : World) → IsTidy (count_in w) [] w → refusal w (Drain processor now) ≡ None → Performs s w (Drain processor now) calls r w' → Keeps w w'
 drain_keeps s w processor now calls r w' y h k =
     let l = (not_refused_is_there (count_in w) processor None (accepted w (Drain processor now) h).0).0 in
     rw (k.2, k.1.1.1) (EventLemmas.drain_tidy s (count_in w) w processor now k.1.0 y l)
 
-tick_keeps : (s : Regime) (w : World) (processor now : ℕ) (calls : List Asked) (r : Reply) (w' : World) → IsTidy (count_in w) [] w → refusal w (Tick processor now) ≡ None → Performs s w (Tick processor now) calls r w' → Keeps w w'
+tick_keeps : (s : PolicySemantics) (w : World) (processor now : ℕ) (calls : List Asked) (r : Reply) (w' : World) → IsTidy (count_in w) [] w → refusal w (Tick processor now) ≡ None → Performs s w (Tick processor now) calls r w' → Keeps w w'
 tick_keeps s w processor now calls r w' y h k =
     let l = (not_refused_is_there (count_in w) processor None (accepted w (Tick processor now) h).0).0 in
     rw (k.2, k.1.1.1) (EventLemmas.tick_tidy s (count_in w) w processor now k.1.0 y l)
 
-block_keeps : (s : Regime) (w : World) (processor now : ℕ) (calls : List Asked) (r : Reply) (w' : World) → IsTidy (count_in w) [] w → refusal w (Block processor now) ≡ None → Performs s w (Block processor now) calls r w' → Keeps w w'
+block_keeps : (s : PolicySemantics) (w : World) (processor now : ℕ) (calls : List Asked) (r : Reply) (w' : World) → IsTidy (count_in w) [] w → refusal w (Block processor now) ≡ None → Performs s w (Block processor now) calls r w' → Keeps w w'
 block_keeps s w processor now calls r w' y h k =
     let l = (not_refused_is_there (count_in w) processor None (accepted w (Block processor now) h).0).0 in
     let b = k.2 in
     rw (k.4, b.1.1, b.1.3) (EventLemmas.block_tidy s.discipline (count_in w) w processor now b.0 y l b.1.0)
 
-pull_keeps : (s : Regime) (w : World) (processor from now : ℕ) (calls : List Asked) (r : Reply) (w' : World) → IsOrderly w → IsTidy (count_in w) [] w →
+pull_keeps : (s : PolicySemantics) (w : World) (processor from now : ℕ) (calls : List Asked) (r : Reply) (w' : World) → IsOrderly w → IsTidy (count_in w) [] w →
     refusal w (Pull processor from now) ≡ None → Performs s w (Pull processor from now) calls r w' → Keeps w w'
 pull_keeps s w processor from now calls r w' o y h k =
     let f = not_refused_is_there (count_in w) processor _ (accepted w (Pull processor from now) h).0 in
@@ -142,7 +142,7 @@ pull_keeps s w processor from now calls r w' o y h k =
     rw (k.3, x.1.3, x.1.4) (EventLemmas.pull_tidy s.discipline (count_in w) w processor from now settled.choice (task_numbered settled.choice) (record p.hooks { pull = settled.attached }) y f.0 g.0 apart may refl)
 
 -- an event that is not refused keeps a world tidy
-performs_tidy : (s : Regime) (w : World) (e : Event) (calls : List Asked) (r : Reply) (w' : World) → IsOrderly w → IsTidy (count_in w) [] w → refusal w e ≡ None → Performs s w e calls r w' → Keeps w w'
+performs_tidy : (s : PolicySemantics) (w : World) (e : Event) (calls : List Asked) (r : Reply) (w' : World) → IsOrderly w → IsTidy (count_in w) [] w → refusal w e ≡ None → Performs s w e calls r w' → Keeps w w'
 performs_tidy s w (Admit id nice mask slice) calls r w' o y h k = admit_keeps s w id nice mask slice calls r w' y h k
 performs_tidy s w (Retire id) calls r w' o y h k = retire_keeps s w id calls r w' y k
 performs_tidy s w Draw calls r w' o y h k = rw k.2 (EventLemmas.draw_tidy (count_in w) w _ y)
@@ -155,12 +155,12 @@ performs_tidy s w (Block processor now) calls r w' o y h k = block_keeps s w pro
 performs_tidy s w (Pull processor from now) calls r w' o y h k = pull_keeps s w processor from now calls r w' o y h k
 
 -- in every setting a step leaves the world tidy
-pub step_tidy : (s : Regime) (w : World) (e : Event) (calls : List Asked) (r : Result Reply Refusal) (w' : World) → WorldStep s w e calls r w' → IsOrderly w → Keeps w w'
+pub step_tidy : (s : PolicySemantics) (w : World) (e : Event) (calls : List Asked) (r : Result Reply Refusal) (w' : World) → WorldStep s w e calls r w' → IsOrderly w → Keeps w w'
 step_tidy s w e calls (Ok r) w' step o = performs_tidy s w e calls r w' o (tidy_of w o) step.0 step.1
 step_tidy s w e calls (Err r) w' step o = subst (Keeps w) (sym step.1) (tidy_of w o)
 
 -- and all its processors well
-step_well : (s : Regime) (w : World) (e : Event) (calls : List Asked) (r : Result Reply Refusal) (w' : World) → WorldStep s w e calls r w' → IsOrderly w → AllWell w'
+step_well : (s : PolicySemantics) (w : World) (e : Event) (calls : List Asked) (r : Result Reply Refusal) (w' : World) → WorldStep s w e calls r w' → IsOrderly w → AllWell w'
 step_well s w e calls (Ok r) w' step o = performs_well s w e calls r w' (well_of w o) step.1
 step_well s w e calls (Err r) w' step o = subst AllWell (sym step.1) (well_of w o)
 
@@ -169,11 +169,11 @@ tidy_is_orderly : (count : ℕ) (w : World) → IsTidy count [] w → AllWell w 
 tidy_is_orderly count w y well = orderly_of w (subst (λ c. IsTidy c [] w) (sym y.many) y) well
 
 -- in every setting a step keeps order
-pub step_keeps : (s : Regime) → StepKeeps s
+pub step_keeps : (s : PolicySemantics) → StepKeeps s
 step_keeps s w e calls r w' step o = tidy_is_orderly (count_in w) w' (step_tidy s w e calls r w' step o) (step_well s w e calls r w' step o)
 
 -- and so do the first of some events, however many
-pub run_keeps : (s : Regime) → RunKeeps s
+pub run_keeps : (s : PolicySemantics) → RunKeeps s
 run_keeps s w [] o zero [] [] w' run = subst IsOrderly (sym run) o
 run_keeps s w [] o (suc n) [] [] w' run = subst IsOrderly (sym run) o
 run_keeps s w (e ∷ es) o zero [] [] w' run = subst IsOrderly (sym run) o

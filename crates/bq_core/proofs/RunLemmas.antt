@@ -7,11 +7,11 @@ use Rattle.bq_parts.specs.declared.event.Event.{Event}
 use Rattle.bq_parts.specs.declared.reply.Reply.{Reply}
 use Rattle.bq_parts.specs.declared.refusal.Refusal.{Refusal}
 use Rattle.bq_parts.specs.World.{World}
-use Rattle.bq_parts.specs.Choices.{Regime}
+use Rattle.bq_parts.specs.Choices.{PolicySemantics}
 use Rattle.bq_parts.specs.Steps.{WorldStep, WorldRun, ThroughAll}
 
 -- one more step
-pub run_more : (s : Regime) (w mid w' : World) (es : List Event) (e : Event) (calls : List (List Asked)) (c : List Asked) (answers : List (Result Reply Refusal)) (a : Result Reply Refusal) →
+pub run_more : (s : PolicySemantics) (w mid w' : World) (es : List Event) (e : Event) (calls : List (List Asked)) (c : List Asked) (answers : List (Result Reply Refusal)) (a : Result Reply Refusal) →
     WorldRun s w es calls answers mid → WorldStep s mid e c a w' → WorldRun s w (es ++ e ∷ []) (calls ++ c ∷ []) (answers ++ a ∷ []) w'
 run_more s w mid w' [] e [] c [] a run step = (w', subst (λ v. WorldStep s v e c a w') run step, refl)
 run_more s w mid w' (x ∷ es) e (k ∷ calls) c (b ∷ answers) a run step = (run.0, run.1, run_more s run.0 mid w' es e calls c answers a run.2 step)

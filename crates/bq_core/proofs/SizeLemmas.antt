@@ -16,11 +16,11 @@ use Rattle.bq_parts.specs.declared.lobby_entry.LobbyEntry.TheVariants.{Blocked, 
 use Rattle.bq_parts.specs.Processors.{Processor}
 use Rattle.bq_parts.specs.Shares.{Admits, Blocks, Begins}
 use Rattle.bq_parts.specs.World.{World, count_in, with_processor}
-use Rattle.bq_parts.specs.Choices.{Regime}
+use Rattle.bq_parts.specs.Choices.{PolicySemantics}
 use Rattle.bq_parts.specs.Steps.{Performs, WorldStep, WorldRun}
 
 -- what an event does leaves as many processors
-performs_count : (s : Regime) (w : World) (e : Event) (calls : List Asked) (r : Reply) (w' : World) → Performs s w e calls r w' → count_in w' ≡ count_in w
+performs_count : (s : PolicySemantics) (w : World) (e : Event) (calls : List Asked) (r : Reply) (w' : World) → Performs s w e calls r w' → count_in w' ≡ count_in w
 performs_count s w (Admit id nice mask slice) calls r w' h = ap count_in h.3
 performs_count s w (Retire id) calls r w' h = ap count_in h.3
 performs_count s w Draw calls r w' h = ap count_in h.2
@@ -33,18 +33,18 @@ performs_count s w (Block processor now) calls r w' h = ap count_in h.4 ∙ leng
 performs_count s w (Pull processor from now) calls r w' h = ap count_in h.3 ∙ length-set (with_processor w processor h.0).processors from h.1 ∙ length-set w.processors processor h.0
 
 -- a step leaves as many processors
-pub step_count : (s : Regime) (w : World) (e : Event) (calls : List Asked) (r : Result Reply Refusal) (w' : World) → WorldStep s w e calls r w' → count_in w' ≡ count_in w
+pub step_count : (s : PolicySemantics) (w : World) (e : Event) (calls : List Asked) (r : Result Reply Refusal) (w' : World) → WorldStep s w e calls r w' → count_in w' ≡ count_in w
 step_count s w e calls (Ok r) w' h = performs_count s w e calls r w' h.1
 step_count s w e calls (Err r) w' h = ap count_in h.1
 
 -- and so do steps one after another
-pub run_count : (s : Regime) (w : World) (es : List Event) (calls : List (List Asked)) (answers : List (Result Reply Refusal)) (w' : World) → WorldRun s w es calls answers w' → count_in w' ≡ count_in w
+pub run_count : (s : PolicySemantics) (w : World) (es : List Event) (calls : List (List Asked)) (answers : List (Result Reply Refusal)) (w' : World) → WorldRun s w es calls answers w' → count_in w' ≡ count_in w
 run_count s w [] [] [] w' run = ap count_in run
 run_count s w (e ∷ es) (c ∷ calls) (a ∷ answers) w' run = run_count s run.0 es calls answers w' run.2 ∙ step_count s w e c a run.0 run.1
 run_count s w es calls answers w' run = absurd run
 
 -- whether a run was had or refused, there are as many processors afterwards
-pub outcome_count : (s : Regime) (w w' : World) (es : List Event) (more : List (List Asked) → Type 0) (answer : Result (Vec (Result Reply Refusal) Global) Refusal) →
+pub outcome_count : (s : PolicySemantics) (w w' : World) (es : List Event) (more : List (List Asked) → Type 0) (answer : Result (Vec (Result Reply Refusal) Global) Refusal) →
     IfOk answer (λ answers. (calls : List (List Asked)) × WorldRun s w es calls answers.items w' × more calls) → OnErr answer (w' ≡ w) → count_in w' ≡ count_in w
 outcome_count s w w' es more (Ok answers) ok err = run_count s w es ok.0 answers.items w' ok.1
 outcome_count s w w' es more (Err refusal) ok err = ap count_in err

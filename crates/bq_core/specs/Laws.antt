@@ -9,7 +9,7 @@ use Rattle.bq_parts.specs.declared.reply.Reply.{Reply}
 use Rattle.bq_parts.specs.declared.refusal.Refusal.{Refusal}
 use Rattle.bq_parts.specs.declared.refusal.Refusal.TheVariants as no
 use Rattle.bq_parts.specs.World.{World, opening_world}
-use Rattle.bq_parts.specs.Choices.{Regime, policies}
+use Rattle.bq_parts.specs.Choices.{PolicySemantics, policies}
 use Rattle.bq_parts.specs.Steps.{WorldStep, WorldRun}
 use Rattle.bq_parts.specs.StandsOnce.{IsOrderly}
 
@@ -18,15 +18,15 @@ abbrev pub OpeningIsOrderly : Type 0
 OpeningIsOrderly = (n : ℕ) → IsOrderly (opening_world n)
 
 -- in a setting each event, refused or not, keeps a world in order
-abbrev pub StepKeeps : Regime → Type 0
+abbrev pub StepKeeps : PolicySemantics → Type 0
 StepKeeps s = (w : World) (e : Event) (calls : List Asked) (r : Result Reply Refusal) (w' : World) →
     WorldStep s w e calls r w' → IsOrderly w → IsOrderly w'
 
 -- the first of some events leave a world in order, however many they are: so it is after each of them
-abbrev pub StaysOrderly : Regime → World → List Event → Type 0
+abbrev pub StaysOrderly : PolicySemantics → World → List Event → Type 0
 StaysOrderly s w es = (n : ℕ) (calls : List (List Asked)) (answers : List (Result Reply Refusal)) (w' : World) → WorldRun s w (take n es) calls answers w' → IsOrderly w'
 
-abbrev pub RunKeeps : Regime → Type 0
+abbrev pub RunKeeps : PolicySemantics → Type 0
 RunKeeps s = (w : World) (es : List Event) → IsOrderly w → StaysOrderly s w es
 
 -- under every discipline each step keeps order
@@ -34,7 +34,7 @@ abbrev pub StepKeepsOrder : Type 0
 StepKeepsOrder = (d : Discipline) → StepKeeps (policies d)
 
 -- a setting in which a policy may answer anything at all, and leave any maps of its shapes, if it is within its budget
-abbrev pub under_any_answers : Discipline → Regime
+abbrev pub under_any_answers : Discipline → PolicySemantics
 under_any_answers d = record { discipline = d; Answers = λ policy context maps now processor r0 maps' steps calls. Unit {0} }
 
 -- so it does whatever the policies answer, and indeed in every setting (proofs/OrderLemmas.antt), which a contract cannot say: a

@@ -5,6 +5,7 @@ ghost use Rattle.bq_parts.specs.Refusals.{argument_refusal};
 ghost use Rattle.bq_parts.specs.Choices.{policies};
 ghost use Rattle.bq_parts.specs.Steps.{WorldStep};
 
+use bq_disc::limits::TASKS;
 use crate::parts::Parts;
 use bq_disc::RunQueue;
 use bq_parts::{Event, Refusal, Reply, new_task};
@@ -33,7 +34,7 @@ impl<Q: RunQueue> Parts<Q> {
     /// A task leaves the lobby for good.
     #[inline(never)]
     pub(crate) fn retire(&mut self, task: u16) -> Result<Reply, Refusal>
-        requires below { task < 1024 }
+        requires below { task < TASKS }
         ensures step { WorldStep (policies Q.R.discipline) self.old (Event.Retire task) [] result self.new }
     {
         self.lobby.retire(task)

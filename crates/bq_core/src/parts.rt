@@ -2,6 +2,7 @@
 ghost use Rattle.std.specs.Prelude.{◌≡◌, ◌≤◌, ◌<◌, IfOk, length};
 ghost use Rattle.bq_parts.specs.World.{opening_world, processor_at, count_in};
 
+use bq_disc::limits::PROCESSORS;
 use bq_disc::RunQueue;
 use bq_parts::{Cpu, Inbox, Lobby};
 use std::alloc::{AllocError, Global};
@@ -30,7 +31,7 @@ impl<Q: RunQueue> Model for Parts<Q> {
 impl<Q: RunQueue + Drop> Parts<Q> {
     /// The opening world. It takes all the memory that later events need, but for Admit and Install.
     pub fn new(alloc: Global, count: usize) -> Result<Parts<Q>, AllocError>
-        requires few { count ≤ 64 }
+        requires few { count ≤ PROCESSORS }
         ensures { IfOk result (λ w. w ≡ opening_world count) }
     {
         let mut cpus = Vec::with_capacity(alloc, count)?;
@@ -52,7 +53,7 @@ impl<Q: RunQueue + Drop> Parts<Q> {
 impl<Q: RunQueue> Parts<Q> {
     /// The world that these parts make.
     pub(crate) fn of(cpus: Vec<Cpu<Q>>, inboxes: Vec<Inbox>, lobby: Lobby, drawn: u64) -> Parts<Q>
-        requires few { length cpus.items ≤ 64 }
+        requires few { length cpus.items ≤ PROCESSORS }
         requires inboxes { length inboxes.items ≡ length cpus.items }
         ensures { result ≡ record { processors = cpus.items; inboxes = inboxes.items; lobby = lobby; drawn = drawn } }
     {

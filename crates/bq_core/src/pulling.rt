@@ -9,6 +9,7 @@ ghost use Rattle.bq_parts.specs.Shares.{Pulls};
 ghost use Rattle.bq_parts.specs.Steps.{WorldStep};
 ghost use Rattle.bq_parts.specs.StandsOnce.{IsOrderly};
 
+use bq_disc::limits::PROCESSORS;
 use crate::parts::Parts;
 use bq_bpf::Board;
 use bq_disc::RunQueue;
@@ -49,7 +50,7 @@ fn pull_between<Q: RunQueue, B: Board>(
     scratch: &mut Scratch,
     board: &mut B,
 ) -> Reply
-    requires few { length cpus.old ≤ 64 }
+    requires few { length cpus.old ≤ PROCESSORS }
     requires inside { processor < length cpus.old }
     requires inside_from { from < length cpus.old }
     requires apart { processor ≢ from }

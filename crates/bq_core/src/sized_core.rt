@@ -9,6 +9,7 @@ ghost use Rattle.bq_parts.specs.StandsOnce.{IsOrderly};
 ghost use Rattle.bq_parts.specs.declared.refusal.Refusal.TheVariants as no;
 ghost use Rattle.bq_core.specs.Laws.{StaysOrderly};
 
+use bq_disc::limits::PROCESSORS;
 use crate::world::DynamicCore;
 use bq_bpf::Board;
 use bq_disc::RunQueue;
@@ -38,7 +39,7 @@ impl<Q: RunQueue + Drop, const P: usize> Core<Q, P> {
     /// The opening world, in which nothing is admitted, drawn or installed. It takes all the memory that later events
     /// need, but for Admit and Install.
     pub fn new(alloc: Global) -> Result<Core<Q, P>, AllocError>
-        requires few { P ≤ 64 }
+        requires few { P ≤ PROCESSORS }
         ensures opening { IfOk result (λ c. c ≡ opening_world P) }
         ensures orderly { IfOk result (λ c. IsOrderly c) }
     {
@@ -56,7 +57,7 @@ impl<Q: RunQueue, const P: usize> Core<Q, P> {
         lobby: Lobby,
         drawn: u64,
     ) -> Core<Q, P>
-        requires few { P ≤ 64 }
+        requires few { P ≤ PROCESSORS }
         requires cpus { length cpus.items ≡ P }
         requires inboxes { length inboxes.items ≡ P }
         requires orderly { IsOrderly (record { processors = cpus.items; inboxes = inboxes.items; lobby = lobby; drawn = drawn }) }

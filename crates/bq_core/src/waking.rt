@@ -7,6 +7,8 @@ ghost use Rattle.bq_parts.specs.Choices.{policies};
 ghost use Rattle.bq_parts.specs.Steps.{WorldStep};
 ghost use Rattle.bq_parts.specs.StandsOnce.{IsOrderly};
 
+use bq_disc::limits::TASKS;
+use bq_disc::limits::PROCESSORS;
 use crate::parts::Parts;
 use bq_bpf::Board;
 use bq_disc::RunQueue;
@@ -20,7 +22,7 @@ impl<Q: RunQueue> Parts<Q> {
     pub(crate) fn begin_wake(&mut self, processor: u8, task: u16) -> Result<Reply, Refusal>
         requires orderly { IsOrderly self.old }
         requires inside { processor < count_in self.old }
-        requires below { task < 1024 }
+        requires below { task < TASKS }
         ensures step { WorldStep (policies Q.R.discipline) self.old (Event.BeginWake processor task) [] result self.new }
     {
         let loads = loads_of(self.cpus.as_slice(), self.inboxes.as_slice());
@@ -68,7 +70,7 @@ impl<Q: RunQueue> Parts<Q> {
 /// The load of each processor.
 fn loads_of<Q: RunQueue>(cpus: &[Cpu<Q>], inboxes: &[Inbox]) -> Loads
     requires same { length cpus.now ≡ length inboxes.now }
-    requires few { length cpus.now ≤ 64 }
+    requires few { length cpus.now ≤ PROCESSORS }
     requires small { (i : ℕ) → load_of (slice_index_or cpus.now i opening) (slice_index_or inboxes.now i []) < 2 ^ 16 }
     ensures { result ≡ loads_of cpus.now inboxes.now }
 {

@@ -9,6 +9,7 @@ ghost use Rattle.bq_parts.specs.StandsOnce.{IsOrderly};
 ghost use Rattle.bq_parts.specs.declared.refusal.Refusal.TheVariants as no;
 ghost use Rattle.bq_core.specs.Laws.{StaysOrderly};
 
+use bq_disc::limits::PROCESSORS;
 use crate::parts::Parts;
 use bq_bpf::Board;
 use bq_disc::RunQueue;
@@ -40,7 +41,7 @@ impl<Q: RunQueue + Drop> DynamicCore<Q> {
     /// The opening world of so many processors, in which nothing is admitted, drawn or installed. It takes all the memory
     /// that later events need, but for Admit and Install.
     pub fn new(alloc: Global, count: usize) -> Result<DynamicCore<Q>, AllocError>
-        requires few { count ≤ 64 }
+        requires few { count ≤ PROCESSORS }
         ensures opening { IfOk result (λ c. c ≡ opening_world count) }
         ensures orderly { IfOk result (λ c. IsOrderly c) }
     {
@@ -60,7 +61,7 @@ impl<Q: RunQueue> DynamicCore<Q> {
         lobby: Lobby,
         drawn: u64,
     ) -> DynamicCore<Q>
-        requires few { length cpus.items ≤ 64 }
+        requires few { length cpus.items ≤ PROCESSORS }
         requires inboxes { length inboxes.items ≡ length cpus.items }
         requires orderly { IsOrderly (record { processors = cpus.items; inboxes = inboxes.items; lobby = lobby; drawn = drawn }) }
         ensures { result ≡ record { processors = cpus.items; inboxes = inboxes.items; lobby = lobby; drawn = drawn } }

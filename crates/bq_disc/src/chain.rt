@@ -8,6 +8,7 @@ ghost use Rattle.bq_disc.specs.Totals.{sums_of, is_at_most_mean, HasBounds};
 ghost use Rattle.bq_disc.specs.Dues.{first_due};
 ghost use Rattle.bq_disc.specs.Movable.{Adds};
 
+use crate::limits::PROCESSORS;
 use crate::node::{Link, behind};
 use crate::{Deadline, Movable, Node, Timeline, Totals};
 use std::marker::Model;
@@ -202,7 +203,7 @@ fn earliest_behind(chain: &Link, weight: u64, moment: u128) -> Option<Deadline>
 
 /// Looks at the tasks of a chain from the last to the first, and adds those that may use a processor.
 pub(crate) fn movable_behind(link: &Link, processor: u8, found: &mut Movable)
-    requires processor { processor < 64 }
+    requires processor { processor < PROCESSORS }
     requires few { found.old.count + length (chain_behind link.now) ≤ 2 ^ 20 }
     requires fits { length found.old.first.items ≤ 8 }
     ensures { Adds processor (chain_behind link.now) found.old found.new }

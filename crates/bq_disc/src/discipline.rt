@@ -7,6 +7,7 @@ ghost use Rattle.bq_disc.specs.Discipline.{Discipline, IsLawful};
 ghost use Rattle.bq_disc.specs.Chains.{task_of};
 ghost use Rattle.bq_disc.specs.Pulls.{pull_of};
 
+use crate::limits::PROCESSORS;
 use crate::{Node, Timeline};
 
 /// A task is pulled where the other processor has this many more at least.
@@ -34,7 +35,7 @@ pub trait Discipline {
     /// The task that an emptier processor takes from a timeline, the queue of another. `size` tasks run or wait there, and
     /// `from` here: where these are two more at least, it is the movable task of greatest (v, id).
     fn pull<T: Timeline>(processor: u8, size: usize, from: usize, queue: &T) -> Option<u16>
-        requires processor { processor < 64 }
+        requires processor { processor < PROCESSORS }
         ensures { result ≡ id_of (pull_of processor size from (T.tasks queue.now)) }
     {
         if from.saturating_sub(size) < WORTH_A_PULL {

@@ -6,6 +6,7 @@ ghost use Rattle.bq_disc.specs.Dues.{due_of};
 ghost use Rattle.bq_disc.specs.Totals.{is_at_most_mean};
 ghost use Rattle.bq_disc.specs.Queues.{can_use, key_of};
 
+use crate::limits::PROCESSORS;
 use crate::Deadline;
 use crate::mask::allows;
 use std::marker::Model;
@@ -146,7 +147,7 @@ impl Entity {
 
     /// Whether it may use a processor.
     pub fn can_use(&self, processor: u8) -> bool
-        requires { processor < 64 }
+        requires { processor < PROCESSORS }
         ensures { result ≡ can_use processor self.now }
     {
         allows(self.mask, processor)

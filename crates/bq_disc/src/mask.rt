@@ -14,7 +14,7 @@ pub fn allows(mask: u64, processor: u8) -> bool
 /// The same of a number that is a processor's.
 #[inline(always)]
 pub fn has(mask: u64, processor: u8) -> bool
-    requires { processor < 64 }
+    requires { processor < PROCESSORS }
     ensures { result ≡ allows mask processor }
 {
     (mask >> processor) % 2 == 1

@@ -3,6 +3,7 @@ ghost use Rattle.std.specs.Prelude.{◌≡◌, ◌<◌, ◌≤◌, ◌^◌, ◌+
 ghost use Rattle.bq_disc.specs.Queues.{can_use};
 ghost use Rattle.bq_disc.specs.Movable.{Adds};
 
+use crate::limits::PROCESSORS;
 use crate::Entity;
 use arrayvec::ArrayVec;
 
@@ -27,7 +28,7 @@ impl Movable {
 
     /// Looks at one more task.
     pub fn add(&mut self, entity: &Entity, processor: u8)
-        requires processor { processor < 64 }
+        requires processor { processor < PROCESSORS }
         requires few { self.old.count < 2 ^ 20 }
         requires fits { length self.old.first.items ≤ 8 }
         ensures { Adds processor (entity.now ∷ []) self.old self.new }

@@ -9,6 +9,7 @@ ghost use Rattle.bq_disc.specs.Discipline.{Discipline, charged, entered_by, left
 ghost use Rattle.bq_disc.specs.Chains.{task_of, IsLone};
 ghost use Rattle.bq_disc.specs.Pulls.{pull_of};
 
+use crate::limits::PROCESSORS;
 use crate::{Discipline, Movable, Node};
 
 /// How a task comes into a queue.
@@ -68,14 +69,14 @@ pub trait RunQueue {
 
     /// The tasks that may go to a processor, the greatest (v, id) first.
     fn movable(&self, processor: u8) -> Movable
-        requires { processor < 64 }
+        requires { processor < PROCESSORS }
         ensures count { result.count ≡ length (movable_to processor (members self.now)) }
         ensures first { result.first.items ≡ take 8 (ids (movable_to processor (members self.now))) }
         ensures rising { IsRising (members self.now) };
 
     /// Whether the task of that id is there and may go to a processor.
     fn is_movable(&self, id: u16, processor: u8) -> bool
-        requires { processor < 64 }
+        requires { processor < PROCESSORS }
         ensures value { result ≡ is_movable_to processor id (members self.now) }
         ensures small { HasSmallIds (members self.now) }
     {
@@ -88,7 +89,7 @@ pub trait RunQueue {
     /// The task that an emptier processor takes from this queue, where no policy chooses it. `size` tasks run or wait
     /// there, and `from` here, with the one that runs.
     fn own_pull(&self, processor: u8, size: usize, from: usize) -> Option<u16>
-        requires processor { processor < 64 }
+        requires processor { processor < PROCESSORS }
         ensures { result ≡ id_of (pull_of processor size from (members self.now)) };
 
     /// Who should run, of the queue and of the current task.

@@ -9,6 +9,7 @@ ghost use Rattle.bq_disc.specs.Totals.{sums_of, is_at_most_mean, HasBounds};
 ghost use Rattle.bq_disc.specs.Dues.{first_due};
 ghost use Rattle.bq_disc.specs.Chains.{task_of, IsLone};
 
+use crate::limits::PROCESSORS;
 use crate::{Deadline, Movable, Node, Totals};
 
 /// Tasks with distinct ids, by rising (v, id). No call takes memory: nodes move.
@@ -53,7 +54,7 @@ pub trait Timeline {
 
     /// The tasks that may go to a processor, the greatest (v, id) first.
     fn movable(&self, processor: u8) -> Movable
-        requires { processor < 64 }
+        requires { processor < PROCESSORS }
         ensures count { result.count ≡ length (movable_to processor (tasks self.now)) }
         ensures first { result.first.items ≡ take 8 (ids (movable_to processor (tasks self.now))) }
         ensures rising { IsRising (tasks self.now) };

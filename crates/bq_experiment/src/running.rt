@@ -90,7 +90,7 @@ fn viewed(
     let mut viewer = Viewer::new(alloc, settings);
     let above = show_names(alloc, workload, &mut viewer.screen)?;
     let mut later = Later { viewer, above };
-    let tally = simulate(alloc, workload, policies.loaded(), &mut later)?;
-    later.viewer.count_missed(tally.missed);
+    let counts = simulate(alloc, workload, policies.loaded(), &mut later)?;
+    later.viewer.count_missed(counts.missed);
     Ok(later.viewer)
 }

@@ -2,7 +2,7 @@
 
 use crate::cases::holds;
 use bq_parts::Event;
-use bq_simulate::{SimulateFault, Tally, simulate, write_event};
+use bq_simulate::{SimulateFault, Counts, simulate, write_event};
 use bq_words::{ProcessorCount, Rule};
 use bq_workload::{Action, Length, Setup, TaskKind, Unsound, Workload};
 use std::alloc::Global;
@@ -53,7 +53,7 @@ type Row = (
     ProcessorCount,
     &'static [(u64, &'static [Action])],
     &'static str,
-    Option<Tally>,
+    Option<Counts>,
 );
 
 /// Simulations.
@@ -86,7 +86,7 @@ begin 0 loads 1\nend 0 to 0 by rule steps 0\ndrain 1 run 1 by rule steps 0\n\
 block 1 run 0\ntick run 0 by rule steps 0\n\
 begin 1 loads 1\nend 1 to 0 by rule steps 0\ndrain 1 run 0 by rule steps 0\n\
 tick run 0 by rule steps 0\n",
-        Some(Tally {
+        Some(Counts {
             tasks: 2,
             phases: 2,
             missed: 0,
@@ -121,7 +121,7 @@ begin 0 loads 0 0\nend 0 to 0 by rule steps 0\ndrain 1 run 0 by rule steps 0\n\
 begin 1 loads 1 0\nend 1 to 1 by rule steps 0\ndrain 1 run 1 by rule steps 0\n\
 block 0 run none\n\
 tick run 1 by rule steps 0\n",
-        Some(Tally {
+        Some(Counts {
             tasks: 2,
             phases: 4,
             missed: 1,
@@ -137,9 +137,9 @@ tick run 1 by rule steps 0\n",
 ];
 
 /// Whether that was counted, or the second task takes no time.
-fn is_counted(outcome: &Result<Tally, SimulateFault>, wanted: &Option<Tally>) -> bool {
+fn is_counted(outcome: &Result<Counts, SimulateFault>, wanted: &Option<Counts>) -> bool {
     match (outcome, wanted) {
-        (Ok(tally), Some(wanted)) => tally == wanted,
+        (Ok(counts), Some(wanted)) => counts == wanted,
         (Err(SimulateFault::Unsound(Unsound::NoTime(kind))), None) => *kind == 1,
         _ => false,
     }

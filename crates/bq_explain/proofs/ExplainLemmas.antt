@@ -49,25 +49,25 @@ fault_here slots Counters slot fault = record { insn = fault.insn; here = fault.
 -- so does one that is refused
 pub refused_here : (slots : List (Option Insn)) (slot : ℕ) (named : Cause) → IsRefusal slots (refused.At slot named) → IsStart slots slot
 refused_here slots slot (cause.Graph named) is = fault_here slots named slot is.1.0
-refused_here slots slot (cause.State doubt) is = record { insn = is.1.insn; here = is.1.here }
+refused_here slots slot (cause.State obligation) is = record { insn = is.1.insn; here = is.1.here }
 
 -- where it is refused for what is not shown of the states, the control graph has no fault
 pub refused_faultless : (slots : List (Option Insn)) (slot : ℕ) (named : Cause) → IsRefusal slots (refused.At slot named) → IsOfState named → IsFaultless slots
 refused_faultless slots slot (cause.Graph named) is of = absurd of
-refused_faultless slots slot (cause.State doubt) is of = is.0
+refused_faultless slots slot (cause.State obligation) is of = is.0
 
 -- for a cause of the states what is known, and a need that it does not give, are what is found
 pub finds_state : (p : PolicySource) (slot : ℕ) (insn : Insn) (named : Cause) (need : Need) (known : AbstractState) → IsOfState named
     → ContainsRuns (spread p.insns.items) p.shapes.items (context_length_of p.hook p.version) slot known → IsNeed p known insn named need → IsFinding p slot insn named (finding.State need known)
 finds_state p slot insn (cause.Graph named) need known of contains is = absurd of
-finds_state p slot insn (cause.State doubt) need known of contains is = (contains, is)
+finds_state p slot insn (cause.State obligation) need known of contains is = (contains, is)
 
 -- and that nothing is known, where so no run comes there
 pub finds_none : (p : PolicySource) (slot : ℕ) (insn : Insn) (named : Cause) → IsOfState named
     → (IsStraightBefore (spread p.insns.items) p.shapes.items (context_length_of p.hook p.version) slot → IsNotReached (spread p.insns.items) p.shapes.items (context_length_of p.hook p.version) slot)
     → IsFinding p slot insn named finding.Unknown
 finds_none p slot insn (cause.Graph named) of none = absurd of
-finds_none p slot insn (cause.State doubt) of none = none
+finds_none p slot insn (cause.State obligation) of none = none
 
 nothing_made : (slots : List (Option Insn)) (slot : ℕ) (made : List Made) → made ≡ [] → AreMade slots slot [] made
 nothing_made slots slot made none one there = absurd (let less = (subst (λ (l : List Made). Contains l one) none there).1 in let no : ⊥ = omega arith in no)

@@ -54,7 +54,7 @@ graph_cause_of fault.Calls = Counters
 
 -- the cause is of the states
 abbrev pub IsOfState : Cause → Type 0
-IsOfState (cause.State doubt) = Unit {0}
+IsOfState (cause.State obligation) = Unit {0}
 IsOfState (cause.Graph named) = ⊥
 
 -- what is found at an instruction: for a fault of the control graph, one of that cause; for what is not shown of the states, a need that what is known before
@@ -62,9 +62,9 @@ IsOfState (cause.Graph named) = ⊥
 -- no run comes there
 abbrev pub IsFinding : PolicySource → ℕ → Insn → Cause → Finding → Type 0
 IsFinding p slot insn (cause.Graph named) (finding.Graph wrong) = graph_cause_of wrong ≡ named
-IsFinding p slot insn (cause.State doubt) (finding.State need known) =
-    ContainsRuns (spread p.insns.items) p.shapes.items (context_length_of p.hook p.version) slot known × IsNeed p known insn (cause.State doubt) need
-IsFinding p slot insn (cause.State doubt) finding.Unknown =
+IsFinding p slot insn (cause.State obligation) (finding.State need known) =
+    ContainsRuns (spread p.insns.items) p.shapes.items (context_length_of p.hook p.version) slot known × IsNeed p known insn (cause.State obligation) need
+IsFinding p slot insn (cause.State obligation) finding.Unknown =
     IsStraightBefore (spread p.insns.items) p.shapes.items (context_length_of p.hook p.version) slot → IsNotReached (spread p.insns.items) p.shapes.items (context_length_of p.hook p.version) slot
 IsFinding p slot insn _ other = ⊥
 

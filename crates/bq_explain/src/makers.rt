@@ -5,6 +5,7 @@ ghost use Rattle.bq_explain.specs.Makers.{AreLeading, AreOnTrail, IsMaker, IsOnT
 ghost use Rattle.bq_explain.specs.declared.makers.Maker.{Maker as Named};
 ghost use Rattle.bq_verify.specs.Straight.{spares};
 
+use bq_insn::SLOTS;
 use bq_bpf::instruction::destination;
 use bq_insn::Insn;
 use bq_needs::{Registers, read_registers};
@@ -70,7 +71,7 @@ pub(crate) fn makers(
     slot: usize,
 ) -> Result<Vec<usize>, AllocError>
     requires inside { slot < length slots.now }
-    requires short { length slots.now ≤ 4096 }
+    requires short { length slots.now ≤ SLOTS }
     requires sound { IsSound slots.now }
     ensures { IfOk result (λ makers. (made : ℕ) → Contains makers.items made ↔ IsMaker slots.now register slot made) }
 {
@@ -86,7 +87,7 @@ pub(crate) fn leading_to(
     slot: usize,
 ) -> Result<Vec<bool>, AllocError>
     requires inside { slot < length slots.now }
-    requires short { length slots.now ≤ 4096 }
+    requires short { length slots.now ≤ SLOTS }
     requires sound { IsSound slots.now }
 {
     let mut leading = vec![in alloc; false; slots.len()]?;
@@ -103,7 +104,7 @@ fn swept(
     leading: &mut [bool],
 ) -> Result<Vec<usize>, AllocError>
     requires inside { slot < length slots.now }
-    requires short { length slots.now ≤ 4096 }
+    requires short { length slots.now ≤ SLOTS }
     requires sound { IsSound slots.now }
     requires room { length leading.old ≡ length slots.now }
     requires blank { (k : ℕ) → slice_index_or leading.old k false ≡ false }
@@ -125,7 +126,7 @@ fn swept(
 /// What the instruction of a slot is, by the slots behind it from which a way leads on.
 fn part_of(slots: &[Option<Insn>], register: u8, here: usize, leading: &[bool]) -> Part
     requires inside { here < length slots.now }
-    requires short { length slots.now ≤ 4096 }
+    requires short { length slots.now ≤ SLOTS }
     requires sound { IsSound slots.now }
     requires room { length leading.now ≡ length slots.now }
     ensures { (slot : ℕ) → here < slot → AreLeading slots.now register slot (here + 1) leading.now → IsPart slots.now register slot here result }
@@ -164,7 +165,7 @@ pub(crate) fn trail(
     asked: &Registers,
 ) -> Result<Vec<Maker>, AllocError>
     requires inside { slot < length slots.now }
-    requires short { length slots.now ≤ 4096 }
+    requires short { length slots.now ≤ SLOTS }
     requires sound { IsSound slots.now }
     ensures { IfOk result (λ trail. AreOnTrail slots.now slot asked.now trail.items) }
 {
@@ -186,7 +187,7 @@ fn push_operands(
     maker: Maker,
     trail: &mut Vec<Maker>,
 ) -> Result<(), AllocError>
-    requires short { length slots.now ≤ 4096 }
+    requires short { length slots.now ≤ SLOTS }
     requires sound { IsSound slots.now }
     ensures { OnOk result ((slot : ℕ) (asked : List Bool) → IsOnTrail slots.now slot asked maker.register maker.slot → AreOnTrail slots.now slot asked trail.old.items → AreOnTrail slots.now slot asked trail.new.items) }
 {
@@ -208,7 +209,7 @@ fn push_makers(
     trail: &mut Vec<Maker>,
 ) -> Result<(), AllocError>
     requires inside { slot < length slots.now }
-    requires short { length slots.now ≤ 4096 }
+    requires short { length slots.now ≤ SLOTS }
     requires sound { IsSound slots.now }
     ensures { OnOk result ((maker : Named) → Contains trail.new.items maker → Contains trail.old.items maker ⊎ MakesAsked slots.now slot asked.now maker) }
 {

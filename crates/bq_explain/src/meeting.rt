@@ -4,6 +4,7 @@ ghost use Rattle.bq_insn.specs.Spelling.{is_well_formed};
 ghost use Rattle.bq_verify.specs.Passes.{IsSound};
 ghost use Rattle.bq_explain.specs.Makers.{IsLaidOut};
 
+use bq_insn::SLOTS;
 use crate::after::known_after;
 use crate::makers::leading_to;
 use crate::place::{Place, place_at};
@@ -81,7 +82,7 @@ pub(crate) fn meeting_of(
 
 /// The slots from which control may go to that slot.
 fn before(alloc: Global, slots: &[Option<Insn>], to: usize) -> Result<Vec<usize>, AllocError>
-    requires short { length slots.now ≤ 4096 }
+    requires short { length slots.now ≤ SLOTS }
     requires sound { IsSound slots.now }
 {
     let mut from = Vec::new(alloc);
@@ -96,7 +97,7 @@ fn before(alloc: Global, slots: &[Option<Insn>], to: usize) -> Result<Vec<usize>
 /// Whether control may go from the one slot to the other.
 fn leads(slots: &[Option<Insn>], from: usize, to: usize) -> bool
     requires inside { from < length slots.now }
-    requires short { length slots.now ≤ 4096 }
+    requires short { length slots.now ≤ SLOTS }
     requires sound { IsSound slots.now }
 {
     let Some(insn) = instruction(slots, from) else {

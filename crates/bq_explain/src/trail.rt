@@ -4,6 +4,7 @@ ghost use Rattle.bq_verify.specs.Passes.{IsSound};
 ghost use Rattle.bq_explain.specs.Explained.{AreMade, AreOf, IsOf};
 ghost use Rattle.bq_explain.specs.Makers.{IsLaidOut};
 
+use bq_insn::SLOTS;
 use crate::makers::{Maker, leading_to, makers, trail};
 use crate::meeting::{Meeting, known_behind, meeting_of};
 use crate::place::{Place, place_at};
@@ -135,7 +136,7 @@ fn unset_from_start(
     asked: &Registers,
 ) -> Result<Registers, AllocError>
     requires inside { slot < length slots.now }
-    requires short { length slots.now ≤ 4096 }
+    requires short { length slots.now ≤ SLOTS }
     requires sound { IsSound slots.now }
 {
     let mut unset = [false; 11];

@@ -26,7 +26,7 @@ use Rattle.bq_parts.specs.declared.lobby_entry.LobbyEntry.{LobbyEntry}
 use Rattle.bq_parts.specs.Processors.{Processor, opening}
 use Rattle.bq_parts.specs.Refusals.{first_refusal, either}
 use Rattle.bq_parts.specs.World.{World, processor_at, count_in, with_processor}
-use Rattle.bq_parts.specs.Choices.{Regime, Decision, SettlesBy, SettlesPreempt, policies}
+use Rattle.bq_parts.specs.Choices.{PolicySemantics, Decision, SettlesBy, SettlesPreempt, policies}
 use Rattle.bq_parts.specs.Shares.{Ticks, Blocks, after_time}
 use Rattle.bq_parts.specs.Steps.{WorldStep}
 use Rattle.bq_fairness.specs.Passing.{after_block, DisciplinePasses, CfsPasses}
@@ -38,7 +38,7 @@ own_by_test true permitted r0 own e h = let it = rw e at h in cc
 own_by_test false permitted r0 own e h = rw e refl
 
 -- a choice that was the discipline's own is its own
-own_choice : (s : Regime) (policy : Option Accepted) (context : Version → List ℕ) (attached : Attached) (now processor : ℕ) (permitted : ℕ → Bool) (own : ℕ) (settled : Decision) →
+own_choice : (s : PolicySemantics) (policy : Option Accepted) (context : Version → List ℕ) (attached : Attached) (now processor : ℕ) (permitted : ℕ → Bool) (own : ℕ) (settled : Decision) →
     SettlesBy s policy context attached now processor permitted own settled → settled.by ≡ who.Discipline → settled.choice ≡ own
 own_choice s None context attached now processor permitted own settled h e = ap (λ (x : Decision). x.choice) h
 own_choice s (Some policy) context attached now processor permitted own settled h e = h.4 ∙ own_by_test (permitted h.0) permitted h.0 own refl (sym h.5 ∙ e)
@@ -48,7 +48,7 @@ as_bool true = refl
 as_bool false = refl
 
 -- who runs after it is by the own answer
-pub own_decision : (s : Regime) (processor : ℕ) (p : Processor) (o : Option Task) (settled : Decision) → SettlesPreempt s processor p o settled → settled.by ≡ who.Discipline →
+pub own_decision : (s : PolicySemantics) (processor : ℕ) (p : Processor) (o : Option Task) (settled : Decision) → SettlesPreempt s processor p o settled → settled.by ≡ who.Discipline →
     decided s.discipline p.running o (settled.choice == 1) ≡ decided s.discipline p.running o (own_preempt s.discipline p.running.queue o)
 own_decision s processor p None settled h e = refl
 own_decision s processor p (Some u) settled h e =

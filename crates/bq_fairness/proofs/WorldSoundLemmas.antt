@@ -20,7 +20,7 @@ use Rattle.bq_parts.specs.declared.refusal.Refusal.TheVariants as no
 use Rattle.bq_parts.specs.Processors.{Processor, opening}
 use Rattle.bq_parts.specs.Refusals.{refusal}
 use Rattle.bq_parts.specs.World.{World, opening_world, processor_at, inbox, entry, count_in, with_processor, with_inbox, with_lobby}
-use Rattle.bq_parts.specs.Choices.{Regime, Decision}
+use Rattle.bq_parts.specs.Choices.{PolicySemantics, Decision}
 use Rattle.bq_parts.specs.Moves.{taken_from, without_task, with_pulled, started_if_idle, admitted}
 use Rattle.bq_parts.specs.Shares.{Decides, after_time, remarked}
 use Rattle.bq_parts.specs.Steps.{Performs}
@@ -195,17 +195,17 @@ nice_weight (negsuc n) e = weight_there weights (19 - n) all_weights (omega arit
 
 -- Each event
 
-decides_holds : (s : Regime) (P : Task → Type 0) (processor : ℕ) (p : Processor) (settled : Decision) (q : Processor) → Decides s processor p settled q → Holds P p.running → Holds P q.running
+decides_holds : (s : PolicySemantics) (P : Task → Type 0) (processor : ℕ) (p : Processor) (settled : Decision) (q : Processor) → Decides s processor p settled q → Holds P p.running → Holds P q.running
 decides_holds s P processor p settled q h k = rw h.1 (holds_decided s.discipline P p.running p.running.current (settled.choice == 1) refl k)
 
-decides_hand : (s : Regime) (processor : ℕ) (p : Processor) (settled : Decision) (q : Processor) → Decides s processor p settled q → HandIsSound p → HandIsSound q
+decides_hand : (s : PolicySemantics) (processor : ℕ) (p : Processor) (settled : Decision) (q : Processor) → Decides s processor p settled q → HandIsSound p → HandIsSound q
 decides_hand s processor p settled q h k = rw h.1 k
 
 held_task : (x c : Carried) → Some x ≡ Some c → x.task ≡ c.task
 held_task x c e = let same : x ≡ c = cc in ap (λ (y : Carried). y.task) same
 
 -- an event that is not refused keeps a world sound
-pub performs_sound : (s : Regime) (P : Task → Type 0) → IsKept s.discipline P → (w : World) (e : Event) (calls : List Asked) (r : Reply) (w' : World) → IsSoundWorld P w → refusal w e ≡ None → Performs s w e calls r w' → IsSoundWorld P w'
+pub performs_sound : (s : PolicySemantics) (P : Task → Type 0) → IsKept s.discipline P → (w : World) (e : Event) (calls : List Asked) (r : Reply) (w' : World) → IsSoundWorld P w → refusal w e ≡ None → Performs s w e calls r w' → IsSoundWorld P w'
 performs_sound s P k w (event.Admit id nice mask slice) calls r w' y free h =
     let arguments = (accepted w (event.Admit id nice mask slice) free).0 in
     let f = first_refusal_passed (not (is_nice nice)) no.Nice _ (first_refusal_passed (mask % 2 ^ count_in w == 0) no.EmptyMask _ (first_refusal_passed (nat_le 1024 id) no.NoTask _ arguments).1).1 in

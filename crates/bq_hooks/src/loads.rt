@@ -1,6 +1,7 @@
 //! How many tasks each processor has.
 ghost use Rattle.std.specs.Prelude.{◌≡◌, ◌<◌, ◌≤◌, [], ◌∷◌, ◌++◌, length, slice_index, slice_set, ◌↔◌, IsTrue};
 
+use bq_disc::limits::PROCESSORS;
 use arrayvec::ArrayVec;
 use std::marker::Model;
 
@@ -32,7 +33,7 @@ impl Loads {
 
     /// Adds the load of the next processor.
     pub fn push(&mut self, count: u16)
-        requires { length self.old < 64 }
+        requires { length self.old < PROCESSORS }
         ensures { self.new ≡ self.old ++ count ∷ [] }
     {
         self.counts.push(count);

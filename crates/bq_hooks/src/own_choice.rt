@@ -4,6 +4,7 @@ ghost use Rattle.std.specs.List.{range_with_len};
 ghost use Rattle.bq_disc.specs.Masks.{allows};
 ghost use Rattle.bq_hooks.specs.OwnPlace.{own_place, first_place, place_before, HasPlace};
 
+use bq_disc::limits::PROCESSORS;
 use crate::Loads;
 use bq_disc::Entity;
 use bq_disc::mask::has;
@@ -11,7 +12,7 @@ use bq_disc::mask::has;
 /// The processor of least load in the task's mask, of the first `count`; of equal loads the task's previous processor, and
 /// else the least number.
 pub fn own_place(count: usize, loads: &Loads, task: &Entity) -> u8
-    requires few { count ≤ 64 }
+    requires few { count ≤ PROCESSORS }
     requires usable { HasPlace count task.now }
     ensures own { Some result ≡ own_place count loads.now task.now }
     ensures below { result < count }
@@ -24,7 +25,7 @@ pub fn own_place(count: usize, loads: &Loads, task: &Entity) -> u8
 
 /// The first of the processors of a mask that are below `count`, from the last to the first.
 fn first_place(loads: &Loads, mask: u64, previous: Option<u8>, count: usize) -> Option<u8>
-    requires few { count ≤ 64 }
+    requires few { count ≤ PROCESSORS }
     ensures { result ≡ first_place loads.now previous (filter (allows mask) (range_with_len 0 count)) }
 {
     let mut first = None;

@@ -2,6 +2,7 @@
 ghost use Rattle.std.specs.Prelude.{◌≡◌, ◌≤◌, ◌<◌, ◌^◌, ◌%◌, ◌+◌, ◌*◌, min, length, take, Option};
 ghost use Rattle.bq_hooks.specs.Contexts.{place_header, place_bytes_below, place_bytes_first, place_bytes_second, if_shown, if_any_shown};
 
+use bq_disc::limits::PROCESSORS;
 use crate::Loads;
 use crate::fields::{NOBODY, put_four, put_u32, put_u64};
 use bq_disc::Entity;
@@ -56,7 +57,7 @@ pub fn wide_place_ctx(facts: &Place, context: &mut [u8; WIDE_PLACE_LENGTH])
 
 /// Fills a context that shows the processors below a limit.
 fn fill(facts: &Place, limit: usize, context: &mut [u8])
-    requires high { limit ≤ 64 }
+    requires high { limit ≤ PROCESSORS }
     requires room { length context.old ≡ 40 + 4 * limit }
     ensures bytes { context.new ≡ place_bytes_below limit facts.now }
 {
@@ -72,7 +73,7 @@ fn fill(facts: &Place, limit: usize, context: &mut [u8])
 
 /// Fills the first 40 bytes.
 fn put_header(facts: &Place, limit: usize, context: &mut [u8])
-    requires high { limit ≤ 64 }
+    requires high { limit ≤ PROCESSORS }
     requires room { 40 ≤ length context.old }
     ensures filled { take 40 context.new ≡ place_header limit facts.now }
 {
@@ -94,7 +95,7 @@ fn put_header(facts: &Place, limit: usize, context: &mut [u8])
 
 /// The bits of a mask below a number of them: those that name one of so many processors.
 pub fn low_bits(mask: u64, count: usize) -> u64
-    requires { count ≤ 64 }
+    requires { count ≤ PROCESSORS }
     ensures { result ≡ mask % 2 ^ count }
 {
     if count == 64 {

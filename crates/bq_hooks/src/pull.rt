@@ -7,6 +7,7 @@ ghost use Rattle.bq_disc.specs.Queues.{HasDistinctIds};
 ghost use Rattle.bq_disc.specs.Movable.{movable_to};
 ghost use Rattle.bq_hooks.specs.Contexts.{pull_bytes, or_nobody};
 
+use bq_disc::limits::PROCESSORS;
 use crate::fields::{NOBODY, put_four, put_task};
 use bq_disc::{Node, RunQueue};
 
@@ -42,7 +43,7 @@ pub struct Pull<'a, Q: RunQueue> {
 
 /// Fills the context of a pull policy. It takes no memory.
 pub fn pull_ctx<Q: RunQueue>(facts: &Pull<Q>, context: &mut [u8; PULL_LENGTH])
-    requires inside { facts.now.puller < 64 }
+    requires inside { facts.now.puller < PROCESSORS }
     requires distinct { HasDistinctIds (Q.members facts.now.queue.now) }
     ensures bytes { context.new ≡ pull_bytes (record {
       puller = facts.now.puller;

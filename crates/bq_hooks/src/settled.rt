@@ -5,6 +5,7 @@ ghost use Rattle.bq_hooks.specs.Contexts.{as_number, or_nobody};
 ghost use Rattle.bq_hooks.specs.Permitted.{may_place, may_preempt, may_pull, task_numbered};
 ghost use Rattle.bq_hooks.specs.Settled.{settled};
 
+use bq_disc::limits::PROCESSORS;
 use crate::fields;
 use bq_disc::{Entity, RunQueue};
 
@@ -54,7 +55,7 @@ impl<T> Choice<T> {
 /// Where a woken task goes: to the processor that the policy named, `r0`, if it is one of the `processors` and in the task's
 /// mask; else to the discipline's own.
 pub fn settle_place(r0: Option<u64>, processors: usize, task: &Entity, own: u8) -> Choice<u8>
-    requires few { processors ≤ 64 }
+    requires few { processors ≤ PROCESSORS }
     ensures value { result.value ≡ (settled (may_place processors task.now) r0 own).choice }
     ensures by { result.by ≡ (settled (may_place processors task.now) r0 own).by }
 {
@@ -86,7 +87,7 @@ pub fn settle_pull<Q: RunQueue>(
     puller: u8,
     own: Option<u16>,
 ) -> Choice<Option<u16>>
-    requires { puller < 64 }
+    requires { puller < PROCESSORS }
     ensures value { result.value ≡ task_numbered (settled (may_pull puller (Q.members queue.now)) r0 (or_nobody own)).choice }
     ensures by { result.by ≡ (settled (may_pull puller (Q.members queue.now)) r0 (or_nobody own)).by }
 {
@@ -100,7 +101,7 @@ pub fn settle_pull<Q: RunQueue>(
 /// Whether that is the id of a task of the queue that may go to the puller.
 #[tactic(auto, using(crate::proofs::IdLemmas::not_movable_beyond_ids))]
 fn may_go<Q: RunQueue>(id: u64, queue: &Q, puller: u8) -> bool
-    requires { puller < 64 }
+    requires { puller < PROCESSORS }
     ensures value { result ≡ is_movable_to puller id (Q.members queue.now) }
     ensures fits { result ≡ true → id < 2 ^ 16 }
 {

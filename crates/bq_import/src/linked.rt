@@ -16,7 +16,7 @@ use bq_verify::passes::next_slot;
 /// The slot that the jump leads to, where an instruction begins there.
 fn landing(slots: &[Option<Insn>], slot: usize, distance: i64) -> Option<usize>
     requires here { slot < length slots.now }
-    requires short { length slots.now ≤ 4096 }
+    requires short { length slots.now ≤ SLOTS }
     ensures some { IfSome result (λ to. LeadsTo slot distance to × IsStart slots.now to) }
     ensures none { IfNone result ((to : ℕ) → LeadsTo slot distance to → ¬ IsStart slots.now to) }
 {
@@ -35,7 +35,7 @@ fn landing(slots: &[Option<Insn>], slot: usize, distance: i64) -> Option<usize>
 fn leads_well(slots: &[Option<Insn>], slot: usize, insn: Insn) -> Result<(), Disorder>
     requires here { instruction_at slots.now slot ≡ Some insn }
     requires inside { slot < length slots.now }
-    requires short { length slots.now ≤ 4096 }
+    requires short { length slots.now ≤ SLOTS }
     requires whole { IsWhole slots.now }
     ensures ok { OnOk result (LeadsWell slots.now slot insn) }
     ensures err { IfErr result (IsWrongAt slots.now slot) }
@@ -54,7 +54,7 @@ fn leads_well(slots: &[Option<Insn>], slot: usize, insn: Insn) -> Result<(), Dis
 /// Whether control goes on to instructions alone from the slot, if an instruction begins there.
 fn slot_leads_well(slots: &[Option<Insn>], slot: usize) -> Result<(), Disorder>
     requires inside { slot < length slots.now }
-    requires short { length slots.now ≤ 4096 }
+    requires short { length slots.now ≤ SLOTS }
     requires whole { IsWhole slots.now }
     ensures ok { OnOk result (WellAt slots.now slot) }
     ensures err { IfErr result (IsWrongAt slots.now slot) }
@@ -68,7 +68,7 @@ fn slot_leads_well(slots: &[Option<Insn>], slot: usize) -> Result<(), Disorder>
 
 /// Whether control goes from each slot to instructions alone.
 pub fn check(slots: &[Option<Insn>]) -> Result<(), Disorder>
-    requires short { length slots.now ≤ 4096 }
+    requires short { length slots.now ≤ SLOTS }
     requires whole { IsWhole slots.now }
     requires good { AreGood slots.now }
     ensures ok { OnOk result (IsLinked slots.now) }

@@ -8,6 +8,7 @@ ghost use Rattle.bq_import.specs.Backward.{IsBuilt, IsFront, IsLengthened};
 ghost use Rattle.bq_import.specs.Faults.{IsFull, IsLinked};
 ghost use Rattle.bq_import.specs.Search.{AreClosed, AreTargets, AreKnown, IsDone, IsReady, JumpsTo, place_at};
 
+use bq_insn::SLOTS;
 use crate::backward::Backward;
 use crate::fault::Disorder;
 use crate::linked::targets;
@@ -30,7 +31,7 @@ impl Backward {
 
     /// How far it is from the next instruction to the copy of its target; 0 where there is no target.
     fn distance(&self, places: &[Option<usize>], jump: Option<usize>) -> i16
-        requires short { length self.now.slots.items ≤ 4096 }
+        requires short { length self.now.slots.items ≤ SLOTS }
         requires known { AreKnown self.now.slots.items self.now.origins.items places.now }
         requires done { (to : ℕ) → jump ≡ Some to → IsDone places.now to }
         ensures { IfSome jump (JumpsTo self.now.slots.items self.now.origins.items result) }

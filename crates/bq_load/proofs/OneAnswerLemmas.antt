@@ -148,7 +148,7 @@ one_answer bytes fault.Cut answer fits of b a = at_stop bytes fault.Cut answer f
 one_answer bytes fault.Rest answer fits of b a = at_stop bytes fault.Rest answer fits (record { at = fault_again bytes fault.Rest fits b }) a
 one_answer bytes (fault.Decode slot cause) answer fits of b a = faulty bytes slot cause answer fits b a
 one_answer bytes (fault.Refused slot (Graph cause)) answer fits of b a = graph_fault bytes slot cause answer fits b.0 a
-one_answer bytes (fault.Refused slot (State doubt)) answer fits of b a = absurd of
+one_answer bytes (fault.Refused slot (State obligation)) answer fits of b a = absurd of
 one_answer bytes fault.OutOfMemory answer fits of b a = absurd of
 
 one_greatest : (P : ℕ → Type 0) (m n : ℕ) → IsGreatest P m → IsGreatest P n → m ≡ n

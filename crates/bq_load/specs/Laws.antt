@@ -44,7 +44,7 @@ IsAnswer bytes (Err f) = IsUnloaded bytes f
 -- a fault of the bytes, of their program, or of its control graph: what is not known of registers and stack is no such fault
 abbrev pub IsOfBytes : LoadFault → Type 0
 IsOfBytes (fault.Refused slot (Graph cause)) = Unit {0}
-IsOfBytes (fault.Refused slot (State doubt)) = ⊥
+IsOfBytes (fault.Refused slot (State obligation)) = ⊥
 IsOfBytes fault.OutOfMemory = ⊥
 IsOfBytes named = Unit {0}
 

@@ -4,6 +4,7 @@ ghost use Rattle.bq_parts.specs.Refusals.{argument_refusal};
 ghost use Rattle.bq_parts.specs.Moves.{admitted};
 ghost use Rattle.bq_machine.specs.Calls.{IsCallRefused};
 
+use bq_disc::limits::PROCESSORS;
 use crate::clock::Clock;
 use crate::locks::Machine;
 use bq_disc::RunQueue;
@@ -21,7 +22,7 @@ fn new_task_with_room(
     count: usize,
     admission: Admission,
 ) -> Result<Unlinked, Refusal>
-    requires few { count ≤ 64 }
+    requires few { count ≤ PROCESSORS }
     ensures ready { IfOk result (λ _. room.new ≡ true) }
     ensures new { IfOk result (λ t. t ≡ admitted count admission.task admission.nice admission.mask admission.slice) }
     ensures passed { IfOk result (λ _. argument_refusal count (Event.Admit admission.task admission.nice admission.mask admission.slice) ≡ None) }

@@ -2,6 +2,7 @@
 ghost use Rattle.std.specs.Prelude.{◌≡◌, ◌≤◌, ◌^◌, [], All, IfOk, length};
 ghost use Rattle.bq_shared.specs.Calls.{fresh};
 
+use bq_disc::limits::PROCESSORS;
 use crate::clock::Clock;
 use crate::locks::Machine;
 use bq_disc::RunQueue;
@@ -24,7 +25,7 @@ impl<Q: RunQueue + Drop, K: Clock + Drop, N: Naming + Counting, const P: usize> 
         unnamed: UnnamedCounters,
         seat_count: u64,
     ) -> Result<(Machine<Q, K, N, P>, Vec<Seat<N>>), AllocError>
-        requires few { P ≤ 64 }
+        requires few { P ≤ PROCESSORS }
         requires name { prepared.0 ≡ N.table }
         requires counters { unnamed.0 ≡ N.counters }
         requires counts { (prepared.1.about ≡ P) × (prepared.1.callers ≡ seat_count) × (unnamed.1 ≡ seat_count) }
@@ -44,7 +45,7 @@ impl<Q: RunQueue + Drop, K: Clock + Drop, N: Naming + Counting, const P: usize> 
         unnamed: UnnamedCounters,
         seat_count: u64,
     ) -> Result<(Machine<Q, K, N, P>, Vec<Seat<N>>), AllocError>
-        requires few { P ≤ 64 }
+        requires few { P ≤ PROCESSORS }
         requires name { prepared.0 ≡ N.table }
         requires counters { unnamed.0 ≡ N.counters }
         requires counts { (prepared.1.about ≡ P) × (prepared.1.callers ≡ seat_count) × (unnamed.1 ≡ seat_count) }

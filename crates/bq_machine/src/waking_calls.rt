@@ -10,6 +10,7 @@ ghost use Rattle.bq_recording.specs.Placing.{IsPlaced};
 ghost use Rattle.bq_machine.specs.Calls.{IsCallRefused};
 ghost use Rattle.bq_machine.specs.Waking.{IsWake};
 
+use bq_disc::limits::TASKS;
 use crate::clock::Clock;
 use crate::locks::Machine;
 use crate::needs::rooms_of_event;
@@ -102,7 +103,7 @@ impl<Q: RunQueue + Drop, K: Clock + Drop, N: Naming + Counting, const P: usize> 
         begin_rooms: BeginRooms<'_>,
         end_rooms: EventRooms<'_>,
     ) -> WakeReceipts
-        requires inside { (processor < P) × (task < 1024) }
+        requires inside { (processor < P) × (task < TASKS) }
         requires ready { (begin_rooms.record.now ≡ true) × (end_rooms.record.now ≡ true) }
         requires calls { is_some end_rooms.calls.now ≡ true }
         requires tally { working.old.tally ≡ account_of told_calls working.old.caller.1 }
@@ -141,7 +142,7 @@ impl<Q: RunQueue + Drop, K: Clock + Drop, N: Naming + Counting, const P: usize> 
         task: u16,
         rooms: BeginRooms<'_>,
     ) -> Receipt<Record>
-        requires seat { task < 1024 }
+        requires seat { task < TASKS }
         requires ready { rooms.record.now ≡ true }
         requires tally { working.old.tally ≡ account_of told_calls working.old.caller.1 }
         requires says { cpu.old.holder ≡ part_item (cpu_part cpu.old.content.number cpu.old.content.state) ∷ [] }

@@ -2,6 +2,7 @@
 //! follow from the rules.
 ghost use Rattle.std.specs.Prelude.{◌≡◌, ◌≤◌};
 
+use bq_disc::limits::PROCESSORS;
 use crate::asking::{Request, ask};
 use crate::images::ZERO;
 use bq_cfs::CfsQueue;
@@ -243,7 +244,7 @@ fn is_kept<N: Naming + Counting, R: Abort + Wait, const P: usize>(
     unnamed: UnnamedCounters,
     row: Row,
 ) -> bool
-    requires few { P ≤ 64 }
+    requires few { P ≤ PROCESSORS }
     requires name { prepared.0 ≡ N.table }
     requires counters { unnamed.0 ≡ N.counters }
     requires counts { (prepared.1.about ≡ P) × (prepared.1.callers ≡ 1) × (unnamed.1 ≡ 1) }
@@ -261,7 +262,7 @@ fn is_kept<N: Naming + Counting, R: Abort + Wait, const P: usize>(
 
 /// Whether the calls of a row are answered as they should be on an opening machine of so many processors.
 fn is_answered<R: Abort + Wait, const P: usize>(rt: &R, alloc: Global, row: Row) -> bool
-    requires few { P ≤ 64 }
+    requires few { P ≤ PROCESSORS }
 {
     let Ok((prepared, unnamed)) = prepare::<CfsQueue>(alloc, P as u64, 1) else {
         panic!(rt; "memory")

@@ -1,6 +1,7 @@
 //! A history that a core goes through once more, event by event.
 ghost use Rattle.std.specs.Prelude.{◌≤◌};
 
+use bq_disc::limits::PROCESSORS;
 use bq_bpf::{Board, Call, Plain};
 use bq_core::Core;
 use bq_disc::RunQueue;
@@ -77,7 +78,7 @@ pub fn is_replayed<Q: RunQueue + Drop, R: Abort, const P: usize>(
     alloc: Global,
     mut closed: Closed<Q, P>,
 ) -> bool
-    requires { P ≤ 64 }
+    requires { P ≤ PROCESSORS }
 {
     let mut core = Core::<Q, P>::new(alloc).expect(rt, "memory");
     is_followed(rt, alloc, &mut core, &closed)

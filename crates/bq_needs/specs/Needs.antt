@@ -2,7 +2,7 @@
 use Rattle.std.specs.Prelude.{◌≡◌, ◌≢◌, ℕ, ℤ, pos, ◌<◌, ◌&&◌, Bool, true, false, is_none, List, ◌⊎◌, Some, None, length, slice_index_or}
 use Rattle.bq_insn.specs.declared.Insn.{Insn}
 use Rattle.bq_insn.specs.declared.Insn.TheVariants.{MapRef, Call}
-use Rattle.bq_transfer.specs.declared.doubt.Doubt.TheVariants.{Unset, Access, PointerUse, Argument, Answer}
+use Rattle.bq_transfer.specs.declared.obligation.Obligation.TheVariants.{Unset, Access, PointerUse, Argument, Answer}
 use Rattle.bq_verify.specs.declared.cause.Cause.{Cause}
 use Rattle.bq_verify.specs.declared.cause.Cause.TheVariants.{State}
 use Rattle.bq_states.specs.Certainty.{Scalar, StandsAt}

@@ -15,7 +15,7 @@ use bq_insn::Insn;
 use bq_policy_file::PolicySource;
 use bq_states::abstract_state::{AbstractState, AbstractValue, ValueKind};
 use bq_states::registers::known;
-use bq_transfer::doubt::Doubt;
+use bq_transfer::obligation::Obligation;
 use bq_verify::Cause;
 
 /// What an instruction needs and the abstract state before it does not give.
@@ -68,11 +68,11 @@ fn lacking(policy: &PolicySource, state: &AbstractState, insn: Insn, cause: Caus
     ensures { MatchOption result (IsMet policy.now state.now insn cause) (Lacking policy.now state.now insn cause) }
 {
     match cause {
-        Cause::State(Doubt::Unset) => unknown_need(state, insn),
-        Cause::State(Doubt::Access) => access_need(policy, state, insn),
-        Cause::State(Doubt::PointerUse) => pointer_need(state, insn),
-        Cause::State(Doubt::Argument) => argument_need(policy, state, insn),
-        Cause::State(Doubt::Answer) => answer_need(state),
+        Cause::State(Obligation::Unset) => unknown_need(state, insn),
+        Cause::State(Obligation::Access) => access_need(policy, state, insn),
+        Cause::State(Obligation::PointerUse) => pointer_need(state, insn),
+        Cause::State(Obligation::Argument) => argument_need(policy, state, insn),
+        Cause::State(Obligation::Answer) => answer_need(state),
         Cause::Graph(_) => None,
     }
 }
@@ -121,7 +121,7 @@ fn has_one(registers: &Registers) -> bool
 
 /// The access of a load or a store, and why it is not shown to be good, if it is not.
 fn access_need(policy: &PolicySource, state: &AbstractState, insn: Insn) -> Option<Need>
-    ensures { MatchOption result (IsGoodAccess policy.now state.now insn) (Lacking policy.now state.now insn (Cause.State Doubt.Access)) }
+    ensures { MatchOption result (IsGoodAccess policy.now state.now insn) (Lacking policy.now state.now insn (Cause.State Obligation.Access)) }
 {
     let Some(access) = access_of(insn) else {
         return None;
@@ -189,7 +189,7 @@ fn is_number(kind: ValueKind) -> bool
 
 /// The map that there is not, or the argument of a helper that is not shown to be what it wants.
 fn argument_need(policy: &PolicySource, state: &AbstractState, insn: Insn) -> Option<Need>
-    ensures { MatchOption result (AreGoodArguments policy.now state.now insn) (Lacking policy.now state.now insn (Cause.State Doubt.Argument)) }
+    ensures { MatchOption result (AreGoodArguments policy.now state.now insn) (Lacking policy.now state.now insn (Cause.State Obligation.Argument)) }
 {
     match insn {
         Insn::MapRef { index, .. } => map_need(policy, index),

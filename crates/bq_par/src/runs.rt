@@ -5,6 +5,7 @@ ghost use Rattle.bq_words.specs.Sizes.{processors_in};
 ghost use Rattle.bq_par.specs.Shifts.{IsShift};
 ghost use Rattle.bq_par.specs.Summaries.{IsSummary};
 
+use bq_disc::limits::PROCESSORS;
 use crate::metronome::Metronome;
 use crate::shift::{ReturnedSeat, drive};
 use crate::summary::{HistorySummary, finish};
@@ -88,7 +89,7 @@ fn run_machine<
 ) -> Result<HistorySummary, AllocError>
 where
     Q::R: Send,
-    requires few { P ≤ 64 }
+    requires few { P ≤ PROCESSORS }
     requires name { prepared.0 ≡ N.table }
     requires counters { unnamed.0 ≡ N.counters }
     requires counts { (prepared.1.about ≡ P) × (prepared.1.callers ≡ P) × (unnamed.1 ≡ P) }

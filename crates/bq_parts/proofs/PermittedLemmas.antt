@@ -17,7 +17,7 @@ use Rattle.bq_disc.specs.Masks.{allows}
 use Rattle.bq_hooks.specs.Permitted.{may_place, may_pull, task_numbered}
 use Rattle.bq_hooks.specs.Settled.{Settled as Chosen, settled as chosen}
 use Rattle.bq_parts.specs.Processors.{Processor, count_of, size_of, HasEachOnce}
-use Rattle.bq_parts.specs.Choices.{Regime, Decision, SettlesBy, Settles, SettlesPull, own_pull, unasked}
+use Rattle.bq_parts.specs.Choices.{PolicySemantics, Decision, SettlesBy, Settles, SettlesPull, own_pull, unasked}
 use Rattle.bq_parts.proofs.CountLemmas.{one}
 
 by_test : (b : Bool) (permitted : ℕ → Bool) (r0 own : ℕ) → permitted r0 ≡ b → permitted own ≡ true → permitted (cond {A = Chosen} b (record { choice = r0; by = who.Policy }) (record { choice = own; by = who.Discipline })).choice ≡ true
@@ -28,13 +28,13 @@ by_test false permitted r0 own e o = o
 pub answer_is_permitted : (permitted : ℕ → Bool) (r0 own : ℕ) → permitted own ≡ true → permitted (chosen permitted (Some r0) own).choice ≡ true
 answer_is_permitted permitted r0 own o = by_test (permitted r0) permitted r0 own refl o
 
-settles_by : (s : Regime) (policy : Option Accepted) (context : Version → List ℕ) (attached : Attached) (now processor : ℕ) (permitted : ℕ → Bool) (own : ℕ) (settled : Decision) →
+settles_by : (s : PolicySemantics) (policy : Option Accepted) (context : Version → List ℕ) (attached : Attached) (now processor : ℕ) (permitted : ℕ → Bool) (own : ℕ) (settled : Decision) →
     permitted own ≡ true → SettlesBy s policy context attached now processor permitted own settled → permitted settled.choice ≡ true
 settles_by s None context attached now processor permitted own settled o h = ap (λ (x : Decision). permitted x.choice) h ∙ o
 settles_by s (Some policy) context attached now processor permitted own settled o h = ap permitted h.4 ∙ answer_is_permitted permitted h.0 own o
 
 -- where the own choice is permitted, what is settled is
-pub settled_permitted : (s : Regime) (context : Version → List ℕ) (attached : Attached) (now processor : ℕ) (permitted : ℕ → Bool) (own : ℕ) (settled : Decision) →
+pub settled_permitted : (s : PolicySemantics) (context : Version → List ℕ) (attached : Attached) (now processor : ℕ) (permitted : ℕ → Bool) (own : ℕ) (settled : Decision) →
     permitted own ≡ true → Settles s context attached now processor permitted own settled → permitted settled.choice ≡ true
 settled_permitted s context attached now processor permitted own settled o h = settles_by s attached.policy context attached now processor permitted own settled o h
 
@@ -137,7 +137,7 @@ none_stands None version e none = refl
 none_stands (Some policy) version e none = cc
 
 -- where no policy stands at the hook, a pull is settled by the discipline's own choice
-pub settles_unasked : (s : Regime) (processor from : ℕ) (p other : Processor) (version : Option Version) →
+pub settles_unasked : (s : PolicySemantics) (processor from : ℕ) (p other : Processor) (version : Option Version) →
     version ≡ option_map (λ policy. policy.version) p.hooks.pull.policy → version ≡ None → IfSome (own_pull processor p other) (λ id. id < 2 ^ 16) →
     (choice : ℕ) × SettlesPull s processor from p other (unasked choice p.hooks.pull) × (own_pull processor p other ≡ task_numbered choice)
 settles_unasked s processor from p other version e none small =

@@ -23,12 +23,12 @@ use Rattle.bq_parts.specs.Processors.{Processor, size_of}
 
 -- what the world runs under: the discipline, and how a policy answers: on a context, maps, a reading and a processor's
 -- number it gives r0, the maps that it leaves and how many steps it took, having asked so much of the counters
-pub record Regime : Type 1 where
+pub record PolicySemantics : Type 1 where
   pub discipline : Discipline
   pub Answers : Accepted → List ℕ → List (List ℕ) → ℕ → ℕ → ℕ → List (List ℕ) → ℕ → List Asked → Type 0
 
 -- policies answer as their programs run
-abbrev pub policies : Discipline → Regime
+abbrev pub policies : Discipline → PolicySemantics
 policies d = record { discipline = d; Answers = Answers }
 
 -- a choice, whose it was, how many steps it took, what was asked of the counters, and what stands at the hook afterwards
@@ -45,7 +45,7 @@ unasked own attached = record { choice = own; by = who.Discipline; steps = 0; ca
 
 -- r0 where it is permitted, and else the own choice. The maps stay as the policy left them, either way: they keep their
 -- shapes. The policy answers within its budget, with sixteen calls of counters at most
-abbrev pub SettlesBy : Regime → Option Accepted → (Version → List ℕ) → Attached → ℕ → ℕ → (ℕ → Bool) → ℕ → Decision → Type 0
+abbrev pub SettlesBy : PolicySemantics → Option Accepted → (Version → List ℕ) → Attached → ℕ → ℕ → (ℕ → Bool) → ℕ → Decision → Type 0
 SettlesBy s None context attached now processor permitted own settled = settled ≡ unasked own attached
 SettlesBy s (Some policy) context attached now processor permitted own settled =
     (r0 : ℕ) × (maps : List (List ℕ)) × s.Answers policy (context policy.version) attached.maps now processor r0 maps settled.steps settled.calls
@@ -53,7 +53,7 @@ SettlesBy s (Some policy) context attached now processor permitted own settled =
     × (settled.choice ≡ (chosen permitted (Some r0) own).choice) × (settled.by ≡ (chosen permitted (Some r0) own).by)
     × IsWithin policy settled.steps settled.calls × HaveShapes policy.shapes maps
 
-abbrev pub Settles : Regime → (Version → List ℕ) → Attached → ℕ → ℕ → (ℕ → Bool) → ℕ → Decision → Type 0
+abbrev pub Settles : PolicySemantics → (Version → List ℕ) → Attached → ℕ → ℕ → (ℕ → Bool) → ℕ → Decision → Type 0
 Settles s context attached = SettlesBy s attached.policy context attached
 
 -- the context of a placement, by the version of the policy's image
@@ -62,14 +62,14 @@ place_bytes facts First = place_bytes_first facts
 place_bytes facts Second = place_bytes_second facts
 
 -- a placement is settled, of the task in a hand, among so many processors
-abbrev pub SettlesPlace : Regime → ℕ → ℕ → Processor → Carried → Decision → Type 0
+abbrev pub SettlesPlace : PolicySemantics → ℕ → ℕ → Processor → Carried → Decision → Type 0
 SettlesPlace s count processor p carried settled =
     let own = unwrap_or (own_place count carried.loads carried.task) 0 in
     let context = place_bytes (record { task = carried.task; waking = processor; processors = count; own = own; loads = carried.loads }) in
     Settles s context p.hooks.place p.running.last processor (may_place count carried.task) own settled
 
 -- a preemption is settled: where nothing runs no policy is asked; else it is answered by 0 or 1
-abbrev pub SettlesPreempt : Regime → ℕ → Processor → Option Task → Decision → Type 0
+abbrev pub SettlesPreempt : PolicySemantics → ℕ → Processor → Option Task → Decision → Type 0
 SettlesPreempt s processor p None settled = settled ≡ unasked 0 p.hooks.preempt
 SettlesPreempt s processor p (Some current) settled =
     let queue = p.running.queue in
@@ -82,7 +82,7 @@ abbrev pub own_pull : ℕ → Processor → Processor → Option ℕ
 own_pull processor p from = id_of (pull_of processor (size_of p) (size_of from) from.running.queue)
 
 -- a pull is settled, from another processor
-abbrev pub SettlesPull : Regime → ℕ → ℕ → Processor → Processor → Decision → Type 0
+abbrev pub SettlesPull : PolicySemantics → ℕ → ℕ → Processor → Processor → Decision → Type 0
 SettlesPull s processor from p other settled =
     let queue = other.running.queue in
     let own = own_pull processor p other in
@@ -90,7 +90,7 @@ SettlesPull s processor from p other settled =
     Settles s (λ version. context) p.hooks.pull p.running.last processor (may_pull processor queue) (or_nobody own) settled
 
 -- Decide: who runs after a preemption was settled, and what stands at the hook
-abbrev pub decided_by : Regime → Processor → Decision → Processor
+abbrev pub decided_by : PolicySemantics → Processor → Decision → Processor
 decided_by s p settled =
     record p {
       running = decided s.discipline p.running p.running.current (settled.choice == 1);

@@ -18,7 +18,7 @@ use Rattle.bq_hooks.specs.declared.hook.Hook.{Hook}
 use Rattle.bq_installed.specs.Attachments.{Attached, at_hook, with_attached}
 use Rattle.bq_installed.specs.Standing.{MayStand}
 use Rattle.bq_hooks.specs.Permitted.{task_numbered}
-use Rattle.bq_parts.specs.Choices.{Regime, Decision, SettlesPlace, SettlesPreempt, SettlesPull, decided_by}
+use Rattle.bq_parts.specs.Choices.{PolicySemantics, Decision, SettlesPlace, SettlesPreempt, SettlesPull, decided_by}
 use Rattle.bq_parts.specs.Moves.{after_leaving, as_it_leaves, taken_from, without_task, with_pulled, started_if_idle}
 
 -- a processor after its time has passed
@@ -40,17 +40,17 @@ Retires id lobby (Ok r) lobby' = (retire_refusal (slice_index_or lobby id Absent
 Retires id lobby (Err e) lobby' = (retire_refusal (slice_index_or lobby id Absent) ≡ Some e) × (lobby' ≡ lobby)
 
 -- it is decided who runs
-abbrev pub Decides : Regime → ℕ → Processor → Decision → Processor → Type 0
+abbrev pub Decides : PolicySemantics → ℕ → Processor → Decision → Processor → Type 0
 Decides s processor p settled q = SettlesPreempt s processor p p.running.current settled × (q ≡ decided_by s p settled)
 
 -- the clock of a processor ticks
-abbrev pub Ticks : Regime → ℕ → ℕ → Processor → List Asked → Reply → Processor → Type 0
+abbrev pub Ticks : PolicySemantics → ℕ → ℕ → Processor → List Asked → Reply → Processor → Type 0
 Ticks s processor now p calls r q =
     (settled : Decision) × Decides s processor (after_time s.discipline now p) settled q
     × (calls ≡ settled.calls) × (r ≡ Ticked (id_of q.running.current) settled.by settled.steps)
 
 -- the tasks of an inbox enter
-abbrev pub Drains : Regime → ℕ → ℕ → Processor → List Task → List Asked → Reply → Processor → Type 0
+abbrev pub Drains : PolicySemantics → ℕ → ℕ → Processor → List Task → List Asked → Reply → Processor → Type 0
 Drains s processor now p tasks calls r q =
     (settled : Decision)
     × (let c = after_time s.discipline now p in
@@ -74,7 +74,7 @@ Begins id loads p lobby (Ok r) q lobby' =
 Begins id loads p lobby (Err e) q lobby' = (begin_refusal (slice_index_or lobby id Absent) p.hand ≡ Some e) × (q ≡ p) × (lobby' ≡ lobby)
 
 -- the task in the hand is given for the processor that is chosen among so many
-abbrev pub Places : Regime → ℕ → ℕ → ℕ → Processor → List Asked → Option Placement → Processor → Type 0
+abbrev pub Places : PolicySemantics → ℕ → ℕ → ℕ → Processor → List Asked → Option Placement → Processor → Type 0
 Places s count processor now p calls None q = (calls ≡ []) × (p.hand ≡ None) × (q ≡ p)
 Places s count processor now p calls (Some x) q =
     (carried : Carried) × (settled : Decision) × (p.hand ≡ Some carried) × (x.task ≡ carried.task)
@@ -90,7 +90,7 @@ Installs h drawn p new (Ok r) q =
 Installs h drawn p new (Err e) q = (install_refusal (at_hook h p.hooks).generation drawn new.generation ≡ Some e) × (q ≡ p)
 
 -- a task of another processor's queue enters this one's; where nothing runs, the choice does
-abbrev pub Pulls : Regime → ℕ → ℕ → ℕ → Processor → Processor → List Asked → Reply → Processor → Processor → Type 0
+abbrev pub Pulls : PolicySemantics → ℕ → ℕ → ℕ → Processor → Processor → List Asked → Reply → Processor → Processor → Type 0
 Pulls s processor from now p other calls r q other' =
     (settled : Decision)
     × (let c = after_time s.discipline now p in

@@ -16,11 +16,11 @@ use Rattle.bq_parts.specs.World.{World, processor_at, inbox, count_in, with_proc
 use Rattle.bq_parts.specs.Counts.{counted}
 use Rattle.bq_parts.specs.Refusals.{refusal, argument_refusal}
 use Rattle.bq_parts.specs.Moves.{admitted}
-use Rattle.bq_parts.specs.Choices.{Regime}
+use Rattle.bq_parts.specs.Choices.{PolicySemantics}
 use Rattle.bq_parts.specs.Shares.{Admits, Retires, Ticks, Drains, Blocks, Begins, Places, Installs, Pulls}
 
 -- the reply to an event that is not refused, and the world that it leaves
-abbrev pub Performs : Regime → World → Event → List Asked → Reply → World → Type 0
+abbrev pub Performs : PolicySemantics → World → Event → List Asked → Reply → World → Type 0
 -- the task stands in the lobby
 Performs s w (Admit id nice mask slice) calls r w' =
     (lobby : List LobbyEntry) × Admits id (admitted (count_in w) id nice mask slice) w.lobby (Ok r) lobby × (calls ≡ []) × (w' ≡ with_lobby w lobby)
@@ -61,13 +61,13 @@ TakesMemory e = ⊥
 
 -- What an event does. A refusal leaves the world as it was, and so does want of memory, which Admit and Install alone may
 -- meet: after a refusal of their arguments, and before one of the world's.
-abbrev pub WorldStep : Regime → World → Event → List Asked → Result Reply Refusal → World → Type 0
+abbrev pub WorldStep : PolicySemantics → World → Event → List Asked → Result Reply Refusal → World → Type 0
 WorldStep s w e calls (Ok r) w' = (refusal w e ≡ None) × Performs s w e calls r w'
 WorldStep s w e calls (Err r) w' =
     (calls ≡ []) × (w' ≡ w) × ((refusal w e ≡ Some r) ⊎ (TakesMemory e × (argument_refusal (count_in w) e ≡ None) × (r ≡ no.OutOfMemory)))
 
 -- the answers to some events are those of steps one after another
-abbrev pub WorldRun : Regime → World → List Event → List (List Asked) → List (Result Reply Refusal) → World → Type 0
+abbrev pub WorldRun : PolicySemantics → World → List Event → List (List Asked) → List (Result Reply Refusal) → World → Type 0
 WorldRun s w [] [] [] w' = w' ≡ w
 WorldRun s w (e ∷ es) (calls ∷ more) (a ∷ answers) w' = (mid : World) × WorldStep s w e calls a mid × WorldRun s mid es more answers w'
 WorldRun s w es more answers w' = ⊥

@@ -2,6 +2,7 @@
 ghost use Rattle.std.specs.Prelude.{◌≡◌, ◌<◌, ◌≤◌, Some, None};
 ghost use Rattle.bq_parts.specs.Refusals.{argument_refusal};
 
+use bq_disc::limits::PROCESSORS;
 use crate::{Event, Refusal};
 use bq_disc::limits::{GREATEST_SLICE, LEAST_SLICE, TASKS};
 use bq_hooks::{Hook, low_bits};
@@ -11,7 +12,7 @@ use bq_weights::is_nice;
 /// The refusal that an event's arguments have in any world of so many processors; the first by number, where there are
 /// several.
 pub fn argument_refusal(count: usize, event: &Event) -> Option<Refusal>
-    requires { count ≤ 64 }
+    requires { count ≤ PROCESSORS }
     ensures { result ≡ argument_refusal count event.now }
 {
     match event {
@@ -65,7 +66,7 @@ pub fn argument_refusal(count: usize, event: &Event) -> Option<Refusal>
 }
 
 fn admit_refusal(count: usize, task: u16, nice: i8, mask: u64, slice: u64) -> Option<Refusal>
-    requires { count ≤ 64 }
+    requires { count ≤ PROCESSORS }
     ensures { result ≡ argument_refusal count (Event.Admit task nice mask slice) }
 {
     if task >= TASKS {

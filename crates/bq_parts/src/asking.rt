@@ -12,6 +12,7 @@ ghost use Rattle.bq_disc.specs.OneProcessor.{present_at};
 ghost use Rattle.bq_parts.specs.Processors.{HasEachOnce, HasLobbyIds, size_of};
 ghost use Rattle.bq_parts.specs.Choices.{policies, place_bytes, SettlesPlace, SettlesPreempt, SettlesPull, decided_by};
 
+use bq_disc::limits::PROCESSORS;
 use crate::{Carried, Cpu, Decision};
 use bq_bpf::Board;
 use bq_disc::RunQueue;
@@ -69,7 +70,7 @@ impl<Q: RunQueue> Cpu<Q> {
         scratch: &mut Scratch,
         board: &mut B,
     ) -> Decision<u8>
-        requires few { count ≤ 64 }
+        requires few { count ≤ PROCESSORS }
         requires usable { HasPlace count carried.now.task }
         requires unasked { scratch.old ≡ [] }
         ensures settled { SettlesPlace (policies Q.R.discipline) count processor self.old carried.now (record { choice = result.choice; by = result.by; steps = result.steps; calls = scratch.new; attached = self.new.hooks.place }) }
@@ -189,7 +190,7 @@ impl<Q: RunQueue> Cpu<Q> {
         scratch: &mut Scratch,
         board: &mut B,
     ) -> Decision<Option<u16>>
-        requires inside { processor < 64 }
+        requires inside { processor < PROCESSORS }
         requires few { size_of self.old ≤ 1024 }
         requires few_from { size_of source.now ≤ 1024 }
         requires distinct { HasDistinctIds source.now.running.queue }

@@ -13,6 +13,7 @@ ghost use Rattle.bq_installed.specs.Standing.{WasAnswered};
 ghost use Rattle.bq_parts.specs.Processors.{opening, load_of, size_of, count_of, HasEachOnce};
 ghost use Rattle.bq_parts.specs.Moves.{taken_from, without_task, with_pulled, started_if_idle};
 
+use bq_disc::limits::PROCESSORS;
 use crate::{Carried, Inbox, Unlinked};
 use bq_disc::clock::LATEST;
 use bq_disc::node::{self, Link};
@@ -84,7 +85,7 @@ impl<Q: RunQueue> Cpu<Q> {
     }
 
     /// The id of the task that runs.
-    pub fn run(&self) -> Option<u16>
+    pub fn running_id(&self) -> Option<u16>
         ensures { result ≡ id_of self.now.running.current }
     {
         match &self.current {
@@ -229,7 +230,7 @@ impl<Q: RunQueue> Cpu<Q> {
 
     /// The task that the discipline would move to a processor of that size.
     pub fn own_pull(&self, processor: u8, size: usize) -> Option<u16>
-        requires inside { processor < 64 }
+        requires inside { processor < PROCESSORS }
         requires few { size_of self.now < 2 ^ 32 }
         ensures { result ≡ id_of (pull_of processor size (size_of self.now) self.now.running.queue) }
     {

@@ -39,7 +39,7 @@ impl Lobby {
 
     /// Whether an id is not admitted.
     pub fn is_absent(&self, id: u16) -> bool
-        requires { id < 1024 }
+        requires { id < TASKS }
         ensures { result ≡ is_absent (slice_index_or self.now id Absent) }
     {
         matches!(self.entries[usize::from(id)], LobbyEntry::Absent)
@@ -47,7 +47,7 @@ impl Lobby {
 
     /// Whether the task of an id is with a processor.
     pub fn is_away(&self, id: u16) -> bool
-        requires { id < 1024 }
+        requires { id < TASKS }
         ensures { result ≡ is_away (slice_index_or self.now id Absent) }
     {
         matches!(self.entries[usize::from(id)], LobbyEntry::Away)
@@ -55,7 +55,7 @@ impl Lobby {
 
     /// A task comes into the lobby.
     pub fn enter(&mut self, id: u16, task: Unlinked)
-        requires { id < 1024 }
+        requires { id < TASKS }
         ensures { self.new ≡ slice_set self.old id (Blocked task) }
     {
         self.entries[usize::from(id)] = LobbyEntry::Blocked(task);
@@ -63,7 +63,7 @@ impl Lobby {
 
     /// An entry is given up for good.
     pub fn clear(&mut self, id: u16)
-        requires { id < 1024 }
+        requires { id < TASKS }
         ensures { self.new ≡ slice_set self.old id Absent }
     {
         self.entries[usize::from(id)] = LobbyEntry::Absent;
@@ -71,7 +71,7 @@ impl Lobby {
 
     /// The sleeping task of an entry goes to a processor.
     pub fn send(&mut self, id: u16) -> Unlinked
-        requires below { id < 1024 }
+        requires below { id < TASKS }
         requires there { is_absent (slice_index_or self.old id Absent) ≡ false }
         requires here { is_away (slice_index_or self.old id Absent) ≡ false }
         ensures task { slice_index_or self.old id Absent ≡ Blocked result }

@@ -8,6 +8,7 @@ ghost use Rattle.bq_parts.specs.Choices.{policies};
 ghost use Rattle.bq_parts.specs.Moves.{taken_from, without_task, with_pulled, started_if_idle};
 ghost use Rattle.bq_parts.specs.Shares.{Pulls};
 
+use bq_disc::limits::PROCESSORS;
 use crate::{Cpu, Reply};
 use bq_bpf::Board;
 use bq_disc::RunQueue;
@@ -25,7 +26,7 @@ impl<Q: RunQueue> Cpu<Q> {
         scratch: &mut Scratch,
         board: &mut B,
     ) -> Reply
-        requires inside { processor < 64 }
+        requires inside { processor < PROCESSORS }
         requires once { HasEachOnce (present_at self.old.running ++ present_at source.old.running) }
         requires ids { HasLobbyIds (present_at self.old.running ++ present_at source.old.running) }
         requires unasked { scratch.old ≡ [] }
@@ -54,6 +55,6 @@ impl<Q: RunQueue> Cpu<Q> {
         let given = source.give(task);
         self.accept(given);
         self.start_if_idle();
-        self.run()
+        self.running_id()
     }
 }

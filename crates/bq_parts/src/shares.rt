@@ -8,6 +8,8 @@ ghost use Rattle.bq_parts.specs.Choices.{policies};
 ghost use Rattle.bq_parts.specs.Moves.{admitted};
 ghost use Rattle.bq_parts.specs.Shares.{Admits, Blocks, Drains, Retires, Ticks};
 
+use bq_disc::limits::TASKS;
+use bq_disc::limits::PROCESSORS;
 use crate::{Cpu, Event, Inbox, Lobby, Refusal, Reply, Unlinked};
 use bq_bpf::Board;
 use bq_disc::{Node, RunQueue};
@@ -24,7 +26,7 @@ pub fn new_task(
     mask: u64,
     slice: u64,
 ) -> Result<Unlinked, AllocError>
-    requires few { count ≤ 64 }
+    requires few { count ≤ PROCESSORS }
     requires fits { argument_refusal count (Event.Admit task nice mask slice) ≡ None }
     ensures { IfOk result (λ t. t ≡ admitted count task nice mask slice) }
 {
@@ -39,7 +41,7 @@ pub fn new_task(
 impl Lobby {
     /// A new task stands in the lobby.
     pub fn admit(&mut self, id: u16, task: Unlinked) -> Result<Reply, Refusal>
-        requires below { id < 1024 }
+        requires below { id < TASKS }
         ensures share { Admits id task self.old result self.new }
     {
         if !self.is_absent(id) {
@@ -51,7 +53,7 @@ impl Lobby {
 
     /// A sleeping task leaves the lobby for good.
     pub fn retire(&mut self, id: u16) -> Result<Reply, Refusal>
-        requires below { id < 1024 }
+        requires below { id < TASKS }
         ensures share { Retires id self.old result self.new }
     {
         if self.is_absent(id) {
@@ -83,7 +85,7 @@ impl<Q: RunQueue> Cpu<Q> {
         self.charge(now);
         let preempted = self.decide(processor, scratch, board);
         Reply::Ticked {
-            run: self.run(),
+            run: self.running_id(),
             by: preempted.by,
             steps: preempted.steps,
         }
@@ -112,7 +114,7 @@ impl<Q: RunQueue> Cpu<Q> {
         let preempted = self.decide(processor, scratch, board);
         Reply::Drained {
             count,
-            run: self.run(),
+            run: self.running_id(),
             by: preempted.by,
             steps: preempted.steps,
         }
@@ -131,7 +133,7 @@ impl<Q: RunQueue> Cpu<Q> {
             return Err(Refusal::Idle);
         };
         self.start();
-        let run = self.run();
+        let run = self.running_id();
         let id = task.id();
         lobby.enter(id, task);
         Ok(Reply::Blocked { task: id, run })

@@ -7,6 +7,8 @@ ghost use Rattle.bq_parts.specs.Refusals.{install_refusal};
 ghost use Rattle.bq_parts.specs.Choices.{policies};
 ghost use Rattle.bq_parts.specs.Shares.{Begins, Installs, Places};
 
+use bq_disc::limits::TASKS;
+use bq_disc::limits::PROCESSORS;
 use crate::{Carried, Cpu, Lobby, Refusal, Reply, Unlinked};
 use bq_bpf::Board;
 use bq_disc::RunQueue;
@@ -30,7 +32,7 @@ impl<Q: RunQueue> Cpu<Q> {
         task: u16,
         loads: &Loads,
     ) -> Result<Reply, Refusal>
-        requires below { task < 1024 }
+        requires below { task < TASKS }
         ensures share { Begins task loads.now self.old lobby.old result self.new lobby.new }
     {
         self.begin_with(lobby, task, loads.copy())
@@ -43,7 +45,7 @@ impl<Q: RunQueue> Cpu<Q> {
         task: u16,
         loads: Loads,
     ) -> Result<Reply, Refusal>
-        requires below { task < 1024 }
+        requires below { task < TASKS }
         ensures share { Begins task loads self.old lobby.old result self.new lobby.new }
     {
         if lobby.is_absent(task) {
@@ -72,7 +74,7 @@ impl<Q: RunQueue> Cpu<Q> {
         scratch: &mut Scratch,
         board: &mut B,
     ) -> Option<Placement>
-        requires few { count ≤ 64 }
+        requires few { count ≤ PROCESSORS }
         requires usable { IfSome self.old.hand (λ c. HasPlace count c.task) }
         requires unasked { scratch.old ≡ [] }
         ensures share { Places (policies Q.R.discipline) count processor now self.old scratch.new result self.new }

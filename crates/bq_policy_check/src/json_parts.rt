@@ -6,7 +6,7 @@ use bq_explain::{Finding, Made, Place, Refusal, Summary, Verdict, advice_text, n
 use bq_needs::known_text;
 use bq_policy_file::{PolicySource, instruction_text};
 use bq_states::abstract_state::{AbstractState, AbstractValue};
-use bq_transfer::doubt::Doubt;
+use bq_transfer::obligation::Obligation;
 use bq_verify::{Cause, GraphCause};
 use serde_json::{Map, Value, put};
 use std::alloc::{AllocError, Global};
@@ -251,10 +251,10 @@ fn cause_word(cause: Cause) -> &'static str {
         Cause::Graph(GraphCause::Helper) => "helper",
         Cause::Graph(GraphCause::Frame) => "frame",
         Cause::Graph(GraphCause::Counters) => "counters",
-        Cause::State(Doubt::Unset) => "unset",
-        Cause::State(Doubt::Access) => "access",
-        Cause::State(Doubt::PointerUse) => "pointer use",
-        Cause::State(Doubt::Argument) => "argument",
-        Cause::State(Doubt::Answer) => "answer",
+        Cause::State(Obligation::Unset) => "unset",
+        Cause::State(Obligation::Access) => "access",
+        Cause::State(Obligation::PointerUse) => "pointer use",
+        Cause::State(Obligation::Argument) => "argument",
+        Cause::State(Obligation::Answer) => "answer",
     }
 }

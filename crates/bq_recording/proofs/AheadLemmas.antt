@@ -10,7 +10,7 @@ use Rattle.bq_shared.proofs.AccountLemmas.{goes_ahead}
 use Rattle.bq_shared.specs.declared.record.Record.{Record}
 use Rattle.bq_shared.specs.Parts.{told_calls}
 
--- an account that went over a desk is ahead by the calls that were made there
+-- an account that went over a counter_board is ahead by the calls that were made there
 pub ahead_of : {B : Type 0} (account : B → Account) (b d : B) (xs ys : List (Receipt Record)) (made : List Call) (a : Account) → account b ≡ account_of told_calls xs →
     Through (λ (old : B) (c : Call) (new : B). account new ≡ calling (account old) c) b made d → a ≡ account d → ys ≡ xs → a ≡ ahead told_calls ys made
 ahead_of account b d xs ys made a e t s same =

@@ -11,6 +11,7 @@ ghost use Rattle.bq_shared.specs.Parts.{RecordStep, told_calls, cpu_part, inbox_
 ghost use Rattle.bq_shared.specs.declared.law.WorldPart.{WorldPart as PartOf};
 ghost use Rattle.bq_recording.specs.AllParts.{all_parts};
 
+use bq_disc::limits::PROCESSORS;
 use crate::closed::Closed;
 use crate::closing_room::ClosingRoom;
 use bq_core::Core;
@@ -121,7 +122,7 @@ fn all_out<Q: RunQueue + Drop, N: Naming + Counting, const P: usize>(
 
 /// The core of the world that has these parts.
 fn core_of<Q: RunQueue + Drop, const P: usize>(contents: Contents<Q, P>, drawn: u64) -> Core<Q, P>
-    requires few { P ≤ 64 }
+    requires few { P ≤ PROCESSORS }
     requires once { (p : PartOf) → count (same_part p) (all_parts contents.lobby contents.cpus.items contents.inboxes.items (λ c. cpu_part c.number c.state) (λ i. inbox_part i.number i.state)) ≤ 1 }
     requires world { (w : World) × (count_in w ≡ P) × (length w.inboxes ≡ P) × IsOrderly w × (w.drawn ≡ drawn) × Each (HasPart w) (all_parts contents.lobby contents.cpus.items contents.inboxes.items (λ c. cpu_part c.number c.state) (λ i. inbox_part i.number i.state)) }
     ensures { (w : World) → count_in w ≡ P → length w.inboxes ≡ P → w.drawn ≡ drawn → Each (HasPart w) (all_parts contents.lobby contents.cpus.items contents.inboxes.items (λ c. cpu_part c.number c.state) (λ i. inbox_part i.number i.state)) → result ≡ w }

@@ -4,6 +4,7 @@ ghost use Rattle.bq_history.specs.Items.{callers_from, part_item};
 ghost use Rattle.bq_shared.specs.Parts.{first_parts};
 ghost use Rattle.bq_shared.specs.Opened.{ItemOf, cpu_items, inbox_items};
 
+use bq_disc::limits::PROCESSORS;
 use bq_disc::RunQueue;
 use bq_history::{Holder, Item, Locked, Naming};
 use bq_installed::Scratch;
@@ -30,7 +31,7 @@ pub fn part_locks<Q: RunQueue + Drop, N: Naming>(
     queues: Vec<Q>,
     count: u8,
 ) -> Result<PartLocks<Q, N>, AllocError>
-    requires few { count ≤ 64 }
+    requires few { count ≤ PROCESSORS }
     requires many { length queues.items ≡ count }
     requires empty { All (λ q. (Q.members q ≡ []) × (Q.kept_mark q ≡ 2 ^ 32)) queues.items }
     requires items { (s : ℕ) × (all.old ≡ map part_item (first_parts count) ++ callers_from 0 s) }
@@ -58,7 +59,7 @@ fn cpu_locks<Q: RunQueue + Drop, N: Naming>(
     all: &mut Holder<Item<Record, WorldPart, JournalState>, N>,
     queues: Vec<Q>,
 ) -> Result<Vec<Mutex<UnderLock<NumberedCpu<Q>, N>>>, AllocError>
-    requires few { length queues.items ≤ 64 }
+    requires few { length queues.items ≤ PROCESSORS }
     requires empty { All (λ q. (Q.members q ≡ []) × (Q.kept_mark q ≡ 2 ^ 32)) queues.items }
     requires items { (rest : List ItemOf) × (all.old ≡ cpu_items 0 (length queues.items) ++ rest) }
     ensures locks { IfOk result (λ v. vec_len v ≡ length queues.items) }

@@ -5,6 +5,7 @@ ghost use Rattle.bq_shared.specs.Calls.{fresh};
 ghost use Rattle.bq_shared.specs.Sums.{opened};
 ghost use Rattle.bq_shared.specs.Parts.{first_parts};
 
+use bq_disc::limits::PROCESSORS;
 use crate::locked_parts::{PartLocks, part_locks};
 use crate::prepared::Prepared;
 use crate::{ClosingRoom, Recorder, Seat};
@@ -45,7 +46,7 @@ impl<Q: RunQueue + Drop, N: Naming + Counting, const P: usize> Opening<Q, N, P> 
         unnamed: UnnamedCounters,
         seat_count: u64,
     ) -> Result<(Opening<Q, N, P>, Vec<Seat<N>>), AllocError>
-        requires few { P ≤ 64 }
+        requires few { P ≤ PROCESSORS }
         requires name { prepared.0 ≡ N.table }
         requires counters { unnamed.0 ≡ N.counters }
         requires counts { (prepared.1.about ≡ P) × (prepared.1.callers ≡ seat_count) × (unnamed.1 ≡ seat_count) }
@@ -93,7 +94,7 @@ fn recorder_at_start<Q: RunQueue + Drop, N: Naming + Counting>(
     Holder<Item<Record, WorldPart, JournalState>, N>,
     CounterTally<N>,
 )
-    requires few { count ≤ 64 }
+    requires few { count ≤ PROCESSORS }
     requires name { prepared.0 ≡ N.table }
     requires counters { unnamed.0 ≡ N.counters }
     requires counts { (prepared.1.about ≡ count) × (unnamed.1 ≡ prepared.1.callers) }
@@ -118,7 +119,7 @@ fn recorder_at_start<Q: RunQueue + Drop, N: Naming + Counting>(
 
 /// The loads of processors that have no task.
 fn no_loads(count: usize) -> Loads
-    requires { count ≤ 64 }
+    requires { count ≤ PROCESSORS }
     ensures { result ≡ replicate count 0 }
 {
     let mut loads = Loads::new();

@@ -36,16 +36,16 @@ impl<Q: RunQueue + Drop, N: Naming + Counting> Recorder<Q, N> {
         let from = source.cell.content.number;
         let content = &mut cpu.cell.content;
         content.scratch.clear();
-        let mut desk = working.sit(&self.counters);
+        let mut counter_board = working.open_board(&self.counters);
         let reply = content.state.pull(
             &mut source.cell.content.state,
             processor,
             from,
             now,
             &mut content.scratch,
-            &mut desk,
+            &mut counter_board,
         );
-        working.stand(desk);
+        working.close_board(counter_board);
         let mut guard = self.lock_journal(rt);
         let journal = &mut *guard;
         let kept = journal.kept().after_pull(processor, from, &reply);

@@ -36,11 +36,11 @@ impl<Q: RunQueue + Drop, N: Naming + Counting> Recorder<Q, N> {
         let processor = cpu.cell.content.number;
         let content = &mut cpu.cell.content;
         content.scratch.clear();
-        let mut desk = working.sit(&self.counters);
+        let mut counter_board = working.open_board(&self.counters);
         let reply = content
             .state
-            .tick(processor, now, &mut content.scratch, &mut desk);
-        working.stand(desk);
+            .tick(processor, now, &mut content.scratch, &mut counter_board);
+        working.close_board(counter_board);
         let Reply::Ticked { run, by, steps } = reply else {
             unreachable!()
         };
@@ -88,15 +88,15 @@ impl<Q: RunQueue + Drop, N: Naming + Counting> Recorder<Q, N> {
         let processor = cpu.cell.content.number;
         let content = &mut cpu.cell.content;
         content.scratch.clear();
-        let mut desk = working.sit(&self.counters);
+        let mut counter_board = working.open_board(&self.counters);
         let reply = content.state.drain(
             &mut inbox.cell.content.state,
             processor,
             now,
             &mut content.scratch,
-            &mut desk,
+            &mut counter_board,
         );
-        working.stand(desk);
+        working.close_board(counter_board);
         let reply = Ok(reply);
         let calls = hold_calls(rooms.calls, content.scratch.calls());
         let (logged, told) = told_twice(Event::Drain { processor, now }, &reply, calls);

@@ -11,6 +11,8 @@ ghost use Rattle.bq_parts.specs.declared.refusal.Refusal.TheVariants as no;
 ghost use Rattle.bq_shared.specs.Parts.{cpu_part, told_calls};
 ghost use Rattle.bq_recording.specs.Placing.{IsPlaced};
 
+use bq_disc::limits::TASKS;
+use bq_disc::limits::PROCESSORS;
 use crate::recorder::{CpuCell, Recorder, WorkingSeat, need_own};
 use crate::rooms::{BeginRooms, EventRooms};
 use crate::told::{both_records, event_twice, no_calls, told_twice};
@@ -46,7 +48,7 @@ impl<Q: RunQueue + Drop, N: Naming + Counting> Recorder<Q, N> {
         task: u16,
         rooms: BeginRooms<'_>,
     ) -> Receipt<Record>
-        requires below { task < 1024 }
+        requires below { task < TASKS }
         requires ready { rooms.record.now ≡ true }
         requires tally { working.old.tally ≡ account_of told_calls working.old.caller.1 }
         requires says { cpu.old.holder ≡ part_item (cpu_part cpu.old.content.number cpu.old.content.state) ∷ [] }
@@ -162,7 +164,7 @@ impl<Q: RunQueue + Drop, N: Naming + Counting> Recorder<Q, N> {
         count: usize,
         now: u64,
     ) -> Placement
-        requires few { count ≤ 64 }
+        requires few { count ≤ PROCESSORS }
         requires hand { is_some content.old.state.hand ≡ true }
         requires usable { IfSome content.old.state.hand (λ c. HasPlace count c.task) }
         requires tally { working.old.tally ≡ account_of told_calls working.old.caller.1 }
@@ -173,15 +175,15 @@ impl<Q: RunQueue + Drop, N: Naming + Counting> Recorder<Q, N> {
         ensures tally { working.new.tally ≡ ahead told_calls working.new.caller.1 content.new.scratch }
     {
         content.scratch.clear();
-        let mut desk = working.sit(&self.counters);
+        let mut counter_board = working.open_board(&self.counters);
         let placement = content.state.end_wake(
             content.number,
             count,
             now,
             &mut content.scratch,
-            &mut desk,
+            &mut counter_board,
         );
-        working.stand(desk);
+        working.close_board(counter_board);
         let Some(placement) = placement else {
             unreachable!()
         };

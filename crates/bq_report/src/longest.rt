@@ -15,7 +15,7 @@ pub fn longest_in(
     to: u64,
 ) -> Result<Option<u16>, AllocError>
     ensures longest { IfOk result (λ found. IfSome found (IsLongest from to runs.now)) }
-    ensures none { IfOk result (λ found. IfNone found ((task : ℕ) → task < 1024 → time_of from to runs.now task ≡ 0)) }
+    ensures none { IfOk result (λ found. IfNone found ((task : ℕ) → task < TASKS → time_of from to runs.now task ≡ 0)) }
 {
     let times = times_in(alloc, runs, from, to)?;
     Ok(greatest(times.as_slice()))
@@ -24,7 +24,7 @@ pub fn longest_in(
 /// How long each task ran from one moment to another, of these runs, at the place of its number.
 fn times_in(alloc: Global, runs: &[Slice], from: u64, to: u64) -> Result<Vec<u128>, AllocError>
     ensures length { IfOk result (λ v. vec_len v ≡ 1024) }
-    ensures times { IfOk result (λ v. (task : ℕ) → task < 1024 → slice_index v.items task ≡ time_of from to runs.now task) }
+    ensures times { IfOk result (λ v. (task : ℕ) → task < TASKS → slice_index v.items task ≡ time_of from to runs.now task) }
 {
     let mut times = vec![in alloc; 0u128; TASKS as usize]?;
     for run in runs {
@@ -42,7 +42,7 @@ fn times_in(alloc: Global, runs: &[Slice], from: u64, to: u64) -> Result<Vec<u12
 fn greatest(times: &[u128]) -> Option<u16>
     requires { length times.now ≡ 1024 }
     ensures greatest { IfSome result (IsFirstGreatest 1024 (λ task. slice_index times.now task)) }
-    ensures none { IfNone result ((task : ℕ) → task < 1024 → slice_index times.now task ≡ 0) }
+    ensures none { IfNone result ((task : ℕ) → task < TASKS → slice_index times.now task ≡ 0) }
 {
     let mut greatest = None;
     let mut most = 0;

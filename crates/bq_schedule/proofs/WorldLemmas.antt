@@ -19,7 +19,7 @@ use Rattle.bq_parts.specs.Processors.{Processor, opening}
 use Rattle.bq_parts.specs.World.{World, opening_world, processor_at, count_in, with_processor}
 use Rattle.bq_parts.specs.Refusals.{refusal}
 use Rattle.bq_parts.specs.Moves.{with_pulled, started_if_idle, without_task, taken_from}
-use Rattle.bq_parts.specs.Choices.{Regime}
+use Rattle.bq_parts.specs.Choices.{PolicySemantics}
 use Rattle.bq_hooks.specs.Permitted.{task_numbered}
 use Rattle.bq_parts.specs.Shares.{after_time, remarked}
 use Rattle.bq_parts.specs.Steps.{Performs, WorldStep, WorldRun}
@@ -139,7 +139,7 @@ shown_as : (w w' : World) (e : Event) (r x : Reply) → r ≡ x → Shown w w' (
 shown_as w w' e r x h k = rw h k
 
 -- an event that is performed does to the clocks, and to who runs, what its reply shows
-pub shown-performs : (s : Regime) (w : World) (e : Event) (calls : List Asked) (r : Reply) (w' : World) → refusal w e ≡ None → Performs s w e calls r w' → Shown w w' (sight e r)
+pub shown-performs : (s : PolicySemantics) (w : World) (e : Event) (calls : List Asked) (r : Reply) (w' : World) → refusal w e ≡ None → Performs s w e calls r w' → Shown w w' (sight e r)
 shown-performs s w (Admit id nice mask slice) calls r w' h k =
     shown_as w w' (Admit id nice mask slice) r Admitted k.1.1 (like w w w' None (ap (λ (v : World). v.processors) (sym k.3)) (same w))
 shown-performs s w (Retire id) calls r w' h k = shown_as w w' (Retire id) r Retired k.1.1 (like w w w' None (ap (λ (v : World). v.processors) (sym k.3)) (same w))
@@ -205,7 +205,7 @@ within_as : (n : ℕ) (e : Event) (r x : Reply) → r ≡ x → IsWithin n (sigh
 within_as n e r x h k = rw h k
 
 -- an event that is not refused names a processor that is there
-within-performs : (s : Regime) (w : World) (e : Event) (calls : List Asked) (r : Reply) (w' : World) → refusal w e ≡ None → Performs s w e calls r w' → IsWithin (count_in w) (sight e r)
+within-performs : (s : PolicySemantics) (w : World) (e : Event) (calls : List Asked) (r : Reply) (w' : World) → refusal w e ≡ None → Performs s w e calls r w' → IsWithin (count_in w) (sight e r)
 within-performs s w (EndWake processor now) calls r w' h k =
     within_as (count_in w) (EndWake processor now) r (Placed k.0.task.id k.0.to k.0.by k.0.steps) k.3 (not_refused_is_there (count_in w) processor None (accepted w (EndWake processor now) h).0).0
 within-performs s w (Drain processor now) calls r w' h k =
@@ -223,7 +223,7 @@ within-performs s w (Install processor hook g policy) calls r w' h k = within_as
 within-performs s w (BeginWake processor id) calls r w' h k = within_as (count_in w) (BeginWake processor id) r (Begun id _) k.2.3 tt
 
 -- each step shows what its answer says, refused or not
-shown-step : (s : Regime) (w : World) (e : Event) (calls : List Asked) (a : Result Reply Refusal) (w' : World) → WorldStep s w e calls a w' → Shown w w' (sight_of e a) × IsWithin (count_in w) (sight_of e a)
+shown-step : (s : PolicySemantics) (w : World) (e : Event) (calls : List Asked) (a : Result Reply Refusal) (w' : World) → WorldStep s w e calls a w' → Shown w w' (sight_of e a) × IsWithin (count_in w) (sight_of e a)
 shown-step s w e calls (Ok r) w' k = (shown-performs s w e calls r w' k.0 k.1, within-performs s w e calls r w' k.0 k.1)
 shown-step s w e calls (Err r) w' k = (like w w w' None (ap (λ (v : World). v.processors) (sym k.1)) (same w), tt)
 
@@ -234,7 +234,7 @@ pub record IsTold (count : ℕ) (w : World) (past : History) : Type 0 where
   pub last : (j : ℕ) → j < count → last_at w j ≡ clock j past
   pub who : (j : ℕ) → j < count → who_at w j ≡ runner j past
 
-told-step : (count : ℕ) (s : Regime) (w : World) (past : History) (e : Event) (calls : List Asked) (a : Result Reply Refusal) (w' : World) → IsTold count w past → WorldStep s w e calls a w' →
+told-step : (count : ℕ) (s : PolicySemantics) (w : World) (past : History) (e : Event) (calls : List Asked) (a : Result Reply Refusal) (w' : World) → IsTold count w past → WorldStep s w e calls a w' →
     IsTold count w' (record { event = e; answer = a } ∷ past)
 told-step count s w past e calls a w' t k =
     let h = shown-step s w e calls a w' k in
@@ -245,7 +245,7 @@ told-step count s w past e calls a w' t k =
       who = λ j inside. h.0.who j (rw t.many inside) ∙ ap (λ n. runner_after j n (sight_of e a)) (t.who j inside);
     }
 
-told-run : (count : ℕ) (s : Regime) (w : World) (past : History) (es : List Event) (calls : List (List Asked)) (answers : List (Result Reply Refusal)) (w' : World) → IsTold count w past →
+told-run : (count : ℕ) (s : PolicySemantics) (w : World) (past : History) (es : List Event) (calls : List (List Asked)) (answers : List (Result Reply Refusal)) (w' : World) → IsTold count w past →
     WorldRun s w es calls answers w' → IsTold count w' (grown past es answers)
 told-run count s w past [] [] [] w' t k = rw k t
 told-run count s w past (e ∷ es) (c ∷ calls) (a ∷ answers) w' t k =

@@ -19,7 +19,7 @@ use Rattle.bq_parts.specs.declared.lobby_entry.LobbyEntry.{LobbyEntry}
 use Rattle.bq_parts.specs.Processors.{Processor, size_of, load_of}
 use Rattle.bq_parts.specs.World.{World, processor_at, inbox, count_in, with_processor, with_inbox, loads_of}
 use Rattle.bq_parts.specs.Refusals.{argument_refusal}
-use Rattle.bq_parts.specs.Choices.{Regime, Decision, policies, decided_by}
+use Rattle.bq_parts.specs.Choices.{PolicySemantics, Decision, policies, decided_by}
 use Rattle.bq_parts.specs.Moves.{admitted, after_leaving}
 use Rattle.bq_parts.specs.Steps.{WorldStep}
 use Rattle.bq_parts.specs.Shares.{after_time, Admits, Retires, Ticks, Drains, Blocks, Begins, Places, Installs}
@@ -45,7 +45,7 @@ length_is [] = refl
 length_is (x ∷ xs) = omega (arith, length_is xs)
 
 -- it is decided who runs: the size stays
-decided_size : (s : Regime) (p : Processor) (settled : Decision) → size_of (decided_by s p settled) ≡ size_of p
+decided_size : (s : PolicySemantics) (p : Processor) (settled : Decision) → size_of (decided_by s p settled) ≡ size_of p
 decided_size s p settled =
     omega (arith, length_is (present_at (decided_by s p settled).running), length_is (present_at p.running), tally-decided ones s.discipline p.running p.running.current (settled.choice == 1) refl)
 

@@ -11,7 +11,7 @@ use Rattle.bq_parts.specs.declared.refusal.Refusal.{Refusal}
 use Rattle.bq_parts.specs.declared.lobby_entry.LobbyEntry.TheVariants.{Absent, Away}
 use Rattle.bq_parts.specs.Processors.{opening}
 use Rattle.bq_parts.specs.World.{World, opening_world, count_in}
-use Rattle.bq_parts.specs.Choices.{Regime, policies}
+use Rattle.bq_parts.specs.Choices.{PolicySemantics, policies}
 use Rattle.bq_parts.specs.Steps.{WorldStep, Performs}
 use Rattle.bq_parts.specs.StandsOnce.{IsOrderly}
 use Rattle.bq_core.proofs.OrderLemmas.{step_tidy, step_keeps, opening_is_orderly}
@@ -27,7 +27,7 @@ pub record IsSound (n : ℕ) (w : World) : Type 0 where
   pub lobby : length w.lobby ≡ 1024
   pub orderly : IsOrderly w
 
-lobby_after : (s : Regime) (w : World) (e : Event) (calls : List Asked) (r : Reply) (u : World) → Performs s w e calls r u → length u.lobby ≡ length w.lobby
+lobby_after : (s : PolicySemantics) (w : World) (e : Event) (calls : List Asked) (r : Reply) (u : World) → Performs s w e calls r u → length u.lobby ≡ length w.lobby
 lobby_after s w (Admit id nice mask slice) calls r u k = ap (λ (v : World). length v.lobby) k.3 ∙ ap length k.1.2 ∙ length-set w.lobby id _
 lobby_after s w (Retire id) calls r u k = ap (λ (v : World). length v.lobby) k.3 ∙ ap length k.1.2 ∙ length-set w.lobby id Absent
 lobby_after s w Draw calls r u k = ap (λ (v : World). length v.lobby) k.2
@@ -39,7 +39,7 @@ lobby_after s w (Tick processor now) calls r u k = ap (λ (v : World). length v.
 lobby_after s w (Block processor now) calls r u k = ap (λ (v : World). length v.lobby) k.4 ∙ ap length k.2.1.3 ∙ length-set w.lobby k.2.0.id _
 lobby_after s w (Pull processor from now) calls r u k = ap (λ (v : World). length v.lobby) k.3
 
-lobby_stays : (s : Regime) (w : World) (e : Event) (calls : List Asked) (r : Result Reply Refusal) (u : World) → WorldStep s w e calls r u → length u.lobby ≡ length w.lobby
+lobby_stays : (s : PolicySemantics) (w : World) (e : Event) (calls : List Asked) (r : Result Reply Refusal) (u : World) → WorldStep s w e calls r u → length u.lobby ≡ length w.lobby
 lobby_stays s w e calls (Ok r) u k = lobby_after s w e calls r u k.1
 lobby_stays s w e calls (Err r) u k = ap (λ (v : World). length v.lobby) k.1
 

@@ -6,6 +6,7 @@ ghost use Rattle.bq_history.specs.Items.{caller_of};
 ghost use Rattle.bq_shared.specs.Sums.{both, opened};
 ghost use Rattle.bq_shared.specs.Calls.{account_of};
 
+use bq_bpf::COUNTERS;
 use crate::calls::CallRooms;
 use crate::working::Working;
 use crate::{CounterTally, Counters, Counting};
@@ -76,7 +77,7 @@ impl<R: TellsCalls + Drop, P, D, N: Naming + Counting> Seat<R, P, D, N> {
 
     /// What a counter is. It takes no lock, and no record tells it.
     pub fn counter(&mut self, counters: &Counters<N>, counter: u8) -> u64
-        requires { counter < 64 }
+        requires { counter < COUNTERS }
         ensures { self.new ≡ self.old }
     {
         counters.counter(&mut self.working.tally, counter)

@@ -5,14 +5,14 @@ ghost use Rattle.bq_shared.specs.Sums.{spent};
 ghost use Rattle.bq_shared.specs.Calls.{account_of, ahead};
 
 use crate::seat::TellsCalls;
-use crate::{CounterTally, Counters, Counting, Desk};
+use crate::{CounterTally, Counters, Counting, CounterBoard};
 use bq_history::{
     AsPart, Caller, Cell, CommitDraft, History, Journal, Naming, Receipt, World, commit,
     commit_one, commit_two,
 };
 
 /// What a seat holds: its caller, and its account of the counters. While an event is under way the account may be ahead of
-/// the receipts by the calls of that event, or lie on a desk.
+/// the receipts by the calls of that event, or lie on a counter_board.
 #[derive(Drop)]
 pub struct Working<R, P, D, N: Naming + Counting> {
     pub caller: Caller<R, P, D, N>,
@@ -20,24 +20,24 @@ pub struct Working<R, P, D, N: Naming + Counting> {
 }
 
 impl<R: TellsCalls, P, D, N: Naming + Counting> Working<R, P, D, N> {
-    /// The account goes to a desk, on which a policy may run.
-    pub fn sit<'a>(&mut self, counters: &'a Counters<N>) -> Desk<'a, N>
+    /// The account goes to a counter_board, on which a policy may run.
+    pub fn open_board<'a>(&mut self, counters: &'a Counters<N>) -> CounterBoard<'a, N>
         requires { 1 ≤ self.old.tally.seats }
-        ensures desk { result.tally ≡ self.old.tally }
+        ensures counter_board { result.tally ≡ self.old.tally }
         ensures caller { self.new.caller ≡ self.old.caller }
         ensures tally { self.new.tally ≡ spent }
     {
         let tally = counters.take(&mut self.tally);
-        Desk { counters, tally }
+        CounterBoard { counters, tally }
     }
 
-    /// The account comes back from the desk, with the calls that were made there.
-    pub fn stand(&mut self, desk: Desk<'_, N>)
+    /// The account comes back from the counter_board, with the calls that were made there.
+    pub fn close_board(&mut self, counter_board: CounterBoard<'_, N>)
         requires { self.old.tally ≡ spent }
         ensures caller { self.new.caller ≡ self.old.caller }
-        ensures tally { self.new.tally ≡ desk.entry.tally }
+        ensures tally { self.new.tally ≡ counter_board.entry.tally }
     {
-        let Desk { counters, tally } = desk;
+        let CounterBoard { counters, tally } = counter_board;
         counters.join(&mut self.tally, tally);
     }
 

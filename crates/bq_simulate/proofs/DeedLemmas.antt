@@ -12,10 +12,10 @@ use Rattle.bq_simulate.specs.Drives.{Did, Drives, Drove, Places}
 use Rattle.bq_workload.specs.Streams.{stream_of_task}
 use Rattle.bq_workload.specs.declared.action.Action.{Action}
 use Rattle.bq_workload.specs.declared.workload.TaskKind.{TaskKind}
-use Rattle.bq_workload.specs.declared.course.Course.{Course}
-use Rattle.bq_workload.specs.declared.roster.Pace.{Pace}
+use Rattle.bq_workload.specs.declared.progress.TaskProgress.{TaskProgress}
+use Rattle.bq_workload.specs.declared.roster.Periods.{Periods}
 use Rattle.bq_workload.specs.Accounts.{Accounts, IsDone, LooksAt, TicksAt, accounts_of, beaten, charged, looked, of_task}
-use Rattle.bq_workload.specs.Courses.{fresh, woken}
+use Rattle.bq_workload.specs.TaskProgress.{fresh, woken}
 use Rattle.bq_workload.specs.Dues.{IsSource}
 use Rattle.bq_workload.specs.Next.{IsAgreed, StaysAgreed}
 use Rattle.bq_workload.proofs.AgreedLemmas.{both}
@@ -29,44 +29,44 @@ use Rattle.bq_simulate.proofs.KindLemmas.{firsts-pushed}
 use Rattle.bq_simulate.proofs.StreamLemmas.{gives_if_asked, opened-streams}
 
 -- some, and then others
-pub Lives-append : (kinds : List TaskKind) (seed : ℕ) (pace : Pace) (d m e : Driver) (a b c : Book) (xs ys : List Deed) (told more : Told) → Lives kinds seed pace d a xs told m b → Lives kinds seed pace m b ys more e c → Lives kinds seed pace d a (xs ++ ys) (told ++ more) e c
-Lives-append kinds seed pace d m e a b c [] ys told more h k =
-    let P : Told → Type 0 = λ t. Lives kinds seed pace d a ys (t ++ more) e c in
-    let Q : Driver → Type 0 = λ x. Lives kinds seed pace x a ys more e c in
-    let R : Book → Type 0 = λ x. Lives kinds seed pace m x ys more e c in
+pub Lives-append : (kinds : List TaskKind) (seed : ℕ) (periods : Periods) (d m e : Driver) (a b c : Book) (xs ys : List Deed) (told more : Told) → Lives kinds seed periods d a xs told m b → Lives kinds seed periods m b ys more e c → Lives kinds seed periods d a (xs ++ ys) (told ++ more) e c
+Lives-append kinds seed periods d m e a b c [] ys told more h k =
+    let P : Told → Type 0 = λ t. Lives kinds seed periods d a ys (t ++ more) e c in
+    let Q : Driver → Type 0 = λ x. Lives kinds seed periods x a ys more e c in
+    let R : Book → Type 0 = λ x. Lives kinds seed periods m x ys more e c in
     subst P (sym h.0) (subst Q h.1 (subst R h.2 k))
-Lives-append kinds seed pace d m e a b c (Happens event reply ∷ xs) ys told more (due, mid, first, rest, does, lives, whole) k =
-    (due, mid, first, rest ++ more, does, Lives-append kinds seed pace mid m e (after_answer pace event reply a) b c xs ys rest more lives k, ap (λ t. t ++ more) whole ∙ append_assoc first rest more)
-Lives-append kinds seed pace d m e a b c (Joins kind home ∷ xs) ys told more (of, lives) k = (of, Lives-append kinds seed pace d m e (joined kinds kind home a) b c xs ys told more lives k)
-Lives-append kinds seed pace d m e a b c (Acts at task now action aim ∷ xs) ys told more (c', done, is, to, lives) k = (c', done, is, to, Lives-append kinds seed pace d m e (after_act kinds seed at task now c' a) b c xs ys told more lives k)
-Lives-append kinds seed pace d m e a b c (Rings task now ∷ xs) ys told more (c', there, asleep, timer, lives) k = (c', there, asleep, timer, Lives-append kinds seed pace d m e a b c xs ys told more lives k)
-Lives-append kinds seed pace d m e a b c (Reaches task ∷ xs) ys told more (c', there, waits, lives) k = (c', there, waits, Lives-append kinds seed pace d m e a b c xs ys told more lives k)
-Lives-append kinds seed pace d m e a b c (Misses task ∷ xs) ys told more (c', there, waits, lives) k = (c', there, waits, Lives-append kinds seed pace d m e a b c xs ys told more lives k)
-Lives-append kinds seed pace d m e a b c (Beats at now ∷ xs) ys told more (ticks, lives) k = (ticks, Lives-append kinds seed pace d m e (after_beat pace at now a) b c xs ys told more lives k)
-Lives-append kinds seed pace d m e a b c (Looks at now source ∷ xs) ys told more (looks, from, lives) k = (looks, from, Lives-append kinds seed pace d m e (after_look pace at now a) b c xs ys told more lives k)
+Lives-append kinds seed periods d m e a b c (Happens event reply ∷ xs) ys told more (due, mid, first, rest, does, lives, whole) k =
+    (due, mid, first, rest ++ more, does, Lives-append kinds seed periods mid m e (after_answer periods event reply a) b c xs ys rest more lives k, ap (λ t. t ++ more) whole ∙ append_assoc first rest more)
+Lives-append kinds seed periods d m e a b c (Joins kind home ∷ xs) ys told more (of, lives) k = (of, Lives-append kinds seed periods d m e (joined kinds kind home a) b c xs ys told more lives k)
+Lives-append kinds seed periods d m e a b c (Acts at task now action aim ∷ xs) ys told more (c', done, is, to, lives) k = (c', done, is, to, Lives-append kinds seed periods d m e (after_act kinds seed at task now c' a) b c xs ys told more lives k)
+Lives-append kinds seed periods d m e a b c (Rings task now ∷ xs) ys told more (c', there, asleep, timer, lives) k = (c', there, asleep, timer, Lives-append kinds seed periods d m e a b c xs ys told more lives k)
+Lives-append kinds seed periods d m e a b c (Reaches task ∷ xs) ys told more (c', there, waits, lives) k = (c', there, waits, Lives-append kinds seed periods d m e a b c xs ys told more lives k)
+Lives-append kinds seed periods d m e a b c (Misses task ∷ xs) ys told more (c', there, waits, lives) k = (c', there, waits, Lives-append kinds seed periods d m e a b c xs ys told more lives k)
+Lives-append kinds seed periods d m e a b c (Beats at now ∷ xs) ys told more (ticks, lives) k = (ticks, Lives-append kinds seed periods d m e (after_beat periods at now a) b c xs ys told more lives k)
+Lives-append kinds seed periods d m e a b c (Looks at now source ∷ xs) ys told more (looks, from, lives) k = (looks, from, Lives-append kinds seed periods d m e (after_look periods at now a) b c xs ys told more lives k)
 
 -- the events among them were driven
-pub drives-of-lives : (kinds : List TaskKind) (seed : ℕ) (pace : Pace) (d e : Driver) (a b : Book) (xs : List Deed) (told : Told) → Lives kinds seed pace d a xs told e b → Drives d (events_of xs) told e
-drives-of-lives kinds seed pace d e a b [] told h = (h.0, h.1)
-drives-of-lives kinds seed pace d e a b (Happens event reply ∷ xs) told (due, mid, first, rest, does, lives, whole) = (reply, mid, first, rest, does, drives-of-lives kinds seed pace mid e (after_answer pace event reply a) b xs rest lives, whole)
-drives-of-lives kinds seed pace d e a b (Joins kind home ∷ xs) told (of, lives) = drives-of-lives kinds seed pace d e (joined kinds kind home a) b xs told lives
-drives-of-lives kinds seed pace d e a b (Acts at task now action aim ∷ xs) told (c, done, is, to, lives) = drives-of-lives kinds seed pace d e (after_act kinds seed at task now c a) b xs told lives
-drives-of-lives kinds seed pace d e a b (Rings task now ∷ xs) told (c, there, asleep, timer, lives) = drives-of-lives kinds seed pace d e a b xs told lives
-drives-of-lives kinds seed pace d e a b (Reaches task ∷ xs) told (c, there, waits, lives) = drives-of-lives kinds seed pace d e a b xs told lives
-drives-of-lives kinds seed pace d e a b (Misses task ∷ xs) told (c, there, waits, lives) = drives-of-lives kinds seed pace d e a b xs told lives
-drives-of-lives kinds seed pace d e a b (Beats at now ∷ xs) told (ticks, lives) = drives-of-lives kinds seed pace d e (after_beat pace at now a) b xs told lives
-drives-of-lives kinds seed pace d e a b (Looks at now source ∷ xs) told (looks, from, lives) = drives-of-lives kinds seed pace d e (after_look pace at now a) b xs told lives
+pub drives-of-lives : (kinds : List TaskKind) (seed : ℕ) (periods : Periods) (d e : Driver) (a b : Book) (xs : List Deed) (told : Told) → Lives kinds seed periods d a xs told e b → Drives d (events_of xs) told e
+drives-of-lives kinds seed periods d e a b [] told h = (h.0, h.1)
+drives-of-lives kinds seed periods d e a b (Happens event reply ∷ xs) told (due, mid, first, rest, does, lives, whole) = (reply, mid, first, rest, does, drives-of-lives kinds seed periods mid e (after_answer periods event reply a) b xs rest lives, whole)
+drives-of-lives kinds seed periods d e a b (Joins kind home ∷ xs) told (of, lives) = drives-of-lives kinds seed periods d e (joined kinds kind home a) b xs told lives
+drives-of-lives kinds seed periods d e a b (Acts at task now action aim ∷ xs) told (c, done, is, to, lives) = drives-of-lives kinds seed periods d e (after_act kinds seed at task now c a) b xs told lives
+drives-of-lives kinds seed periods d e a b (Rings task now ∷ xs) told (c, there, asleep, timer, lives) = drives-of-lives kinds seed periods d e a b xs told lives
+drives-of-lives kinds seed periods d e a b (Reaches task ∷ xs) told (c, there, waits, lives) = drives-of-lives kinds seed periods d e a b xs told lives
+drives-of-lives kinds seed periods d e a b (Misses task ∷ xs) told (c, there, waits, lives) = drives-of-lives kinds seed periods d e a b xs told lives
+drives-of-lives kinds seed periods d e a b (Beats at now ∷ xs) told (ticks, lives) = drives-of-lives kinds seed periods d e (after_beat periods at now a) b xs told lives
+drives-of-lives kinds seed periods d e a b (Looks at now source ∷ xs) told (looks, from, lives) = drives-of-lives kinds seed periods d e (after_look periods at now a) b xs told lives
 
 -- from what its streams have given a simulation goes on, and then on
 pub Goes-join : {S : Type 0} (takes : S → ℕ → News → S → Type 0) (kinds : List TaskKind) (A B C : List Deed → Type 0) (x y z : S) (s t u : Simulation) (drawn : List ℕ) (first : Goes takes kinds A x s drawn y t) (second : Goes takes kinds B y t first.after z u) → C (first.deeds ++ second.deeds)
     → Goes takes kinds C x s drawn z u
 Goes-join takes kinds A B C x y z s t u drawn first second are =
-    let P : Pace → Type 0 = λ pace. Lives kinds t.seed pace t.driver (book_of t first.after) second.deeds second.tells.told u.driver (book_of u second.after) in
-    let Q : ℕ → Type 0 = λ seed. Lives kinds seed s.roster.pace t.driver (book_of t first.after) second.deeds second.tells.told u.driver (book_of u second.after) in
+    let P : Periods → Type 0 = λ periods. Lives kinds t.seed periods t.driver (book_of t first.after) second.deeds second.tells.told u.driver (book_of u second.after) in
+    let Q : ℕ → Type 0 = λ seed. Lives kinds seed s.roster.periods t.driver (book_of t first.after) second.deeds second.tells.told u.driver (book_of u second.after) in
     record {
       deeds = first.deeds ++ second.deeds;
       after = second.after;
-      pace = second.pace ∙ first.pace;
+      periods = second.periods ∙ first.periods;
       seed = second.seed ∙ first.seed;
       streams = second.streams;
       firsts = second.firsts;
@@ -74,7 +74,7 @@ Goes-join takes kinds A B C x y z s t u drawn first second are =
       tells = record {
         told = first.tells.told ++ second.tells.told;
         taken = TakesAll-append takes x y z first.tells.told second.tells.told first.tells.taken second.tells.taken;
-        holds = Lives-append kinds s.seed s.roster.pace s.driver t.driver u.driver (book_of s drawn) (book_of t first.after) (book_of u second.after) first.deeds second.deeds first.tells.told second.tells.told first.tells.holds (subst Q first.seed (subst P first.pace second.tells.holds));
+        holds = Lives-append kinds s.seed s.roster.periods s.driver t.driver u.driver (book_of s drawn) (book_of t first.after) (book_of u second.after) first.deeds second.deeds first.tells.told second.tells.told first.tells.holds (subst Q first.seed (subst P first.periods second.tells.holds));
       };
       are = are;
     }
@@ -89,7 +89,7 @@ Lived-join takes kinds A B C join x y z s t u goes more drawn had firsts =
 
 -- what holds of the deeds by which it goes on holds in other words
 pub Goes-weaker : {S : Type 0} (takes : S → ℕ → News → S → Type 0) (kinds : List TaskKind) (A B : List Deed → Type 0) → ((xs : List Deed) → A xs → B xs) → (x y : S) (s : Simulation) (drawn : List ℕ) (t : Simulation) → Goes takes kinds A x s drawn y t → Goes takes kinds B x s drawn y t
-Goes-weaker takes kinds A B weaker x y s drawn t h = record { deeds = h.deeds; after = h.after; pace = h.pace; seed = h.seed; streams = h.streams; firsts = h.firsts; agrees = h.agrees; tells = h.tells; are = weaker h.deeds h.are }
+Goes-weaker takes kinds A B weaker x y s drawn t h = record { deeds = h.deeds; after = h.after; periods = h.periods; seed = h.seed; streams = h.streams; firsts = h.firsts; agrees = h.agrees; tells = h.tells; are = weaker h.deeds h.are }
 
 -- what holds of its deeds holds in other words
 pub Lived-weaker : {S : Type 0} (takes : S → ℕ → News → S → Type 0) (kinds : List TaskKind) (A B : List Deed → Type 0) → ((xs : List Deed) → A xs → B xs) → (x y : S) (s t : Simulation) → Lived takes kinds A x s y t → Lived takes kinds B x s y t
@@ -103,7 +103,7 @@ Befell-weaker takes A B weaker x y s t befell kinds = Lived-weaker takes kinds A
 pub Lived-silent : {S : Type 0} (takes : S → ℕ → News → S → Type 0) (kinds : List TaskKind) (A : List Deed → Type 0) (x : S) (s t : Simulation) → Silent kinds A s t → Lived takes kinds A x s x t
 Lived-silent takes kinds A x s t silent drawn had firsts =
     let h = silent drawn had firsts in
-    record { deeds = h.deeds; after = h.after; pace = h.pace; seed = h.seed; streams = h.streams; firsts = h.firsts; agrees = h.agrees; tells = record { told = []; taken = refl; holds = h.lives }; are = h.are }
+    record { deeds = h.deeds; after = h.after; periods = h.periods; seed = h.seed; streams = h.streams; firsts = h.firsts; agrees = h.agrees; tells = record { told = []; taken = refl; holds = h.lives }; are = h.are }
 
 -- streams that have not changed
 streams-stay : (s t : Simulation) (drawn : List ℕ) → Stays s t → HasDrawn s drawn → HasDrawn t drawn
@@ -118,7 +118,7 @@ pub Lived-same : {S : Type 0} (takes : S → ℕ → News → S → Type 0) (A :
 Lived-same takes A none x s t same kinds drawn had firsts = record {
   deeds = [];
   after = drawn;
-  pace = same.stays.pace;
+  periods = same.stays.periods;
   seed = same.stays.seed;
   streams = streams-stay s t drawn same.stays had;
   firsts = firsts-stay kinds s t same.stays firsts;
@@ -142,41 +142,41 @@ Lived-then takes kinds A x y s t u first same =
     Lived-join takes kinds A AreNone A (λ xs ys are none. subst (λ (l : List Deed). A (xs ++ l)) (sym none) (subst A (sym (append-nil xs)) are)) x y y s t u first (Lived-same takes AreNone refl y t u same kinds)
 
 -- what follows an action of a task, and comes to the one that it aims at
-abbrev follows : List TaskKind → Course → ℕ → ℕ → Option Action → List Deed → Type 0
+abbrev follows : List TaskKind → TaskProgress → ℕ → ℕ → Option Action → List Deed → Type 0
 follows kinds c processor now action deeds = Follow action (aim_of kinds c action) processor now deeds
 
 -- an action is followed by what follows that action
-pub Follow-same : {S : Type 0} (takes : S → ℕ → News → S → Type 0) (kinds : List TaskKind) (c : Course) (a b : Option Action) (processor now : ℕ) (x y : S) (s t : Simulation) → a ≡ b
+pub Follow-same : {S : Type 0} (takes : S → ℕ → News → S → Type 0) (kinds : List TaskKind) (c : TaskProgress) (a b : Option Action) (processor now : ℕ) (x y : S) (s t : Simulation) → a ≡ b
     → Lived takes kinds (Follow b (aim_of kinds c b) processor now) x s y t → Lived takes kinds (Follow a (aim_of kinds c a) processor now) x s y t
 Follow-same takes kinds c a b processor now x y s t is lived = subst (λ (o : Option Action). Lived takes kinds (follows kinds c processor now o) x s y t) (sym is) lived
 
 -- in one simulation nothing was done
 pub Same-here : (s : Simulation) → Same s s
-Same-here s = record { driver = refl; accounts = refl; stays = record { agrees = λ h. h; pace = refl; seed = refl; streams = refl; firsts = refl } }
+Same-here s = record { driver = refl; accounts = refl; stays = record { agrees = λ h. h; periods = refl; seed = refl; streams = refl; firsts = refl } }
 
 -- what a task becomes, where it is there
-of_task_at : (f : Course → Course) (task : ℕ) (a : Accounts) (c : Course) → slice_get a.courses task ≡ Some c → of_task f task a ≡ both (slice_set a.courses task (f c)) a.lanes
-of_task_at f task a c there = ap (λ (o : Option Course). both (option_map_or (λ x. slice_set a.courses task (f x)) o a.courses) a.lanes) there
+of_task_at : (f : TaskProgress → TaskProgress) (task : ℕ) (a : Accounts) (c : TaskProgress) → slice_get a.by_task task ≡ Some c → of_task f task a ≡ both (slice_set a.by_task task (f c)) a.by_processor
+of_task_at f task a c there = ap (λ (o : Option TaskProgress). both (option_map_or (λ x. slice_set a.by_task task (f x)) o a.by_task) a.by_processor) there
 
 -- a phase has ended, and the task does its next action, for which a length is drawn where it takes one
-pub Silent-acts : (kinds : List TaskKind) (s m n t : Simulation) (processor task now length : ℕ) (action : Option Action) (c next : Course) → action ≡ next_action kinds c
+pub Silent-acts : (kinds : List TaskKind) (s m n t : Simulation) (processor task now length : ℕ) (action : Option Action) (c next : TaskProgress) → action ≡ next_action kinds c
     → Stays s m → m.driver ≡ s.driver → accounts_of m.roster ≡ charged processor now (accounts_of s.roster) → IsDone (accounts_of m.roster) processor task c
     → DrawsFor task (asked_by (next_action kinds c)) m length n → next ≡ acted kinds (next_action kinds c) length now c
-    → Stays n t → t.driver ≡ n.driver → t.roster.courses.items ≡ slice_set n.roster.courses.items task next → t.roster.lanes.items ≡ n.roster.lanes.items → Silent kinds (IsAct processor task now action (aim_of kinds c action)) s t
-Silent-acts kinds s m n t processor task now length action c next is ended driver counted done draws does set driver' courses lanes drawn had firsts =
+    → Stays n t → t.driver ≡ n.driver → t.roster.by_task.items ≡ slice_set n.roster.by_task.items task next → t.roster.by_processor.items ≡ n.roster.by_processor.items → Silent kinds (IsAct processor task now action (aim_of kinds c action)) s t
+Silent-acts kinds s m n t processor task now length action c next is ended driver counted done draws does set driver' by_task by_processor drawn had firsts =
     let asked = asked_by (next_action kinds c) in
     let g = gives_if_asked task asked m length n draws drawn (streams-stay s m drawn ended had) in
     let P : Accounts → Type 0 = λ a. IsDone a processor task c in
     let same = ap accounts_of g.roster in
-    let there : slice_get n.roster.courses.items task ≡ Some c = ap (λ (a : Accounts). slice_get a.courses task) same ∙ done.there in
+    let there : slice_get n.roster.by_task.items task ≡ Some c = ap (λ (a : Accounts). slice_get a.by_task task) same ∙ done.there in
     let value : length ≡ length_taken s.seed task drawn asked = g.value ∙ ap (λ k. length_taken k task drawn asked) ended.seed in
     let becomes = does ∙ ap (λ l. acted kinds (next_action kinds c) l now c) value in
-    let accounts = same-accounts _ _ _ _ courses lanes ∙ sym (of_task_at (λ _. next) task (accounts_of n.roster) c there) ∙ ap (of_task (λ _. next) task) (same ∙ counted)
-    ∙ ap (λ (k : Course). of_task (λ _. k) task (charged processor now (accounts_of s.roster))) becomes in
+    let accounts = same-accounts _ _ _ _ by_task by_processor ∙ sym (of_task_at (λ _. next) task (accounts_of n.roster) c there) ∙ ap (of_task (λ _. next) task) (same ∙ counted)
+    ∙ ap (λ (k : TaskProgress). of_task (λ _. k) task (charged processor now (accounts_of s.roster))) becomes in
     record {
       deeds = Acts processor task now action (aim_of kinds c action) ∷ [];
       after = drawn_with task drawn asked;
-      pace = set.pace ∙ ap (λ r. r.pace) g.roster ∙ ended.pace;
+      periods = set.periods ∙ ap (λ r. r.periods) g.roster ∙ ended.periods;
       seed = set.seed ∙ g.seed ∙ ended.seed;
       streams = streams-stay n t (drawn_with task drawn asked) set g.streams;
       firsts = λ number first there. firsts number first (ap (λ v. slice_get v.items number) (sym (set.firsts ∙ g.firsts ∙ ended.firsts)) ∙ there);
@@ -186,19 +186,19 @@ Silent-acts kinds s m n t processor task now length action c next is ended drive
     }
 
 -- a task is there, with its stream
-pub Silent-joins : (kinds : List TaskKind) (s t : Simulation) (kind home : ℕ) → StaysAgreed s.roster t.roster → t.roster.pace ≡ s.roster.pace → t.seed ≡ s.seed → t.driver ≡ s.driver → t.firsts ≡ s.firsts
-    → t.roster.courses.items ≡ s.roster.courses.items ++ fresh kind home (start_of kinds kind) ∷ [] → t.roster.lanes.items ≡ s.roster.lanes.items
+pub Silent-joins : (kinds : List TaskKind) (s t : Simulation) (kind home : ℕ) → StaysAgreed s.roster t.roster → t.roster.periods ≡ s.roster.periods → t.seed ≡ s.seed → t.driver ≡ s.driver → t.firsts ≡ s.firsts
+    → t.roster.by_task.items ≡ s.roster.by_task.items ++ fresh kind home (start_of kinds kind) ∷ [] → t.roster.by_processor.items ≡ s.roster.by_processor.items
     → t.streams.items ≡ s.streams.items ++ stream_of_task s.seed (length s.streams.items) ∷ []
-    → IsOfKind kinds (length s.roster.courses.items) kind → Silent kinds (IsJoin kind home) s t
-Silent-joins kinds s t kind home agrees pace seed driver kept courses lanes streams of drawn had firsts = record {
+    → IsOfKind kinds (length s.roster.by_task.items) kind → Silent kinds (IsJoin kind home) s t
+Silent-joins kinds s t kind home agrees periods seed driver kept by_task by_processor streams of drawn had firsts = record {
   deeds = Joins kind home ∷ [];
   after = drawn ++ 0 ∷ [];
-  pace = pace;
+  periods = periods;
   seed = seed;
   streams = opened-streams s t drawn seed streams had;
   firsts = λ number first there. firsts number first (ap (λ v. slice_get v.items number) (sym kept) ∙ there);
   agrees = agrees;
-  lives = (of, (refl, driver, ap (λ (a : Accounts). record { accounts = a; drawn = drawn ++ 0 ∷ [] }) (same-accounts _ _ _ _ courses lanes)));
+  lives = (of, (refl, driver, ap (λ (a : Accounts). record { accounts = a; drawn = drawn ++ 0 ∷ [] }) (same-accounts _ _ _ _ by_task by_processor)));
   are = refl;
 }
 
@@ -208,7 +208,7 @@ pub Silent-begins : (kinds : List TaskKind) (s t : Simulation) (number : ℕ) �
 Silent-begins kinds s t number long roster seed streams driver pushed drawn had firsts = record {
   deeds = [];
   after = drawn;
-  pace = ap (λ r. r.pace) roster;
+  periods = ap (λ r. r.periods) roster;
   seed = seed;
   streams = ap (λ v. v.items) streams ∙ had ∙ ap (λ n. streams_after n 0 drawn) (sym seed);
   firsts = λ n first there. firsts-pushed kinds s.firsts.items number long firsts n first (ap (λ (l : List ℕ). slice_get l n) (sym pushed) ∙ there);
@@ -219,39 +219,39 @@ Silent-begins kinds s t number long roster seed streams driver pushed drawn had 
 
 -- one deed of which nothing is told and for which no length is drawn, and then what befalls
 pub Befell-first : {S : Type 0} (takes : S → ℕ → News → S → Type 0) (A B : List Deed → Type 0) (x y : S) (s t u : Simulation) (deed : Deed) → Stays s t
-    → ((kinds : List TaskKind) (drawn : List ℕ) → Lives kinds s.seed s.roster.pace s.driver (book_of s drawn) (deed ∷ []) [] t.driver (book_of t drawn))
+    → ((kinds : List TaskKind) (drawn : List ℕ) → Lives kinds s.seed s.roster.periods s.driver (book_of s drawn) (deed ∷ []) [] t.driver (book_of t drawn))
     → ((xs : List Deed) → A xs → B (deed ∷ xs)) → Befell takes A x t y u → Befell takes B x s y u
 Befell-first takes A B x y s t u deed stays lives first befell kinds =
     let one : List Deed → Type 0 = λ xs. xs ≡ deed ∷ [] in
     let silent : Silent kinds one s t =
-    λ drawn had firsts. record { deeds = deed ∷ []; after = drawn; pace = stays.pace; seed = stays.seed; streams = streams-stay s t drawn stays had; firsts = firsts-stay kinds s t stays firsts; agrees = stays.agrees; lives = lives kinds drawn; are = refl } in
+    λ drawn had firsts. record { deeds = deed ∷ []; after = drawn; periods = stays.periods; seed = stays.seed; streams = streams-stay s t drawn stays had; firsts = firsts-stay kinds s t stays firsts; agrees = stays.agrees; lives = lives kinds drawn; are = refl } in
     Lived-join takes kinds one A B (λ xs ys is are. subst (λ (l : List Deed). B (l ++ ys)) (sym is) (first ys are)) x x y s t u (Lived-silent takes kinds one x s t silent) (befell kinds)
 
 -- in one simulation nothing changes
 pub Stays-here : (s : Simulation) → Stays s s
-Stays-here s = record { agrees = λ h. h; pace = refl; seed = refl; streams = refl; firsts = refl }
+Stays-here s = record { agrees = λ h. h; periods = refl; seed = refl; streams = refl; firsts = refl }
 
 -- a clock beats, and then what befalls
 pub Befell-beats : {S : Type 0} (takes : S → ℕ → News → S → Type 0) (A B : List Deed → Type 0) (x y : S) (s t u : Simulation) (processor now : ℕ) → TicksAt (accounts_of s.roster) processor now → Stays s t
-    → t.driver ≡ s.driver → accounts_of t.roster ≡ beaten processor now s.roster.pace.tick (accounts_of s.roster)
+    → t.driver ≡ s.driver → accounts_of t.roster ≡ beaten processor now s.roster.periods.tick (accounts_of s.roster)
     → ((xs : List Deed) → A xs → B (Beats processor now ∷ xs)) → Befell takes A x t y u → Befell takes B x s y u
 Befell-beats takes A B x y s t u processor now ticks stays driver accounts first befell =
     Befell-first takes A B x y s t u (Beats processor now) stays (λ kinds drawn. (ticks, (refl, driver, ap (λ (a : Accounts). record { accounts = a; drawn = drawn }) accounts))) first befell
 
 -- a processor looks for a task to pull, and then what befalls
-pub Befell-looks : {S : Type 0} (takes : S → ℕ → News → S → Type 0) (A B : List Deed → Type 0) (x y : S) (s t u : Simulation) (processor now : ℕ) (source : Option ℕ) → LooksAt (accounts_of s.roster) processor now → IsSource s.roster.lanes.items processor source → Stays s t
-    → t.driver ≡ s.driver → accounts_of t.roster ≡ looked processor now s.roster.pace.balance (accounts_of s.roster)
+pub Befell-looks : {S : Type 0} (takes : S → ℕ → News → S → Type 0) (A B : List Deed → Type 0) (x y : S) (s t u : Simulation) (processor now : ℕ) (source : Option ℕ) → LooksAt (accounts_of s.roster) processor now → IsSource s.roster.by_processor.items processor source → Stays s t
+    → t.driver ≡ s.driver → accounts_of t.roster ≡ looked processor now s.roster.periods.balance (accounts_of s.roster)
     → ((xs : List Deed) → A xs → B (Looks processor now source ∷ xs)) → Befell takes A x t y u → Befell takes B x s y u
 Befell-looks takes A B x y s t u processor now source looks from stays driver accounts first befell =
     Befell-first takes A B x y s t u (Looks processor now source) stays (λ kinds drawn. (looks, from, (refl, driver, ap (λ (a : Accounts). record { accounts = a; drawn = drawn }) accounts))) first befell
 
 -- an event happens
 pub Lived-event : {S : Type 0} (takes : S → ℕ → News → S → Type 0) (A : List Deed → Type 0) (x y : S) (s t : Simulation) (event : Event) (reply : Reply) → A (Happens event reply ∷ []) → IsDue event (accounts_of s.roster) → Stays s t → Did takes x s.driver event reply y t.driver
-    → accounts_of t.roster ≡ after_event s.roster.pace event reply (accounts_of s.roster) → Befell takes A x s y t
+    → accounts_of t.roster ≡ after_event s.roster.periods event reply (accounts_of s.roster) → Befell takes A x s y t
 Lived-event takes A x y s t event reply are due stays did accounts kinds drawn had firsts = record {
   deeds = Happens event reply ∷ [];
   after = drawn;
-  pace = stays.pace;
+  periods = stays.periods;
   seed = stays.seed;
   streams = streams-stay s t drawn stays had;
   firsts = firsts-stay kinds s t stays firsts;
@@ -265,14 +265,14 @@ Lived-event takes A x y s t event reply are due stays did accounts kinds drawn h
 }
 
 -- an event of which the accounts know nothing
-pub Lived-drove : {S : Type 0} (takes : S → ℕ → News → S → Type 0) (A : List Deed → Type 0) (x y : S) (s t : Simulation) (event : Event) → ((reply : Reply) → A (Happens event reply ∷ [])) → IsDue event (accounts_of s.roster) → Stays s t → ((reply : Reply) (a : Accounts) → after_event s.roster.pace event reply a ≡ a)
+pub Lived-drove : {S : Type 0} (takes : S → ℕ → News → S → Type 0) (A : List Deed → Type 0) (x y : S) (s t : Simulation) (event : Event) → ((reply : Reply) → A (Happens event reply ∷ [])) → IsDue event (accounts_of s.roster) → Stays s t → ((reply : Reply) (a : Accounts) → after_event s.roster.periods event reply a ≡ a)
     → Drove takes x s.driver (event ∷ []) y t.driver → accounts_of t.roster ≡ accounts_of s.roster → Befell takes A x s y t
 Lived-drove takes A x y s t event are due stays quiet drove accounts kinds drawn had firsts =
     let h = drove.holds in
     record {
       deeds = Happens event h.0 ∷ [];
       after = drawn;
-      pace = stays.pace;
+      periods = stays.periods;
       seed = stays.seed;
       streams = streams-stay s t drawn stays had;
       firsts = firsts-stay kinds s t stays firsts;
@@ -288,14 +288,14 @@ Lived-drove takes A x y s t event are due stays quiet drove accounts kinds drawn
 -- a task is woken, and the processor on which it was placed takes it in
 pub Lived-wakes : {S : Type 0} (takes : S → ℕ → News → S → Type 0) (x y z : S) (s t : Simulation) (m : Driver) (from task to now : ℕ) (reply : Reply) → IsWoken (accounts_of s.roster) from task → Stays s t
     → Gets takes x y (λ told. Places s.driver from task now to told m) → Did takes y m (Drain to now) reply z t.driver
-    → accounts_of t.roster ≡ after_event s.roster.pace (Drain to now) reply (of_task woken task (accounts_of s.roster)) → Befell takes (AreWake from task now) x s z t
+    → accounts_of t.roster ≡ after_event s.roster.periods (Drain to now) reply (of_task woken task (accounts_of s.roster)) → Befell takes (AreWake from task now) x s z t
 Lived-wakes takes x y z s t m from task to now reply due stays woke did accounts kinds drawn had firsts =
     let h = woke.holds in
     let kept = ap (λ (a : Accounts). record { accounts = a; drawn = drawn }) accounts in
     record {
       deeds = Happens (BeginWake from task) h.begun ∷ Happens (EndWake from now) h.placed ∷ Happens (Drain to now) reply ∷ [];
       after = drawn;
-      pace = stays.pace;
+      periods = stays.periods;
       seed = stays.seed;
       streams = streams-stay s t drawn stays had;
       firsts = firsts-stay kinds s t stays firsts;

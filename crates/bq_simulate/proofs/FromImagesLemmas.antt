@@ -5,7 +5,7 @@ use Rattle.bq_workload.specs.declared.action.Action.{Action}
 use Rattle.bq_workload.specs.declared.action.Action.TheVariants.{Run, Wake}
 use Rattle.bq_workload.specs.declared.due.Due.{Due}
 use Rattle.bq_workload.specs.declared.due.Due.TheVariants as due
-use Rattle.bq_workload.specs.declared.roster.Pace.{Pace}
+use Rattle.bq_workload.specs.declared.roster.Periods.{Periods}
 use Rattle.bq_workload.specs.declared.workload.TaskKind.{TaskKind}
 use Rattle.bq_workload.specs.declared.workload.Workload.{Workload}
 use Rattle.bq_parts.specs.declared.event.Event.{Event}
@@ -92,9 +92,9 @@ all_met : (images : ByHook) (steps : List Step) → InstallsImages images (deeds
 all_met images [] = tt
 all_met images (step ∷ steps) = joined images step.deeds (deeds_of steps) (meets images step.due step.at step.deeds step.meet) (all_met images steps)
 
-proceeds : (images : ByHook) (policies : List Accepted) (processors : ℕ) (kinds : List TaskKind) (seed : ℕ) (pace : Pace) (most end : ℕ) (b : Book) (deeds : List Deed) → AreOfImages images policies
-    → Proceeds policies processors kinds seed pace most end b deeds → InstallsImages images deeds
-proceeds images policies processors kinds seed pace most end b deeds h p =
+proceeds : (images : ByHook) (policies : List Accepted) (processors : ℕ) (kinds : List TaskKind) (seed : ℕ) (periods : Periods) (most end : ℕ) (b : Book) (deeds : List Deed) → AreOfImages images policies
+    → Proceeds policies processors kinds seed periods most end b deeds → InstallsImages images deeds
+proceeds images policies processors kinds seed periods most end b deeds h p =
     let opens = p.opens in
     let first = installed images processors policies opens.installs h opens.installed in
     let then = all_admitted images processors 0 0 kinds opens.admissions opens.admitted in

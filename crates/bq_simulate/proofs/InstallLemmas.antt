@@ -8,7 +8,7 @@ use Rattle.bq_parts.specs.declared.event.Event.TheVariants.{Install}
 use Rattle.bq_verify.specs.Accepted.{Accepted}
 use Rattle.bq_simulate.specs.Chronicles.{Deed}
 use Rattle.bq_simulate.specs.Steps.{AreInstalled, IsInstalled, all_processors, installs_of}
-use Rattle.bq_simulate.proofs.LaneLemmas.{numbers_more}
+use Rattle.bq_simulate.proofs.ProcessorStateLemmas.{numbers_more}
 
 -- the policy at one processor more
 pub installs_more : (count generation : ℕ) (policy : Accepted) → installs_of (count + 1) generation policy ≡ installs_of count generation policy ++ Install count policy.hook generation (Some policy) ∷ []

@@ -2,7 +2,7 @@ pub mod AdmissionLemmas
 pub mod DeedLemmas
 pub mod InstallLemmas
 pub mod KindLemmas
-pub mod LaneLemmas
+pub mod ProcessorStateLemmas
 pub mod OrderLemmas
 pub mod StepLemmas
 pub mod StreamLemmas

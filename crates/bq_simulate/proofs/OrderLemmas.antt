@@ -2,9 +2,9 @@
 use Rattle.std.proofs.Common.{◌≡◌, ℕ, ◌+◌, ◌≤◌, List, [], ◌∷◌, Option, sym, ap, ◌∙◌, subst}
 use Rattle.std.specs.Option.{option_map_or}
 use Rattle.bq_trace.specs.News.{News, Told}
-use Rattle.bq_workload.specs.declared.course.Course.{Course}
+use Rattle.bq_workload.specs.declared.progress.TaskProgress.{TaskProgress}
 use Rattle.bq_workload.specs.declared.due.Due.{Due}
-use Rattle.bq_workload.specs.declared.roster.Pace.{Pace}
+use Rattle.bq_workload.specs.declared.roster.Periods.{Periods}
 use Rattle.bq_workload.specs.declared.workload.TaskKind.{TaskKind}
 use Rattle.bq_workload.specs.Accounts.{accounts_of}
 use Rattle.bq_workload.specs.Next.{IsAgreed, IsNext}
@@ -17,32 +17,32 @@ use Rattle.bq_simulate.proofs.DeedLemmas.{Goes-join}
 use Rattle.bq_simulate.proofs.StepLemmas.{AreMet-more}
 
 -- what is kept follows from the deeds
-pub kept-by : (kinds : List TaskKind) (seed : ℕ) (pace : Pace) (d e : Driver) (a b : Book) (xs : List Deed) (told : Told) → Lives kinds seed pace d a xs told e b → b ≡ after_deeds kinds seed pace a xs
-kept-by kinds seed pace d e a b [] told h = h.2
-kept-by kinds seed pace d e a b (Happens event reply ∷ xs) told (due, mid, first, rest, does, lives, whole) = kept-by kinds seed pace mid e (after_answer pace event reply a) b xs rest lives
-kept-by kinds seed pace d e a b (Joins kind home ∷ xs) told (of, lives) = kept-by kinds seed pace d e (joined kinds kind home a) b xs told lives
-kept-by kinds seed pace d e a b (Acts at task now action aim ∷ xs) told (c, done, is, to, lives) =
-    let after : Option Course → Book = λ o. option_map_or (λ (k : Course). after_act kinds seed at task now k a) o a in
-    kept-by kinds seed pace d e (after_act kinds seed at task now c a) b xs told lives ∙ sym (ap (λ (o : Option Course). after_deeds kinds seed pace (after o) xs) done.there)
-kept-by kinds seed pace d e a b (Rings task now ∷ xs) told (c, there, asleep, timer, lives) = kept-by kinds seed pace d e a b xs told lives
-kept-by kinds seed pace d e a b (Reaches task ∷ xs) told (c, there, waits, lives) = kept-by kinds seed pace d e a b xs told lives
-kept-by kinds seed pace d e a b (Misses task ∷ xs) told (c, there, waits, lives) = kept-by kinds seed pace d e a b xs told lives
-kept-by kinds seed pace d e a b (Beats at now ∷ xs) told (ticks, lives) = kept-by kinds seed pace d e (after_beat pace at now a) b xs told lives
-kept-by kinds seed pace d e a b (Looks at now source ∷ xs) told (looks, from, lives) = kept-by kinds seed pace d e (after_look pace at now a) b xs told lives
+pub kept-by : (kinds : List TaskKind) (seed : ℕ) (periods : Periods) (d e : Driver) (a b : Book) (xs : List Deed) (told : Told) → Lives kinds seed periods d a xs told e b → b ≡ after_deeds kinds seed periods a xs
+kept-by kinds seed periods d e a b [] told h = h.2
+kept-by kinds seed periods d e a b (Happens event reply ∷ xs) told (due, mid, first, rest, does, lives, whole) = kept-by kinds seed periods mid e (after_answer periods event reply a) b xs rest lives
+kept-by kinds seed periods d e a b (Joins kind home ∷ xs) told (of, lives) = kept-by kinds seed periods d e (joined kinds kind home a) b xs told lives
+kept-by kinds seed periods d e a b (Acts at task now action aim ∷ xs) told (c, done, is, to, lives) =
+    let after : Option TaskProgress → Book = λ o. option_map_or (λ (k : TaskProgress). after_act kinds seed at task now k a) o a in
+    kept-by kinds seed periods d e (after_act kinds seed at task now c a) b xs told lives ∙ sym (ap (λ (o : Option TaskProgress). after_deeds kinds seed periods (after o) xs) done.there)
+kept-by kinds seed periods d e a b (Rings task now ∷ xs) told (c, there, asleep, timer, lives) = kept-by kinds seed periods d e a b xs told lives
+kept-by kinds seed periods d e a b (Reaches task ∷ xs) told (c, there, waits, lives) = kept-by kinds seed periods d e a b xs told lives
+kept-by kinds seed periods d e a b (Misses task ∷ xs) told (c, there, waits, lives) = kept-by kinds seed periods d e a b xs told lives
+kept-by kinds seed periods d e a b (Beats at now ∷ xs) told (ticks, lives) = kept-by kinds seed periods d e (after_beat periods at now a) b xs told lives
+kept-by kinds seed periods d e a b (Looks at now source ∷ xs) told (looks, from, lives) = kept-by kinds seed periods d e (after_look periods at now a) b xs told lives
 
 -- so do the accounts of a simulation that has gone on
-pub book-after : {S : Type 0} (takes : S → ℕ → News → S → Type 0) (kinds : List TaskKind) (A : List Deed → Type 0) (x y : S) (s t : Simulation) (drawn : List ℕ) (goes : Goes takes kinds A x s drawn y t) → book_of t goes.after ≡ after_deeds kinds s.seed s.roster.pace (book_of s drawn) goes.deeds
-book-after takes kinds A x y s t drawn goes = kept-by kinds s.seed s.roster.pace s.driver t.driver (book_of s drawn) (book_of t goes.after) goes.deeds goes.tells.told goes.tells.holds
+pub book-after : {S : Type 0} (takes : S → ℕ → News → S → Type 0) (kinds : List TaskKind) (A : List Deed → Type 0) (x y : S) (s t : Simulation) (drawn : List ℕ) (goes : Goes takes kinds A x s drawn y t) → book_of t goes.after ≡ after_deeds kinds s.seed s.roster.periods (book_of s drawn) goes.deeds
+book-after takes kinds A x y s t drawn goes = kept-by kinds s.seed s.roster.periods s.driver t.driver (book_of s drawn) (book_of t goes.after) goes.deeds goes.tells.told goes.tells.holds
 
--- the next thing by the agenda is met, which agrees with the accounts
-pub met-more : {S : Type 0} (takes : S → ℕ → News → S → Type 0) (kinds : List TaskKind) (count last now : ℕ) (due : Due) (x y z : S) (s t u : Simulation) → last ≤ now → (IsAgreed t.roster → IsNext t.roster.pace.end (accounts_of t.roster) due now)
-    → LivedFrom takes kinds (AreMet kinds s.seed s.roster.pace count last) x s y t → Lived takes kinds (Meet due now) y t z u → LivedFrom takes kinds (AreMet kinds s.seed s.roster.pace (count + 1) now) x s z u
+-- the next thing by the event queue is met, which agrees with the accounts
+pub met-more : {S : Type 0} (takes : S → ℕ → News → S → Type 0) (kinds : List TaskKind) (count last now : ℕ) (due : Due) (x y z : S) (s t u : Simulation) → last ≤ now → (IsAgreed t.roster → IsNext t.roster.periods.end (accounts_of t.roster) due now)
+    → LivedFrom takes kinds (AreMet kinds s.seed s.roster.periods count last) x s y t → Lived takes kinds (Meet due now) y t z u → LivedFrom takes kinds (AreMet kinds s.seed s.roster.periods (count + 1) now) x s z u
 met-more takes kinds count last now due x y z s t u later next lived meet drawn had firsts agreed =
-    let pace = s.roster.pace in
+    let periods = s.roster.periods in
     let start = book_of s drawn in
     let one = lived drawn had firsts agreed in
     let two = meet one.after one.streams one.firsts in
-    let is : IsNext t.roster.pace.end (accounts_of t.roster) due now = next (one.agrees agreed) in
-    let here : IsNext pace.end (after_deeds kinds s.seed pace start one.deeds).accounts due now =
-    subst (λ (b : Book). IsNext pace.end b.accounts due now) (book-after takes kinds (AreMet kinds s.seed pace count last start) x y s t drawn one) (subst (λ (p : Pace). IsNext p.end (accounts_of t.roster) due now) one.pace is) in
-    Goes-join takes kinds (AreMet kinds s.seed pace count last start) (Meet due now) (AreMet kinds s.seed pace (count + 1) now start) x y z s t u drawn one two (AreMet-more kinds s.seed pace start due count last now one.deeds two.deeds later one.are here two.are)
+    let is : IsNext t.roster.periods.end (accounts_of t.roster) due now = next (one.agrees agreed) in
+    let here : IsNext periods.end (after_deeds kinds s.seed periods start one.deeds).accounts due now =
+    subst (λ (b : Book). IsNext periods.end b.accounts due now) (book-after takes kinds (AreMet kinds s.seed periods count last start) x y s t drawn one) (subst (λ (p : Periods). IsNext p.end (accounts_of t.roster) due now) one.periods is) in
+    Goes-join takes kinds (AreMet kinds s.seed periods count last start) (Meet due now) (AreMet kinds s.seed periods (count + 1) now start) x y z s t u drawn one two (AreMet-more kinds s.seed periods start due count last now one.deeds two.deeds later one.are here two.are)

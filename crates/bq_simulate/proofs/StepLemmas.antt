@@ -3,7 +3,7 @@ use Rattle.std.proofs.Common.{◌≡◌, ℕ, ◌+◌, ◌≤◌, List, [], ◌�
 use Rattle.std.proofs.lemmas.Grind.{flat_map-append}
 use Rattle.bq_workload.specs.declared.due.Due.{Due}
 use Rattle.bq_parts.specs.declared.event.Event.{Event}
-use Rattle.bq_workload.specs.declared.roster.Pace.{Pace}
+use Rattle.bq_workload.specs.declared.roster.Periods.{Periods}
 use Rattle.bq_workload.specs.declared.workload.TaskKind.{TaskKind}
 use Rattle.bq_workload.specs.Next.{IsNext}
 use Rattle.bq_simulate.specs.Chronicles.{Book, Deed, after_deed, after_deeds}
@@ -24,26 +24,26 @@ Rise-later first last later [] h k = omega (arith, h, k)
 Rise-later first last later (s ∷ steps) h k = (h.0, Rise-later s.at last later steps h.1 k)
 
 -- nothing has come due yet
-pub AreMet-none : (kinds : List TaskKind) (seed : ℕ) (pace : Pace) (b : Book) → AreMet kinds seed pace 0 0 b []
-AreMet-none kinds seed pace b = record { steps = []; whole = refl; rise = omega arith; few = omega arith; order = tt }
+pub AreMet-none : (kinds : List TaskKind) (seed : ℕ) (periods : Periods) (b : Book) → AreMet kinds seed periods 0 0 b []
+AreMet-none kinds seed periods b = record { steps = []; whole = refl; rise = omega arith; few = omega arith; order = tt }
 
 -- what is kept after some deeds, and then others
-pub after-append : (kinds : List TaskKind) (seed : ℕ) (pace : Pace) (b : Book) (xs ys : List Deed) → after_deeds kinds seed pace b (xs ++ ys) ≡ after_deeds kinds seed pace (after_deeds kinds seed pace b xs) ys
-after-append kinds seed pace b [] ys = refl
-after-append kinds seed pace b (x ∷ xs) ys = after-append kinds seed pace (after_deed kinds seed pace x b) xs ys
+pub after-append : (kinds : List TaskKind) (seed : ℕ) (periods : Periods) (b : Book) (xs ys : List Deed) → after_deeds kinds seed periods b (xs ++ ys) ≡ after_deeds kinds seed periods (after_deeds kinds seed periods b xs) ys
+after-append kinds seed periods b [] ys = refl
+after-append kinds seed periods b (x ∷ xs) ys = after-append kinds seed periods (after_deed kinds seed periods x b) xs ys
 
 -- in order, and one thing more that is the next
-order-more : (kinds : List TaskKind) (seed : ℕ) (pace : Pace) (b : Book) (steps : List Step) (step : Step) → AreInOrder kinds seed pace b steps → IsNext pace.end (after_deeds kinds seed pace b (deeds_of steps)).accounts step.due step.at
-    → AreInOrder kinds seed pace b (steps ++ step ∷ [])
-order-more kinds seed pace b [] step h next = (next, tt)
-order-more kinds seed pace b (s ∷ steps) step h next =
-    let later : after_deeds kinds seed pace b (deeds_of (s ∷ steps)) ≡ after_deeds kinds seed pace (after_deeds kinds seed pace b s.deeds) (deeds_of steps) = after-append kinds seed pace b s.deeds (deeds_of steps) in
-    (h.0, order-more kinds seed pace (after_deeds kinds seed pace b s.deeds) steps step h.1 (subst (λ (x : Book). IsNext pace.end x.accounts step.due step.at) later next))
+order-more : (kinds : List TaskKind) (seed : ℕ) (periods : Periods) (b : Book) (steps : List Step) (step : Step) → AreInOrder kinds seed periods b steps → IsNext periods.end (after_deeds kinds seed periods b (deeds_of steps)).accounts step.due step.at
+    → AreInOrder kinds seed periods b (steps ++ step ∷ [])
+order-more kinds seed periods b [] step h next = (next, tt)
+order-more kinds seed periods b (s ∷ steps) step h next =
+    let later : after_deeds kinds seed periods b (deeds_of (s ∷ steps)) ≡ after_deeds kinds seed periods (after_deeds kinds seed periods b s.deeds) (deeds_of steps) = after-append kinds seed periods b s.deeds (deeds_of steps) in
+    (h.0, order-more kinds seed periods (after_deeds kinds seed periods b s.deeds) steps step h.1 (subst (λ (x : Book). IsNext periods.end x.accounts step.due step.at) later next))
 
 -- one thing more comes due, the next
-pub AreMet-more : (kinds : List TaskKind) (seed : ℕ) (pace : Pace) (b : Book) (due : Due) (most last now : ℕ) (ds es : List Deed) → last ≤ now → AreMet kinds seed pace most last b ds → IsNext pace.end (after_deeds kinds seed pace b ds).accounts due now → Meet due now es
-    → AreMet kinds seed pace (most + 1) now b (ds ++ es)
-AreMet-more kinds seed pace b due most last now ds es later met next meet =
+pub AreMet-more : (kinds : List TaskKind) (seed : ℕ) (periods : Periods) (b : Book) (due : Due) (most last now : ℕ) (ds es : List Deed) → last ≤ now → AreMet kinds seed periods most last b ds → IsNext periods.end (after_deeds kinds seed periods b ds).accounts due now → Meet due now es
+    → AreMet kinds seed periods (most + 1) now b (ds ++ es)
+AreMet-more kinds seed periods b due most last now ds es later met next meet =
     let step : Step = record { due = due; at = now; deeds = es; meet = meet } in
     let added : deeds_of (met.steps ++ step ∷ []) ≡ deeds_of met.steps ++ es = flat_map-append (λ (s : Step). s.deeds) met.steps (step ∷ []) ∙ ap (λ l. deeds_of met.steps ++ l) (append-nil es) in
     record {
@@ -51,12 +51,12 @@ AreMet-more kinds seed pace b due most last now ds es later met next meet =
       whole = ap (λ l. l ++ es) met.whole ∙ sym added;
       rise = Rise-more 0 last met.steps step met.rise later;
       few = omega (arith, met.few, length-append met.steps (step ∷ []));
-      order = order-more kinds seed pace b met.steps step met.order (subst (λ (l : List Deed). IsNext pace.end (after_deeds kinds seed pace b l).accounts due now) met.whole next);
+      order = order-more kinds seed periods b met.steps step met.order (subst (λ (l : List Deed). IsNext periods.end (after_deeds kinds seed periods b l).accounts due now) met.whole next);
     }
 
 -- no more than so many, until no later than this
-pub AreMet-within : (kinds : List TaskKind) (seed : ℕ) (pace : Pace) (few most last end : ℕ) (b : Book) (ds : List Deed) → few ≤ most → last ≤ end → AreMet kinds seed pace few last b ds → AreMet kinds seed pace most end b ds
-AreMet-within kinds seed pace few most last end b ds low later met = record {
+pub AreMet-within : (kinds : List TaskKind) (seed : ℕ) (periods : Periods) (few most last end : ℕ) (b : Book) (ds : List Deed) → few ≤ most → last ≤ end → AreMet kinds seed periods few last b ds → AreMet kinds seed periods most end b ds
+AreMet-within kinds seed periods few most last end b ds low later met = record {
   steps = met.steps;
   whole = met.whole;
   rise = Rise-later 0 last end met.steps met.rise later;

@@ -9,21 +9,21 @@ use Rattle.bq_workload.specs.declared.workload.TaskKind.{TaskKind}
 use Rattle.bq_workload.specs.Draws.{length_drawn}
 use Rattle.bq_workload.specs.Streams.{stream_of_task, first_word, second_word, after_draws}
 use Rattle.bq_workload.specs.Accounts.{is_same}
-use Rattle.bq_workload.specs.declared.course.Course.{Course}
-use Rattle.bq_workload.specs.declared.course.Stance.{Stance}
-use Rattle.bq_workload.specs.declared.course.Stance.TheVariants.{Asleep, Waiting, Over}
-use Rattle.bq_workload.specs.Courses.{advanced, begun}
+use Rattle.bq_workload.specs.declared.progress.TaskProgress.{TaskProgress}
+use Rattle.bq_workload.specs.declared.progress.TaskState.{TaskState}
+use Rattle.bq_workload.specs.declared.progress.TaskState.TheVariants.{Asleep, Waiting, Over}
+use Rattle.bq_workload.specs.TaskProgress.{advanced, begun}
 use Rattle.bq_workload.specs.Kinds.{count_of}
 
 -- the action at which a task of this kind stands; none where it has done all as often as it is to
-abbrev pub action_at : TaskKind → Course → Option Action
+abbrev pub action_at : TaskKind → TaskProgress → Option Action
 action_at kind c = if is_same kind.loops (Some c.loops) then None else slice_get kind.actions.items c.action
 
-abbrev pub next_action : List TaskKind → Course → Option Action
+abbrev pub next_action : List TaskKind → TaskProgress → Option Action
 next_action kinds c = option_and_then (λ kind. action_at kind c) (slice_get kinds c.kind)
 
 -- how many actions it goes through
-abbrev pub actions_of : List TaskKind → Course → ℕ
+abbrev pub actions_of : List TaskKind → TaskProgress → ℕ
 actions_of kinds c = option_map_or (λ (kind : TaskKind). length kind.actions.items) (slice_get kinds c.kind) 0
 
 -- when the timers of a kind first wake its tasks
@@ -45,23 +45,23 @@ abbrev pub length_of : ℕ → ℕ → ℕ → Length → ℕ
 length_of seed task others asked = next_length asked (after_draws others (stream_of_task seed task))
 
 -- it has done its action
-abbrev pub advanced_in : List TaskKind → Course → Course
+abbrev pub advanced_in : List TaskKind → TaskProgress → TaskProgress
 advanced_in kinds c = advanced (actions_of kinds c) c
 
 -- its wake has come to one more of the tasks of a kind; after the last it goes on
-abbrev pub woken_one_in : List TaskKind → ℕ → Course → Course
+abbrev pub woken_one_in : List TaskKind → ℕ → TaskProgress → TaskProgress
 woken_one_in kinds kind c = if nat_lt (c.woken + 1) (count_of kinds kind) then record c { woken = c.woken + 1 } else advanced_in kinds c
 
 -- it has no phase, and sleeps
-abbrev pub resting : Stance → Course → Course
-resting stance c = record (begun 0 c) { stance = stance }
+abbrev pub resting : TaskState → TaskProgress → TaskProgress
+resting task_state c = record (begun 0 c) { task_state = task_state }
 
 -- it sleeps until its timer wakes it, which comes so much later, as far as 64 bits count
-abbrev pub asleep_for : ℕ → ℕ → Course → Course
+abbrev pub asleep_for : ℕ → ℕ → TaskProgress → TaskProgress
 asleep_for length now c = record (resting Asleep c) { timer = min (now + length) 18446744073709551615 }
 
 -- at an instant it does this action, which takes that length where it takes one; then it has a phase only where it runs
-abbrev pub acted : List TaskKind → Option Action → ℕ → ℕ → Course → Course
+abbrev pub acted : List TaskKind → Option Action → ℕ → ℕ → TaskProgress → TaskProgress
 acted kinds None length now c = resting Over c
 acted kinds (Some (Run asked)) length now c = begun length (advanced_in kinds c)
 acted kinds (Some (Sleep asked)) length now c = asleep_for length now (advanced_in kinds c)
@@ -73,11 +73,11 @@ abbrev pub first_of : List TaskKind → ℕ → ℕ
 first_of kinds number = sum_by (λ (kind : TaskKind). kind.count) (take number kinds)
 
 -- the task to which a wake comes next, where the action is one: the first of its kind, and then one after another
-abbrev pub aim_of : List TaskKind → Course → Option Action → Option ℕ
+abbrev pub aim_of : List TaskKind → TaskProgress → Option Action → Option ℕ
 aim_of kinds c (Some (Wake kind)) = Some (first_of kinds kind + c.woken)
 aim_of kinds c action = None
 
-abbrev pub aimed : List TaskKind → Course → Option ℕ
+abbrev pub aimed : List TaskKind → TaskProgress → Option ℕ
 aimed kinds c = aim_of kinds c (next_action kinds c)
 
 -- the kind of a task, by their numbers: its tasks follow those of the kinds before it

@@ -10,13 +10,13 @@ use Rattle.bq_parts.specs.declared.reply.Reply.{Reply}
 use Rattle.bq_trace.specs.News.{Told}
 use Rattle.bq_simulate.specs.declared.driver.Driver.{Driver}
 use Rattle.bq_simulate.specs.Drives.{Does, count_entered, runs_now, task_pulled}
-use Rattle.bq_workload.specs.declared.course.Course.{Course}
-use Rattle.bq_workload.specs.declared.course.Stance.{Stance}
-use Rattle.bq_workload.specs.declared.course.Stance.TheVariants.{Asleep, Waiting}
-use Rattle.bq_workload.specs.declared.lane.Lane.{Lane}
-use Rattle.bq_workload.specs.declared.roster.Pace.{Pace}
+use Rattle.bq_workload.specs.declared.progress.TaskProgress.{TaskProgress}
+use Rattle.bq_workload.specs.declared.progress.TaskState.{TaskState}
+use Rattle.bq_workload.specs.declared.progress.TaskState.TheVariants.{Asleep, Waiting}
+use Rattle.bq_workload.specs.declared.processor_state.ProcessorState.{ProcessorState}
+use Rattle.bq_workload.specs.declared.roster.Periods.{Periods}
 use Rattle.bq_workload.specs.Accounts.{Accounts, IsDone, LooksAt, TicksAt, beaten, changed_at, charged, entered_by, left_by, looked, of_task, passed, switched}
-use Rattle.bq_workload.specs.Courses.{fresh, woken}
+use Rattle.bq_workload.specs.TaskProgress.{fresh, woken}
 use Rattle.bq_workload.specs.Dues.{IsSource}
 use Rattle.bq_simulate.specs.Actions.{IsOfKind, acted, aimed, asked_by, length_of, next_action, start_of}
 
@@ -42,19 +42,19 @@ pub data Deed : Type 0 where
 
 -- whether a processor runs something
 abbrev pub is_busy : Accounts → ℕ → Bool
-is_busy a processor = option_map_or (λ (lane : Lane). is_some lane.run) (slice_get a.lanes processor) false
+is_busy a processor = option_map_or (λ (processor_state : ProcessorState). is_some processor_state.run) (slice_get a.by_processor processor) false
 
 -- a timer wakes a task from the processor that it ran on last; who waits is woken from a processor at which a task runs, which wakes it
-abbrev pub IsFrom : Accounts → Stance → ℕ → ℕ → Type 0
+abbrev pub IsFrom : Accounts → TaskState → ℕ → ℕ → Type 0
 IsFrom a Asleep home from = from ≡ home
 IsFrom a Waiting home from = is_busy a from ≡ true
-IsFrom a stance home from = ⊥
+IsFrom a task_state home from = ⊥
 
--- a task that may be woken from a processor: it has a course, and where it stands lets it be woken from there
+-- a task that may be woken from a processor: it has a task's progress, and where it stands lets it be woken from there
 pub record IsWoken (a : Accounts) (from task : ℕ) : Type 0 where
-  pub course : Course
-  pub there : slice_get a.courses task ≡ Some course
-  pub place : IsFrom a course.stance course.home from
+  pub progress : TaskProgress
+  pub there : slice_get a.by_task task ≡ Some progress
+  pub place : IsFrom a progress.task_state progress.home from
 
 -- whoever is woken sleeps, and is woken from the right processor; a tick comes only where something runs
 abbrev pub IsDue : Event → Accounts → Type 0
@@ -68,20 +68,20 @@ pub record Book : Type 0 where
   pub drawn : List ℕ
 
 -- where the answer says that another runs now, what ran before has its time; who is woken has no phase yet
-abbrev pub after_event : Pace → Event → Reply → Accounts → Accounts
-after_event pace (BeginWake c task) reply a = of_task woken task a
-after_event pace (Drain c now) reply a = entered_by c (count_entered reply) (runs_now reply) now pace a
-after_event pace (Tick c now) reply a = switched c (runs_now reply) now pace a
-after_event pace (Block c now) reply a = left_by c (runs_now reply) now pace a
-after_event pace (Pull c from now) reply a = switched c (runs_now reply) now pace (option_map_or (λ task. passed from c a) (task_pulled reply) a)
-after_event pace event reply a = a
+abbrev pub after_event : Periods → Event → Reply → Accounts → Accounts
+after_event periods (BeginWake c task) reply a = of_task woken task a
+after_event periods (Drain c now) reply a = entered_by c (count_entered reply) (runs_now reply) now periods a
+after_event periods (Tick c now) reply a = switched c (runs_now reply) now periods a
+after_event periods (Block c now) reply a = left_by c (runs_now reply) now periods a
+after_event periods (Pull c from now) reply a = switched c (runs_now reply) now periods (option_map_or (λ task. passed from c a) (task_pulled reply) a)
+after_event periods event reply a = a
 
-abbrev pub after_answer : Pace → Event → Reply → Book → Book
-after_answer pace event reply b = record b { accounts = after_event pace event reply b.accounts }
+abbrev pub after_answer : Periods → Event → Reply → Book → Book
+after_answer periods event reply b = record b { accounts = after_event periods event reply b.accounts }
 
 -- a task that has done nothing, whose timer is that of its kind, and whose stream has given nothing
 abbrev pub joined : List TaskKind → ℕ → ℕ → Book → Book
-joined kinds kind home b = record { accounts = record b.accounts { courses = b.accounts.courses ++ fresh kind home (start_of kinds kind) ∷ [] }; drawn = b.drawn ++ 0 ∷ [] }
+joined kinds kind home b = record { accounts = record b.accounts { by_task = b.accounts.by_task ++ fresh kind home (start_of kinds kind) ∷ [] }; drawn = b.drawn ++ 0 ∷ [] }
 
 -- how many lengths a task's stream has given
 abbrev pub draws_of : List ℕ → ℕ → ℕ
@@ -98,58 +98,58 @@ drawn_with task drawn None = drawn
 drawn_with task drawn (Some asked) = changed_at suc drawn task
 
 -- the task does its next action, once the time that it has run is counted
-abbrev pub after_act : List TaskKind → ℕ → ℕ → ℕ → ℕ → Course → Book → Book
+abbrev pub after_act : List TaskKind → ℕ → ℕ → ℕ → ℕ → TaskProgress → Book → Book
 after_act kinds seed processor task now c b = record {
   accounts = of_task (λ _. acted kinds (next_action kinds c) (length_taken seed task b.drawn (asked_by (next_action kinds c))) now c) task (charged processor now b.accounts);
   drawn = drawn_with task b.drawn (asked_by (next_action kinds c));
 }
 
 -- its clock beats
-abbrev pub after_beat : Pace → ℕ → ℕ → Book → Book
-after_beat pace processor now b = record b { accounts = beaten processor now pace.tick b.accounts }
+abbrev pub after_beat : Periods → ℕ → ℕ → Book → Book
+after_beat periods processor now b = record b { accounts = beaten processor now periods.tick b.accounts }
 
 -- it looks for a task to pull
-abbrev pub after_look : Pace → ℕ → ℕ → Book → Book
-after_look pace processor now b = record b { accounts = looked processor now pace.balance b.accounts }
+abbrev pub after_look : Periods → ℕ → ℕ → Book → Book
+after_look periods processor now b = record b { accounts = looked processor now periods.balance b.accounts }
 
 -- what is kept after a deed: what a task does is its next action, by how far it has come
-abbrev pub after_deed : List TaskKind → ℕ → Pace → Deed → Book → Book
-after_deed kinds seed pace (Happens event reply) b = after_answer pace event reply b
-after_deed kinds seed pace (Joins kind home) b = joined kinds kind home b
-after_deed kinds seed pace (Acts processor task now action aim) b = option_map_or (λ c. after_act kinds seed processor task now c b) (slice_get (charged processor now b.accounts).courses task) b
-after_deed kinds seed pace (Rings task now) b = b
-after_deed kinds seed pace (Reaches task) b = b
-after_deed kinds seed pace (Misses task) b = b
-after_deed kinds seed pace (Beats processor now) b = after_beat pace processor now b
-after_deed kinds seed pace (Looks processor now source) b = after_look pace processor now b
+abbrev pub after_deed : List TaskKind → ℕ → Periods → Deed → Book → Book
+after_deed kinds seed periods (Happens event reply) b = after_answer periods event reply b
+after_deed kinds seed periods (Joins kind home) b = joined kinds kind home b
+after_deed kinds seed periods (Acts processor task now action aim) b = option_map_or (λ c. after_act kinds seed processor task now c b) (slice_get (charged processor now b.accounts).by_task task) b
+after_deed kinds seed periods (Rings task now) b = b
+after_deed kinds seed periods (Reaches task) b = b
+after_deed kinds seed periods (Misses task) b = b
+after_deed kinds seed periods (Beats processor now) b = after_beat periods processor now b
+after_deed kinds seed periods (Looks processor now source) b = after_look periods processor now b
 
 -- and after some deeds, one after another
-abbrev pub after_deeds : List TaskKind → ℕ → Pace → Book → List Deed → Book
-after_deeds kinds seed pace b [] = b
-after_deeds kinds seed pace b (deed ∷ deeds) = after_deeds kinds seed pace (after_deed kinds seed pace deed b) deeds
+abbrev pub after_deeds : List TaskKind → ℕ → Periods → Book → List Deed → Book
+after_deeds kinds seed periods b [] = b
+after_deeds kinds seed periods b (deed ∷ deeds) = after_deeds kinds seed periods (after_deed kinds seed periods deed b) deeds
 
 -- deeds one after another: what the sink is told of them, and what becomes of the machine and of what is kept, where tasks do what
 -- their kinds say, lengths are drawn from this seed, and times between ticks and between looks, and what a change of processor costs,
--- are of this pace. A wake comes to the tasks of its kind one after another, by number. The timer that rings is of a task that is asleep
+-- are of this periods. A wake comes to the tasks of its kind one after another, by number. The timer that rings is of a task that is asleep
 -- until just then; a clock beats, and a processor looks, just when it is to, and it finds the processor with the most tasks.
-abbrev pub Lives : List TaskKind → ℕ → Pace → Driver → Book → List Deed → Told → Driver → Book → Type 0
-Lives kinds seed pace d b [] told e f = (told ≡ []) × (e ≡ d) × (f ≡ b)
-Lives kinds seed pace d b (Happens event reply ∷ deeds) told e f =
+abbrev pub Lives : List TaskKind → ℕ → Periods → Driver → Book → List Deed → Told → Driver → Book → Type 0
+Lives kinds seed periods d b [] told e f = (told ≡ []) × (e ≡ d) × (f ≡ b)
+Lives kinds seed periods d b (Happens event reply ∷ deeds) told e f =
     IsDue event b.accounts × (mid : Driver) × (first : Told) × (more : Told)
-    × Does d event reply first mid × Lives kinds seed pace mid (after_answer pace event reply b) deeds more e f × (told ≡ first ++ more)
-Lives kinds seed pace d b (Joins kind home ∷ deeds) told e f = IsOfKind kinds (length b.accounts.courses) kind × Lives kinds seed pace d (joined kinds kind home b) deeds told e f
-Lives kinds seed pace d b (Acts processor task now action aim ∷ deeds) told e f =
-    (c : Course) × IsDone (charged processor now b.accounts) processor task c × (action ≡ next_action kinds c) × (aim ≡ aimed kinds c)
-    × Lives kinds seed pace d (after_act kinds seed processor task now c b) deeds told e f
-Lives kinds seed pace d b (Rings task now ∷ deeds) told e f =
-    (c : Course) × (slice_get b.accounts.courses task ≡ Some c) × (c.stance ≡ Asleep) × (c.timer ≡ now) × Lives kinds seed pace d b deeds told e f
-Lives kinds seed pace d b (Reaches task ∷ deeds) told e f =
-    (c : Course) × (slice_get b.accounts.courses task ≡ Some c) × (c.stance ≡ Waiting) × Lives kinds seed pace d b deeds told e f
-Lives kinds seed pace d b (Misses task ∷ deeds) told e f =
-    (c : Course) × (slice_get b.accounts.courses task ≡ Some c) × (c.stance ≢ Waiting) × Lives kinds seed pace d b deeds told e f
-Lives kinds seed pace d b (Beats processor now ∷ deeds) told e f = TicksAt b.accounts processor now × Lives kinds seed pace d (after_beat pace processor now b) deeds told e f
-Lives kinds seed pace d b (Looks processor now source ∷ deeds) told e f =
-    LooksAt b.accounts processor now × IsSource b.accounts.lanes processor source × Lives kinds seed pace d (after_look pace processor now b) deeds told e f
+    × Does d event reply first mid × Lives kinds seed periods mid (after_answer periods event reply b) deeds more e f × (told ≡ first ++ more)
+Lives kinds seed periods d b (Joins kind home ∷ deeds) told e f = IsOfKind kinds (length b.accounts.by_task) kind × Lives kinds seed periods d (joined kinds kind home b) deeds told e f
+Lives kinds seed periods d b (Acts processor task now action aim ∷ deeds) told e f =
+    (c : TaskProgress) × IsDone (charged processor now b.accounts) processor task c × (action ≡ next_action kinds c) × (aim ≡ aimed kinds c)
+    × Lives kinds seed periods d (after_act kinds seed processor task now c b) deeds told e f
+Lives kinds seed periods d b (Rings task now ∷ deeds) told e f =
+    (c : TaskProgress) × (slice_get b.accounts.by_task task ≡ Some c) × (c.task_state ≡ Asleep) × (c.timer ≡ now) × Lives kinds seed periods d b deeds told e f
+Lives kinds seed periods d b (Reaches task ∷ deeds) told e f =
+    (c : TaskProgress) × (slice_get b.accounts.by_task task ≡ Some c) × (c.task_state ≡ Waiting) × Lives kinds seed periods d b deeds told e f
+Lives kinds seed periods d b (Misses task ∷ deeds) told e f =
+    (c : TaskProgress) × (slice_get b.accounts.by_task task ≡ Some c) × (c.task_state ≢ Waiting) × Lives kinds seed periods d b deeds told e f
+Lives kinds seed periods d b (Beats processor now ∷ deeds) told e f = TicksAt b.accounts processor now × Lives kinds seed periods d (after_beat periods processor now b) deeds told e f
+Lives kinds seed periods d b (Looks processor now source ∷ deeds) told e f =
+    LooksAt b.accounts processor now × IsSource b.accounts.by_processor processor source × Lives kinds seed periods d (after_look periods processor now b) deeds told e f
 
 -- the events among them
 abbrev pub events_of : List Deed → List Event

@@ -2,7 +2,7 @@
 use Rattle.std.specs.Prelude.{◌≡◌, ℕ, ◌++◌, ◌+◌, true, List, [], ◌∷◌, Option, Some, None, slice_get, slice_set}
 use Rattle.rand_pcg.specs.Lcg.{Lcg}
 use Rattle.bq_workload.specs.declared.action.Length.{Length}
-use Rattle.bq_workload.specs.declared.roster.Pace.{Pace}
+use Rattle.bq_workload.specs.declared.roster.Periods.{Periods}
 use Rattle.bq_workload.specs.declared.setup.Setup.{Setup}
 use Rattle.bq_workload.specs.declared.workload.TaskKind.{TaskKind}
 use Rattle.bq_workload.specs.declared.workload.Workload.{Workload}
@@ -29,17 +29,17 @@ abbrev pub opening_book : Setup → Book
 opening_book machine = record { accounts = opening (processors_in machine.size) machine.balance; drawn = [] }
 
 -- when a machine's simulation ends, the times between its ticks and between its looks, and what a change of processor costs
-abbrev pub pace_of : Setup → Pace
-pace_of machine = record { end = machine.duration; tick = machine.tick; balance = machine.balance; migration_cost = machine.migration_cost }
+abbrev pub periods_of : Setup → Periods
+periods_of machine = record { end = machine.duration; tick = machine.tick; balance = machine.balance; migration_cost = machine.migration_cost }
 
 -- first these policies are installed and all tasks admitted; then so many things at most come due until the end, each the next by the
 -- accounts, and are met
-pub record Proceeds (policies : List Accepted) (processors : ℕ) (kinds : List TaskKind) (seed : ℕ) (pace : Pace) (most end : ℕ) (b : Book) (deeds : List Deed) : Type 0 where
+pub record Proceeds (policies : List Accepted) (processors : ℕ) (kinds : List TaskKind) (seed : ℕ) (periods : Periods) (most end : ℕ) (b : Book) (deeds : List Deed) : Type 0 where
   pub opening : List Deed
   pub met : List Deed
   pub whole : deeds ≡ opening ++ met
   pub opens : Opens policies processors kinds opening
-  pub meets : AreMet kinds seed pace most end (after_deeds kinds seed pace b opening) met
+  pub meets : AreMet kinds seed periods most end (after_deeds kinds seed periods b opening) met
 
 -- when nothing comes any more, and no timer, no end of a phase, no tick and no look for a task is left until the end, each processor that
 -- runs something ticks then, by number, and nothing else is done
@@ -47,11 +47,11 @@ pub record Ends (policies : List Accepted) (w : Workload) (d : Driver) (deeds : 
   pub until : List Deed
   pub last : List Deed
   pub whole : deeds ≡ until ++ last
-  pub proceeds : Proceeds policies (processors_in w.machine.size) w.tasks.items w.machine.seed (pace_of w.machine) (most_steps w) w.machine.duration (opening_book w.machine) until
+  pub proceeds : Proceeds policies (processors_in w.machine.size) w.tasks.items w.machine.seed (periods_of w.machine) (most_steps w) w.machine.duration (opening_book w.machine) until
   pub told : Told
   pub driver : Driver
   pub book : Book
-  pub lives : Lives w.tasks.items w.machine.seed (pace_of w.machine) d (opening_book w.machine) until told driver book
+  pub lives : Lives w.tasks.items w.machine.seed (periods_of w.machine) d (opening_book w.machine) until told driver book
   pub none : NothingComes w.machine.duration book.accounts
   pub over : is_over w.machine.duration book.accounts ≡ true
   pub ticks : AreJust (last_ticks w.machine.duration (all_processors (processors_in w.machine.size)) book.accounts) last
@@ -75,7 +75,7 @@ pub record IsSimulation (policies : List Accepted) (w : Workload) (told : Told) 
   pub more : Told
   pub starts : Starts w.machine.rule w.machine.size first opening
   pub drives : Drives opening (events_of deeds) more closing
-  pub lives : Lives w.tasks.items w.machine.seed (pace_of w.machine) opening (opening_book w.machine) deeds more closing book
+  pub lives : Lives w.tasks.items w.machine.seed (periods_of w.machine) opening (opening_book w.machine) deeds more closing book
   pub whole : told ≡ first ++ more
   pub ends : Ends policies w opening deeds
 
@@ -98,18 +98,18 @@ book_of s drawn = record { accounts = accounts_of s.roster; drawn = drawn }
 pub record Goes {S : Type 0} (takes : S → ℕ → News → S → Type 0) (kinds : List TaskKind) (Are : List Deed → Type 0) (old : S) (s : Simulation) (drawn : List ℕ) (new : S) (t : Simulation) : Type 0 where
   pub deeds : List Deed
   pub after : List ℕ
-  pub pace : t.roster.pace ≡ s.roster.pace
+  pub periods : t.roster.periods ≡ s.roster.periods
   pub seed : t.seed ≡ s.seed
   pub streams : HasDrawn t after
   pub firsts : HasFirsts kinds t
   pub agrees : StaysAgreed s.roster t.roster
-  pub tells : Gets takes old new (λ told. Lives kinds s.seed s.roster.pace s.driver (book_of s drawn) deeds told t.driver (book_of t after))
+  pub tells : Gets takes old new (λ told. Lives kinds s.seed s.roster.periods s.driver (book_of s drawn) deeds told t.driver (book_of t after))
   pub are : Are deeds
 
 abbrev pub Lived : {S : Type 0} → (S → ℕ → News → S → Type 0) → List TaskKind → (List Deed → Type 0) → S → Simulation → S → Simulation → Type 0
 Lived takes kinds Are old s new t = (drawn : List ℕ) → HasDrawn s drawn → HasFirsts kinds s → Goes takes kinds Are old s drawn new t
 
--- from accounts with which its agenda agrees it goes on by deeds of which this holds, by what was kept
+-- from accounts with which its event queue agrees it goes on by deeds of which this holds, by what was kept
 abbrev pub LivedFrom : {S : Type 0} → (S → ℕ → News → S → Type 0) → List TaskKind → (Book → List Deed → Type 0) → S → Simulation → S → Simulation → Type 0
 LivedFrom takes kinds Are old s new t = (drawn : List ℕ) → HasDrawn s drawn → HasFirsts kinds s → IsAgreed s.roster → Goes takes kinds (Are (book_of s drawn)) old s drawn new t
 
@@ -121,12 +121,12 @@ Befell takes Are old s new t = (kinds : List TaskKind) → Lived takes kinds Are
 pub record GoesUntold (kinds : List TaskKind) (Are : List Deed → Type 0) (s : Simulation) (drawn : List ℕ) (t : Simulation) : Type 0 where
   pub deeds : List Deed
   pub after : List ℕ
-  pub pace : t.roster.pace ≡ s.roster.pace
+  pub periods : t.roster.periods ≡ s.roster.periods
   pub seed : t.seed ≡ s.seed
   pub streams : HasDrawn t after
   pub firsts : HasFirsts kinds t
   pub agrees : StaysAgreed s.roster t.roster
-  pub lives : Lives kinds s.seed s.roster.pace s.driver (book_of s drawn) deeds [] t.driver (book_of t after)
+  pub lives : Lives kinds s.seed s.roster.periods s.driver (book_of s drawn) deeds [] t.driver (book_of t after)
   pub are : Are deeds
 
 abbrev pub Silent : List TaskKind → (List Deed → Type 0) → Simulation → Simulation → Type 0
@@ -136,15 +136,15 @@ Silent kinds Are s t = (drawn : List ℕ) → HasDrawn s drawn → HasFirsts kin
 pub record Runs {S : Type 0} (takes : S → ℕ → News → S → Type 0) (policies : List Accepted) (kinds : List TaskKind) (most end processors : ℕ) (old : S) (s : Simulation) (new : S) (t : Simulation) : Type 0 where
   pub sink : S
   pub ended : Simulation
-  pub proceeds : LivedFrom takes kinds (Proceeds policies processors kinds s.seed s.roster.pace most end) old s sink ended
-  pub none : IsAgreed ended.roster → NothingComes ended.roster.pace.end (accounts_of ended.roster)
+  pub proceeds : LivedFrom takes kinds (Proceeds policies processors kinds s.seed s.roster.periods most end) old s sink ended
+  pub none : IsAgreed ended.roster → NothingComes ended.roster.periods.end (accounts_of ended.roster)
   pub over : is_over end (accounts_of ended.roster) ≡ true
   pub ticks : Lived takes kinds (AreJust (last_ticks end (all_processors processors) (accounts_of ended.roster))) sink ended new t
 
--- what stays beside the machine and the accounts, and that the agenda agrees with them
+-- what stays beside the machine and the accounts, and that the event queue agrees with them
 pub record Stays (s t : Simulation) : Type 0 where
   pub agrees : StaysAgreed s.roster t.roster
-  pub pace : t.roster.pace ≡ s.roster.pace
+  pub periods : t.roster.periods ≡ s.roster.periods
   pub seed : t.seed ≡ s.seed
   pub streams : t.streams ≡ s.streams
   pub firsts : t.firsts ≡ s.firsts

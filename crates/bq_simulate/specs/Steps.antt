@@ -12,7 +12,7 @@ use Rattle.bq_parts.specs.declared.reply.Reply.{Reply}
 use Rattle.bq_parts.specs.declared.reply.Reply.TheVariants.{Drawn}
 use Rattle.bq_verify.specs.Accepted.{Accepted}
 use Rattle.bq_workload.specs.Accounts.{Accounts}
-use Rattle.bq_workload.specs.declared.roster.Pace.{Pace}
+use Rattle.bq_workload.specs.declared.roster.Periods.{Periods}
 use Rattle.bq_workload.specs.Next.{IsNext}
 use Rattle.bq_workload.specs.Soundness.{IsFirstAllowed}
 use Rattle.bq_simulate.specs.Chronicles.{Acts, Beats, Book, Deed, Happens, Joins, Looks, Misses, Reaches, Rings, after_deeds, is_busy}
@@ -126,17 +126,17 @@ Rise first (step ∷ steps) last = (first ≤ step.at) × Rise step.at steps las
 
 -- each of these is the next by the accounts just before: of all that comes until the end it comes first, by its time, at one instant
 -- by its kind, and of one kind by its number
-abbrev pub AreInOrder : List TaskKind → ℕ → Pace → Book → List Step → Type 0
-AreInOrder kinds seed pace b [] = Unit {0}
-AreInOrder kinds seed pace b (step ∷ steps) = IsNext pace.end b.accounts step.due step.at × AreInOrder kinds seed pace (after_deeds kinds seed pace b step.deeds) steps
+abbrev pub AreInOrder : List TaskKind → ℕ → Periods → Book → List Step → Type 0
+AreInOrder kinds seed periods b [] = Unit {0}
+AreInOrder kinds seed periods b (step ∷ steps) = IsNext periods.end b.accounts step.due step.at × AreInOrder kinds seed periods (after_deeds kinds seed periods b step.deeds) steps
 
 -- from what is kept so many things at most come due until an instant, one after another in their order, and each is met
-pub record AreMet (kinds : List TaskKind) (seed : ℕ) (pace : Pace) (most last : ℕ) (b : Book) (deeds : List Deed) : Type 0 where
+pub record AreMet (kinds : List TaskKind) (seed : ℕ) (periods : Periods) (most last : ℕ) (b : Book) (deeds : List Deed) : Type 0 where
   pub steps : List Step
   pub whole : deeds ≡ deeds_of steps
   pub rise : Rise 0 steps last
   pub few : length steps ≤ most
-  pub order : AreInOrder kinds seed pace b steps
+  pub order : AreInOrder kinds seed periods b steps
 
 -- which of these processors run something: each of them ticks at the end
 abbrev pub last_ticks : ℕ → List ℕ → Accounts → List Event
@@ -144,4 +144,4 @@ last_ticks end processors a = map (λ processor. Tick processor end) (filter (is
 
 -- only this processor may run something else
 abbrev pub KeepsOthers : ℕ → Accounts → Accounts → Type 0
-KeepsOthers processor a b = (other : ℕ) → other ≢ processor → slice_get b.lanes other ≡ slice_get a.lanes other
+KeepsOthers processor a b = (other : ℕ) → other ≢ processor → slice_get b.by_processor other ≡ slice_get a.by_processor other

@@ -1,7 +1,7 @@
 //! What a task does next, once it has run long enough.
 ghost use Rattle.std.specs.Prelude.{◌≡◌, ◌+◌, [], ◌∷◌, IfOk, List, OnOk, Some, slice_get};
 ghost use Rattle.bq_parts.specs.declared.event.Event.TheVariants.{Block};
-ghost use Rattle.bq_workload.specs.Courses.{begun};
+ghost use Rattle.bq_workload.specs.TaskProgress.{begun};
 ghost use Rattle.bq_workload.specs.Kinds.{count_of};
 ghost use Rattle.bq_workload.specs.declared.workload.TaskKind.{TaskKind};
 ghost use Rattle.bq_simulate.specs.Actions.{acted, action_at, asleep_for, advanced_in, aim_of, asked_by, first_of, next_action, resting, woken_one_in};
@@ -11,7 +11,7 @@ ghost use Rattle.bq_simulate.specs.Steps.{AreJust, Follow, IsAct, Meet, Wakes};
 use crate::fault::SimulateFault;
 use crate::simulation::Simulation;
 use bq_trace::Sink;
-use bq_workload::{Action, Astray, Course, Due, Length, Stance, TaskKind, Workload};
+use bq_workload::{Action, BrokenInvariant, TaskProgress, Due, Length, TaskState, TaskKind, Workload};
 use std::alloc::Global;
 
 /// What a task does next, once its phase has ended.
@@ -19,31 +19,31 @@ use std::alloc::Global;
 struct Doing {
     task: u16,
     /// How far it had come.
-    before: Course,
+    before: TaskProgress,
     /// Nothing where it has done all as often as it is to.
     action: Option<Action>,
 }
 
 /// What a task does next; nothing where it has done all as often as it is to.
-fn next_of(workload: &Workload, course: &Course) -> Result<Option<Action>, Astray>
-    ensures { IfOk result (λ action. action ≡ next_action workload.now.tasks.items course.now) }
+fn next_of(workload: &Workload, progress: &TaskProgress) -> Result<Option<Action>, BrokenInvariant>
+    ensures { IfOk result (λ action. action ≡ next_action workload.now.tasks.items progress.now) }
 {
-    match workload.tasks.get(course.kind) {
-        Some(kind) => action_at(kind, course),
-        None => Err(Astray),
+    match workload.tasks.get(progress.kind) {
+        Some(kind) => action_at(kind, progress),
+        None => Err(BrokenInvariant),
     }
 }
 
 /// What a task of a kind does next; nothing where it has done all as often as it is to.
-fn action_at(kind: &TaskKind, course: &Course) -> Result<Option<Action>, Astray>
-    ensures { IfOk result (λ action. action ≡ action_at kind.now course.now) }
+fn action_at(kind: &TaskKind, progress: &TaskProgress) -> Result<Option<Action>, BrokenInvariant>
+    ensures { IfOk result (λ action. action ≡ action_at kind.now progress.now) }
 {
-    if kind.loops == Some(course.loops) {
+    if kind.loops == Some(progress.loops) {
         return Ok(None);
     }
-    match kind.actions.get(course.action) {
+    match kind.actions.get(progress.action) {
         Some(action) => Ok(Some(*action)),
-        None => Err(Astray),
+        None => Err(BrokenInvariant),
     }
 }
 
@@ -59,78 +59,78 @@ fn asked_by(action: Option<Action>) -> Option<Length>
 }
 
 /// How far a task has come once it has done an action.
-fn advanced(workload: &Workload, course: Course) -> Result<Course, Astray>
-    ensures { IfOk result (λ next. next ≡ advanced_in workload.now.tasks.items course) }
+fn advanced(workload: &Workload, progress: TaskProgress) -> Result<TaskProgress, BrokenInvariant>
+    ensures { IfOk result (λ next. next ≡ advanced_in workload.now.tasks.items progress) }
 {
-    let kind = workload.tasks.get(course.kind).ok_or(Astray)?;
-    let mut course = course;
-    course.advance(kind.actions.len());
-    Ok(course)
+    let kind = workload.tasks.get(progress.kind).ok_or(BrokenInvariant)?;
+    let mut progress = progress;
+    progress.advance(kind.actions.len());
+    Ok(progress)
 }
 
 /// How many tasks a kind has.
-fn count_of(workload: &Workload, kind: usize) -> Result<u16, Astray>
+fn count_of(workload: &Workload, kind: usize) -> Result<u16, BrokenInvariant>
     ensures { IfOk result (λ count. count ≡ count_of workload.now.tasks.items kind) }
 {
-    let kind = workload.tasks.get(kind).ok_or(Astray)?;
+    let kind = workload.tasks.get(kind).ok_or(BrokenInvariant)?;
     Ok(kind.count)
 }
 
 /// How far a task has come once its wake has come to one more of the tasks of a kind.
-fn woken_one(workload: &Workload, course: Course, kind: usize) -> Result<Course, Astray>
-    ensures { IfOk result (λ next. next ≡ woken_one_in workload.now.tasks.items kind course) }
+fn woken_one(workload: &Workload, progress: TaskProgress, kind: usize) -> Result<TaskProgress, BrokenInvariant>
+    ensures { IfOk result (λ next. next ≡ woken_one_in workload.now.tasks.items kind progress) }
 {
     let count = count_of(workload, kind)?;
-    match course.woken.checked_add(1) {
-        Some(woken) if woken < count => Ok(Course { woken, ..course }),
-        _ => advanced(workload, course),
+    match progress.woken.checked_add(1) {
+        Some(woken) if woken < count => Ok(TaskProgress { woken, ..progress }),
+        _ => advanced(workload, progress),
     }
 }
 
 /// A task that has no phase, and sleeps.
-fn resting(course: Course, stance: Stance) -> Course
-    ensures { result ≡ resting stance course }
+fn resting(progress: TaskProgress, task_state: TaskState) -> TaskProgress
+    ensures { result ≡ resting task_state progress }
 {
-    let mut course = course;
-    course.begin(0);
-    course.stance = stance;
-    course
+    let mut progress = progress;
+    progress.begin(0);
+    progress.task_state = task_state;
+    progress
 }
 
 /// A task whose phase has this length.
-fn begun(course: Course, length: u64) -> Course
-    ensures { result ≡ begun length course }
+fn begun(progress: TaskProgress, length: u64) -> TaskProgress
+    ensures { result ≡ begun length progress }
 {
-    let mut course = course;
-    course.begin(length);
-    course
+    let mut progress = progress;
+    progress.begin(length);
+    progress
 }
 
 /// A task that sleeps, from an instant on, for so long.
-fn asleep_for(course: Course, length: u64, now: u64) -> Course
-    ensures { result ≡ asleep_for length now course }
+fn asleep_for(progress: TaskProgress, length: u64, now: u64) -> TaskProgress
+    ensures { result ≡ asleep_for length now progress }
 {
-    let mut course = resting(course, Stance::Asleep);
-    course.timer = now.saturating_add(length);
-    course
+    let mut progress = resting(progress, TaskState::Asleep);
+    progress.timer = now.saturating_add(length);
+    progress
 }
 
 /// How far a task has come with its next action, which takes that length where it takes one. Only where it runs it has a phase.
 fn acted(
     workload: &Workload,
-    course: Course,
+    progress: TaskProgress,
     action: Option<Action>,
     length: u64,
     now: u64,
-) -> Result<Course, Astray>
-    ensures { IfOk result (λ next. next ≡ acted workload.now.tasks.items action length now course) }
+) -> Result<TaskProgress, BrokenInvariant>
+    ensures { IfOk result (λ next. next ≡ acted workload.now.tasks.items action length now progress) }
 {
     match action {
-        None => Ok(resting(course, Stance::Over)),
-        Some(Action::Run(_)) => Ok(begun(advanced(workload, course)?, length)),
-        Some(Action::Sleep(_)) => Ok(asleep_for(advanced(workload, course)?, length, now)),
-        Some(Action::Wait) => Ok(resting(advanced(workload, course)?, Stance::Waiting)),
-        Some(Action::Wake(kind)) => Ok(begun(woken_one(workload, course, kind)?, 0)),
+        None => Ok(resting(progress, TaskState::Over)),
+        Some(Action::Run(_)) => Ok(begun(advanced(workload, progress)?, length)),
+        Some(Action::Sleep(_)) => Ok(asleep_for(advanced(workload, progress)?, length, now)),
+        Some(Action::Wait) => Ok(resting(advanced(workload, progress)?, TaskState::Waiting)),
+        Some(Action::Wake(kind)) => Ok(begun(woken_one(workload, progress, kind)?, 0)),
     }
 }
 
@@ -153,7 +153,7 @@ impl Simulation {
 
     /// The run phase of the task that runs at a processor has ended, with just what it takes, and its next action is taken up:
     /// where it takes a length, that is the next of the task.
-    fn take_action(&mut self, workload: &Workload, processor: u8, now: u64) -> Result<Doing, Astray>
+    fn take_action(&mut self, workload: &Workload, processor: u8, now: u64) -> Result<Doing, BrokenInvariant>
         ensures { IfOk result (λ doing. Silent workload.now.tasks.items (IsAct processor doing.task now doing.action (aim_of workload.now.tasks.items doing.before doing.action)) self.old self.new) }
     {
         let (task, before) = self.roster.end_phase(processor, now)?;
@@ -169,7 +169,7 @@ impl Simulation {
     }
 
     /// The next length of a task, where one is asked for.
-    fn length_for(&mut self, task: u16, asked: Option<Length>) -> Result<u64, Astray>
+    fn length_for(&mut self, task: u16, asked: Option<Length>) -> Result<u64, BrokenInvariant>
         ensures { IfOk result (λ length. DrawsFor task asked self.old length self.new) }
     {
         match asked {
@@ -179,11 +179,11 @@ impl Simulation {
     }
 
     /// Counts a run phase that has ended; a task that has just been woken, or has woken others, had none.
-    fn count_phase(&mut self, before: &Course)
+    fn count_phase(&mut self, before: &TaskProgress)
         ensures { Same self.old self.new }
     {
         let phases = u64::from(before.due > 0);
-        self.tally.phases = self.tally.phases.saturating_add(phases);
+        self.counts.phases = self.counts.phases.saturating_add(phases);
     }
 
     /// What comes of an action that a task has taken up.
@@ -237,14 +237,14 @@ impl Simulation {
         ensures { OnOk result ((kinds : List TaskKind) → Lived S.takes kinds (Wakes (first_of kinds kind + woken) processor now) sink.old self.old sink.new self.new) }
     {
         let first = self.first_of(kind)?;
-        let target = first.checked_add(woken).ok_or(SimulateFault::Astray)?;
-        let lane = self.roster.lane(processor)?;
-        let Some(_) = lane.run else {
-            return Err(SimulateFault::Astray);
+        let target = first.checked_add(woken).ok_or(SimulateFault::BrokenInvariant)?;
+        let processor_state = self.roster.processor_state(processor)?;
+        let Some(_) = processor_state.run else {
+            return Err(SimulateFault::BrokenInvariant);
         };
-        let course = self.roster.course(target)?;
-        match course.stance {
-            Stance::Waiting => self.wake(alloc, processor, target, now, sink),
+        let progress = self.roster.progress(target)?;
+        match progress.task_state {
+            TaskState::Waiting => self.wake(alloc, processor, target, now, sink),
             _ => {
                 self.miss();
                 Ok(())
@@ -253,16 +253,16 @@ impl Simulation {
     }
 
     /// The first task of a kind.
-    fn first_of(&self, kind: usize) -> Result<u16, Astray>
+    fn first_of(&self, kind: usize) -> Result<u16, BrokenInvariant>
         ensures { IfOk result (λ first. slice_get self.now.firsts.items kind ≡ Some first) }
     {
-        self.firsts.get(kind).copied().ok_or(Astray)
+        self.firsts.get(kind).copied().ok_or(BrokenInvariant)
     }
 
     /// A wake comes to a task that does not wait.
     fn miss(&mut self)
         ensures { Same self.old self.new }
     {
-        self.tally.missed = self.tally.missed.saturating_add(1);
+        self.counts.missed = self.counts.missed.saturating_add(1);
     }
 }

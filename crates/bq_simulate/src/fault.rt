@@ -4,7 +4,7 @@ ghost use Rattle.bq_simulate.specs.Faults.{flaw_told};
 ghost use Rattle.bq_simulate.specs.declared.fault.SimulateFault.TheVariants.{OutOfMemory};
 
 use crate::DriveFault;
-use bq_workload::{Astray, Unsound};
+use bq_workload::{BrokenInvariant, Unsound};
 use std::alloc::AllocError;
 use thiserror::Error;
 
@@ -23,7 +23,7 @@ pub enum SimulateFault {
     Drive(DriveFault),
     /// The loop lost count of its tasks. That would be a fault of this program.
     #[error("internal fault: the loop lost count of its tasks")]
-    Astray,
+    BrokenInvariant,
     /// The loop took more steps than its workload allows. That would be a fault of this program.
     #[error("internal fault: the loop does not end")]
     Endless,
@@ -35,7 +35,7 @@ impl SimulateFault {
         ensures { flaw_told result ≡ None }
     {
         match self {
-            SimulateFault::Unsound(_) => SimulateFault::Astray,
+            SimulateFault::Unsound(_) => SimulateFault::BrokenInvariant,
             fault => fault,
         }
     }
@@ -58,8 +58,8 @@ impl From<DriveFault> for SimulateFault {
     }
 }
 
-impl From<Astray> for SimulateFault {
-    fn from(_error: Astray) -> SimulateFault {
-        SimulateFault::Astray
+impl From<BrokenInvariant> for SimulateFault {
+    fn from(_error: BrokenInvariant) -> SimulateFault {
+        SimulateFault::BrokenInvariant
     }
 }

@@ -7,17 +7,17 @@ ghost use Rattle.bq_workload.specs.Kinds.{tasks_in};
 ghost use Rattle.bq_workload.specs.Next.{IsAgreed, NothingComes};
 ghost use Rattle.bq_workload.specs.Soundness.{first_flaw};
 ghost use Rattle.bq_simulate.specs.Faults.{flaw_told};
-ghost use Rattle.bq_simulate.specs.Simulations.{Befell, IsSimulation, LivedFrom, Runs, opening_book, pace_of, with_seed};
+ghost use Rattle.bq_simulate.specs.Simulations.{Befell, IsSimulation, LivedFrom, Runs, opening_book, periods_of, with_seed};
 ghost use Rattle.bq_simulate.specs.Steps.{AreJust, AreMet, KeepsOthers, all_processors, last_ticks};
 ghost use Rattle.bq_trace.specs.News.{Gets};
 
 use crate::Driver;
 use crate::fault::SimulateFault;
 use crate::simulation::Simulation;
-use crate::tally::Tally;
+use crate::counts::Counts;
 use bq_installed::Policy;
 use bq_trace::Sink;
-use bq_workload::{Pace, Roster, Setup, Workload, most_steps, soundness};
+use bq_workload::{Periods, Roster, Setup, Workload, most_steps, soundness};
 use std::alloc::Global;
 
 /// Follows a workload to its end, with these policies at all processors, and tells a sink of its events: line 1 of their
@@ -32,9 +32,9 @@ pub fn simulate<S: Sink>(
     workload: &Workload,
     policies: &[Policy],
     sink: &mut S,
-) -> Result<Tally, SimulateFault>
+) -> Result<Counts, SimulateFault>
     ensures told { OnOk result (Gets S.takes sink.old sink.new (IsSimulation policies.now workload.now)) }
-    ensures tasks { IfOk result (λ tally. tally.tasks ≡ tasks_in workload.now.tasks.items) }
+    ensures tasks { IfOk result (λ counts. counts.tasks ≡ tasks_in workload.now.tasks.items) }
     ensures sound { IfOk result (λ _. first_flaw workload.now ≡ None) }
     ensures flaw { IfErr result (λ fault. flaw_told fault ≡ first_flaw workload.now) }
     ensures untold { first_flaw workload.now ≢ None → sink.new ≡ sink.old }
@@ -49,16 +49,16 @@ pub fn simulate_seed<S: Sink>(
     seed: u64,
     policies: &[Policy],
     sink: &mut S,
-) -> Result<Tally, SimulateFault>
+) -> Result<Counts, SimulateFault>
     ensures told { OnOk result (Gets S.takes sink.old sink.new (IsSimulation policies.now (with_seed workload.now seed))) }
-    ensures tasks { IfOk result (λ tally. tally.tasks ≡ tasks_in workload.now.tasks.items) }
+    ensures tasks { IfOk result (λ counts. counts.tasks ≡ tasks_in workload.now.tasks.items) }
     ensures sound { IfOk result (λ _. first_flaw workload.now ≡ None) }
     ensures flaw { IfErr result (λ fault. flaw_told fault ≡ first_flaw workload.now) }
     ensures untold { first_flaw workload.now ≢ None → sink.new ≡ sink.old }
 {
     soundness(workload).map_err(SimulateFault::Unsound)?;
     match follow(alloc, workload, seed, policies, sink) {
-        Ok(tally) => Ok(tally),
+        Ok(counts) => Ok(counts),
         Err(fault) => Err(fault.past_soundness()),
     }
 }
@@ -70,9 +70,9 @@ fn follow<S: Sink>(
     seed: u64,
     policies: &[Policy],
     sink: &mut S,
-) -> Result<Tally, SimulateFault>
+) -> Result<Counts, SimulateFault>
     ensures told { OnOk result (Gets S.takes sink.old sink.new (IsSimulation policies.now (with_seed workload.now seed))) }
-    ensures tasks { IfOk result (λ tally. tally.tasks ≡ tasks_in workload.now.tasks.items) }
+    ensures tasks { IfOk result (λ counts. counts.tasks ≡ tasks_in workload.now.tasks.items) }
 {
     let machine = &workload.machine;
     let driver = Driver::new(alloc, machine.rule, machine.size, sink)?;
@@ -93,27 +93,27 @@ impl Simulation {
         ensures seed { IfOk result (λ simulation. simulation.seed ≡ seed) }
         ensures streams { IfOk result (λ simulation. simulation.streams.items ≡ []) }
         ensures firsts { IfOk result (λ simulation. simulation.firsts.items ≡ []) }
-        ensures tasks { IfOk result (λ simulation. simulation.roster.courses.items ≡ []) }
-        ensures pace { IfOk result (λ simulation. simulation.roster.pace ≡ pace_of machine.now) }
+        ensures tasks { IfOk result (λ simulation. simulation.roster.by_task.items ≡ []) }
+        ensures periods { IfOk result (λ simulation. simulation.roster.periods ≡ periods_of machine.now) }
         ensures agrees { IfOk result (λ simulation. IsAgreed simulation.roster) }
     {
-        let pace = Pace {
+        let periods = Periods {
             end: machine.duration,
             tick: machine.tick,
             balance: machine.balance,
             migration_cost: machine.migration_cost,
         };
-        let tally = Tally {
+        let counts = Counts {
             tasks: 0,
             phases: 0,
             missed: 0,
         };
         Ok(Simulation {
             driver,
-            roster: Roster::new(alloc, machine.size.processors(), pace)?,
+            roster: Roster::new(alloc, machine.size.processors(), periods)?,
             streams: Vec::new(alloc),
             firsts: Vec::new(alloc),
-            tally,
+            counts,
             seed,
         })
     }
@@ -125,10 +125,10 @@ impl Simulation {
         workload: &Workload,
         policies: &[Policy],
         sink: &mut S,
-    ) -> Result<Tally, SimulateFault>
-        requires tasks { length self.old.roster.courses.items ≡ 0 }
+    ) -> Result<Counts, SimulateFault>
+        requires tasks { length self.old.roster.by_task.items ≡ 0 }
         requires streams { length self.old.streams.items ≡ 0 }
-        ensures tasks { IfOk result (λ tally. tally.tasks ≡ tasks_in workload.now.tasks.items) }
+        ensures tasks { IfOk result (λ counts. counts.tasks ≡ tasks_in workload.now.tasks.items) }
         ensures runs { OnOk result (Runs S.takes policies.now workload.now.tasks.items (most_steps workload.now) workload.now.machine.duration (processors_in workload.now.machine.size) sink.old self.old sink.new self.new) }
     {
         let processors = workload.machine.size.processors();
@@ -137,12 +137,12 @@ impl Simulation {
         let tasks = self.tasks()?;
         self.go_on(alloc, workload, most_steps(workload), sink)?;
         if !self.roster.is_over(workload.machine.duration) {
-            return Err(SimulateFault::Astray);
+            return Err(SimulateFault::BrokenInvariant);
         }
         self.finish(alloc, processors, workload.machine.duration, sink)?;
-        Ok(Tally {
+        Ok(Counts {
             tasks,
-            ..self.tally
+            ..self.counts
         })
     }
 
@@ -155,8 +155,8 @@ impl Simulation {
         most: u64,
         sink: &mut S,
     ) -> Result<(), SimulateFault>
-        ensures none { OnOk result (IsAgreed self.new.roster → NothingComes self.new.roster.pace.end (accounts_of self.new.roster)) }
-        ensures lived { OnOk result (LivedFrom S.takes workload.now.tasks.items (AreMet workload.now.tasks.items self.old.seed self.old.roster.pace most workload.now.machine.duration) sink.old self.old sink.new self.new) }
+        ensures none { OnOk result (IsAgreed self.new.roster → NothingComes self.new.roster.periods.end (accounts_of self.new.roster)) }
+        ensures lived { OnOk result (LivedFrom S.takes workload.now.tasks.items (AreMet workload.now.tasks.items self.old.seed self.old.roster.periods most workload.now.machine.duration) sink.old self.old sink.new self.new) }
     {
         let end = workload.machine.duration;
         let mut last: u64 = 0;
@@ -165,7 +165,7 @@ impl Simulation {
                 return Ok(());
             };
             if now < last || now > end {
-                return Err(SimulateFault::Astray);
+                return Err(SimulateFault::BrokenInvariant);
             }
             last = now;
             self.meet(alloc, workload, due, now, sink)?;
@@ -200,8 +200,8 @@ impl Simulation {
         ensures befell { OnOk result (Befell S.takes (AreJust (last_ticks end (processor ∷ []) (accounts_of self.old.roster))) sink.old self.old sink.new self.new) }
         ensures others { OnOk result (KeepsOthers processor (accounts_of self.old.roster) (accounts_of self.new.roster)) }
     {
-        let lane = self.roster.lane(processor)?;
-        match lane.run {
+        let processor_state = self.roster.processor_state(processor)?;
+        match processor_state.run {
             Some(_) => self.tick(alloc, processor, end, sink),
             None => Ok(()),
         }

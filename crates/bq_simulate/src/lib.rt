@@ -16,7 +16,7 @@ pub mod laws;
 pub mod line_laws;
 pub mod opening;
 pub mod simulation;
-pub mod tally;
+pub mod counts;
 pub mod trace_writer;
 pub mod writing;
 
@@ -25,6 +25,6 @@ pub use driver::Driver;
 pub use fault::SimulateFault;
 pub use following::{simulate, simulate_seed};
 pub use images::Images;
-pub use tally::Tally;
+pub use counts::Counts;
 pub use trace_writer::TraceWriter;
 pub use writing::{write_event, write_machine};

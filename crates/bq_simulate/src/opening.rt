@@ -12,7 +12,7 @@ use crate::fault::SimulateFault;
 use crate::simulation::Simulation;
 use bq_installed::Policy;
 use bq_trace::Sink;
-use bq_workload::{Course, Due, Stream, TaskKind, Workload, first_of_mask};
+use bq_workload::{TaskProgress, Due, Stream, TaskKind, Workload, first_of_mask};
 use std::alloc::Global;
 
 impl Simulation {
@@ -62,7 +62,7 @@ impl Simulation {
         workload: &Workload,
         sink: &mut S,
     ) -> Result<(), SimulateFault>
-        requires tasks { length self.old.roster.courses.items ≡ 0 }
+        requires tasks { length self.old.roster.by_task.items ≡ 0 }
         requires streams { length self.old.streams.items ≡ 0 }
         ensures lived { OnOk result (Lived S.takes workload.now.tasks.items (AreAllAdmitted (processors_in workload.now.machine.size) 0 0 workload.now.tasks.items) sink.old self.old sink.new self.new) }
         ensures streams { OnOk result (length self.new.streams.items ≡ tasks_in workload.now.tasks.items) }
@@ -84,16 +84,16 @@ impl Simulation {
         sink: &mut S,
     ) -> Result<(), SimulateFault>
         requires kind { slice_get workload.now.tasks.items number ≡ Some kind.now }
-        requires first { length self.old.roster.courses.items ≡ first_of workload.now.tasks.items number }
+        requires first { length self.old.roster.by_task.items ≡ first_of workload.now.tasks.items number }
         requires streams { length self.old.streams.items ≡ first_of workload.now.tasks.items number }
         ensures lived { OnOk result (Lived S.takes workload.now.tasks.items (AreAdmitted (processors_in workload.now.machine.size) number kind.now (first_of workload.now.tasks.items number) kind.now.count) sink.old self.old sink.new self.new) }
-        ensures tasks { OnOk result (length self.new.roster.courses.items ≡ length self.old.roster.courses.items + kind.now.count) }
+        ensures tasks { OnOk result (length self.new.roster.by_task.items ≡ length self.old.roster.by_task.items + kind.now.count) }
         ensures streams { OnOk result (length self.new.streams.items ≡ length self.old.streams.items + kind.now.count) }
     {
         let processors = workload.machine.size.processors();
-        let home = first_of_mask(kind.mask, processors).ok_or(SimulateFault::Astray)?;
+        let home = first_of_mask(kind.mask, processors).ok_or(SimulateFault::BrokenInvariant)?;
         'tasks: for _ in 0..kind.count {
-            let task = self.tally.tasks;
+            let task = self.counts.tasks;
             self.admit_one(alloc, task, kind, sink)?;
             self.join(task, number, home, kind.start)?;
             self.count_task(task);
@@ -104,12 +104,12 @@ impl Simulation {
     /// The next task is the first of the next kind, which has this number.
     fn begin_kind(&mut self, number: usize) -> Result<(), SimulateFault>
         ensures silent { OnOk result ((kinds : List TaskKind) → length self.old.streams.items ≡ first_of kinds number → Silent kinds (AreJust []) self.old self.new) }
-        ensures courses { self.new.roster ≡ self.old.roster }
+        ensures by_task { self.new.roster ≡ self.old.roster }
         ensures streams { self.new.streams ≡ self.old.streams }
     {
         let first = self.tasks()?;
         if self.firsts.len() != number {
-            return Err(SimulateFault::Astray);
+            return Err(SimulateFault::BrokenInvariant);
         }
         match self.firsts.push(first) {
             Ok(()) => Ok(()),
@@ -121,9 +121,9 @@ impl Simulation {
     pub(crate) fn tasks(&self) -> Result<u16, SimulateFault>
         ensures { IfOk result (λ tasks. tasks ≡ length self.now.streams.items) }
     {
-        let tasks = self.tally.tasks;
+        let tasks = self.counts.tasks;
         if self.streams.len() != usize::from(tasks) {
-            return Err(SimulateFault::Astray);
+            return Err(SimulateFault::BrokenInvariant);
         }
         Ok(tasks)
     }
@@ -131,23 +131,23 @@ impl Simulation {
     /// Counts a task, which is the last so far.
     fn count_task(&mut self, task: u16)
         ensures same { Same self.old self.new }
-        ensures courses { self.new.roster.courses ≡ self.old.roster.courses }
+        ensures by_task { self.new.roster.by_task ≡ self.old.roster.by_task }
     {
-        self.tally.tasks = task.saturating_add(1);
+        self.counts.tasks = task.saturating_add(1);
     }
 
     /// One more task of a kind, with a stream of its own; its first wake is at the start of its kind, from this processor, and
     /// its timer is put down.
     fn join(&mut self, task: u16, kind: usize, home: u8, start: u64) -> Result<(), SimulateFault>
-        ensures silent { OnOk result ((kinds : List TaskKind) → IsOfKind kinds (length self.old.roster.courses.items) kind → start ≡ start_of kinds kind → length self.old.streams.items ≡ length self.old.roster.courses.items → Silent kinds (IsJoin kind home) self.old self.new) }
+        ensures silent { OnOk result ((kinds : List TaskKind) → IsOfKind kinds (length self.old.roster.by_task.items) kind → start ≡ start_of kinds kind → length self.old.streams.items ≡ length self.old.roster.by_task.items → Silent kinds (IsJoin kind home) self.old self.new) }
         ensures number { OnOk result (task ≡ length self.old.streams.items) }
         ensures streams { OnOk result (length self.new.streams.items ≡ length self.old.streams.items + 1) }
-        ensures tasks { OnOk result (length self.new.roster.courses.items ≡ length self.old.roster.courses.items + 1) }
+        ensures tasks { OnOk result (length self.new.roster.by_task.items ≡ length self.old.roster.by_task.items + 1) }
     {
         if self.streams.len() != usize::from(task) {
-            return Err(SimulateFault::Astray);
+            return Err(SimulateFault::BrokenInvariant);
         }
-        self.roster.add(Course::new(kind, home, start))?;
+        self.roster.add(TaskProgress::new(kind, home, start))?;
         self.roster.plan(Due::Wake(task), start)?;
         match self.streams.push(Stream::of_task(self.seed, task)) {
             Ok(()) => Ok(()),
@@ -163,7 +163,7 @@ impl Simulation {
         sink: &mut S,
     ) -> Result<(), SimulateFault>
         ensures befell { OnOk result (Befell S.takes (AreJust (Admit task kind.now.nice kind.now.mask kind.now.slice ∷ [])) sink.old self.old sink.new self.new) }
-        ensures courses { self.new.roster ≡ self.old.roster }
+        ensures by_task { self.new.roster ≡ self.old.roster }
         ensures streams { self.new.streams ≡ self.old.streams }
     {
         self.driver

@@ -12,9 +12,9 @@ ghost use Rattle.bq_simulate.specs.Steps.{AreJust, AreWake, KeepsOthers, Meet};
 use crate::Driver;
 use crate::calls::Moved;
 use crate::fault::SimulateFault;
-use crate::tally::Tally;
+use crate::counts::Counts;
 use bq_trace::Sink;
-use bq_workload::{Astray, Due, Length, Roster, Stance, Stream, Workload};
+use bq_workload::{BrokenInvariant, Due, Length, Roster, TaskState, Stream, Workload};
 use std::alloc::Global;
 
 /// A simulation on its way: its machine, its tasks and processors, the draws of each task, the first task of each kind,
@@ -25,7 +25,7 @@ pub struct Simulation {
     pub(crate) roster: Roster,
     pub(crate) streams: Vec<Stream>,
     pub(crate) firsts: Vec<u16>,
-    pub(crate) tally: Tally,
+    pub(crate) counts: Counts,
     pub(crate) seed: u64,
 }
 
@@ -59,13 +59,13 @@ impl Simulation {
     ) -> Result<(), SimulateFault>
         ensures { OnOk result (Befell S.takes (Meet (Due.Wake task) now) sink.old self.old sink.new self.new) }
     {
-        let course = self.roster.course(task)?;
-        if course.timer != now {
-            return Err(SimulateFault::Astray);
+        let progress = self.roster.progress(task)?;
+        if progress.timer != now {
+            return Err(SimulateFault::BrokenInvariant);
         }
-        match course.stance {
-            Stance::Asleep => self.wake(alloc, course.home, task, now, sink),
-            _ => Err(SimulateFault::Astray),
+        match progress.task_state {
+            TaskState::Asleep => self.wake(alloc, progress.home, task, now, sink),
+            _ => Err(SimulateFault::BrokenInvariant),
         }
     }
 
@@ -100,10 +100,10 @@ impl Simulation {
         ensures { OnOk result (Befell S.takes (Meet (Due.Tick processor) now) sink.old self.old sink.new self.new) }
     {
         self.roster.beat(processor, now)?;
-        let lane = self.roster.lane(processor)?;
-        match lane.run {
+        let processor_state = self.roster.processor_state(processor)?;
+        match processor_state.run {
             Some(_) => self.tick(alloc, processor, now, sink),
-            None => Err(SimulateFault::Astray),
+            None => Err(SimulateFault::BrokenInvariant),
         }
     }
 
@@ -157,15 +157,15 @@ impl Simulation {
     }
 
     /// The next length of a task.
-    pub(crate) fn draw(&mut self, task: u16, length: Length) -> Result<u64, Astray>
+    pub(crate) fn draw(&mut self, task: u16, length: Length) -> Result<u64, BrokenInvariant>
         ensures { IfOk result (λ drawn. Draws task length self.old drawn self.new) }
     {
         if !length.is_sound() {
-            return Err(Astray);
+            return Err(BrokenInvariant);
         }
         match self.streams.get_mut(usize::from(task)) {
             Some(stream) => Ok(stream.draw(length)),
-            None => Err(Astray),
+            None => Err(BrokenInvariant),
         }
     }
 }
@@ -177,20 +177,20 @@ fn keep_pull(
     from: u8,
     moved: Moved,
     now: u64,
-) -> Result<(), Astray>
-    ensures accounts { OnOk result (accounts_of roster.new ≡ switched processor moved.run now roster.old.pace (option_map_or (λ task. passed from processor (accounts_of roster.old)) moved.task (accounts_of roster.old))) }
+) -> Result<(), BrokenInvariant>
+    ensures accounts { OnOk result (accounts_of roster.new ≡ switched processor moved.run now roster.old.periods (option_map_or (λ task. passed from processor (accounts_of roster.old)) moved.task (accounts_of roster.old))) }
     ensures agrees { OnOk result (StaysAgreed roster.old roster.new) }
-    ensures pace { roster.new.pace ≡ roster.old.pace }
+    ensures periods { roster.new.periods ≡ roster.old.periods }
 {
     pass_where_taken(roster, moved.task, from, processor)?;
     roster.switch(processor, moved.run, now)
 }
 
 /// A task that was taken has gone from the queue of one processor to another.
-fn pass_where_taken(roster: &mut Roster, taken: Option<u16>, from: u8, to: u8) -> Result<(), Astray>
+fn pass_where_taken(roster: &mut Roster, taken: Option<u16>, from: u8, to: u8) -> Result<(), BrokenInvariant>
     ensures accounts { OnOk result (accounts_of roster.new ≡ option_map_or (λ task. passed from to (accounts_of roster.old)) taken (accounts_of roster.old)) }
     ensures agrees { OnOk result (StaysAgreed roster.old roster.new) }
-    ensures pace { roster.new.pace ≡ roster.old.pace }
+    ensures periods { roster.new.periods ≡ roster.old.periods }
 {
     match taken {
         Some(_) => roster.pass(from, to),

@@ -7,7 +7,7 @@ use Rattle.bq_bpf.specs.declared.board.Call.{Call as Asked}
 use Rattle.bq_bpf.specs.declared.board.TheConstants.{COUNTERS}
 use Rattle.bq_bpf.specs.Counters.{Counts, Through}
 use Rattle.bq_parts.specs.World.{World, opening_world}
-use Rattle.bq_parts.specs.Choices.{Regime, policies}
+use Rattle.bq_parts.specs.Choices.{PolicySemantics, policies}
 use Rattle.bq_parts.specs.Steps.{WorldStep}
 use Rattle.bq_parts.specs.declared.event.Event.{Event}
 use Rattle.bq_parts.specs.declared.reply.Reply.{Reply}
@@ -29,22 +29,22 @@ discipline_of Cfs = cfs
 discipline_of Eevdf = eevdf
 
 -- what the machine's world runs under
-abbrev pub regime_of : Rule → Regime
-regime_of rule = policies (discipline_of rule)
+abbrev pub semantics_of : Rule → PolicySemantics
+semantics_of rule = policies (discipline_of rule)
 
 -- a machine to which nothing has happened
 abbrev pub opening_machine : Rule → ProcessorCount → Driven
 opening_machine rule size = record { rule = rule; world = opening_world (processors_in size); counters = replicate COUNTERS 0 }
 
 -- One event is a step of a world, and what it asked of the counters leads from the ones to the others.
-pub record Advances (s : Regime) (w : World) (old : List ℕ) (event : Event) (answer : Result Reply Refusal) (v : World) (new : List ℕ) : Type 0 where
+pub record Advances (s : PolicySemantics) (w : World) (old : List ℕ) (event : Event) (answer : Result Reply Refusal) (v : World) (new : List ℕ) : Type 0 where
   pub calls : List Asked
   pub step : WorldStep s w event calls answer v
   pub through : Through Counts old calls new
 
 -- One event is a step of a world, what it asked of the counters leads from the ones to the others, and it has an answer that
 -- is not want of memory.
-pub record Steps (s : Regime) (w : World) (old : List ℕ) (event : Event) (answer : Result Reply Refusal) (v : World) (new : List ℕ) : Type 0 where
+pub record Steps (s : PolicySemantics) (w : World) (old : List ℕ) (event : Event) (answer : Result Reply Refusal) (v : World) (new : List ℕ) : Type 0 where
   pub calls : List Asked
   pub step : WorldStep s w event calls answer v
   pub through : Through Counts old calls new

@@ -23,7 +23,7 @@ use Rattle.bq_lines.specs.declared.command.LineReading.TheVariants as says
 use Rattle.bq_trace.specs.Bare.{bare}
 use Rattle.bq_streams.specs.Counts.{one_more}
 use Rattle.bq_trace.specs.Feeding.{with_feeds}
-use Rattle.bq_trace.specs.Machines.{Driven, opening_machine, regime_of, Advances}
+use Rattle.bq_trace.specs.Machines.{Driven, opening_machine, semantics_of, Advances}
 use Rattle.bq_trace.specs.News.{Told, Opened, Skipped, Comes, Answered, Unspelled, Unloaded, Shown, Counted, Bad}
 use Rattle.bq_trace.specs.declared.progress.Phase.{Phase}
 use Rattle.bq_trace.specs.declared.progress.Phase.TheVariants.{Waiting, Over, Running}
@@ -33,7 +33,7 @@ use Rattle.bq_trace.specs.declared.trace_position.TracePosition.{TracePosition}
 -- An event is done in the machine's world, under its rule.
 pub record Moves (m : Driven) (event : Event) (answer : Result Reply Refusal) (k : Driven) : Type 0 where
   pub same_rule : k.rule ≡ m.rule
-  pub step : Advances (regime_of m.rule) m.world m.counters event answer k.world k.counters
+  pub step : Advances (semantics_of m.rule) m.world m.counters event answer k.world k.counters
 
 -- Line n brings an event: it is told before it is done, and its answer after, without the policy that it brings. Want of
 -- memory is no answer.

@@ -7,6 +7,7 @@ ghost use Rattle.bq_trace.specs.Machines.{opening_machine};
 ghost use Rattle.bq_trace.specs.Cores.{processor_in};
 ghost use Rattle.bq_trace.specs.Seeing.{seen_of};
 
+use bq_bpf::COUNTERS;
 use bq_bpf::Plain;
 use bq_cfs::CfsQueue;
 use bq_core::DynamicCore;
@@ -106,7 +107,7 @@ impl AnyCore {
 
     /// The value of a counter.
     pub fn counter(&self, counter: u8) -> u64
-        requires { counter < 64 }
+        requires { counter < COUNTERS }
         ensures { result ≡ slice_index self.now.counters counter }
     {
         self.board.value(counter)

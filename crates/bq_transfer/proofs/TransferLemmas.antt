@@ -13,10 +13,10 @@ use Rattle.bq_states.specs.declared.abstract_state.ValueKind.{ValueKind}
 use Rattle.bq_states.specs.declared.abstract_state.ValueKind.TheVariants.{Stack, Entry}
 use Rattle.bq_states.specs.declared.abstract_state.AbstractState.{AbstractState}
 use Rattle.bq_transfer.specs.After.{After, GivesExact, GivesNumber, GivesPointer, IsStackByte, StoresByte}
-use Rattle.bq_transfer.specs.Doubts.{MayDoubt}
+use Rattle.bq_transfer.specs.Obligations.{MayBeUnproven}
 use Rattle.bq_transfer.specs.Ready.{IsIntoEntry, IsOnFrame, IsPlaced, IsTransferred}
 use Rattle.bq_transfer.specs.Transfers.{IsStraight}
-use Rattle.bq_transfer.specs.declared.doubt.Doubt.{Doubt}
+use Rattle.bq_transfer.specs.declared.obligation.Obligation.{Obligation}
 use Rattle.bq_transfer.proofs.CertaintyLemmas.{bytes_at, has_given, has_left, has_stored}
 
 -- what is neither a jump nor an EXIT goes straight on
@@ -32,12 +32,12 @@ pub straight_on_ok : {T E : Type 0} (r : Result T E) (insn : Insn) → IsTransfe
 straight_on_ok (Ok x) insn transferred = is_straight insn transferred
 straight_on_ok (Err e) insn transferred = tt
 
--- a doubt of the instruction, by what it is
-pub doubts_as : {T : Type 0} (r : Result T Doubt) (insn kind : Insn) → insn ≡ kind → IfErr r (λ doubt. MayDoubt doubt kind) → IfErr r (λ doubt. MayDoubt doubt insn)
-doubts_as r insn kind is doubts = subst (λ (i : Insn). IfErr r (λ doubt. MayDoubt doubt i)) (sym is) doubts
+-- an unproven obligation of the instruction, by what it is
+pub obligations_as : {T : Type 0} (r : Result T Obligation) (insn kind : Insn) → insn ≡ kind → IfErr r (λ obligation. MayBeUnproven obligation kind) → IfErr r (λ obligation. MayBeUnproven obligation insn)
+obligations_as r insn kind is obligations = subst (λ (i : Insn). IfErr r (λ obligation. MayBeUnproven obligation i)) (sym is) obligations
 
--- where an instruction leads and what may be in doubt of it, whatever its kind
-pub ruleset transferring = (straight_on_ok, doubts_as)
+-- where an instruction leads and which of its obligations may be unproven, whatever its kind
+pub ruleset transferring = (straight_on_ok, obligations_as)
 
 -- what is sure after an instruction that gives a register a number, and no pointer
 pub gives_number : {T E : Type 0} (r : Result T E) (insn : Insn) (old new : AbstractState) (dst : ℕ) → destination_of insn ≡ Some dst → ((kind : ValueKind) (o slot k n : ℕ) → GivesPointer kind o slot k insn n old → ⊥) → ((n m : ℕ) → GivesExact n insn m → ⊥) → IsOk r × IsGiven old new dst

@@ -3,7 +3,7 @@ use Rattle.bq_states.specs.Certainty.{NoPointer, Stands}
 use Rattle.std.proofs.Common.{◌≡◌, ◌≢◌, ℕ, zero, suc, ◌+◌, ◌*◌, ◌^◌, ◌<◌, ◌≤◌, Bool, true, false, List, Option, Some, None, length, get_or, set, refl, sym, ap, subst, arith, ◌⊎◌, inl, inr, ℤ, get_or-set_same, get_or-set_other, [], ◌∷◌}
 use Rattle.std.specs.Prelude.{slice_index, IfSome, IfOk, OnOk, Ok, Err, slice_index_or, slice_set}
 use Rattle.std.specs.declared.result.Result.{Result}
-use Rattle.bq_transfer.specs.declared.doubt.Doubt.{Doubt}
+use Rattle.bq_transfer.specs.declared.obligation.Obligation.{Obligation}
 use Rattle.std.specs.Int.{byte_at as byte_of, bytes_low_first}
 use Rattle.std.proofs.lemmas.Bool.{cases_lt}
 use Rattle.std.proofs.lemmas.Bool.Decides.{eqb_tells}
@@ -116,10 +116,10 @@ stores_on_stack shapes context_length dst off size k at kind old new slot whole 
     )
 
 -- the same, where the store answers that slot
-pub stores_if_ok : (shapes : List MapShape) (context_length dst : ℕ) (off : ℤ) (size : Size) (k : AbstractValue) (at : Range) (kind : ValueKind) (old new : AbstractState) (r : Result (Option ℕ) Doubt) → IfOk r (λ slot. IfSome slot (IsWholeSlot at size)) → kind ≡ Stack → FindsPlace shapes context_length old dst off size kind at → OnOk r ((f : Setting) (s : State) (o v : ℕ) → Contains f old s → Within at o → Describes f.shapes k v → Contains f new (next (written s InStack o (low_bytes size v)))) → IfOk r (Stores shapes context_length dst off size k old new)
+pub stores_if_ok : (shapes : List MapShape) (context_length dst : ℕ) (off : ℤ) (size : Size) (k : AbstractValue) (at : Range) (kind : ValueKind) (old new : AbstractState) (r : Result (Option ℕ) Obligation) → IfOk r (λ slot. IfSome slot (IsWholeSlot at size)) → kind ≡ Stack → FindsPlace shapes context_length old dst off size kind at → OnOk r ((f : Setting) (s : State) (o v : ℕ) → Contains f old s → Within at o → Describes f.shapes k v → Contains f new (next (written s InStack o (low_bytes size v)))) → IfOk r (Stores shapes context_length dst off size k old new)
 stores_if_ok shapes context_length dst off size k at kind old new (Ok slot) whole stack finds after =
     stores_on_stack shapes context_length dst off size k at kind old new slot whole stack finds after
-stores_if_ok shapes context_length dst off size k at kind old new (Err doubt) whole stack finds after = tt
+stores_if_ok shapes context_length dst off size k at kind old new (Err obligation) whole stack finds after = tt
 
 -- a store into an entry
 pub stores_in_entry : (shapes : List MapShape) (context_length dst : ℕ) (off : ℤ) (size : Size) (k : AbstractValue) (at : Range) (kind : ValueKind) (m : ℕ) (state : AbstractState) → kind ≡ Entry m → FindsPlace shapes context_length state dst off size kind at → Stores shapes context_length dst off size k state state None

@@ -1,4 +1,4 @@
-pub mod Doubts
+pub mod Obligations
 pub mod Transfers
 pub mod Ready
 pub mod After

@@ -3,12 +3,12 @@
 ghost use Rattle.std.specs.Prelude.{Some, ◌↔◌, ◌≡◌, ◌^◌, ◌<◌, ℕ, IsOk, IfErr, IfOk};
 ghost use Rattle.bq_bpf.specs.Meaning.{word_of};
 ghost use Rattle.bq_insn.specs.declared.Insn.{Insn};
-ghost use Rattle.bq_transfer.specs.Doubts.{IsAccess, IsUnknownAt, MayDoubt, ReadsOperand};
+ghost use Rattle.bq_transfer.specs.Obligations.{IsAccess, IsUnknownAt, MayBeUnproven, ReadsOperand};
 ghost use Rattle.bq_transfer.specs.Ready.{IsPlaced};
 ghost use Rattle.bq_states.specs.declared.abstract_state.ValueKind.{ValueKind as Base};
 ghost use Rattle.bq_transfer.specs.Transfers.{FindsPlace};
 
-use crate::doubt::Doubt;
+use crate::obligation::Obligation;
 use bq_bpf::MapShape;
 use bq_insn::{Operation, Size, Width};
 use bq_ranges::{Range, arithmetic};
@@ -31,25 +31,25 @@ pub struct Location {
     pub at: Range,
 }
 
-/// Where an access goes, if it stays inside. What is in doubt is that the register is set, where nothing is known of it, and else the access.
+/// Where an access goes, if it stays inside. Unproven is that the register is set where nothing is known of it, and else that the access is good.
 pub fn locate(
     state: &AbstractState,
     shapes: &[MapShape],
     context: usize,
     access: Access,
-) -> Result<Location, Doubt>
+) -> Result<Location, Obligation>
     requires context { context < 2 ^ 16 }
     ensures finds { IfOk result (λ p. FindsPlace shapes.now context state.now access.base access.off access.size p.kind p.at) }
-    ensures doubts { IfErr result (λ doubt. (insn : Insn) → IsAccess insn → ReadsOperand insn → MayDoubt doubt insn) }
-    ensures unset { IfErr result (λ doubt. doubt ≡ Doubt.Unset ↔ IsUnknownAt state.now access.base) }
+    ensures obligations { IfErr result (λ obligation. (insn : Insn) → IsAccess insn → ReadsOperand insn → MayBeUnproven obligation insn) }
+    ensures unset { IfErr result (λ obligation. obligation ≡ Obligation.Unset ↔ IsUnknownAt state.now access.base) }
     ensures accepts { (kind : Base) (place : ℕ) → IsPlaced shapes.now context state.now access.size access.base access.off kind place → IsOk result }
     ensures there { IfOk result (λ p. (kind : Base) (place : ℕ) → IsPlaced shapes.now context state.now access.size access.base access.off kind place → (p.kind ≡ kind) × (p.at.lo ≡ place) × (p.at.hi ≡ place)) }
 {
     let Some(base) = known(state, access.base) else {
-        return Err(Doubt::Unset);
+        return Err(Obligation::Unset);
     };
     let Some(bound) = bound(base.kind, shapes, context) else {
-        return Err(Doubt::Access);
+        return Err(Obligation::Access);
     };
     let at = arithmetic::alu(
         Width::W64,
@@ -58,10 +58,10 @@ pub fn locate(
         Range::single(word_of_distance(access.off)),
     );
     if bound > 0x1_0000 {
-        return Err(Doubt::Access);
+        return Err(Obligation::Access);
     }
     if !stays(at, access.size, bound) {
-        return Err(Doubt::Access);
+        return Err(Obligation::Access);
     }
     Ok(Location {
         kind: base.kind,

@@ -3,7 +3,7 @@
 ghost use Rattle.std.specs.Prelude.{◌≡◌, ◌≢◌, ◌<◌, length, IsTrue, IfSome, OnOk, IsOk, IfErr, List, ℕ, ℤ, Some};
 ghost use Rattle.bq_bpf.specs.declared.shape.MapShape.{MapShape};
 ghost use Rattle.bq_bpf.specs.Meaning.{alu_result, word_of};
-ghost use Rattle.bq_transfer.specs.Doubts.{MayDoubt};
+ghost use Rattle.bq_transfer.specs.Obligations.{MayBeUnproven};
 ghost use Rattle.bq_states.specs.Certainty.{Fact, Has, Scalar, Exact, Pointer, Stands, StandsAt, IsScalarOperand, IsGiven, IsMade, IsWord};
 ghost use Rattle.bq_transfer.specs.After.{After};
 ghost use Rattle.bq_transfer.specs.Ready.{IsReady, IsCopyOfFrame, IsMoveOfPointer};
@@ -12,7 +12,7 @@ ghost use Rattle.bq_states.specs.Copies.{AreCopies};
 ghost use Rattle.bq_transfer.specs.Transfers.{IsCopied, Transfers};
 ghost use Rattle.bq_states.specs.AbstractStates.{Describes};
 
-use crate::doubt::Doubt;
+use crate::obligation::Obligation;
 use bq_insn::{Insn, Operation, Source, Width};
 use bq_ranges::arithmetic;
 use bq_states::abstract_state::{AbstractState, AbstractValue, ValueKind};
@@ -83,10 +83,10 @@ pub fn alu(
     op: Operation,
     dst: u8,
     src: Source,
-) -> Result<(), Doubt>
+) -> Result<(), Obligation>
     requires { dst < 10 }
     ensures transfers { OnOk result ((shapes : List MapShape) (context_length : ℕ) → Transfers shapes context_length (Insn.Alu width op dst src) state.old state.new) }
-    ensures doubts { IfErr result (λ doubt. MayDoubt doubt (Insn.Alu width op dst src)) }
+    ensures obligations { IfErr result (λ obligation. MayBeUnproven obligation (Insn.Alu width op dst src)) }
     ensures accepts { (shapes : List MapShape) (context_length : ℕ) → IsReady shapes context_length state.old (Insn.Alu width op dst src) → IsOk result × ((x : Fact) (slot k : ℕ) → After x slot k (Insn.Alu width op dst src) state.old → Has x state.new) }
 {
     if op == Operation::Mov {
@@ -102,44 +102,44 @@ fn operate(
     op: Operation,
     dst: u8,
     src: Source,
-) -> Result<(), Doubt>
+) -> Result<(), Obligation>
     requires other { op ≢ Operation.Mov }
     requires below { dst < 10 }
     ensures transfers { OnOk result ((shapes : List MapShape) (context_length : ℕ) → Transfers shapes context_length (Insn.Alu width op dst src) state.old state.new) }
-    ensures doubts { IfErr result (λ doubt. MayDoubt doubt (Insn.Alu width op dst src)) }
+    ensures obligations { IfErr result (λ obligation. MayBeUnproven obligation (Insn.Alu width op dst src)) }
     ensures accepts { StandsAt Scalar state.old dst → IsScalarOperand state.old src → IsOk result × IsGiven state.old state.new dst }
     ensures moves { (m : IsMoveOfPointer state.old width op dst src) → IsOk result × IsMade (Pointer ValueKind.Stack m.at) state.old state.new dst }
 {
     let Some(right) = operand(state, src) else {
-        return Err(Doubt::Unset);
+        return Err(Obligation::Unset);
     };
     let Some(left) = known(state, dst) else {
-        return Err(Doubt::Unset);
+        return Err(Obligation::Unset);
     };
     let Some(word) = combine(width, op, left, right) else {
-        return Err(Doubt::PointerUse);
+        return Err(Obligation::PointerUse);
     };
     learn(state, dst, word);
     Ok(())
 }
 
 /// A copy.
-fn copy(state: &mut AbstractState, width: Width, dst: u8, src: Source) -> Result<(), Doubt>
+fn copy(state: &mut AbstractState, width: Width, dst: u8, src: Source) -> Result<(), Obligation>
     requires { dst < 10 }
     ensures transfers { OnOk result ((shapes : List MapShape) (context_length : ℕ) → Transfers shapes context_length (Insn.Alu width Operation.Mov dst src) state.old state.new) }
-    ensures doubts { IfErr result (λ doubt. MayDoubt doubt (Insn.Alu width Operation.Mov dst src)) }
+    ensures obligations { IfErr result (λ obligation. MayBeUnproven obligation (Insn.Alu width Operation.Mov dst src)) }
     ensures accepts { IsScalarOperand state.old src → IsOk result × IsGiven state.old state.new dst }
     ensures exact { OnOk result ((i : ℤ) → src ≡ Source.Imm i → width ≡ Width.W64 → IsMade (Exact (word_of i)) state.old state.new dst) }
     ensures copies { (m : IsCopyOfFrame state.old width Operation.Mov src) → IsOk result × IsMade (Pointer ValueKind.Stack m.base) state.old state.new dst }
 {
     let Some(right) = operand(state, src) else {
-        return Err(Doubt::Unset);
+        return Err(Obligation::Unset);
     };
     if src == Source::Reg(dst) && is_whole(width, right) {
         return Ok(());
     }
     let Some(word) = copied(width, right) else {
-        return Err(Doubt::PointerUse);
+        return Err(Obligation::PointerUse);
     };
     learn(state, dst, word);
     link_copy(&mut state.classes, width, dst, src, right);

@@ -5,14 +5,14 @@ ghost use Rattle.bq_bpf.specs.Memory.{Setting, State, reference};
 ghost use Rattle.bq_bpf.specs.Steps.{called};
 ghost use Rattle.bq_bpf.specs.declared.shape.MapShape.{MapShape};
 ghost use Rattle.bq_ranges.specs.Within.{Within};
-ghost use Rattle.bq_transfer.specs.Doubts.{MayDoubt};
+ghost use Rattle.bq_transfer.specs.Obligations.{MayBeUnproven};
 ghost use Rattle.bq_transfer.specs.After.{After};
 ghost use Rattle.bq_states.specs.Certainty.{Fact, Has, IsAnswered, IsCalled, IsMade, Pointer, Scalar, StandsAt};
 ghost use Rattle.bq_transfer.specs.Ready.{IsAtMost, IsReady, IsUpdating, IsNamingEntry};
 ghost use Rattle.bq_transfer.specs.Transfers.{Transfers, IsBelow};
 ghost use Rattle.bq_states.specs.AbstractStates.{Contains};
 
-use crate::doubt::Doubt;
+use crate::obligation::Obligation;
 use bq_bpf::MapShape;
 use bq_bpf::helper::{LOOKUP, NOW, PROCESSOR, UPDATE};
 use bq_bpf::shape::MAPS;
@@ -29,15 +29,15 @@ pub fn map_ref(
     shapes: &[MapShape],
     dst: u8,
     index: i32,
-) -> Result<(), Doubt>
+) -> Result<(), Obligation>
     requires few { length shapes.now ≤ 8 }
     requires below { dst < 10 }
     ensures transfers { OnOk result ((context_length : ℕ) → Transfers shapes.now context_length (Insn.MapRef dst index) state.old state.new) }
-    ensures doubts { IfErr result (λ doubt. MayDoubt doubt (Insn.MapRef dst index)) }
+    ensures obligations { IfErr result (λ obligation. MayBeUnproven obligation (Insn.MapRef dst index)) }
     ensures accepts { (m : ℕ) → index ≡ pos m → m < length shapes.now → IsOk result × IsMade (Pointer (ValueKind.Map m) 0) state.old state.new dst }
 {
     let Some(map) = map_number(shapes, index) else {
-        return Err(Doubt::Argument);
+        return Err(Obligation::Argument);
     };
     learn(
         state,
@@ -91,10 +91,10 @@ pub fn call(
     shapes: &[MapShape],
     context: usize,
     helper: i32,
-) -> Result<(), Doubt>
+) -> Result<(), Obligation>
     requires { context < 2 ^ 16 }
     ensures transfers { OnOk result (Transfers shapes.now context (Insn.Call helper) state.old state.new) }
-    ensures doubts { IfErr result (λ doubt. MayDoubt doubt (Insn.Call helper)) }
+    ensures obligations { IfErr result (λ obligation. MayBeUnproven obligation (Insn.Call helper)) }
     ensures accepts { IsReady shapes.now context state.old (Insn.Call helper) → IsOk result × ((x : Fact) (slot k : ℕ) → After x slot k (Insn.Call helper) state.old → Has x state.new) }
 {
     if helper == LOOKUP {
@@ -111,21 +111,21 @@ pub fn call(
         processor(state);
         return Ok(());
     }
-    Err(Doubt::Argument)
+    Err(Obligation::Argument)
 }
 
 /// A look-up: register 1 is the reference of a map, and register 2 points to the number of an entry.
-fn look_up(state: &mut AbstractState, shapes: &[MapShape], context: usize) -> Result<(), Doubt>
+fn look_up(state: &mut AbstractState, shapes: &[MapShape], context: usize) -> Result<(), Obligation>
     requires context { context < 2 ^ 16 }
     ensures transfers { OnOk result (Transfers shapes.now context (Insn.Call LOOKUP) state.old state.new) }
-    ensures doubts { IfErr result (λ doubt. MayDoubt doubt (Insn.Call LOOKUP)) }
+    ensures obligations { IfErr result (λ obligation. MayBeUnproven obligation (Insn.Call LOOKUP)) }
     ensures accepts { (m : ℕ) → IsNamingEntry state.old m → IsOk result × IsCalled (Pointer (ValueKind.EntryOrNull m) 0) state.old state.new }
 {
     let Some(map) = map_of(state) else {
-        return Err(Doubt::Argument);
+        return Err(Obligation::Argument);
     };
     if !reads(state, shapes, context, 2, Size::Word) {
-        return Err(Doubt::Argument);
+        return Err(Obligation::Argument);
     }
     clear(&mut state.registers);
     part_first(&mut state.classes);
@@ -141,26 +141,26 @@ fn look_up(state: &mut AbstractState, shapes: &[MapShape], context: usize) -> Re
 }
 
 /// An update: as a look-up, and register 3 points to a value, and register 4 is 0.
-fn update(state: &mut AbstractState, shapes: &[MapShape], context: usize) -> Result<(), Doubt>
+fn update(state: &mut AbstractState, shapes: &[MapShape], context: usize) -> Result<(), Obligation>
     requires context { context < 2 ^ 16 }
     ensures transfers { OnOk result (Transfers shapes.now context (Insn.Call UPDATE) state.old state.new) }
-    ensures doubts { IfErr result (λ doubt. MayDoubt doubt (Insn.Call UPDATE)) }
+    ensures obligations { IfErr result (λ obligation. MayBeUnproven obligation (Insn.Call UPDATE)) }
     ensures accepts { (m : ℕ) → IsUpdating shapes.now state.old m → IsOk result × IsAnswered state.old state.new }
 {
     let Some(map) = map_of(state) else {
-        return Err(Doubt::Argument);
+        return Err(Obligation::Argument);
     };
     if !reads(state, shapes, context, 2, Size::Word) {
-        return Err(Doubt::Argument);
+        return Err(Obligation::Argument);
     }
     let Some(shape) = shape_of(shapes, map) else {
-        return Err(Doubt::Argument);
+        return Err(Obligation::Argument);
     };
     if !reads_value(state, shapes, context, 3, usize::from(shape.value_size)) {
-        return Err(Doubt::Argument);
+        return Err(Obligation::Argument);
     }
     if !is_at_most(state, 4, 0) {
-        return Err(Doubt::Argument);
+        return Err(Obligation::Argument);
     }
     answer(state, Range::full(Width::W64));
     Ok(())

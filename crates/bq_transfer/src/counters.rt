@@ -1,14 +1,14 @@
 //! Calls of counters.
 
 ghost use Rattle.std.specs.Prelude.{◌<◌, ◌≡◌, OnOk, IsOk, IfErr, ℤ};
-ghost use Rattle.bq_transfer.specs.Doubts.{MayDoubt};
+ghost use Rattle.bq_transfer.specs.Obligations.{MayBeUnproven};
 ghost use Rattle.bq_bpf.specs.Steps.{IsCounterCall};
 ghost use Rattle.bq_transfer.specs.Ready.{IsAsking};
 ghost use Rattle.bq_states.specs.Certainty.{IsAnswered};
 ghost use Rattle.bq_transfer.specs.Transfers.{AsksFrom};
 
 use crate::calls::{answer, is_at_most};
-use crate::doubt::Doubt;
+use crate::obligation::Obligation;
 use bq_bpf::board::COUNTERS;
 use bq_bpf::helper::{ADD_COUNTER, READ_COUNTER};
 use bq_insn::{Insn, Width};
@@ -19,40 +19,40 @@ use bq_states::abstract_state::AbstractState;
 const LAST: u64 = COUNTERS as u64 - 1;
 
 /// An add: register 1 is a counter, and register 2 an amount.
-fn add(state: &mut AbstractState) -> Result<(), Doubt>
+fn add(state: &mut AbstractState) -> Result<(), Obligation>
     ensures asks { OnOk result (AsksFrom (Insn.Call ADD_COUNTER) state.old state.new) }
     ensures accepts { IsAsking state.old ADD_COUNTER → IsOk result × IsAnswered state.old state.new }
-    ensures doubts { IfErr result (λ doubt. (helper : ℤ) → MayDoubt doubt (Insn.Call helper)) }
+    ensures obligations { IfErr result (λ obligation. (helper : ℤ) → MayBeUnproven obligation (Insn.Call helper)) }
 {
     if !is_at_most(state, 1, LAST) {
-        return Err(Doubt::Argument);
+        return Err(Obligation::Argument);
     }
     if !is_at_most(state, 2, u64::MAX) {
-        return Err(Doubt::Argument);
+        return Err(Obligation::Argument);
     }
     answer(state, Range::full(Width::W64));
     Ok(())
 }
 
 /// A read: register 1 is a counter.
-fn read(state: &mut AbstractState) -> Result<(), Doubt>
+fn read(state: &mut AbstractState) -> Result<(), Obligation>
     ensures asks { OnOk result (AsksFrom (Insn.Call READ_COUNTER) state.old state.new) }
     ensures accepts { IsAsking state.old READ_COUNTER → IsOk result × IsAnswered state.old state.new }
-    ensures doubts { IfErr result (λ doubt. (helper : ℤ) → MayDoubt doubt (Insn.Call helper)) }
+    ensures obligations { IfErr result (λ obligation. (helper : ℤ) → MayBeUnproven obligation (Insn.Call helper)) }
 {
     if !is_at_most(state, 1, LAST) {
-        return Err(Doubt::Argument);
+        return Err(Obligation::Argument);
     }
     answer(state, Range::full(Width::W64));
     Ok(())
 }
 
 /// The abstract state after a call of a counter.
-pub fn ask(state: &mut AbstractState, insn: Insn) -> Result<(), Doubt>
+pub fn ask(state: &mut AbstractState, insn: Insn) -> Result<(), Obligation>
     requires { IsCounterCall insn }
     ensures asks { OnOk result (AsksFrom insn state.old state.new) }
     ensures accepts { (helper : ℤ) → insn ≡ Insn.Call helper → IsAsking state.old helper → IsOk result × IsAnswered state.old state.new }
-    ensures doubts { IfErr result (λ doubt. MayDoubt doubt insn) }
+    ensures obligations { IfErr result (λ obligation. MayBeUnproven obligation insn) }
 {
     match insn {
         Insn::Call { helper } => {

@@ -1,6 +1,6 @@
 //! What one instruction does to what is known of registers and stack: the verifier's transfer functions.
 //! `transfer` and `ask` take an abstract state over an instruction, and `side` says what a branch leaves of an operand. Each
-//! new abstract state contains every state that the machine comes to, and a refusal names a doubt that the instruction may
+//! new abstract state contains every state that the machine comes to, and a refusal names an obligation of the instruction that may
 //! raise. Stands on `bq_states`, where an abstract state is read, written and joined; where abstract states come from and go
 //! to is the verifier's, above this layer.
 #![tactic(auto)]
@@ -9,7 +9,7 @@ mod access;
 mod alu;
 mod calls;
 pub mod counters;
-pub mod doubt;
+pub mod obligation;
 mod loads;
 mod moves;
 pub mod sides;

@@ -7,13 +7,13 @@ ghost use Rattle.bq_ranges.specs.Within.{Within};
 ghost use Rattle.bq_insn.specs.declared.Insn.{Insn};
 ghost use Rattle.bq_bpf.specs.Memory.{number_of};
 ghost use Rattle.bq_states.specs.Parts.{HasBytes, HaveParts};
-ghost use Rattle.bq_transfer.specs.Doubts.{MayDoubt};
+ghost use Rattle.bq_transfer.specs.Obligations.{MayBeUnproven};
 ghost use Rattle.bq_states.specs.Certainty.{IsGiven};
 ghost use Rattle.bq_transfer.specs.Ready.{IsReadable};
 ghost use Rattle.bq_transfer.specs.Transfers.{Transfers};
 
 use crate::access::{Access, Location, locate};
-use crate::doubt::Doubt;
+use crate::obligation::Obligation;
 use bq_bpf::MapShape;
 use bq_bpf::addresses::STACK_SIZE;
 use bq_bpf::words::bits_of;
@@ -33,11 +33,11 @@ pub fn load(
     access: Access,
     signed: bool,
     dst: u8,
-) -> Result<(), Doubt>
+) -> Result<(), Obligation>
     requires context { context < 2 ^ 16 }
     requires below { dst < 10 }
     ensures transfers { OnOk result (Transfers shapes.now context (Insn.Load access.size signed dst access.base access.off) state.old state.new) }
-    ensures doubts { IfErr result (λ doubt. MayDoubt doubt (Insn.Load access.size signed dst access.base access.off)) }
+    ensures obligations { IfErr result (λ obligation. MayBeUnproven obligation (Insn.Load access.size signed dst access.base access.off)) }
     ensures accepts { IsReadable shapes.now context state.old access.size access.base access.off → IsOk result × IsGiven state.old state.new dst }
 {
     let found = locate(state, shapes, context, access)?;
@@ -48,7 +48,7 @@ pub fn load(
         return Ok(());
     }
     if !is_readable(state, found.kind, found.at, access.size) {
-        return Err(Doubt::Access);
+        return Err(Obligation::Access);
     }
     learn(
         state,

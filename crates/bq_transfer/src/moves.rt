@@ -4,30 +4,30 @@ ghost use Rattle.std.specs.Prelude.{◌↔◌, ◌≡◌, ◌<◌, ℕ, List, Is
 ghost use Rattle.bq_states.specs.Certainty.{IsGiven, Scalar, StandsAt};
 ghost use Rattle.bq_insn.specs.declared.Insn.{Insn};
 ghost use Rattle.bq_bpf.specs.declared.shape.MapShape.{MapShape};
-ghost use Rattle.bq_transfer.specs.Doubts.{IsNoNumberAt, IsUnknownAt, MayDoubt, ReadsOperand, UsesWord};
+ghost use Rattle.bq_transfer.specs.Obligations.{IsNoNumberAt, IsUnknownAt, MayBeUnproven, ReadsOperand, UsesWord};
 ghost use Rattle.bq_states.specs.declared.abstract_state.ValueKind.TheVariants.{Number};
 ghost use Rattle.bq_transfer.specs.Transfers.{Transfers, HoldsNumber};
 ghost use Rattle.bq_states.specs.AbstractStates.{knowing};
 
-use crate::doubt::Doubt;
+use crate::obligation::Obligation;
 use bq_insn::{Bits, Order, Width};
 use bq_ranges::{Range, moves};
 use bq_states::abstract_state::{AbstractState, AbstractValue, ValueKind};
 use bq_states::registers::{known, learn};
 
-/// The range of a register that is a number. What is in doubt is that it is set, where nothing is known of it, and else how a pointer is used.
-pub fn number(state: &AbstractState, register: u8) -> Result<Range, Doubt>
+/// The range of a register that is a number. Unproven is that it is set where nothing is known of it, and else how a pointer is used.
+pub fn number(state: &AbstractState, register: u8) -> Result<Range, Obligation>
     ensures holds { IfOk result (HoldsNumber state.now register) }
-    ensures doubts { IfErr result (λ doubt. (insn : Insn) → ReadsOperand insn → UsesWord insn → MayDoubt doubt insn) }
-    ensures unset { IfErr result (λ doubt. doubt ≡ Doubt.Unset ↔ IsUnknownAt state.now register) }
-    ensures pointer { IfErr result (λ doubt. doubt ≡ Doubt.PointerUse ↔ IsNoNumberAt state.now register) }
+    ensures obligations { IfErr result (λ obligation. (insn : Insn) → ReadsOperand insn → UsesWord insn → MayBeUnproven obligation insn) }
+    ensures unset { IfErr result (λ obligation. obligation ≡ Obligation.Unset ↔ IsUnknownAt state.now register) }
+    ensures pointer { IfErr result (λ obligation. obligation ≡ Obligation.PointerUse ↔ IsNoNumberAt state.now register) }
     ensures accepts { StandsAt Scalar state.now register → IsOk result }
 {
     let Some(word) = known(state, register) else {
-        return Err(Doubt::Unset);
+        return Err(Obligation::Unset);
     };
     if word.kind != ValueKind::Number {
-        return Err(Doubt::PointerUse);
+        return Err(Obligation::PointerUse);
     }
     Ok(word.offset)
 }
@@ -56,10 +56,10 @@ pub fn extend(
     bits: Bits,
     dst: u8,
     src: u8,
-) -> Result<(), Doubt>
+) -> Result<(), Obligation>
     requires { dst < 10 }
     ensures transfers { OnOk result ((shapes : List MapShape) (context_length : ℕ) → Transfers shapes context_length (Insn.MovSx width bits dst src) state.old state.new) }
-    ensures doubts { IfErr result (λ doubt. MayDoubt doubt (Insn.MovSx width bits dst src)) }
+    ensures obligations { IfErr result (λ obligation. MayBeUnproven obligation (Insn.MovSx width bits dst src)) }
     ensures accepts { StandsAt Scalar state.old src → IsOk result × IsGiven state.old state.new dst }
 {
     let word = number(state, src)?;
@@ -68,10 +68,10 @@ pub fn extend(
 }
 
 /// A negation.
-pub fn negate(state: &mut AbstractState, width: Width, dst: u8) -> Result<(), Doubt>
+pub fn negate(state: &mut AbstractState, width: Width, dst: u8) -> Result<(), Obligation>
     requires { dst < 10 }
     ensures transfers { OnOk result ((shapes : List MapShape) (context_length : ℕ) → Transfers shapes context_length (Insn.Neg width dst) state.old state.new) }
-    ensures doubts { IfErr result (λ doubt. MayDoubt doubt (Insn.Neg width dst)) }
+    ensures obligations { IfErr result (λ obligation. MayBeUnproven obligation (Insn.Neg width dst)) }
     ensures accepts { StandsAt Scalar state.old dst → IsOk result × IsGiven state.old state.new dst }
 {
     let word = number(state, dst)?;
@@ -80,10 +80,10 @@ pub fn negate(state: &mut AbstractState, width: Width, dst: u8) -> Result<(), Do
 }
 
 /// The low bits of a register in a byte order.
-pub fn reorder(state: &mut AbstractState, kind: Order, bits: Bits, dst: u8) -> Result<(), Doubt>
+pub fn reorder(state: &mut AbstractState, kind: Order, bits: Bits, dst: u8) -> Result<(), Obligation>
     requires { dst < 10 }
     ensures transfers { OnOk result ((shapes : List MapShape) (context_length : ℕ) → Transfers shapes context_length (Insn.End kind bits dst) state.old state.new) }
-    ensures doubts { IfErr result (λ doubt. MayDoubt doubt (Insn.End kind bits dst)) }
+    ensures obligations { IfErr result (λ obligation. MayBeUnproven obligation (Insn.End kind bits dst)) }
     ensures accepts { StandsAt Scalar state.old dst → IsOk result × IsGiven state.old state.new dst }
 {
     let word = number(state, dst)?;

@@ -4,13 +4,13 @@ ghost use Rattle.std.specs.Prelude.{◌≡◌, ◌<◌, ℕ, ℤ, IfOk, IfSome, 
 ghost use Rattle.bq_insn.specs.declared.Insn.{Insn};
 ghost use Rattle.bq_bpf.specs.Meaning.{taken, word_of};
 ghost use Rattle.bq_bpf.specs.declared.shape.MapShape.{MapShape};
-ghost use Rattle.bq_transfer.specs.Doubts.{MayDoubt, UsesWord};
+ghost use Rattle.bq_transfer.specs.Obligations.{MayBeUnproven, UsesWord};
 ghost use Rattle.bq_states.specs.Certainty.{IsWord, Pointer, Stands};
 ghost use Rattle.bq_transfer.specs.Ready.{IsNullCheck, IsNullTest};
 ghost use Rattle.bq_transfer.specs.Sides.{IsCompared, IsNumberIfAny, IsSide, IsTested, IsTestedIfAny, is_found, Fits};
 ghost use Rattle.bq_states.specs.AbstractStates.{Describes};
 
-use crate::doubt::Doubt;
+use crate::obligation::Obligation;
 use bq_insn::{Condition, Source, Width};
 use bq_ranges::narrowing::{narrow, narrow_right};
 use bq_states::abstract_state::{AbstractValue, ValueKind};
@@ -23,10 +23,10 @@ pub fn side(
     src: Source,
     right: AbstractValue,
     goes: bool,
-) -> Result<Option<AbstractValue>, Doubt>
+) -> Result<Option<AbstractValue>, Obligation>
     requires { (i : ℤ) → src ≡ Source.Imm i → IsWord (word_of i) (Some right) }
     ensures fits { IfOk result (λ side. (shapes : List MapShape) (a b : ℕ) → Describes shapes left a → Describes shapes right b → taken width cond a b ≡ goes → Fits shapes side a) }
-    ensures doubts { IfErr result (λ doubt. (insn : Insn) → UsesWord insn → MayDoubt doubt insn) }
+    ensures obligations { IfErr result (λ obligation. (insn : Insn) → UsesWord insn → MayBeUnproven obligation insn) }
     ensures compared { OnOk result (IsCompared width cond left src right) }
     ensures accepts { left.kind ≡ ValueKind.Number → right.kind ≡ ValueKind.Number → IsOk result }
     ensures number { left.kind ≡ ValueKind.Number → right.kind ≡ ValueKind.Number → IfOk result IsNumberIfAny }
@@ -35,7 +35,7 @@ pub fn side(
 {
     match outcome(width, cond, left, src, right, goes) {
         Some(side) => Ok(side),
-        None => Err(Doubt::PointerUse),
+        None => Err(Obligation::PointerUse),
     }
 }
 

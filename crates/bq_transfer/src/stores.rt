@@ -8,14 +8,14 @@ ghost use Rattle.bq_bpf.specs.Memory.{Setting, State, InStack, written};
 ghost use Rattle.bq_bpf.specs.Steps.{low_bytes, next};
 ghost use Rattle.bq_ranges.specs.Within.{Within};
 ghost use Rattle.bq_states.specs.Copies.{AreCopies, HasWord};
-ghost use Rattle.bq_transfer.specs.Doubts.{IsAccess, MayDoubt, ReadsOperand, UsesWord};
+ghost use Rattle.bq_transfer.specs.Obligations.{IsAccess, MayBeUnproven, ReadsOperand, UsesWord};
 ghost use Rattle.bq_transfer.specs.Ready.{IsPlaced};
 ghost use Rattle.bq_states.specs.Certainty.{IsStoredAt, Scalar, StandsAt};
 ghost use Rattle.bq_transfer.specs.Transfers.{Transfers, IsWholeSlot, Stores};
 ghost use Rattle.bq_states.specs.AbstractStates.{Contains, Describes};
 
 use crate::access::{Access, locate};
-use crate::doubt::Doubt;
+use crate::obligation::Obligation;
 use bq_bpf::MapShape;
 use bq_bpf::addresses::STACK_SIZE;
 use bq_insn::{Insn, Size};
@@ -34,10 +34,10 @@ pub fn store_imm(
     context: usize,
     access: Access,
     imm: i32,
-) -> Result<(), Doubt>
+) -> Result<(), Obligation>
     requires context { context < 2 ^ 16 }
     ensures transfers { OnOk result (Transfers shapes.now context (Insn.StoreImm access.size access.base access.off imm) state.old state.new) }
-    ensures doubts { IfErr result (λ doubt. MayDoubt doubt (Insn.StoreImm access.size access.base access.off imm)) }
+    ensures obligations { IfErr result (λ obligation. MayBeUnproven obligation (Insn.StoreImm access.size access.base access.off imm)) }
     ensures accepts { (place : ℕ) → IsPlaced shapes.now context state.old access.size access.base access.off ValueKind.Stack place → IsOk result × IsStoredAt state.old state.new place (place + byte_count access.size) }
     ensures entry { (map place : ℕ) → IsPlaced shapes.now context state.old access.size access.base access.off (ValueKind.Entry map) place → IsOk result × (state.new ≡ state.old) }
 {
@@ -63,15 +63,15 @@ pub fn store_reg(
     context: usize,
     access: Access,
     src: u8,
-) -> Result<(), Doubt>
+) -> Result<(), Obligation>
     requires context { context < 2 ^ 16 }
     ensures transfers { OnOk result (Transfers shapes.now context (Insn.StoreReg access.size access.base access.off src) state.old state.new) }
-    ensures doubts { IfErr result (λ doubt. MayDoubt doubt (Insn.StoreReg access.size access.base access.off src)) }
+    ensures obligations { IfErr result (λ obligation. MayBeUnproven obligation (Insn.StoreReg access.size access.base access.off src)) }
     ensures accepts { StandsAt Scalar state.old src → (place : ℕ) → IsPlaced shapes.now context state.old access.size access.base access.off ValueKind.Stack place → IsOk result × IsStoredAt state.old state.new place (place + byte_count access.size) }
     ensures entry { StandsAt Scalar state.old src → (map place : ℕ) → IsPlaced shapes.now context state.old access.size access.base access.off (ValueKind.Entry map) place → IsOk result × (state.new ≡ state.old) }
 {
     let Some(word) = known(state, src) else {
-        return Err(Doubt::Unset);
+        return Err(Obligation::Unset);
     };
     let slot = store(state, shapes, context, access, word)?;
     link_slot(&mut state.classes, slot, src);
@@ -101,11 +101,11 @@ fn store(
     context: usize,
     access: Access,
     word: AbstractValue,
-) -> Result<Option<usize>, Doubt>
+) -> Result<Option<usize>, Obligation>
     requires context { context < 2 ^ 16 }
     ensures stores { IfOk result (Stores shapes.now context access.base access.off access.size word state.old state.new) }
     ensures inside { IfOk result (λ slot. IfSome slot (λ n. n < 64)) }
-    ensures doubts { IfErr result (λ doubt. (insn : Insn) → IsAccess insn → ReadsOperand insn → (word.kind ≢ ValueKind.Number → UsesWord insn) → MayDoubt doubt insn) }
+    ensures obligations { IfErr result (λ obligation. (insn : Insn) → IsAccess insn → ReadsOperand insn → (word.kind ≢ ValueKind.Number → UsesWord insn) → MayBeUnproven obligation insn) }
     ensures accepts { word.kind ≡ ValueKind.Number → (place : ℕ) → IsPlaced shapes.now context state.old access.size access.base access.off ValueKind.Stack place → IsOk result × IsStoredAt state.old state.new place (place + byte_count access.size) }
     ensures entry { word.kind ≡ ValueKind.Number → (map place : ℕ) → IsPlaced shapes.now context state.old access.size access.base access.off (ValueKind.Entry map) place → IsOk result × (state.new ≡ state.old) × IfOk result (λ slot. slot ≡ None) }
 {
@@ -114,11 +114,11 @@ fn store(
         ValueKind::Stack => store_on_stack(state, found.at, access.size, word),
         ValueKind::Entry(_) => {
             if word.kind != ValueKind::Number {
-                return Err(Doubt::PointerUse);
+                return Err(Obligation::PointerUse);
             }
             Ok(None)
         }
-        _ => Err(Doubt::Access),
+        _ => Err(Obligation::Access),
     }
 }
 
@@ -129,14 +129,14 @@ fn store_on_stack(
     at: Range,
     size: Size,
     word: AbstractValue,
-) -> Result<Option<usize>, Doubt>
+) -> Result<Option<usize>, Obligation>
     ensures slot { IfOk result (λ slot. IfSome slot (IsWholeSlot at size)) }
     ensures contains { OnOk result ((f : Setting) (s : State) (o v : ℕ) → Contains f state.old s → Within at o → Describes f.shapes word v → Contains f state.new (next (written s InStack o (low_bytes size v)))) }
-    ensures doubts { IfErr result (λ doubt. (insn : Insn) → IsAccess insn → (word.kind ≢ ValueKind.Number → UsesWord insn) → MayDoubt doubt insn) }
+    ensures obligations { IfErr result (λ obligation. (insn : Insn) → IsAccess insn → (word.kind ≢ ValueKind.Number → UsesWord insn) → MayBeUnproven obligation insn) }
     ensures accepts { word.kind ≡ ValueKind.Number → (place : ℕ) → at.lo ≡ place → at.hi ≡ place → place + byte_count size ≤ STACK_SIZE → IsOk result × IsStoredAt state.old state.new place (place + byte_count size) }
 {
     if !stays(at, size, STACK_SIZE as usize) {
-        return Err(Doubt::Access);
+        return Err(Obligation::Access);
     }
     if size == Size::Double && at.is_single() && at.lo % 8 == 0 {
         overwrite(state, at, size);
@@ -145,7 +145,7 @@ fn store_on_stack(
         return Ok(Some(slot));
     }
     if word.kind != ValueKind::Number {
-        return Err(Doubt::PointerUse);
+        return Err(Obligation::PointerUse);
     }
     overwrite(state, at, size);
     store_part(&mut state.parts, at, size, word.offset);

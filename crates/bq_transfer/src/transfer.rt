@@ -1,7 +1,7 @@
 //! Instructions after which the next one runs.
 
 ghost use Rattle.std.specs.Prelude.{ℕ, IsOk, ◌<◌, ◌≤◌, ◌^◌, OnOk, length, IfErr};
-ghost use Rattle.bq_transfer.specs.Doubts.{MayDoubt};
+ghost use Rattle.bq_transfer.specs.Obligations.{MayBeUnproven};
 ghost use Rattle.bq_transfer.specs.Transfers.{Transfers, IsStraight};
 ghost use Rattle.bq_transfer.specs.After.{After};
 ghost use Rattle.bq_states.specs.Certainty.{Fact, Has};
@@ -10,7 +10,7 @@ ghost use Rattle.bq_transfer.specs.Ready.{IsTransferred, IsReady, WritesBelowFra
 use crate::access::Access;
 use crate::alu::alu;
 use crate::calls::{call, map_ref};
-use crate::doubt::Doubt;
+use crate::obligation::Obligation;
 use crate::loads::load;
 use crate::moves::{extend, immediate, negate, reorder};
 use crate::stores::{store_imm, store_reg};
@@ -25,14 +25,14 @@ pub fn transfer(
     shapes: &[MapShape],
     context: usize,
     insn: Insn,
-) -> Result<(), Doubt>
+) -> Result<(), Obligation>
     requires context { context < 2 ^ 16 }
     requires few { length shapes.now ≤ 8 }
     requires transferred { IsTransferred insn }
     requires below { WritesBelowFrame insn }
     ensures straight { OnOk result (IsStraight insn) }
     ensures transfers { OnOk result (Transfers shapes.now context insn state.old state.new) }
-    ensures doubts { IfErr result (λ doubt. MayDoubt doubt insn) }
+    ensures obligations { IfErr result (λ obligation. MayBeUnproven obligation insn) }
     ensures accepts { IsReady shapes.now context state.old insn → IsOk result × ((x : Fact) (slot k : ℕ) → After x slot k insn state.old → Has x state.new) }
 {
     match insn {

@@ -174,7 +174,7 @@ fn first_key(root: &Link) -> Option<(u64, u16)>
 /// Writes down when a task stands.
 fn remember(times: &mut [u64; IDS], id: u16, v: u64)
     ensures others { (xs : List Task) → with_id id xs ≡ None → Knows times.old xs → Knows times.new xs }
-    ensures here { id < 1024 → slice_index times.new id ≡ v }
+    ensures here { id < TASKS → slice_index times.new id ≡ v }
 {
     let place = usize::from(id);
     if place < IDS {

@@ -12,6 +12,7 @@ ghost use Rattle.bq_tree.specs.Taking.{Finds};
 ghost use Rattle.bq_tree.specs.Knowing.{knows_sums};
 ghost use Rattle.bq_disc.specs.Dues.{first_due, sooner_of};
 
+use bq_disc::limits::PROCESSORS;
 use crate::edits::{is_after, is_at};
 use crate::summary::due;
 use bq_disc::node::Link;
@@ -125,7 +126,7 @@ pub(crate) fn earliest_from(
 
 /// Looks at the tasks of a tree from the last to the first, and adds those that may use a processor.
 pub(crate) fn movable_into(link: &Link, processor: u8, found: &mut Movable)
-    requires processor { processor < 64 }
+    requires processor { processor < PROCESSORS }
     requires few { found.old.count + length (in_order_behind link.now) ≤ 2 ^ 20 }
     requires fits { length found.old.first.items ≤ 8 }
     ensures { Adds processor (in_order_behind link.now) found.old found.new }

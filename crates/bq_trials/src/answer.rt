@@ -2,6 +2,7 @@
 ghost use Rattle.std.specs.Prelude.{◌≡◌, ◌<◌, ◌^◌};
 ghost use Rattle.bq_disc.specs.Chains.{task_of, IsLone};
 
+use bq_disc::limits::PROCESSORS;
 use crate::command::{Command, Newcomer};
 use bq_disc::{Entity, Entry, Node, RunQueue};
 use std::alloc::Global;
@@ -130,7 +131,7 @@ fn ids_shown(ids: &[u16]) -> i128 {
 
 /// How many may go, the ids of the first eight, and whether one may go.
 fn movable<Q: RunQueue>(queue: &Q, processor: u8, id: u16) -> Part
-    requires { processor < 64 }
+    requires { processor < PROCESSORS }
 {
     let found = queue.movable(processor);
     [

@@ -3,6 +3,7 @@
 
 ghost use Rattle.std.specs.Prelude.{◌≤◌};
 
+use bq_disc::limits::PROCESSORS;
 use crate::asserting::{is_number, is_text};
 use crate::hex_text::bytes_of;
 use bq_bpf::{Board, Plain};
@@ -135,7 +136,7 @@ fn answers<Q: RunQueue + Drop, const P: usize>(
     events: Vec<Event>,
     board: &mut Plain,
 ) -> Vec<Answer>
-    requires { P ≤ 64 }
+    requires { P ≤ PROCESSORS }
 {
     let mut core = Core::<Q, P>::new(alloc).expect(rt, "memory");
     core.run(alloc, events, board).expect(rt, "memory")
@@ -158,7 +159,7 @@ fn is_answered<Q: RunQueue + Drop, const P: usize>(
     board: &mut Plain,
     expected: &str,
 )
-    requires { P ≤ 64 }
+    requires { P ≤ PROCESSORS }
 {
     let answers = answers::<Q, P>(rt, alloc, events(rt, alloc, rows), board);
     is_text(rt, lines(rt, alloc, answers.as_slice()).as_str(), expected);

@@ -3,7 +3,7 @@ ghost use Rattle.std.specs.Prelude.{◌≡◌};
 ghost use Rattle.bq_verify.specs.Causes.{cause_number};
 
 use crate::graph_cause::GraphCause;
-use bq_transfer::doubt::Doubt;
+use bq_transfer::obligation::Obligation;
 use std::fmt;
 
 /// Why a program is refused.
@@ -12,7 +12,7 @@ pub enum Cause {
     /// By its control graph, or by a single instruction.
     Graph(GraphCause),
     /// By what is known of its states: something is not shown of an instruction.
-    State(Doubt),
+    State(Obligation),
 }
 
 impl Cause {
@@ -22,7 +22,7 @@ impl Cause {
     {
         match self {
             Cause::Graph(cause) => cause.number(),
-            Cause::State(doubt) => doubt.number(),
+            Cause::State(obligation) => obligation.number(),
         }
     }
 }
@@ -32,7 +32,7 @@ impl fmt::Debug for Cause {
     fn fmt<W: fmt::Write>(&self, f: &mut fmt::Formatter<W>) -> fmt::Result {
         match self {
             Cause::Graph(cause) => cause.fmt(f),
-            Cause::State(doubt) => doubt.fmt(f),
+            Cause::State(obligation) => obligation.fmt(f),
         }
     }
 }

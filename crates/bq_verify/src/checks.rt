@@ -5,6 +5,7 @@ ghost use Rattle.bq_verify.specs.Edges.{IsWhole};
 ghost use Rattle.bq_verify.specs.Paths.{IsMostCalls};
 ghost use Rattle.bq_verify.specs.Faults.{HasFault, IsLateCall, IsLeast, IsFirstFault, IsFaultless, IsOnWay, IsUnreached};
 
+use bq_insn::SLOTS;
 use crate::edges::instruction;
 use crate::graph_cause::GraphCause;
 use crate::passes::{count_at, count_calls};
@@ -49,7 +50,7 @@ fn is_late_call(slots: &[Option<Insn>], most: &[Option<u32>], slot: usize, insn:
 /// Whether the fault is at that slot. The list has the counter calls on the way to each slot, where the cause is one of the way.
 fn is_faulty(slots: &[Option<Insn>], most: &[Option<u32>], slot: usize, cause: GraphCause) -> bool
     requires inside { slot < length slots.now }
-    requires short { length slots.now ≤ 4096 }
+    requires short { length slots.now ≤ SLOTS }
     requires room { IsOnWay cause → length most.now ≡ length slots.now }
     requires most { IsOnWay cause → (k : ℕ) → IsMostCalls slots.now k (slice_index_or most.now k None) }
     ensures { IsTrue result ↔ HasFault slots.now cause slot }
@@ -69,7 +70,7 @@ fn is_faulty(slots: &[Option<Insn>], most: &[Option<u32>], slot: usize, cause: G
 
 /// One check of the whole program: the least slot with the fault is named.
 fn clear(slots: &[Option<Insn>], most: &[Option<u32>], cause: GraphCause) -> Result<(), Fault>
-    requires short { length slots.now ≤ 4096 }
+    requires short { length slots.now ≤ SLOTS }
     requires room { IsOnWay cause → length most.now ≡ length slots.now }
     requires most { IsOnWay cause → (k : ℕ) → IsMostCalls slots.now k (slice_index_or most.now k None) }
     ensures ok { OnOk result (IsLeast (HasFault slots.now cause) None) }
@@ -90,7 +91,7 @@ fn clear(slots: &[Option<Insn>], most: &[Option<u32>], cause: GraphCause) -> Res
 /// calls before each slot; else the answer is the first check that finds a fault, and the least slot with it.
 pub fn check(slots: &[Option<Insn>], most: &mut [Option<u32>]) -> Result<(), Fault>
     requires some { 0 < length slots.now }
-    requires short { length slots.now ≤ 4096 }
+    requires short { length slots.now ≤ SLOTS }
     requires whole { IsWhole slots.now }
     requires room { length most.old ≡ length slots.now }
     requires blank { (k : ℕ) → slice_index_or most.old k None ≡ None }

@@ -16,7 +16,7 @@ pub fn instruction(slots: &[Option<Insn>], slot: usize) -> Option<Insn>
 /// The slot that a jump leads to, where a later instruction begins there.
 pub fn landing(slots: &[Option<Insn>], slot: usize, distance: i64) -> Option<usize>
     requires here { slot < length slots.now }
-    requires short { length slots.now ≤ 4096 }
+    requires short { length slots.now ≤ SLOTS }
     ensures some { IfSome result (λ to. LeadsTo slot distance to × (slot < to) × IsStart slots.now to) }
     ensures none { IfNone result ((to : ℕ) → LeadsTo slot distance to → slot < to → ¬ IsStart slots.now to) }
 {

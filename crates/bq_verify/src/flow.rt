@@ -5,7 +5,7 @@ ghost use Rattle.bq_insn.specs.declared.Insn.{Insn};
 ghost use Rattle.bq_bpf.specs.Memory.{Setting, State};
 ghost use Rattle.bq_bpf.specs.Steps.{instruction_at};
 ghost use Rattle.bq_verify.specs.Passes.{IsSound};
-ghost use Rattle.bq_transfer.specs.Doubts.{MayDoubt, ReadsOperand, UsesWord};
+ghost use Rattle.bq_transfer.specs.Obligations.{MayBeUnproven, ReadsOperand, UsesWord};
 ghost use Rattle.bq_verify.specs.Stops.{IsWantOfMemory, MayStop};
 ghost use Rattle.bq_verify.specs.Ways.{AfterTest, GoesOnSure, HasOnSide, HasWaiting, IsSureOf};
 ghost use Rattle.bq_states.specs.Certainty.{Fact, Has, IsScalarOperand, Outlasts, Pointer, Scalar, StandsAt};
@@ -15,6 +15,7 @@ ghost use Rattle.bq_states.specs.Told.{IsLasting};
 ghost use Rattle.bq_states.specs.AbstractStates.{Contains};
 ghost use Rattle.bq_verify.specs.Control.{Goes, IsKnown, IsOnSide, PartsTo, WaitsBoxed};
 
+use bq_insn::SLOTS;
 use crate::passes::target;
 use crate::stop::PassStop;
 use crate::subject::Subject;
@@ -25,7 +26,7 @@ use bq_states::abstract_state::{AbstractState, AbstractValue, ValueKind};
 use bq_states::registers::{known, operand};
 use bq_states::told::tell;
 use bq_transfer::counters::ask;
-use bq_transfer::doubt::Doubt;
+use bq_transfer::obligation::Obligation;
 use bq_transfer::sides::{right_side, side};
 use bq_transfer::transfer::transfer;
 use std::alloc::{AllocError, Global};
@@ -61,13 +62,13 @@ pub fn visit(
     requires inside { slot < length subject.now.slots.now }
     requires sound { IsSound subject.now.slots.now }
     requires room { length pending.old ≡ length subject.now.slots.now }
-    requires short { length subject.now.slots.now ≤ 4096 }
+    requires short { length subject.now.slots.now ≤ SLOTS }
     requires context { subject.now.context < 2 ^ 16 }
     requires few { length subject.now.shapes.now ≤ 8 }
     requires below { WritesBelowFrame insn }
     ensures long { length pending.new ≡ length pending.old }
     ensures goes { IfOk result (λ live. ((f : Setting) (s : State) → WaitsBoxed f pending.old s → WaitsBoxed f pending.new s) × Goes subject.now.slots.now subject.now.shapes.now subject.now.context slot state.old (IsKnown pending.new state.new live (slot + 1))) }
-    ensures doubts { IfErr result (λ stop. MayStop stop insn) }
+    ensures obligations { IfErr result (λ stop. MayStop stop insn) }
     ensures accepts { IsReady subject.now.shapes.now subject.now.context state.old insn ⊎ IsReadyToAsk state.old insn → IfErr result IsWantOfMemory }
     ensures sure { IsReady subject.now.shapes.now subject.now.context state.old insn ⊎ IsReadyToAsk state.old insn → IfOk result (GoesOnSure subject.now.slots.now slot insn state.old pending.old pending.new state.new) }
 {
@@ -91,13 +92,13 @@ fn go_on(
     requires inside { slot < length subject.now.slots.now }
     requires sound { IsSound subject.now.slots.now }
     requires room { length pending.old ≡ length subject.now.slots.now }
-    requires short { length subject.now.slots.now ≤ 4096 }
+    requires short { length subject.now.slots.now ≤ SLOTS }
     requires context { subject.now.context < 2 ^ 16 }
     requires few { length subject.now.shapes.now ≤ 8 }
     requires below { WritesBelowFrame insn }
     ensures long { length pending.new ≡ length pending.old }
     ensures goes { IfOk result (λ live. ((f : Setting) (s : State) → WaitsBoxed f pending.old s → WaitsBoxed f pending.new s) × Goes subject.now.slots.now subject.now.shapes.now subject.now.context slot state.old (IsKnown pending.new state.new live (slot + 1))) }
-    ensures doubts { IfErr result (λ stop. MayStop stop insn) }
+    ensures obligations { IfErr result (λ stop. MayStop stop insn) }
     ensures accepts { IsReady subject.now.shapes.now subject.now.context state.old insn → IfErr result IsWantOfMemory }
     ensures sure { IsReady subject.now.shapes.now subject.now.context state.old insn → IfOk result (GoesOnSure subject.now.slots.now slot insn state.old pending.old pending.new state.new) }
 {
@@ -145,16 +146,16 @@ fn go_on(
 }
 
 /// An EXIT, whose answer has to be a number.
-fn leave(state: &AbstractState) -> Result<(), Doubt>
+fn leave(state: &AbstractState) -> Result<(), Obligation>
     ensures answers { OnOk result ((f : Setting) (s : State) → Contains f state.now s → (answer : ℕ) × (s.register 0 ≡ Some answer)) }
-    ensures doubts { IfErr result (λ doubt. MayDoubt doubt Insn.Exit) }
+    ensures obligations { IfErr result (λ obligation. MayBeUnproven obligation Insn.Exit) }
     ensures accepts { StandsAt Scalar state.now 0 → IsOk result }
 {
     let Some(answer) = known(state, 0) else {
-        return Err(Doubt::Answer);
+        return Err(Obligation::Answer);
     };
     if answer.kind != ValueKind::Number {
-        return Err(Doubt::Answer);
+        return Err(Obligation::Answer);
     }
     Ok(())
 }
@@ -172,20 +173,20 @@ fn branch(
     ensures long { length pending.new ≡ length pending.old }
     ensures parts { IfOk result (λ live. ((f : Setting) (s : State) → WaitsBoxed f pending.old s → WaitsBoxed f pending.new s)
         × ((f : Setting) (s : State) → Contains f state.old s → PartsTo (IsKnown pending.new state.new live next) f s test.width test.cond test.dst test.src to next)) }
-    ensures doubts { IfErr result (λ stop. (insn : Insn) → ReadsOperand insn → UsesWord insn → MayStop stop insn) }
+    ensures obligations { IfErr result (λ stop. (insn : Insn) → ReadsOperand insn → UsesWord insn → MayStop stop insn) }
     ensures accepts { test.dst < 10 → StandsAt Scalar state.old test.dst → IsScalarOperand state.old test.src → IfErr result IsWantOfMemory }
     ensures checks { (map : ℕ) → test.dst < 10 → IsNullCheck test.width test.cond test.src → StandsAt (Pointer (ValueKind.EntryOrNull map) 0) state.old test.dst → IfErr result IsWantOfMemory }
     ensures checked { (map : ℕ) → IsNullCheck test.width test.cond test.src → StandsAt (Pointer (ValueKind.EntryOrNull map) 0) state.old test.dst → IfOk result (λ live. (x : Fact) (k : ℕ) → HasWaiting x pending.old k → (k ≡ to → AfterTest x state.old test.dst map (is_found test.cond true)) → (k ≡ next → AfterTest x state.old test.dst map (is_found test.cond false)) → IsSureOf x pending.new state.new live next k) }
     ensures sure { StandsAt Scalar state.old test.dst → IsScalarOperand state.old test.src → IfOk result (λ live. (x : Fact) (k : ℕ) → HasWaiting x pending.old k → ((k ≡ to) ⊎ (k ≡ next) → Outlasts x test.dst × IsLasting x × Has x state.old) → IsSureOf x pending.new state.new live next k) }
 {
     let Some(right) = operand(state, test.src) else {
-        return Err(PassStop::Doubted(Doubt::Unset));
+        return Err(PassStop::Unproven(Obligation::Unset));
     };
     let Some(left) = known(state, test.dst) else {
-        return Err(PassStop::Doubted(Doubt::Unset));
+        return Err(PassStop::Unproven(Obligation::Unset));
     };
     if test.dst >= 10 {
-        return Err(PassStop::Doubted(Doubt::PointerUse));
+        return Err(PassStop::Unproven(Obligation::PointerUse));
     }
     let yes = side(test.width, test.cond, left, test.src, right, true)?;
     let no = side(test.width, test.cond, left, test.src, right, false)?;

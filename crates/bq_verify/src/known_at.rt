@@ -14,6 +14,7 @@ ghost use Rattle.bq_verify.specs.Refusals.{IsOutOfMemory};
 ghost use Rattle.bq_verify.specs.Straight.{IsStraightBefore};
 ghost use Rattle.bq_verify.specs.Sure.{IsSure};
 
+use bq_insn::SLOTS;
 use crate::layout::lay_out;
 use crate::pass::{pass_slot, start};
 use crate::program::{Program, check_graph};
@@ -81,7 +82,7 @@ fn known_at(
 ) -> Result<Option<AbstractState>, AllocError>
     requires sound { IsSound subject.now.slots.now }
     requires first { IsStart subject.now.slots.now 0 }
-    requires short { length subject.now.slots.now ≤ 4096 }
+    requires short { length subject.now.slots.now ≤ SLOTS }
     requires context { subject.now.context < 2 ^ 16 }
     requires few { length subject.now.shapes.now ≤ 8 }
     requires frame { SparesFrame subject.now.slots.now }
@@ -102,7 +103,7 @@ fn known_with(
 ) -> Result<Option<AbstractState>, AllocError>
     requires sound { IsSound subject.now.slots.now }
     requires first { IsStart subject.now.slots.now 0 }
-    requires short { length subject.now.slots.now ≤ 4096 }
+    requires short { length subject.now.slots.now ≤ SLOTS }
     requires context { subject.now.context < 2 ^ 16 }
     requires few { length subject.now.shapes.now ≤ 8 }
     requires frame { SparesFrame subject.now.slots.now }
@@ -135,7 +136,7 @@ fn pass_before(
 ) -> Result<bool, Refused>
     requires sound { IsSound subject.now.slots.now }
     requires room { length pending.old ≡ length subject.now.slots.now }
-    requires short { length subject.now.slots.now ≤ 4096 }
+    requires short { length subject.now.slots.now ≤ SLOTS }
     requires context { subject.now.context < 2 ^ 16 }
     requires few { length subject.now.shapes.now ≤ 8 }
     requires frame { SparesFrame subject.now.slots.now }

@@ -13,6 +13,7 @@ ghost use Rattle.bq_verify.specs.Sure.{IsSure};
 ghost use Rattle.bq_states.specs.AbstractStates.{Contains};
 ghost use Rattle.bq_verify.specs.Control.{AreHeights, AreMade, IsKnown, PassesOn, RestIsSafe, SparesFrame};
 
+use bq_insn::SLOTS;
 use crate::edges::instruction;
 use crate::flow::visit;
 use crate::refused::{Refused, refuse};
@@ -32,7 +33,7 @@ pub fn judge(alloc: Global, subject: &Subject, heights: &[u32]) -> Result<(), Re
     requires heights { AreHeights subject.now.slots.now heights.now }
     requires made { (made : ℕ → ℕ) × AreMade subject.now.slots.now made }
     requires first { IsStart subject.now.slots.now 0 }
-    requires short { length subject.now.slots.now ≤ 4096 }
+    requires short { length subject.now.slots.now ≤ SLOTS }
     requires context { subject.now.context < 2 ^ 16 }
     requires few { length subject.now.shapes.now ≤ 8 }
     requires frame { SparesFrame subject.now.slots.now }
@@ -57,7 +58,7 @@ fn pass(
     requires sound { IsSound subject.now.slots.now }
     requires heights { AreHeights subject.now.slots.now heights.now }
     requires room { length pending.old ≡ length subject.now.slots.now }
-    requires short { length subject.now.slots.now ≤ 4096 }
+    requires short { length subject.now.slots.now ≤ SLOTS }
     requires context { subject.now.context < 2 ^ 16 }
     requires few { length subject.now.shapes.now ≤ 8 }
     requires frame { SparesFrame subject.now.slots.now }
@@ -84,7 +85,7 @@ pub(crate) fn pass_slot(
     requires sound { IsSound subject.now.slots.now }
     requires here { slot < length subject.now.slots.now }
     requires room { length pending.old ≡ length subject.now.slots.now }
-    requires short { length subject.now.slots.now ≤ 4096 }
+    requires short { length subject.now.slots.now ≤ SLOTS }
     requires context { subject.now.context < 2 ^ 16 }
     requires few { length subject.now.shapes.now ≤ 8 }
     requires frame { SparesFrame subject.now.slots.now }

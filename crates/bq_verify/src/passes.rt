@@ -7,13 +7,14 @@ ghost use Rattle.bq_verify.specs.Edges.{IsStart};
 ghost use Rattle.bq_verify.specs.Paths.{IsMostCalls, IsGreatest, PathOut, calls_of};
 ghost use Rattle.bq_verify.specs.Passes.{IsSound, LeadsOut, Raises, CountsFollowed, Measured, height_to};
 
+use bq_insn::SLOTS;
 use crate::edges::{Targets, instruction, landing};
 use bq_bpf::instruction::{distance, is_counter_call, may_go_on};
 use bq_insn::Insn;
 
 /// The slot of the next instruction, if control may go on to it.
 pub fn next_slot(slot: usize, insn: Insn) -> Option<usize>
-    requires { slot < 4096 }
+    requires { slot < SLOTS }
     ensures { result ≡ (if goes_on insn then Some (slot + slots_of insn) else None) }
 {
     if may_go_on(insn) {
@@ -27,7 +28,7 @@ pub fn next_slot(slot: usize, insn: Insn) -> Option<usize>
 pub fn target(slots: &[Option<Insn>], slot: usize, insn: Insn, distance: i64) -> usize
     requires here { instruction_at slots.now slot ≡ Some insn }
     requires inside { slot < length slots.now }
-    requires short { length slots.now ≤ 4096 }
+    requires short { length slots.now ≤ SLOTS }
     requires sound { IsSound slots.now }
     requires jumps { distance_of insn ≡ Some distance }
     ensures to { LeadsTo slot distance result }
@@ -43,7 +44,7 @@ pub fn target(slots: &[Option<Insn>], slot: usize, insn: Insn, distance: i64) ->
 fn jump_slot(slots: &[Option<Insn>], slot: usize, insn: Insn) -> Option<usize>
     requires here { instruction_at slots.now slot ≡ Some insn }
     requires inside { slot < length slots.now }
-    requires short { length slots.now ≤ 4096 }
+    requires short { length slots.now ≤ SLOTS }
     requires sound { IsSound slots.now }
     ensures some { IfSome result (λ to. (distance : ℤ) × (distance_of insn ≡ Some distance) × LeadsTo slot distance to) }
     ensures none { IfNone result (distance_of insn ≡ None) }
@@ -58,7 +59,7 @@ fn jump_slot(slots: &[Option<Insn>], slot: usize, insn: Insn) -> Option<usize>
 pub fn targets(slots: &[Option<Insn>], slot: usize, insn: Insn) -> Targets
     requires here { instruction_at slots.now slot ≡ Some insn }
     requires inside { slot < length slots.now }
-    requires short { length slots.now ≤ 4096 }
+    requires short { length slots.now ≤ SLOTS }
     requires sound { IsSound slots.now }
     ensures { LeadsOut slots.now slot result }
 {
@@ -108,7 +109,7 @@ fn raise(most: &mut [Option<u32>], to: Option<usize>, count: u32)
 /// The edges from one slot.
 fn pass_on(slots: &[Option<Insn>], slot: usize, most: &mut [Option<u32>])
     requires inside { slot < length slots.now }
-    requires short { length slots.now ≤ 4096 }
+    requires short { length slots.now ≤ SLOTS }
     requires sound { IsSound slots.now }
     requires room { length most.old ≡ length slots.now }
     requires counted { CountsFollowed slots.now slot most.old }
@@ -129,7 +130,7 @@ fn pass_on(slots: &[Option<Insn>], slot: usize, most: &mut [Option<u32>])
 /// The greatest number of counter calls before each slot on a path from slot 0; `None` where no path leads there.
 pub fn count_calls(slots: &[Option<Insn>], most: &mut [Option<u32>])
     requires some { 0 < length slots.now }
-    requires short { length slots.now ≤ 4096 }
+    requires short { length slots.now ≤ SLOTS }
     requires sound { IsSound slots.now }
     requires room { length most.old ≡ length slots.now }
     requires blank { (k : ℕ) → slice_index_or most.old k None ≡ None }
@@ -153,7 +154,7 @@ fn height_at(heights: &[u32], to: Option<usize>) -> u32
 
 fn height(slots: &[Option<Insn>], slot: usize, heights: &[u32]) -> u32
     requires inside { slot < length slots.now }
-    requires short { length slots.now ≤ 4096 }
+    requires short { length slots.now ≤ SLOTS }
     requires sound { IsSound slots.now }
     requires room { length heights.now ≡ length slots.now }
     requires measured { Measured slots.now (slot + 1) heights.now }
@@ -172,7 +173,7 @@ fn height(slots: &[Option<Insn>], slot: usize, heights: &[u32]) -> u32
 ///
 /// At slot 0 it is the budget of the program.
 pub fn measure(slots: &[Option<Insn>], heights: &mut [u32])
-    requires short { length slots.now ≤ 4096 }
+    requires short { length slots.now ≤ SLOTS }
     requires sound { IsSound slots.now }
     requires room { length heights.old ≡ length slots.now }
     ensures { Measured slots.now 0 heights.new }

@@ -14,6 +14,7 @@ ghost use Rattle.bq_verify.specs.Control.{AreMade};
 ghost use Rattle.bq_hooks.specs.Hooks.{context_length_of};
 ghost use Rattle.bq_verify.specs.Straight.{IsStraightProgram};
 
+use bq_insn::SLOTS;
 use crate::cause::Cause;
 use crate::checks::check;
 use crate::layout::lay_out;
@@ -48,7 +49,7 @@ fn blank_counts(alloc: Global, count: usize) -> Result<Vec<Option<u32>>, AllocEr
 /// The checks of the control graph.
 pub(crate) fn check_graph(alloc: Global, slots: &[Option<Insn>]) -> Result<(), Refused>
     requires some { 0 < length slots.now }
-    requires short { length slots.now ≤ 4096 }
+    requires short { length slots.now ≤ SLOTS }
     requires whole { IsWhole slots.now }
     ensures ok { OnOk result (IsFaultless slots.now) }
     ensures refused { IfErr result (IsRefusal slots.now) }
@@ -67,7 +68,7 @@ pub(crate) fn check_graph(alloc: Global, slots: &[Option<Insn>]) -> Result<(), R
 
 /// The number of instructions on the longest path from each slot.
 fn heights_of(alloc: Global, slots: &[Option<Insn>]) -> Result<Vec<u32>, AllocError>
-    requires short { length slots.now ≤ 4096 }
+    requires short { length slots.now ≤ SLOTS }
     requires sound { IsSound slots.now }
     ensures measured { IfOk result (λ heights. Measured slots.now 0 heights.items) }
     ensures room { IfOk result (λ heights. length heights.items ≡ length slots.now) }

@@ -4,7 +4,7 @@ ghost use Rattle.std.specs.Prelude.{◌≡◌, Some, List, Option};
 ghost use Rattle.bq_insn.specs.declared.Insn.{Insn};
 ghost use Rattle.bq_bpf.specs.Steps.{instruction_at};
 ghost use Rattle.bq_verify.specs.Stops.{IsWantOfMemory, MayStop};
-ghost use Rattle.bq_transfer.specs.declared.doubt.Doubt.{Doubt as Missing};
+ghost use Rattle.bq_transfer.specs.declared.obligation.Obligation.{Obligation as Missing};
 ghost use Rattle.bq_verify.specs.declared.refused.Refused.TheVariants.{At};
 ghost use Rattle.bq_verify.specs.Refusals.{IsOutOfMemory, IsStopped};
 
@@ -34,13 +34,13 @@ impl From<AllocError> for Refused {
 /// The refusal where the pass stopped at a slot.
 pub(crate) fn refuse(slot: usize, stop: PassStop) -> Refused
     ensures stopped { (slots : List (Option Insn)) (insn : Insn) → instruction_at slots slot ≡ Some insn → MayStop stop insn → IsStopped slots result }
-    ensures named { (doubt : Missing) → stop ≡ PassStop.Doubted doubt → result ≡ At slot (Cause.State doubt) }
+    ensures named { (obligation : Missing) → stop ≡ PassStop.Unproven obligation → result ≡ At slot (Cause.State obligation) }
     ensures memory { IsWantOfMemory stop → IsOutOfMemory result }
 {
     match stop {
-        PassStop::Doubted(doubt) => Refused::At {
+        PassStop::Unproven(obligation) => Refused::At {
             slot,
-            cause: Cause::State(doubt),
+            cause: Cause::State(obligation),
         },
         PassStop::OutOfMemory => Refused::OutOfMemory,
     }

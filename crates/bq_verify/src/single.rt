@@ -3,6 +3,7 @@ ghost use Rattle.std.specs.Prelude.{◌≡◌, ◌<◌, ◌≤◌, ◌+◌, leng
 ghost use Rattle.bq_bpf.specs.Steps.{instruction_at};
 ghost use Rattle.bq_verify.specs.Faults.{is_helper, IsBadJump, RunsOut, WritesFrame, CallsUnknown};
 
+use bq_insn::SLOTS;
 use crate::edges::landing;
 use bq_bpf::helper::Helper;
 use bq_bpf::instruction::{destination, distance, may_go_on};
@@ -19,7 +20,7 @@ pub fn is_known_helper(helper: i32) -> bool
 pub fn is_bad_jump(slots: &[Option<Insn>], slot: usize, insn: Insn) -> bool
     requires here { instruction_at slots.now slot ≡ Some insn }
     requires inside { slot < length slots.now }
-    requires short { length slots.now ≤ 4096 }
+    requires short { length slots.now ≤ SLOTS }
     ensures { IsTrue result ↔ IsBadJump slots.now slot }
 {
     let Some(distance) = distance(insn) else {
@@ -34,7 +35,7 @@ pub fn is_bad_jump(slots: &[Option<Insn>], slot: usize, insn: Insn) -> bool
 /// Whether control goes on past the end from the instruction.
 pub fn runs_out(slots: &[Option<Insn>], slot: usize, insn: Insn) -> bool
     requires here { instruction_at slots.now slot ≡ Some insn }
-    requires short { slot < 4096 }
+    requires short { slot < SLOTS }
     ensures { IsTrue result ↔ RunsOut slots.now slot }
 {
     may_go_on(insn) && slot + insn.slots() >= slots.len()

@@ -1,25 +1,25 @@
 //! Why the pass stops.
 
-use bq_transfer::doubt::Doubt;
+use bq_transfer::obligation::Obligation;
 use std::alloc::AllocError;
 
 /// Why the pass stops at an instruction.
 #[derive(Clone, Copy)]
 pub enum PassStop {
     /// Something is not shown of it.
-    Doubted(Doubt),
+    Unproven(Obligation),
     /// A growth was refused.
     OutOfMemory,
 }
 
-impl From<Doubt> for PassStop {
+impl From<Obligation> for PassStop {
     ghost use Rattle.std.specs.Prelude.{◌≡◌};
-    ghost use Rattle.bq_verify.specs.declared.stop.PassStop.TheVariants.{Doubted};
+    ghost use Rattle.bq_verify.specs.declared.stop.PassStop.TheVariants.{Unproven};
 
-    ghost from_gives = { λ d e. e ≡ Doubted d };
+    ghost from_gives = { λ d e. e ≡ Unproven d };
 
-    fn from(doubt: Doubt) -> PassStop {
-        PassStop::Doubted(doubt)
+    fn from(obligation: Obligation) -> PassStop {
+        PassStop::Unproven(obligation)
     }
 }
 

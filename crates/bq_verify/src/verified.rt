@@ -1,5 +1,6 @@
 //! Programs that were accepted.
 
+use bq_insn::SLOTS;
 use crate::pass::judge;
 use crate::refused::Refused;
 use crate::subject::Subject;
@@ -113,7 +114,7 @@ impl Verified {
         requires made { (made : ℕ → ℕ) × AreMade slots.items made }
         requires first { IsStart slots.items 0 }
         requires as_many { length heights.now ≡ length slots.items }
-        requires short { length slots.items ≤ 4096 }
+        requires short { length slots.items ≤ SLOTS }
         requires few { length shapes.items ≤ 8 }
         requires frame { SparesFrame slots.items }
         requires some { 0 < length slots.items }

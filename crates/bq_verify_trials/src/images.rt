@@ -5,7 +5,7 @@ use crate::asserting::{are_bytes, is_number, is_true};
 use bq_hooks::{Hook, Version};
 use bq_insn::fault::Cause as Code;
 use bq_load::{Image, LoadFault, load, read_image, write_image};
-use bq_transfer::doubt::Doubt;
+use bq_transfer::obligation::Obligation;
 use bq_verify::{Cause, GraphCause};
 use std::alloc::{AllocError, Global};
 use std::process::Abort;
@@ -71,7 +71,7 @@ enum Answer {
     Fault(LoadFault),
     Code(usize, Code),
     Graph(usize, GraphCause),
-    State(usize, Doubt),
+    State(usize, Obligation),
 }
 
 fn refused(slot: usize, cause: Cause) -> Result<u32, LoadFault> {
@@ -85,7 +85,7 @@ fn result(answer: Answer) -> Result<u32, LoadFault> {
         Answer::Fault(fault) => Err(fault),
         Answer::Code(slot, cause) => Err(LoadFault::Decode { slot, cause }),
         Answer::Graph(slot, cause) => refused(slot, Cause::Graph(cause)),
-        Answer::State(slot, doubt) => refused(slot, Cause::State(doubt)),
+        Answer::State(slot, obligation) => refused(slot, Cause::State(obligation)),
     }
 }
 
@@ -171,7 +171,7 @@ static IMAGES: [(&[u8], Answer); 6] = [
 ];
 
 /// A counter that is out of range.
-static CHANGES_OF_ADDING: [Change; 1] = [(16, 64, Answer::State(2, Doubt::Argument))];
+static CHANGES_OF_ADDING: [Change; 1] = [(16, 64, Answer::State(2, Obligation::Argument))];
 
 #[test]
 fn images_load_or_are_refused(rt: HostRuntime) {
@@ -205,12 +205,12 @@ fn changes_of_a_header_are_refused(rt: HostRuntime) {
 }
 
 static CHANGES_OF_A_PROGRAM: [Change; 9] = [
-    (28, 0x01, Answer::State(1, Doubt::Argument)),
-    (52, 0xf8, Answer::State(5, Doubt::Argument)),
+    (28, 0x01, Answer::State(1, Obligation::Argument)),
+    (52, 0xf8, Answer::State(5, Obligation::Argument)),
     (66, 0x01, Answer::Graph(9, GraphCause::Unreached)),
-    (90, 0x01, Answer::State(9, Doubt::Access)),
+    (90, 0x01, Answer::State(9, Obligation::Access)),
     (97, 0x3a, Answer::Graph(10, GraphCause::Frame)),
-    (121, 0xa0, Answer::State(14, Doubt::Answer)),
+    (121, 0xa0, Answer::State(14, Obligation::Answer)),
     // the shape of the map: 12 bytes, no entries, 257 entries
     (8, 12, Answer::Fault(LoadFault::Shape)),
     (10, 0, Answer::Fault(LoadFault::Shape)),
@@ -297,14 +297,14 @@ fn context_load(offset: u16) -> [u8; 16] {
 /// Versions, hooks, offsets into the context, and the answer to a load there.
 static OFFSETS: [(u8, u8, u16, Answer); 9] = [
     (1, 0, 100, Answer::Budget(2)),
-    (1, 0, 104, Answer::State(0, Doubt::Access)),
+    (1, 0, 104, Answer::State(0, Obligation::Access)),
     (2, 0, 104, Answer::Budget(2)),
     (2, 0, 292, Answer::Budget(2)),
-    (2, 0, 293, Answer::State(0, Doubt::Access)),
+    (2, 0, 293, Answer::State(0, Obligation::Access)),
     (2, 1, 52, Answer::Budget(2)),
-    (2, 1, 53, Answer::State(0, Doubt::Access)),
+    (2, 1, 53, Answer::State(0, Obligation::Access)),
     (2, 2, 156, Answer::Budget(2)),
-    (2, 2, 157, Answer::State(0, Doubt::Access)),
+    (2, 2, 157, Answer::State(0, Obligation::Access)),
 ];
 
 #[test]

@@ -2,6 +2,7 @@
 
 ghost use Rattle.std.specs.Prelude.{◌≤◌, length};
 
+use bq_disc::limits::TASKS;
 use crate::asked::Asked;
 use crate::presence::present;
 use crate::reasons::{Reason, why};
@@ -113,7 +114,7 @@ fn write_reason(
     tasks: &[Entity],
     rows: &[TaskRow],
 ) -> Result<(), AllocError>
-    requires { length tasks.now ≤ 1024 }
+    requires { length tasks.now ≤ TASKS }
 {
     let Some(run) = choice.run else {
         return text.push_str("    nothing runs: nobody is there\n");

@@ -10,7 +10,7 @@ use std::alloc::{AllocError, Global};
 /// The tasks that run or wait at a processor, the running one first, then by rising (v, id). Were there more than 1,024, some
 /// would be left out; there are only so many ids.
 pub fn present<Q: RunQueue>(alloc: Global, cpu: &Cpu<Q>) -> Result<Vec<Entity>, AllocError>
-    ensures few { IfOk result (λ tasks. length tasks.items ≤ 1024) }
+    ensures few { IfOk result (λ tasks. length tasks.items ≤ TASKS) }
     ensures all { IfOk result (λ tasks. length (present_at cpu.now.running) ≤ 1024 → tasks.items ≡ present_at cpu.now.running) }
 {
     let mut tasks = Vec::new(alloc);
@@ -23,8 +23,8 @@ pub fn present<Q: RunQueue>(alloc: Global, cpu: &Cpu<Q>) -> Result<Vec<Entity>, 
 
 /// The tasks that wait at a processor, by rising (v, id). Were there more than 1,024, some would be left out.
 pub fn waiting<Q: RunQueue>(alloc: Global, cpu: &Cpu<Q>) -> Result<Vec<Entity>, AllocError>
-    ensures few { IfOk result (λ tasks. length tasks.items ≤ 1024) }
-    ensures all { IfOk result (λ tasks. length cpu.now.running.queue ≤ 1024 → tasks.items ≡ cpu.now.running.queue) }
+    ensures few { IfOk result (λ tasks. length tasks.items ≤ TASKS) }
+    ensures all { IfOk result (λ tasks. length cpu.now.running.queue ≤ TASKS → tasks.items ≡ cpu.now.running.queue) }
 {
     let mut tasks = Vec::new(alloc);
     add_queue(cpu, &mut tasks)?;
@@ -33,8 +33,8 @@ pub fn waiting<Q: RunQueue>(alloc: Global, cpu: &Cpu<Q>) -> Result<Vec<Entity>, 
 
 /// Adds the tasks of the queue by rising (v, id), as long as there are fewer than 1,024.
 fn add_queue<Q: RunQueue>(cpu: &Cpu<Q>, tasks: &mut Vec<Entity>) -> Result<(), AllocError>
-    requires { length tasks.old.items ≤ 1024 }
-    ensures few { OnOk result (length tasks.new.items ≤ 1024) }
+    requires { length tasks.old.items ≤ TASKS }
+    ensures few { OnOk result (length tasks.new.items ≤ TASKS) }
     ensures all { OnOk result (length (tasks.old.items ++ cpu.now.running.queue) ≤ 1024 → tasks.new.items ≡ tasks.old.items ++ cpu.now.running.queue) }
 {
     let mut last: Option<(u64, u16)> = None;

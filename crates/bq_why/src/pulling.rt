@@ -79,7 +79,7 @@ pub fn sight<Q: RunQueue>(
     here: &Cpu<Q>,
     there: &Cpu<Q>,
 ) -> Result<PullSight, AllocError>
-    requires { puller < 64 }
+    requires { puller < PROCESSORS }
     ensures { IfOk result (λ sight. Sees puller here.now.running there.now.running sight) }
 {
     let size = present(alloc, here)?.len();
@@ -96,7 +96,7 @@ pub fn sight<Q: RunQueue>(
 
 /// The tasks of a queue that may go to a processor.
 fn movable(queue: &[Entity], processor: u8) -> Movable
-    requires inside { processor < 64 }
+    requires inside { processor < PROCESSORS }
     requires few { length queue.now ≤ 1024 }
     ensures count { result.count ≡ length (movable_to processor queue.now) }
     ensures first { result.first.items ≡ take 8 (ids (movable_to processor queue.now)) }

@@ -3,6 +3,7 @@ ghost use Rattle.std.specs.Prelude.{◌≡◌, ◌≤◌, length};
 ghost use Rattle.bq_disc.specs.Tasks.{with_id};
 ghost use Rattle.bq_why.specs.Reasons.{reason_of, cfs_reason_of, least_reason_of, eevdf_reason_of};
 
+use bq_disc::limits::TASKS;
 use crate::choices::choice;
 use bq_cfs::GRANULARITY;
 use bq_disc::Entity;
@@ -30,7 +31,7 @@ pub enum Reason {
 
 /// Why `run` runs, of the tasks that are there: by whose choice, where `was` ran before.
 pub fn why(rule: Rule, by: By, was: Option<u16>, run: Option<u16>, tasks: &[Entity]) -> Reason
-    requires { length tasks.now ≤ 1024 }
+    requires { length tasks.now ≤ TASKS }
     ensures { result ≡ reason_of rule by was run tasks.now }
 {
     let Some(run) = run else {

@@ -1,6 +1,7 @@
 //! The tasks that a choice was told apart from, in words.
 ghost use Rattle.std.specs.Prelude.{◌≤◌, length};
 
+use bq_disc::limits::TASKS;
 use crate::reasons::with_number;
 use crate::rivals::{passed_over, tied_with};
 use crate::words_of::{Virtual, Who};
@@ -16,7 +17,7 @@ pub(crate) fn write_deadlines(
     run: u16,
     tasks: &[Entity],
 ) -> Result<(), AllocError>
-    requires { length tasks.now ≤ 1024 }
+    requires { length tasks.now ≤ TASKS }
 {
     if let Some(chosen) = with_number(tasks, run) {
         if let Some(other) = tied_with(Rule::Eevdf, &chosen, tasks) {
@@ -79,7 +80,7 @@ pub(crate) fn write_equal_runtime(
     was: Option<u16>,
     tasks: &[Entity],
 ) -> Result<(), AllocError>
-    requires { length tasks.now ≤ 1024 }
+    requires { length tasks.now ≤ TASKS }
 {
     if let Some(chosen) = with_number(tasks, run) {
         if let Some(other) = tied_with(Rule::Cfs, &chosen, tasks) {

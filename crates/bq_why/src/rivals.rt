@@ -4,6 +4,7 @@ ghost use Rattle.bq_disc.specs.Tasks.{first_by};
 ghost use Rattle.bq_disc.specs.Dues.{due_before};
 ghost use Rattle.bq_why.specs.Rivals.{passed_over, is_tied, tied_with};
 
+use bq_disc::limits::TASKS;
 use crate::choices::due_first;
 use bq_bounds::totals::totals;
 use bq_disc::Entity;
@@ -11,7 +12,7 @@ use bq_words::Rule;
 
 /// Under EEVDF the task that is due first of all, where it is not eligible: the choice passes it over.
 pub fn passed_over(tasks: &[Entity]) -> Option<Entity>
-    requires { length tasks.now ≤ 1024 }
+    requires { length tasks.now ≤ TASKS }
     ensures { result ≡ passed_over tasks.now }
 {
     let totals = totals(tasks);
@@ -37,7 +38,7 @@ fn first_due(tasks: &[Entity]) -> Option<Entity>
 /// Another task that is as near to being chosen as this one, so that the lower id wins: under CFS one of the same virtual runtime,
 /// under EEVDF an eligible one of the same deadline. Of several the first in their order.
 pub fn tied_with(rule: Rule, chosen: &Entity, tasks: &[Entity]) -> Option<Entity>
-    requires { length tasks.now ≤ 1024 }
+    requires { length tasks.now ≤ TASKS }
     ensures { result ≡ tied_with rule chosen.now tasks.now }
 {
     let totals = totals(tasks);

@@ -2,6 +2,7 @@
 ghost use Rattle.std.specs.Prelude.{◌≡◌, ◌≤◌, length, map, IfOk};
 ghost use Rattle.bq_why.specs.Rows.{row_of, row_by, measured_from};
 
+use bq_disc::limits::TASKS;
 use crate::choices::choice;
 use bq_bounds::totals::totals;
 use bq_disc::Entity;
@@ -28,7 +29,7 @@ pub struct TaskRow {
 
 /// A row a task, in the order of the tasks.
 pub fn rows(alloc: Global, tasks: &[Entity]) -> Result<Vec<TaskRow>, AllocError>
-    requires { length tasks.now ≤ 1024 }
+    requires { length tasks.now ≤ TASKS }
     ensures { IfOk result (λ rows. rows.items ≡ map (row_of tasks.now) tasks.now) }
 {
     let totals = totals(tasks);
@@ -61,7 +62,7 @@ fn row_among(task: &Entity, weight: u64, moment: u128, mean: u64) -> TaskRow
 /// The virtual time that a rule measures its tasks from: under CFS the least v, under EEVDF the mean v, rounded down. `None` where
 /// no task is there.
 pub fn measured_from(rule: Rule, tasks: &[Entity]) -> Option<u64>
-    requires { length tasks.now ≤ 1024 }
+    requires { length tasks.now ≤ TASKS }
     ensures { result ≡ measured_from rule tasks.now }
 {
     match rule {

@@ -60,8 +60,8 @@ pub fn place_of(event: &Event) -> Option<(u8, u64)>
 /// Who runs at a processor of the machine.
 fn running(machine: &AnyCore, processor: u8) -> Option<u16> {
     match machine.seen(processor) {
-        Some(Seen::Cfs(cpu)) => cpu.run(),
-        Some(Seen::Eevdf(cpu)) => cpu.run(),
+        Some(Seen::Cfs(cpu)) => cpu.running_id(),
+        Some(Seen::Eevdf(cpu)) => cpu.running_id(),
         None => None,
     }
 }

@@ -1,13 +1,13 @@
--- An agenda that agrees with the accounts, thing by thing.
+-- An event queue that agrees with the accounts, thing by thing.
 use Rattle.std.proofs.Common.{◌≡◌, ◌≢◌, ℕ, zero, suc, ◌<◌, ◌⊎◌, inl, inr, Bool, false, List, [], ◌∷◌, Option, Some, None, refl, sym, ap, ◌∙◌}
 use Rattle.std.specs.Prelude.{option_and_then, slice_get, slice_set}
 use Rattle.std.specs.Option.{option_map_or}
 use Rattle.std.proofs.lemmas.Bool.{cases_eq, true≢false, eq-eqb}
 use Rattle.std.proofs.lemmas.Option.{none-some, same_Some}
-use Rattle.bq_workload.specs.declared.course.Course.{Course}
+use Rattle.bq_workload.specs.declared.progress.TaskProgress.{TaskProgress}
 use Rattle.bq_workload.specs.declared.due.Due.{Due}
 use Rattle.bq_workload.specs.declared.due.Due.TheVariants.{End}
-use Rattle.bq_workload.specs.declared.lane.Lane.{Lane}
+use Rattle.bq_workload.specs.declared.processor_state.ProcessorState.{ProcessorState}
 use Rattle.bq_workload.specs.Accounts.{Accounts, changed_at, is_same}
 use Rattle.bq_workload.specs.Dues.{IsDropped, IsDue, IsPlanned, end_of, place_of, until}
 use Rattle.bq_workload.specs.Minima.{at_place, number_of}
@@ -71,39 +71,39 @@ pub agrees_if_dropped : (end : ℕ) (b : Accounts) (x y : List ℕ) (due : Due) 
 agrees_if_dropped end b x y due d is = record { at = λ there. d.at ∙ ap (number_of (place_of due)) (sym is); there = λ t some. d.there }
 
 -- a phase of a task that has not changed ends when it did
-ends-same : (end : ℕ) (cs ds : List Course) (lane : Lane) → ((task : ℕ) → lane.run ≡ Some task → slice_get ds task ≡ slice_get cs task) → ends_at end ds lane ≡ ends_at end cs lane
-ends-same end cs ds lane same =
-    let v : Course → Option ℕ = λ c. until end (end_of lane.since c) in
-    let at : List Course → Option ℕ → Option ℕ = λ xs o. option_and_then (λ task. option_and_then v (slice_get xs task)) o in
-    elim (some_or_none lane.run) [
+ends-same : (end : ℕ) (cs ds : List TaskProgress) (processor_state : ProcessorState) → ((task : ℕ) → processor_state.run ≡ Some task → slice_get ds task ≡ slice_get cs task) → ends_at end ds processor_state ≡ ends_at end cs processor_state
+ends-same end cs ds processor_state same =
+    let v : TaskProgress → Option ℕ = λ c. until end (end_of processor_state.since c) in
+    let at : List TaskProgress → Option ℕ → Option ℕ = λ xs o. option_and_then (λ task. option_and_then v (slice_get xs task)) o in
+    elim (some_or_none processor_state.run) [
       | inl none ↦ ap (at ds) none ∙ sym (ap (at cs) none)
-      | inr (task, is) ↦ ap (at ds) is ∙ ap (λ (o : Option Course). option_and_then v o) (same task is) ∙ sym (ap (at cs) is)
+      | inr (task, is) ↦ ap (at ds) is ∙ ap (λ (o : Option TaskProgress). option_and_then v o) (same task is) ∙ sym (ap (at cs) is)
     ]
 
 -- a processor that has not changed, and whose task has not, ends its phase when it did
-pub kept-end : (end q : ℕ) (a b : Accounts) (x y : List ℕ) → slice_get b.lanes q ≡ slice_get a.lanes q → ((task : ℕ) (lane : Lane) → slice_get a.lanes q ≡ Some lane → lane.run ≡ Some task → slice_get b.courses task ≡ slice_get a.courses task)
+pub kept-end : (end q : ℕ) (a b : Accounts) (x y : List ℕ) → slice_get b.by_processor q ≡ slice_get a.by_processor q → ((task : ℕ) (processor_state : ProcessorState) → slice_get a.by_processor q ≡ Some processor_state → processor_state.run ≡ Some task → slice_get b.by_task task ≡ slice_get a.by_task task)
     → (q < 64 → at_place y q ≡ at_place x q) → AgreesAt end a x (End q) → AgreesAt end b y (End q)
-kept-end end q a b x y lanes courses place h =
-    let at : List Course → Option Lane → Option ℕ = λ cs o. option_and_then (ends_at end cs) o in
-    let same : at b.courses (slice_get a.lanes q) ≡ at a.courses (slice_get a.lanes q) = elim (some_or_none (slice_get a.lanes q)) [
-      | inl none ↦ ap (at b.courses) none ∙ sym (ap (at a.courses) none)
-      | inr (lane, is) ↦ ap (at b.courses) is ∙ ends-same end a.courses b.courses lane (λ task runs. courses task lane is runs) ∙ sym (ap (at a.courses) is)
+kept-end end q a b x y by_processor by_task place h =
+    let at : List TaskProgress → Option ProcessorState → Option ℕ = λ cs o. option_and_then (ends_at end cs) o in
+    let same : at b.by_task (slice_get a.by_processor q) ≡ at a.by_task (slice_get a.by_processor q) = elim (some_or_none (slice_get a.by_processor q)) [
+      | inl none ↦ ap (at b.by_task) none ∙ sym (ap (at a.by_task) none)
+      | inr (processor_state, is) ↦ ap (at b.by_task) is ∙ ends-same end a.by_task b.by_task processor_state (λ task runs. by_task task processor_state is runs) ∙ sym (ap (at a.by_task) is)
     ] in
-    agrees_if_kept end a b x y (End q) (ap (at b.courses) lanes ∙ same) place h
+    agrees_if_kept end a b x y (End q) (ap (at b.by_task) by_processor ∙ same) place h
 
 -- a task that has not changed has the home that it had
-pub kept-home : (a b : Accounts) (task q : ℕ) → slice_get b.courses task ≡ slice_get a.courses task → HasHome a task q → HasHome b task q
-kept-home a b task q same h = record { course = h.course; there = same ∙ h.there; home = h.home }
+pub kept-home : (a b : Accounts) (task q : ℕ) → slice_get b.by_task task ≡ slice_get a.by_task task → HasHome a task q → HasHome b task q
+kept-home a b task q same h = record { progress = h.progress; there = same ∙ h.there; home = h.home }
 
 -- a task runs at one processor alone
 pub one-home : (a : Accounts) (task p q : ℕ) → HasHome a task p → HasHome a task q → p ≡ q
-one-home a task p q g h = sym g.home ∙ ap (λ (c : Course). c.home) (same_Some g.course h.course (sym g.there ∙ h.there)) ∙ h.home
+one-home a task p q g h = sym g.home ∙ ap (λ (c : TaskProgress). c.home) (same_Some g.progress h.progress (sym g.there ∙ h.there)) ∙ h.home
 
 -- a task that does not run where it ran last runs nowhere
-pub resting_runs_nowhere : (a : Accounts) (task : ℕ) → HaveHomes a → Rests a task → (q : ℕ) (lane : Lane) → slice_get a.lanes q ≡ Some lane → lane.run ≡ Some task → ⊥
-resting_runs_nowhere a task homes rests q lane at runs =
-    let h : HasHome a task q = homes q task lane at runs in
-    let home : rests.course.home ≡ q = ap (λ (c : Course). c.home) (same_Some rests.course h.course (sym rests.there ∙ h.there)) ∙ h.home in
-    let test : Option Lane → Bool = λ o. option_map_or (λ (l : Lane). is_same l.run (Some task)) o false in
-    let here : runs_at a.lanes rests.course.home task ≡ is_same (Some task) (Some task) = ap (λ k. runs_at a.lanes k task) home ∙ ap test at ∙ ap (λ o. is_same o (Some task)) runs in
+pub resting_runs_nowhere : (a : Accounts) (task : ℕ) → HaveHomes a → Rests a task → (q : ℕ) (processor_state : ProcessorState) → slice_get a.by_processor q ≡ Some processor_state → processor_state.run ≡ Some task → ⊥
+resting_runs_nowhere a task homes rests q processor_state at runs =
+    let h : HasHome a task q = homes q task processor_state at runs in
+    let home : rests.progress.home ≡ q = ap (λ (c : TaskProgress). c.home) (same_Some rests.progress h.progress (sym rests.there ∙ h.there)) ∙ h.home in
+    let test : Option ProcessorState → Bool = λ o. option_map_or (λ (l : ProcessorState). is_same l.run (Some task)) o false in
+    let here : runs_at a.by_processor rests.progress.home task ≡ is_same (Some task) (Some task) = ap (λ k. runs_at a.by_processor k task) home ∙ ap test at ∙ ap (λ o. is_same o (Some task)) runs in
     true≢false (sym (here ∙ eq-eqb task task refl) ∙ rests.still)

@@ -5,13 +5,13 @@ use Rattle.std.specs.List.{list_all}
 use Rattle.std.specs.Option.{option_map_or}
 use Rattle.std.proofs.lemmas.Bool.{and_cases, and_from, and_left, and_parts, and_right, cases_Bool, cases_lt, le-leb, leb-true, lt-ltb}
 use Rattle.std.proofs.lemmas.Option.{none-some}
-use Rattle.bq_workload.specs.declared.course.Course.{Course}
-use Rattle.bq_workload.specs.declared.course.Stance.{Stance}
-use Rattle.bq_workload.specs.declared.course.Stance.TheVariants.{Asleep, Waiting, Runnable, Over}
+use Rattle.bq_workload.specs.declared.progress.TaskProgress.{TaskProgress}
+use Rattle.bq_workload.specs.declared.progress.TaskState.{TaskState}
+use Rattle.bq_workload.specs.declared.progress.TaskState.TheVariants.{Asleep, Waiting, Runnable, Over}
 use Rattle.bq_workload.specs.declared.due.Due.TheVariants.{End, Wake, Tick, Pull}
-use Rattle.bq_workload.specs.declared.lane.Lane.{Lane}
+use Rattle.bq_workload.specs.declared.processor_state.ProcessorState.{ProcessorState}
 use Rattle.bq_workload.specs.Accounts.{Accounts, is_over, is_past, rests_past, runs_past}
-use Rattle.bq_workload.specs.Courses.{keeps_phase, keeps_time, lacks_more, rings_past, sleeps_past}
+use Rattle.bq_workload.specs.TaskProgress.{keeps_phase, keeps_time, lacks_more, rings_past, sleeps_past}
 use Rattle.bq_workload.specs.Dues.{end_of, until}
 use Rattle.bq_workload.specs.Next.{HasHome, HaveHomes, NothingComes, rings_at}
 use Rattle.bq_workload.proofs.AgreeLemmas.{some_or_none}
@@ -36,7 +36,7 @@ until-past end time low none = elim (cases_lt end time) [
 ]
 
 -- a timer that does not ring until the end rings past it
-rings-past : (end timer : ℕ) (stance : Stance) → end < 2 ^ 48 → rings_at end stance timer ≡ None → rings_past end stance timer ≡ true
+rings-past : (end timer : ℕ) (task_state : TaskState) → end < 2 ^ 48 → rings_at end task_state timer ≡ None → rings_past end task_state timer ≡ true
 rings-past end timer Asleep low none = lt-ltb end timer (until-past end timer low none)
 rings-past end timer Waiting low none = refl
 rings-past end timer Runnable low none = refl
@@ -48,7 +48,7 @@ past-of end None low none = refl
 past-of end (Some time) low none = lt-ltb end time (until-past end time low none)
 
 -- where some task has run past its phase not all keep time
-keeps-none : (end : ℕ) (cs : List Course) → list_all keeps_phase cs ≡ false → list_all (keeps_time end) cs ≡ false
+keeps-none : (end : ℕ) (cs : List TaskProgress) → list_all keeps_phase cs ≡ false → list_all (keeps_time end) cs ≡ false
 keeps-none end [] some = some
 keeps-none end (c ∷ cs) some = elim (and_cases (keeps_phase c) (list_all keeps_phase cs) some) [
   | inl here ↦ and_left (keeps_time end c) (list_all (keeps_time end) cs) (and_left (keeps_phase c) (sleeps_past end c) here)
@@ -56,32 +56,32 @@ keeps-none end (c ∷ cs) some = elim (and_cases (keeps_phase c) (list_all keeps
 ]
 
 -- a phase that does not end until the end lacks more than it can get until then
-runs-of : (end k : ℕ) (a : Accounts) (l : Lane) → end < 2 ^ 48 → HaveHomes a → NothingComes end a → ((task : ℕ) (c : Course) → slice_get a.courses task ≡ Some c → keeps_phase c ≡ true) → slice_get a.lanes k ≡ Some l → runs_past end a.courses l ≡ true
+runs-of : (end k : ℕ) (a : Accounts) (l : ProcessorState) → end < 2 ^ 48 → HaveHomes a → NothingComes end a → ((task : ℕ) (c : TaskProgress) → slice_get a.by_task task ≡ Some c → keeps_phase c ≡ true) → slice_get a.by_processor k ≡ Some l → runs_past end a.by_task l ≡ true
 runs-of end k a l low homes none keeps at =
-    let past : Option ℕ → Bool = λ o. option_map_or (λ (task : ℕ). option_map_or (lacks_more l.since end) (slice_get a.courses task) false) o true in
+    let past : Option ℕ → Bool = λ o. option_map_or (λ (task : ℕ). option_map_or (lacks_more l.since end) (slice_get a.by_task task) false) o true in
     elim (some_or_none l.run) [
       | inl idle ↦ ap past idle
       | inr (task, runs) ↦
           let home : HasHome a task k = homes k task l at runs in
-          let c = home.course in
+          let c = home.progress in
           let kept : c.got ≤ c.due = leb-true c.got c.due (keeps task c home.there) in
           let late : end < end_of l.since c = until-past end (end_of l.since c) low (sym (end-of end k task a l c at runs home.there) ∙ none (End k)) in
-          ap past runs ∙ ap (λ (o : Option Course). option_map_or (lacks_more l.since end) o false) home.there ∙ lt-ltb (end + c.got) (l.since + c.due) (omega (arith, kept, late))
+          ap past runs ∙ ap (λ (o : Option TaskProgress). option_map_or (lacks_more l.since end) o false) home.there ∙ lt-ltb (end + c.got) (l.since + c.due) (omega (arith, kept, late))
     ]
 
 -- where by the accounts nothing comes any more it is over just where no task has run past its phase
-pub over-where-none : (end : ℕ) (a : Accounts) → end < 2 ^ 48 → HaveHomes a → NothingComes end a → is_over end a ≡ list_all keeps_phase a.courses
+pub over-where-none : (end : ℕ) (a : Accounts) → end < 2 ^ 48 → HaveHomes a → NothingComes end a → is_over end a ≡ list_all keeps_phase a.by_task
 over-where-none end a low homes none =
-    let cs = a.courses in
-    let sleeps : (k : ℕ) (c : Course) → slice_get cs k ≡ Some c → sleeps_past end c ≡ true =
-    λ k c at. rings-past end c.timer c.stance low (sym (ap (λ (o : Option Course). option_and_then (λ d. rings_at end d.stance d.timer) o) at) ∙ none (Wake k)) in
-    let rests : list_all (rests_past end) a.lanes ≡ true = all-from (rests_past end) a.lanes (λ k l at. and_from (is_past end l.tick) (is_past end l.look) (past-of end l.tick low (sym (tick-of end k a l at) ∙ none (Tick k))) (past-of end l.look low (sym (look-of end k a l at) ∙ none (Pull k)))) in
+    let cs = a.by_task in
+    let sleeps : (k : ℕ) (c : TaskProgress) → slice_get cs k ≡ Some c → sleeps_past end c ≡ true =
+    λ k c at. rings-past end c.timer c.task_state low (sym (ap (λ (o : Option TaskProgress). option_and_then (λ d. rings_at end d.task_state d.timer) o) at) ∙ none (Wake k)) in
+    let rests : list_all (rests_past end) a.by_processor ≡ true = all-from (rests_past end) a.by_processor (λ k l at. and_from (is_past end l.tick) (is_past end l.look) (past-of end l.tick low (sym (tick-of end k a l at) ∙ none (Tick k))) (past-of end l.look low (sym (look-of end k a l at) ∙ none (Pull k)))) in
     elim (cases_Bool (list_all keeps_phase cs)) [
       | inl all ↦
           let keeps : list_all (keeps_time end) cs ≡ true = all-from (keeps_time end) cs (λ k c at. and_from (keeps_phase c) (sleeps_past end c) (each-of keeps_phase cs all k c at) (sleeps k c at)) in
-          let runs : list_all (runs_past end cs) a.lanes ≡ true = all-from (runs_past end cs) a.lanes (λ k l at. runs-of end k a l low homes none (each-of keeps_phase cs all) at) in
-          and_from (list_all (keeps_time end) cs && list_all (runs_past end cs) a.lanes) (list_all (rests_past end) a.lanes) (and_from (list_all (keeps_time end) cs) (list_all (runs_past end cs) a.lanes) keeps runs) rests ∙ sym all
+          let runs : list_all (runs_past end cs) a.by_processor ≡ true = all-from (runs_past end cs) a.by_processor (λ k l at. runs-of end k a l low homes none (each-of keeps_phase cs all) at) in
+          and_from (list_all (keeps_time end) cs && list_all (runs_past end cs) a.by_processor) (list_all (rests_past end) a.by_processor) (and_from (list_all (keeps_time end) cs) (list_all (runs_past end cs) a.by_processor) keeps runs) rests ∙ sym all
       | inr some ↦
           let same : list_all (keeps_time end) cs ≡ false = keeps-none end cs some in
-          and_left (list_all (keeps_time end) cs && list_all (runs_past end cs) a.lanes) (list_all (rests_past end) a.lanes) (and_left (list_all (keeps_time end) cs) (list_all (runs_past end cs) a.lanes) same) ∙ sym some
+          and_left (list_all (keeps_time end) cs && list_all (runs_past end cs) a.by_processor) (list_all (rests_past end) a.by_processor) (and_left (list_all (keeps_time end) cs) (list_all (runs_past end cs) a.by_processor) same) ∙ sym some
     ]

@@ -2,23 +2,23 @@
 use Rattle.std.specs.Prelude.{◌≡◌, ℕ, ◌+◌, ◌-◌, ◌==◌, Bool, true, false, ◌&&◌, if◌then◌else◌, List, [], nat_lt, replicate, Option, Some, None, option_map, slice_get, slice_set, unwrap_or}
 use Rattle.std.specs.List.{list_all}
 use Rattle.std.specs.Option.{option_map_or}
-use Rattle.bq_workload.specs.declared.course.Course.{Course}
-use Rattle.bq_workload.specs.declared.lane.Lane.{Lane}
-use Rattle.bq_workload.specs.declared.roster.Pace.{Pace}
+use Rattle.bq_workload.specs.declared.progress.TaskProgress.{TaskProgress}
+use Rattle.bq_workload.specs.declared.processor_state.ProcessorState.{ProcessorState}
+use Rattle.bq_workload.specs.declared.roster.Periods.{Periods}
 use Rattle.bq_workload.specs.declared.roster.Roster.{Roster}
-use Rattle.bq_workload.specs.Courses.{run_for, moved_to, lacks_more, keeps_time}
+use Rattle.bq_workload.specs.TaskProgress.{run_for, moved_to, lacks_more, keeps_time}
 use Rattle.bq_workload.specs.Dues.{next_multiple}
 
 -- how far each task has come, and what each processor runs
 pub record Accounts : Type 0 where
-  pub courses : List Course
-  pub lanes : List Lane
+  pub by_task : List TaskProgress
+  pub by_processor : List ProcessorState
 
 abbrev pub accounts_of : Roster → Accounts
-accounts_of r = record { courses = r.courses.items; lanes = r.lanes.items }
+accounts_of r = record { by_task = r.by_task.items; by_processor = r.by_processor.items }
 
 -- a processor that runs nothing, does not tick, and looks for a task to pull then, where it looks at all
-abbrev pub at_rest : Option ℕ → Lane
+abbrev pub at_rest : Option ℕ → ProcessorState
 at_rest look = record { run = None; since = 0; size = 0; tick = None; look = look }
 
 -- when each of so many processors looks first, by the time between two looks; one alone never looks
@@ -27,48 +27,48 @@ first_look processors balance = if nat_lt processors 2 then None else Some (next
 
 -- no task is there, and so many processors run nothing
 abbrev pub opening : ℕ → ℕ → Accounts
-opening processors balance = record { courses = []; lanes = replicate processors (at_rest (first_look processors balance)) }
+opening processors balance = record { by_task = []; by_processor = replicate processors (at_rest (first_look processors balance)) }
 
 -- what stands at a place is changed
 abbrev pub changed_at : {A : Type 0} → (A → A) → List A → ℕ → List A
 changed_at f xs n = option_map_or (λ x. slice_set xs n (f x)) (slice_get xs n) xs
 
 -- a task has come further
-abbrev pub of_task : (Course → Course) → ℕ → Accounts → Accounts
-of_task f task a = record a { courses = changed_at f a.courses task }
+abbrev pub of_task : (TaskProgress → TaskProgress) → ℕ → Accounts → Accounts
+of_task f task a = record a { by_task = changed_at f a.by_task task }
 
 -- a processor has changed
-abbrev pub of_processor : (Lane → Lane) → ℕ → Accounts → Accounts
-of_processor f processor a = record a { lanes = changed_at f a.lanes processor }
+abbrev pub of_processor : (ProcessorState → ProcessorState) → ℕ → Accounts → Accounts
+of_processor f processor a = record a { by_processor = changed_at f a.by_processor processor }
 
 -- the task that runs there, if one does, has run since its time was counted last
-abbrev pub charged_by : Lane → ℕ → Accounts → Accounts
-charged_by lane now a = option_map_or (λ task. of_task (run_for (now - lane.since)) task a) lane.run a
+abbrev pub charged_by : ProcessorState → ℕ → Accounts → Accounts
+charged_by processor_state now a = option_map_or (λ task. of_task (run_for (now - processor_state.since)) task a) processor_state.run a
 
 abbrev pub charged : ℕ → ℕ → Accounts → Accounts
 charged processor now a =
-    option_map_or (λ (lane : Lane). of_processor (λ l. record l { since = now }) processor (charged_by lane now a)) (slice_get a.lanes processor) a
+    option_map_or (λ (processor_state : ProcessorState). of_processor (λ l. record l { since = now }) processor (charged_by processor_state now a)) (slice_get a.by_processor processor) a
 
 -- the task runs there, and has got just what its phase takes
-pub record IsDone (a : Accounts) (processor task : ℕ) (c : Course) : Type 0 where
-  pub lane : Lane
-  pub at : slice_get a.lanes processor ≡ Some lane
-  pub runs : lane.run ≡ Some task
-  pub there : slice_get a.courses task ≡ Some c
+pub record IsDone (a : Accounts) (processor task : ℕ) (c : TaskProgress) : Type 0 where
+  pub processor_state : ProcessorState
+  pub at : slice_get a.by_processor processor ≡ Some processor_state
+  pub runs : processor_state.run ≡ Some task
+  pub there : slice_get a.by_task task ≡ Some c
   pub done : c.got ≡ c.due
 
 -- nothing runs there from now on: it has no tick, and looks for a task at once, where it looks at all
-abbrev pub idled : ℕ → Lane → Lane
+abbrev pub idled : ℕ → ProcessorState → ProcessorState
 idled now l = record l { run = None; tick = None; look = option_map (λ _. now) l.look }
 
 -- a task runs there from now on; where none ran it ticks next at the next multiple of the time between two ticks
-abbrev pub occupied : ℕ → ℕ → ℕ → Lane → Lane
+abbrev pub occupied : ℕ → ℕ → ℕ → ProcessorState → ProcessorState
 occupied tick task now l = record l { run = Some task; since = now; tick = Some (unwrap_or l.tick (next_multiple tick now)) }
 
 -- from now on this task runs at a processor, or none does
-abbrev pub taken_over : ℕ → Option ℕ → ℕ → Pace → Accounts → Accounts
-taken_over processor None now pace a = of_processor (idled now) processor a
-taken_over processor (Some task) now pace a = of_task (moved_to processor pace.migration_cost) task (of_processor (occupied pace.tick task now) processor a)
+abbrev pub taken_over : ℕ → Option ℕ → ℕ → Periods → Accounts → Accounts
+taken_over processor None now periods a = of_processor (idled now) processor a
+taken_over processor (Some task) now periods a = of_task (moved_to processor periods.migration_cost) task (of_processor (occupied periods.tick task now) processor a)
 
 abbrev pub is_same : Option ℕ → Option ℕ → Bool
 is_same None None = true
@@ -76,9 +76,9 @@ is_same (Some m) (Some n) = m == n
 is_same m n = false
 
 -- so says an answer: if another ran before, that has its time
-abbrev pub switched : ℕ → Option ℕ → ℕ → Pace → Accounts → Accounts
-switched processor run now pace a =
-    option_map_or (λ (lane : Lane). if is_same lane.run run then a else taken_over processor run now pace (charged processor now a)) (slice_get a.lanes processor) a
+abbrev pub switched : ℕ → Option ℕ → ℕ → Periods → Accounts → Accounts
+switched processor run now periods a =
+    option_map_or (λ (processor_state : ProcessorState). if is_same processor_state.run run then a else taken_over processor run now periods (charged processor now a)) (slice_get a.by_processor processor) a
 
 -- a processor has one task less
 abbrev pub shrunk : ℕ → Accounts → Accounts
@@ -89,12 +89,12 @@ abbrev pub grown : ℕ → ℕ → Accounts → Accounts
 grown processor count a = of_processor (λ l. record l { size = l.size + count }) processor a
 
 -- the task that ran has gone from the queue, and another runs, or none
-abbrev pub left_by : ℕ → Option ℕ → ℕ → Pace → Accounts → Accounts
-left_by processor run now pace a = switched processor run now pace (shrunk processor a)
+abbrev pub left_by : ℕ → Option ℕ → ℕ → Periods → Accounts → Accounts
+left_by processor run now periods a = switched processor run now periods (shrunk processor a)
 
 -- so many tasks have entered a queue
-abbrev pub entered_by : ℕ → ℕ → Option ℕ → ℕ → Pace → Accounts → Accounts
-entered_by processor count run now pace a = switched processor run now pace (grown processor count a)
+abbrev pub entered_by : ℕ → ℕ → Option ℕ → ℕ → Periods → Accounts → Accounts
+entered_by processor count run now periods a = switched processor run now periods (grown processor count a)
 
 -- a task has gone from one queue to another
 abbrev pub passed : ℕ → ℕ → Accounts → Accounts
@@ -102,9 +102,9 @@ passed from to a = grown to 1 (shrunk from a)
 
 -- a processor ticks next at this instant
 pub record TicksAt (a : Accounts) (processor now : ℕ) : Type 0 where
-  pub lane : Lane
-  pub at : slice_get a.lanes processor ≡ Some lane
-  pub tick : lane.tick ≡ Some now
+  pub processor_state : ProcessorState
+  pub at : slice_get a.by_processor processor ≡ Some processor_state
+  pub tick : processor_state.tick ≡ Some now
 
 -- its clock beats: it ticks next at the next multiple of the time between two ticks
 abbrev pub beaten : ℕ → ℕ → ℕ → Accounts → Accounts
@@ -112,17 +112,17 @@ beaten processor now tick a = of_processor (λ l. record l { tick = Some (next_m
 
 -- a processor looks next at this instant for a task to pull
 pub record LooksAt (a : Accounts) (processor now : ℕ) : Type 0 where
-  pub lane : Lane
-  pub at : slice_get a.lanes processor ≡ Some lane
-  pub look : lane.look ≡ Some now
+  pub processor_state : ProcessorState
+  pub at : slice_get a.by_processor processor ≡ Some processor_state
+  pub look : processor_state.look ≡ Some now
 
 -- it looks: it does so next at the next multiple of the time between two looks
 abbrev pub looked : ℕ → ℕ → ℕ → Accounts → Accounts
 looked processor now balance a = of_processor (λ l. record l { look = Some (next_multiple balance now) }) processor a
 
 -- the phase of the task that runs there, if one does, ends after the end: it has come so far, and its time is counted until an instant
-abbrev pub runs_past : ℕ → List Course → Lane → Bool
-runs_past end courses lane = option_map_or (λ task. option_map_or (lacks_more lane.since end) (slice_get courses task) false) lane.run true
+abbrev pub runs_past : ℕ → List TaskProgress → ProcessorState → Bool
+runs_past end by_task processor_state = option_map_or (λ task. option_map_or (lacks_more processor_state.since end) (slice_get by_task task) false) processor_state.run true
 
 -- what comes at a time, if it comes, comes after the end
 abbrev pub is_past : ℕ → Option ℕ → Bool
@@ -130,10 +130,10 @@ is_past end None = true
 is_past end (Some time) = nat_lt end time
 
 -- a processor neither ticks nor looks for a task until the end
-abbrev pub rests_past : ℕ → Lane → Bool
-rests_past end lane = is_past end lane.tick && is_past end lane.look
+abbrev pub rests_past : ℕ → ProcessorState → Bool
+rests_past end processor_state = is_past end processor_state.tick && is_past end processor_state.look
 
 -- no task has run past its phase; until the end no timer wakes one any more, no phase of a task that runs ends, and no processor ticks
 -- or looks for a task to pull
 abbrev pub is_over : ℕ → Accounts → Bool
-is_over end a = list_all (keeps_time end) a.courses && list_all (runs_past end a.courses) a.lanes && list_all (rests_past end) a.lanes
+is_over end a = list_all (keeps_time end) a.by_task && list_all (runs_past end a.by_task) a.by_processor && list_all (rests_past end) a.by_processor

@@ -1,10 +1,10 @@
 -- What comes due, when, and its place in the order of one instant.
 use Rattle.std.specs.Prelude.{◌≡◌, ℕ, ◌+◌, ◌-◌, ◌*◌, ◌/◌, ◌^◌, ◌<◌, ◌≤◌, ◌==◌, ◌&&◌, min, nat_lt, nat_le, List, Option, Some, None, slice_get, if◌then◌else◌}
 use Rattle.std.specs.Option.{option_map_or}
-use Rattle.bq_workload.specs.declared.course.Course.{Course}
+use Rattle.bq_workload.specs.declared.progress.TaskProgress.{TaskProgress}
 use Rattle.bq_workload.specs.declared.due.Due.{Due}
 use Rattle.bq_workload.specs.declared.due.Due.TheVariants.{End, Wake, Tick, Pull}
-use Rattle.bq_workload.specs.declared.lane.Lane.{Lane}
+use Rattle.bq_workload.specs.declared.processor_state.ProcessorState.{ProcessorState}
 use Rattle.bq_workload.specs.Minima.{at_place, never, number_of, ChangesOnly}
 
 -- processors have numbers below 64, and tasks below 1024
@@ -54,32 +54,32 @@ look_of processors time place = if nat_le (place_of (Pull 0)) place && nat_lt pl
 
 -- each of so many processors looks for a task then, if ever, and nothing else comes due
 abbrev pub AreLooks : ℕ → Option ℕ → List ℕ → Type 0
-AreLooks processors time agenda = (place : ℕ) → place < 2048 → at_place agenda place ≡ number_of place (look_of processors time place)
+AreLooks processors time event_queue = (place : ℕ) → place < 2048 → at_place event_queue place ≡ number_of place (look_of processors time place)
 
 -- when a task that runs from now on has got what its phase takes, as far as 64 bits count
-abbrev pub end_of : ℕ → Course → ℕ
+abbrev pub end_of : ℕ → TaskProgress → ℕ
 end_of now c = min (now + (c.due - c.got)) (2 ^ 64 - 1)
 
 -- how many tasks a processor has; none where there is no such processor
-abbrev pub size_at : List Lane → ℕ → ℕ
-size_at lanes processor = option_map_or (λ (lane : Lane). lane.size) (slice_get lanes processor) 0
+abbrev pub size_at : List ProcessorState → ℕ → ℕ
+size_at by_processor processor = option_map_or (λ (processor_state : ProcessorState). processor_state.size) (slice_get by_processor processor) 0
 
 -- of so many processors this one has the most tasks, and more than one; of those that have as many it is the first
-pub record IsLargest (lanes : List Lane) (count processor : ℕ) : Type 0 where
+pub record IsLargest (by_processor : List ProcessorState) (count processor : ℕ) : Type 0 where
   pub within : processor < count
-  pub several : 1 < size_at lanes processor
-  pub most : (other : ℕ) → other < count → size_at lanes other ≤ size_at lanes processor
-  pub first : (other : ℕ) → other < processor → size_at lanes other < size_at lanes processor
+  pub several : 1 < size_at by_processor processor
+  pub most : (other : ℕ) → other < count → size_at by_processor other ≤ size_at by_processor processor
+  pub first : (other : ℕ) → other < processor → size_at by_processor other < size_at by_processor processor
 
 -- the largest of so many processors; none where no one has more than one task
-abbrev pub HasLargest : List Lane → ℕ → Option ℕ → Type 0
-HasLargest lanes count None = (processor : ℕ) → processor < count → size_at lanes processor ≤ 1
-HasLargest lanes count (Some processor) = IsLargest lanes count processor
+abbrev pub HasLargest : List ProcessorState → ℕ → Option ℕ → Type 0
+HasLargest by_processor count None = (processor : ℕ) → processor < count → size_at by_processor processor ≤ 1
+HasLargest by_processor count (Some processor) = IsLargest by_processor count processor
 
 -- the largest of so many processors and the next, where that of the others is known
-abbrev pub larger : List Lane → Option ℕ → ℕ → Option ℕ
-larger lanes None next = if nat_lt 1 (size_at lanes next) then Some next else None
-larger lanes (Some best) next = if nat_lt (size_at lanes best) (size_at lanes next) then Some next else Some best
+abbrev pub larger : List ProcessorState → Option ℕ → ℕ → Option ℕ
+larger by_processor None next = if nat_lt 1 (size_at by_processor next) then Some next else None
+larger by_processor (Some best) next = if nat_lt (size_at by_processor best) (size_at by_processor next) then Some next else Some best
 
 -- from another processor than this, or from none
 abbrev pub other_than : ℕ → Option ℕ → Option ℕ
@@ -87,7 +87,7 @@ other_than processor None = None
 other_than processor (Some other) = if other == processor then None else Some other
 
 -- from which processor this one pulls a task: from the largest, if that is another
-pub record IsSource (lanes : List Lane) (processor : ℕ) (source : Option ℕ) : Type 0 where
+pub record IsSource (by_processor : List ProcessorState) (processor : ℕ) (source : Option ℕ) : Type 0 where
   pub largest : Option ℕ
-  pub has : HasLargest lanes 64 largest
+  pub has : HasLargest by_processor 64 largest
   pub other : source ≡ other_than processor largest

@@ -2,7 +2,7 @@ pub mod Lengths
 pub mod Streams
 pub mod Draws
 pub mod Laws
-pub mod Courses
+pub mod TaskProgress
 pub mod Accounts
 pub mod Dues
 pub mod Minima

@@ -1,32 +1,32 @@
--- What comes next by the accounts, and an agenda that agrees with them.
+-- What comes next by the accounts, and an event queue that agrees with them.
 use Rattle.std.specs.Prelude.{◌≡◌, ℕ, ◌<◌, ◌⊎◌, false, Bool, List, Option, None, Some, option_and_then, slice_get}
 use Rattle.std.specs.Option.{option_map_or}
-use Rattle.bq_workload.specs.declared.course.Course.{Course}
-use Rattle.bq_workload.specs.declared.course.Stance.{Stance}
-use Rattle.bq_workload.specs.declared.course.Stance.TheVariants.{Asleep}
+use Rattle.bq_workload.specs.declared.progress.TaskProgress.{TaskProgress}
+use Rattle.bq_workload.specs.declared.progress.TaskState.{TaskState}
+use Rattle.bq_workload.specs.declared.progress.TaskState.TheVariants.{Asleep}
 use Rattle.bq_workload.specs.declared.due.Due.{Due}
 use Rattle.bq_workload.specs.declared.due.Due.TheVariants.{End, Wake, Tick, Pull}
-use Rattle.bq_workload.specs.declared.lane.Lane.{Lane}
+use Rattle.bq_workload.specs.declared.processor_state.ProcessorState.{ProcessorState}
 use Rattle.bq_workload.specs.declared.roster.Roster.{Roster}
 use Rattle.bq_workload.specs.Accounts.{Accounts, accounts_of, is_same}
 use Rattle.bq_workload.specs.Dues.{IsDue, end_of, place_of, until}
 use Rattle.bq_workload.specs.Minima.{at_place, number_of}
 
 -- when a phase ends: when the task that runs there, if one does, has got what is left of it
-abbrev pub ends_at : ℕ → List Course → Lane → Option ℕ
-ends_at end courses lane = option_and_then (λ task. option_and_then (λ c. until end (end_of lane.since c)) (slice_get courses task)) lane.run
+abbrev pub ends_at : ℕ → List TaskProgress → ProcessorState → Option ℕ
+ends_at end by_task processor_state = option_and_then (λ task. option_and_then (λ c. until end (end_of processor_state.since c)) (slice_get by_task task)) processor_state.run
 
 -- when a timer rings: that of a task that sleeps by one
-abbrev pub rings_at : ℕ → Stance → ℕ → Option ℕ
+abbrev pub rings_at : ℕ → TaskState → ℕ → Option ℕ
 rings_at end Asleep timer = until end timer
-rings_at end stance timer = None
+rings_at end task_state timer = None
 
 -- when this comes by the accounts, if it does until the end
 abbrev pub comes_at : ℕ → Accounts → Due → Option ℕ
-comes_at end a (End processor) = option_and_then (ends_at end a.courses) (slice_get a.lanes processor)
-comes_at end a (Wake task) = option_and_then (λ c. rings_at end c.stance c.timer) (slice_get a.courses task)
-comes_at end a (Tick processor) = option_and_then (λ lane. option_and_then (until end) lane.tick) (slice_get a.lanes processor)
-comes_at end a (Pull processor) = option_and_then (λ lane. option_and_then (until end) lane.look) (slice_get a.lanes processor)
+comes_at end a (End processor) = option_and_then (ends_at end a.by_task) (slice_get a.by_processor processor)
+comes_at end a (Wake task) = option_and_then (λ c. rings_at end c.task_state c.timer) (slice_get a.by_task task)
+comes_at end a (Tick processor) = option_and_then (λ processor_state. option_and_then (until end) processor_state.tick) (slice_get a.by_processor processor)
+comes_at end a (Pull processor) = option_and_then (λ processor_state. option_and_then (until end) processor_state.look) (slice_get a.by_processor processor)
 
 -- this, which comes then, is before another thing: it comes at an earlier instant, or at the same with a lesser place
 abbrev pub IsBefore : ℕ → Due → ℕ → Due → Type 0
@@ -41,40 +41,40 @@ pub record IsNext (end : ℕ) (a : Accounts) (due : Due) (time : ℕ) : Type 0 w
 abbrev pub NothingComes : ℕ → Accounts → Type 0
 NothingComes end a = (due : Due) → comes_at end a due ≡ None
 
--- of this thing an agenda says when it comes by the accounts, and only what may be due comes
-pub record AgreesAt (end : ℕ) (a : Accounts) (agenda : List ℕ) (due : Due) : Type 0 where
-  pub at : IsDue due → at_place agenda (place_of due) ≡ number_of (place_of due) (comes_at end a due)
+-- of this thing an event queue says when it comes by the accounts, and only what may be due comes
+pub record AgreesAt (end : ℕ) (a : Accounts) (event_queue : List ℕ) (due : Due) : Type 0 where
+  pub at : IsDue due → at_place event_queue (place_of due) ≡ number_of (place_of due) (comes_at end a due)
   pub there : (time : ℕ) → comes_at end a due ≡ Some time → IsDue due
 
 -- a task that runs at a processor ran there last
 pub record HasHome (a : Accounts) (task processor : ℕ) : Type 0 where
-  pub course : Course
-  pub there : slice_get a.courses task ≡ Some course
-  pub home : course.home ≡ processor
+  pub progress : TaskProgress
+  pub there : slice_get a.by_task task ≡ Some progress
+  pub home : progress.home ≡ processor
 
 -- each task that runs somewhere ran there last: so it runs at one processor alone
 abbrev pub HaveHomes : Accounts → Type 0
-HaveHomes a = (processor task : ℕ) (lane : Lane) → slice_get a.lanes processor ≡ Some lane → lane.run ≡ Some task → HasHome a task processor
+HaveHomes a = (processor task : ℕ) (processor_state : ProcessorState) → slice_get a.by_processor processor ≡ Some processor_state → processor_state.run ≡ Some task → HasHome a task processor
 
--- an agenda says of each thing when it comes by the accounts, in which no task runs at two processors
-pub record Agrees (end : ℕ) (a : Accounts) (agenda : List ℕ) : Type 0 where
-  pub all : (due : Due) → AgreesAt end a agenda due
+-- an event queue says of each thing when it comes by the accounts, in which no task runs at two processors
+pub record Agrees (end : ℕ) (a : Accounts) (event_queue : List ℕ) : Type 0 where
+  pub all : (due : Due) → AgreesAt end a event_queue due
   pub homes : HaveHomes a
 
--- the agenda of a roster agrees with its accounts
+-- the event queue of a roster agrees with its accounts
 abbrev pub IsAgreed : Roster → Type 0
-IsAgreed r = Agrees r.pace.end (accounts_of r) r.agenda
+IsAgreed r = Agrees r.periods.end (accounts_of r) r.event_queue
 
 -- where it agreed with them it does so afterwards
 abbrev pub StaysAgreed : Roster → Roster → Type 0
 StaysAgreed old new = IsAgreed old → IsAgreed new
 
 -- whether a task runs at a processor
-abbrev pub runs_at : List Lane → ℕ → ℕ → Bool
-runs_at lanes processor task = option_map_or (λ (lane : Lane). is_same lane.run (Some task)) (slice_get lanes processor) false
+abbrev pub runs_at : List ProcessorState → ℕ → ℕ → Bool
+runs_at by_processor processor task = option_map_or (λ (processor_state : ProcessorState). is_same processor_state.run (Some task)) (slice_get by_processor processor) false
 
 -- a task does not run where it ran last
 pub record Rests (a : Accounts) (task : ℕ) : Type 0 where
-  pub course : Course
-  pub there : slice_get a.courses task ≡ Some course
-  pub still : runs_at a.lanes course.home task ≡ false
+  pub progress : TaskProgress
+  pub there : slice_get a.by_task task ≡ Some progress
+  pub still : runs_at a.by_processor progress.home task ≡ false

@@ -6,7 +6,7 @@ ghost use Rattle.bq_workload.specs.Next.{StaysAgreed};
 ghost use Rattle.bq_workload.specs.Plans.{PlansLook, PlansTick};
 
 use crate::Due;
-use crate::roster::{Astray, Roster};
+use crate::roster::{BrokenInvariant, Roster};
 use bq_disc::limits::PROCESSORS;
 
 /// When each of so many processors looks first for a task to pull; one alone never looks.
@@ -17,33 +17,33 @@ pub(crate) fn first_look(processors: u8, balance: u64) -> Option<u64>
 }
 
 /// The first multiple of the time between two things that comes after an instant.
-fn next_after(now: u64, between: u64) -> Result<u64, Astray>
+fn next_after(now: u64, between: u64) -> Result<u64, BrokenInvariant>
     ensures next { IfOk result (λ next. next ≡ next_multiple between now) }
     ensures stray { IfErr result (λ _. (between ≡ 0) ⊎ (2 ^ 64 ≤ next_multiple between now)) }
 {
     if between == 0 {
-        return Err(Astray);
+        return Err(BrokenInvariant);
     }
     let past = now / between * between;
-    past.checked_add(between).ok_or(Astray)
+    past.checked_add(between).ok_or(BrokenInvariant)
 }
 
 impl Roster {
     /// The clock of a processor beats, which is to tick just now. Its next tick is planned.
-    pub fn beat(&mut self, processor: u8, now: u64) -> Result<(), Astray>
+    pub fn beat(&mut self, processor: u8, now: u64) -> Result<(), BrokenInvariant>
         ensures due { OnOk result (TicksAt (accounts_of self.old) processor now) }
-        ensures accounts { OnOk result (accounts_of self.new ≡ beaten processor now self.old.pace.tick (accounts_of self.old)) }
-        ensures planned { OnOk result (IsPlanned self.old.pace.end (Due.Tick processor) (next_multiple self.old.pace.tick now) self.old.agenda self.new.agenda) }
+        ensures accounts { OnOk result (accounts_of self.new ≡ beaten processor now self.old.periods.tick (accounts_of self.old)) }
+        ensures planned { OnOk result (IsPlanned self.old.periods.end (Due.Tick processor) (next_multiple self.old.periods.tick now) self.old.event_queue self.new.event_queue) }
         ensures agrees { OnOk result (StaysAgreed self.old self.new) }
-        ensures pace { self.new.pace ≡ self.old.pace }
+        ensures periods { self.new.periods ≡ self.old.periods }
     {
-        let mut lane = self.lane(processor)?;
-        if lane.tick != Some(now) {
-            return Err(Astray);
+        let mut processor_state = self.processor_state(processor)?;
+        if processor_state.tick != Some(now) {
+            return Err(BrokenInvariant);
         }
         let next = self.plan_tick(processor, now)?;
-        lane.tick = Some(next);
-        self.set_lane(processor, lane)
+        processor_state.tick = Some(next);
+        self.set_processor_state(processor, processor_state)
     }
 
     /// When a processor that runs something from now on ticks next: then, or if it has no tick yet, at one that is planned.
@@ -52,12 +52,12 @@ impl Roster {
         processor: u8,
         tick: Option<u64>,
         now: u64,
-    ) -> Result<u64, Astray>
-        ensures next { IfOk result (λ next. next ≡ unwrap_or tick (next_multiple self.old.pace.tick now)) }
-        ensures plans { OnOk result (PlansTick self.old.pace processor now tick self.old.agenda self.new.agenda) }
-        ensures courses { self.new.courses ≡ self.old.courses }
-        ensures lanes { self.new.lanes ≡ self.old.lanes }
-        ensures pace { self.new.pace ≡ self.old.pace }
+    ) -> Result<u64, BrokenInvariant>
+        ensures next { IfOk result (λ next. next ≡ unwrap_or tick (next_multiple self.old.periods.tick now)) }
+        ensures plans { OnOk result (PlansTick self.old.periods processor now tick self.old.event_queue self.new.event_queue) }
+        ensures by_task { self.new.by_task ≡ self.old.by_task }
+        ensures by_processor { self.new.by_processor ≡ self.old.by_processor }
+        ensures periods { self.new.periods ≡ self.old.periods }
     {
         match tick {
             Some(tick) => Ok(tick),
@@ -71,11 +71,11 @@ impl Roster {
         processor: u8,
         look: Option<u64>,
         now: u64,
-    ) -> Result<(), Astray>
-        ensures plans { OnOk result (PlansLook self.old.pace processor now look self.old.agenda self.new.agenda) }
-        ensures courses { self.new.courses ≡ self.old.courses }
-        ensures lanes { self.new.lanes ≡ self.old.lanes }
-        ensures pace { self.new.pace ≡ self.old.pace }
+    ) -> Result<(), BrokenInvariant>
+        ensures plans { OnOk result (PlansLook self.old.periods processor now look self.old.event_queue self.new.event_queue) }
+        ensures by_task { self.new.by_task ≡ self.old.by_task }
+        ensures by_processor { self.new.by_processor ≡ self.old.by_processor }
+        ensures periods { self.new.periods ≡ self.old.periods }
     {
         match look {
             Some(_) => self.plan(Due::Pull(processor), now),
@@ -84,44 +84,44 @@ impl Roster {
     }
 
     /// The next tick of a processor is planned. When it is.
-    fn plan_tick(&mut self, processor: u8, now: u64) -> Result<u64, Astray>
-        ensures next { IfOk result (λ next. next ≡ next_multiple self.old.pace.tick now) }
-        ensures planned { OnOk result (IsPlanned self.old.pace.end (Due.Tick processor) (next_multiple self.old.pace.tick now) self.old.agenda self.new.agenda) }
-        ensures courses { self.new.courses ≡ self.old.courses }
-        ensures lanes { self.new.lanes ≡ self.old.lanes }
-        ensures pace { self.new.pace ≡ self.old.pace }
-        ensures stray { IfErr result (λ _. (64 ≤ processor) ⊎ (self.old.pace.tick ≡ 0) ⊎ (2 ^ 64 ≤ next_multiple self.old.pace.tick now)) }
+    fn plan_tick(&mut self, processor: u8, now: u64) -> Result<u64, BrokenInvariant>
+        ensures next { IfOk result (λ next. next ≡ next_multiple self.old.periods.tick now) }
+        ensures planned { OnOk result (IsPlanned self.old.periods.end (Due.Tick processor) (next_multiple self.old.periods.tick now) self.old.event_queue self.new.event_queue) }
+        ensures by_task { self.new.by_task ≡ self.old.by_task }
+        ensures by_processor { self.new.by_processor ≡ self.old.by_processor }
+        ensures periods { self.new.periods ≡ self.old.periods }
+        ensures stray { IfErr result (λ _. (64 ≤ processor) ⊎ (self.old.periods.tick ≡ 0) ⊎ (2 ^ 64 ≤ next_multiple self.old.periods.tick now)) }
     {
-        let next = next_after(now, self.pace.tick)?;
+        let next = next_after(now, self.periods.tick)?;
         self.plan(Due::Tick(processor), next)?;
         Ok(next)
     }
 
     /// A processor looks for a task to pull, which is to look just now: from where it pulls one, if from anywhere. Its next look
     /// is planned.
-    pub fn look(&mut self, processor: u8, now: u64) -> Result<Option<u8>, Astray>
+    pub fn look(&mut self, processor: u8, now: u64) -> Result<Option<u8>, BrokenInvariant>
         ensures due { OnOk result (LooksAt (accounts_of self.old) processor now) }
-        ensures source { IfOk result (λ source. IsSource self.old.lanes.items processor source) }
-        ensures accounts { OnOk result (accounts_of self.new ≡ looked processor now self.old.pace.balance (accounts_of self.old)) }
-        ensures planned { OnOk result (IsPlanned self.old.pace.end (Due.Pull processor) (next_multiple self.old.pace.balance now) self.old.agenda self.new.agenda) }
+        ensures source { IfOk result (λ source. IsSource self.old.by_processor.items processor source) }
+        ensures accounts { OnOk result (accounts_of self.new ≡ looked processor now self.old.periods.balance (accounts_of self.old)) }
+        ensures planned { OnOk result (IsPlanned self.old.periods.end (Due.Pull processor) (next_multiple self.old.periods.balance now) self.old.event_queue self.new.event_queue) }
         ensures agrees { OnOk result (StaysAgreed self.old self.new) }
-        ensures pace { self.new.pace ≡ self.old.pace }
+        ensures periods { self.new.periods ≡ self.old.periods }
     {
-        let mut lane = self.lane(processor)?;
-        if lane.look != Some(now) {
-            return Err(Astray);
+        let mut processor_state = self.processor_state(processor)?;
+        if processor_state.look != Some(now) {
+            return Err(BrokenInvariant);
         }
         let source = self.source(processor);
-        let next = next_after(now, self.pace.balance)?;
+        let next = next_after(now, self.periods.balance)?;
         self.plan(Due::Pull(processor), next)?;
-        lane.look = Some(next);
-        self.set_lane(processor, lane)?;
+        processor_state.look = Some(next);
+        self.set_processor_state(processor, processor_state)?;
         Ok(source)
     }
 
     /// From which processor this one pulls a task: from the largest, if that is another.
     fn source(&self, processor: u8) -> Option<u8>
-        ensures { IsSource self.now.lanes.items processor result }
+        ensures { IsSource self.now.by_processor.items processor result }
     {
         match self.largest() {
             Some(other) if other != processor => Some(other),
@@ -131,7 +131,7 @@ impl Roster {
 
     /// The processor with the most tasks, the least number where several have, unless it has less than two.
     pub fn largest(&self) -> Option<u8>
-        ensures { HasLargest self.now.lanes.items 64 result }
+        ensures { HasLargest self.now.by_processor.items 64 result }
     {
         let mut best: Option<u8> = None;
         'processors: for processor in 0..PROCESSORS {
@@ -142,7 +142,7 @@ impl Roster {
 
     /// The largest of so many processors and the next, where that of the others is known.
     fn larger(&self, best: Option<u8>, next: u8) -> Option<u8>
-        ensures { result ≡ larger self.now.lanes.items best next }
+        ensures { result ≡ larger self.now.by_processor.items best next }
     {
         let most = match best {
             Some(best) => self.size_at(best),
@@ -157,10 +157,10 @@ impl Roster {
 
     /// How many tasks a processor has; none where there is no such processor.
     fn size_at(&self, processor: u8) -> u32
-        ensures { result ≡ size_at self.now.lanes.items processor }
+        ensures { result ≡ size_at self.now.by_processor.items processor }
     {
-        match self.lanes.get(usize::from(processor)) {
-            Some(lane) => lane.size,
+        match self.by_processor.get(usize::from(processor)) {
+            Some(processor_state) => processor_state.size,
             None => 0,
         }
     }

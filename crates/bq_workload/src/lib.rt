@@ -6,13 +6,13 @@
 #![tactic(auto)]
 
 pub mod action;
-pub mod agenda;
+pub mod event_queue;
 pub mod bound;
 pub mod clocks;
-pub mod course;
+pub mod progress;
 pub mod due;
 pub mod exponential;
-pub mod lane;
+pub mod processor_state;
 pub mod laws;
 pub mod limits;
 pub mod roster;
@@ -23,12 +23,12 @@ pub mod switching;
 pub mod workload;
 
 pub use action::{Action, Length, take_time};
-pub use agenda::Agenda;
+pub use event_queue::EventQueue;
 pub use bound::most_steps;
-pub use course::{Course, Stance};
+pub use progress::{TaskProgress, TaskState};
 pub use due::Due;
-pub use lane::Lane;
-pub use roster::{Astray, Pace, Roster};
+pub use processor_state::ProcessorState;
+pub use roster::{BrokenInvariant, Periods, Roster};
 pub use setup::Setup;
 pub use sound::{Unsound, first_of_mask, soundness};
 pub use stream::Stream;

@@ -1,17 +1,17 @@
 //! All tasks and processors of a simulation.
 ghost use Rattle.std.specs.Prelude.{◌≡◌, ℕ, ◌<◌, ◌≤◌, ◌⊎◌, ◌^◌, ◌++◌, [], ◌∷◌, min, None, Some, IfOk, IfErr, IfSome, MatchOption, OnOk, option_and_then, slice_get, slice_set, length};
 ghost use Rattle.std.specs.List.{list_all};
-ghost use Rattle.bq_workload.specs.Courses.{keeps_phase, keeps_time, woken};
+ghost use Rattle.bq_workload.specs.TaskProgress.{keeps_phase, keeps_time, woken};
 ghost use Rattle.bq_workload.specs.Accounts.{accounts_of, charged, first_look, IsDone, is_over, of_task, opening, rests_past, runs_past};
 ghost use Rattle.bq_workload.specs.Dues.{AreLooks, IsDropped, IsDue, IsPlanned, due_at, end_of, place_of, until};
 ghost use Rattle.bq_workload.specs.Minima.{AreNever, IsFirst};
 ghost use Rattle.bq_workload.specs.Next.{HaveHomes, IsAgreed, IsNext, NothingComes, Rests, StaysAgreed, runs_at};
-ghost use Rattle.bq_workload.specs.Plans.{PlansCourse, PlansTimer};
+ghost use Rattle.bq_workload.specs.Plans.{PlansProgress, PlansTimer};
 
 use crate::clocks::first_look;
-use crate::course::{Course, Stance};
-use crate::lane::Lane;
-use crate::{Agenda, Due};
+use crate::progress::{TaskProgress, TaskState};
+use crate::processor_state::ProcessorState;
+use crate::{EventQueue, Due};
 use bq_disc::clock::LATEST;
 use bq_disc::limits::{PROCESSORS, TASKS};
 use std::alloc::{AllocError, Global};
@@ -19,11 +19,11 @@ use std::alloc::{AllocError, Global};
 /// A number that stands for no task or processor, a time that does not fit, or a phase that ended too early or too late:
 /// whoever keeps the roster lost count.
 #[derive(Clone, Copy, Drop)]
-pub struct Astray;
+pub struct BrokenInvariant;
 
 /// How a simulation goes: when it ends, the times between ticks and between pulls, and what a change of processor costs.
 #[derive(Clone, Copy)]
-pub struct Pace {
+pub struct Periods {
     pub end: u64,
     pub tick: u64,
     pub balance: u64,
@@ -33,137 +33,137 @@ pub struct Pace {
 /// Who runs where, how far each task has come, and what comes due until the end.
 #[derive(Drop)]
 pub struct Roster {
-    pub(crate) courses: Vec<Course>,
-    pub(crate) lanes: Vec<Lane>,
-    agenda: Agenda,
-    pub(crate) pace: Pace,
+    pub(crate) by_task: Vec<TaskProgress>,
+    pub(crate) by_processor: Vec<ProcessorState>,
+    event_queue: EventQueue,
+    pub(crate) periods: Periods,
 }
 
 impl Roster {
     /// So many processors that run nothing, and no task. Where there are at least two, each looks for a task to pull at the
     /// first multiple of the time between two looks.
-    pub fn new(alloc: Global, processors: u8, pace: Pace) -> Result<Roster, AllocError>
-        ensures accounts { IfOk result (λ roster. accounts_of roster ≡ opening processors pace.balance) }
-        ensures pace { IfOk result (λ roster. roster.pace ≡ pace) }
-        ensures looks { IfOk result (λ roster. AreLooks (min processors 64) (option_and_then (until pace.end) (first_look processors pace.balance)) roster.agenda) }
+    pub fn new(alloc: Global, processors: u8, periods: Periods) -> Result<Roster, AllocError>
+        ensures accounts { IfOk result (λ roster. accounts_of roster ≡ opening processors periods.balance) }
+        ensures periods { IfOk result (λ roster. roster.periods ≡ periods) }
+        ensures looks { IfOk result (λ roster. AreLooks (min processors 64) (option_and_then (until periods.end) (first_look processors periods.balance)) roster.event_queue) }
     {
-        let look = first_look(processors, pace.balance);
-        let lanes = vec![in alloc; Lane::new(look); usize::from(processors)]?;
-        let mut agenda = Agenda::new(alloc)?;
-        let seen = look.and_then(|time| until(pace.end, time));
-        plan_looks(&mut agenda, processors.min(PROCESSORS), seen);
+        let look = first_look(processors, periods.balance);
+        let by_processor = vec![in alloc; ProcessorState::new(look); usize::from(processors)]?;
+        let mut event_queue = EventQueue::new(alloc)?;
+        let seen = look.and_then(|time| until(periods.end, time));
+        plan_looks(&mut event_queue, processors.min(PROCESSORS), seen);
         Ok(Roster {
-            courses: Vec::new(alloc),
-            lanes,
-            agenda,
-            pace,
+            by_task: Vec::new(alloc),
+            by_processor,
+            event_queue,
+            periods,
         })
     }
 
     /// One more task.
-    pub fn add(&mut self, course: Course) -> Result<(), AllocError>
-        ensures courses { OnOk result (self.new.courses.items ≡ self.old.courses.items ++ course ∷ []) }
-        ensures lanes { self.new.lanes ≡ self.old.lanes }
-        ensures agenda { self.new.agenda ≡ self.old.agenda }
-        ensures pace { self.new.pace ≡ self.old.pace }
+    pub fn add(&mut self, progress: TaskProgress) -> Result<(), AllocError>
+        ensures by_task { OnOk result (self.new.by_task.items ≡ self.old.by_task.items ++ progress ∷ []) }
+        ensures by_processor { self.new.by_processor ≡ self.old.by_processor }
+        ensures event_queue { self.new.event_queue ≡ self.old.event_queue }
+        ensures periods { self.new.periods ≡ self.old.periods }
     {
-        self.courses.push(course)?;
+        self.by_task.push(progress)?;
         Ok(())
     }
 
     /// How far a task has come.
-    pub fn course(&self, task: u16) -> Result<Course, Astray>
-        ensures there { IfOk result (λ course. slice_get self.now.courses.items task ≡ Some course) }
-        ensures missing { IfErr result (λ _. slice_get self.now.courses.items task ≡ None) }
+    pub fn progress(&self, task: u16) -> Result<TaskProgress, BrokenInvariant>
+        ensures there { IfOk result (λ progress. slice_get self.now.by_task.items task ≡ Some progress) }
+        ensures missing { IfErr result (λ _. slice_get self.now.by_task.items task ≡ None) }
     {
-        self.courses.get(usize::from(task)).copied().ok_or(Astray)
+        self.by_task.get(usize::from(task)).copied().ok_or(BrokenInvariant)
     }
 
     /// A task has come so far.
-    fn set_course(&mut self, task: u16, course: Course) -> Result<(), Astray>
-        ensures there { OnOk result (task < length self.old.courses.items) }
-        ensures courses { OnOk result (self.new.courses.items ≡ slice_set self.old.courses.items task course) }
-        ensures lanes { self.new.lanes ≡ self.old.lanes }
-        ensures agenda { self.new.agenda ≡ self.old.agenda }
-        ensures pace { self.new.pace ≡ self.old.pace }
+    fn set_progress(&mut self, task: u16, progress: TaskProgress) -> Result<(), BrokenInvariant>
+        ensures there { OnOk result (task < length self.old.by_task.items) }
+        ensures by_task { OnOk result (self.new.by_task.items ≡ slice_set self.old.by_task.items task progress) }
+        ensures by_processor { self.new.by_processor ≡ self.old.by_processor }
+        ensures event_queue { self.new.event_queue ≡ self.old.event_queue }
+        ensures periods { self.new.periods ≡ self.old.periods }
     {
-        let Some(place) = self.courses.get_mut(usize::from(task)) else {
-            return Err(Astray);
+        let Some(place) = self.by_task.get_mut(usize::from(task)) else {
+            return Err(BrokenInvariant);
         };
-        *place = course;
+        *place = progress;
         Ok(())
     }
 
     /// What is known of a processor.
-    pub fn lane(&self, processor: u8) -> Result<Lane, Astray>
-        ensures there { IfOk result (λ lane. slice_get self.now.lanes.items processor ≡ Some lane) }
-        ensures missing { IfErr result (λ _. slice_get self.now.lanes.items processor ≡ None) }
+    pub fn processor_state(&self, processor: u8) -> Result<ProcessorState, BrokenInvariant>
+        ensures there { IfOk result (λ processor_state. slice_get self.now.by_processor.items processor ≡ Some processor_state) }
+        ensures missing { IfErr result (λ _. slice_get self.now.by_processor.items processor ≡ None) }
     {
-        self.lanes
+        self.by_processor
             .get(usize::from(processor))
             .copied()
-            .ok_or(Astray)
+            .ok_or(BrokenInvariant)
     }
 
-    pub(crate) fn set_lane(&mut self, processor: u8, lane: Lane) -> Result<(), Astray>
-        ensures there { OnOk result (processor < length self.old.lanes.items) }
-        ensures lanes { OnOk result (self.new.lanes.items ≡ slice_set self.old.lanes.items processor lane) }
-        ensures courses { self.new.courses ≡ self.old.courses }
-        ensures agenda { self.new.agenda ≡ self.old.agenda }
-        ensures pace { self.new.pace ≡ self.old.pace }
+    pub(crate) fn set_processor_state(&mut self, processor: u8, processor_state: ProcessorState) -> Result<(), BrokenInvariant>
+        ensures there { OnOk result (processor < length self.old.by_processor.items) }
+        ensures by_processor { OnOk result (self.new.by_processor.items ≡ slice_set self.old.by_processor.items processor processor_state) }
+        ensures by_task { self.new.by_task ≡ self.old.by_task }
+        ensures event_queue { self.new.event_queue ≡ self.old.event_queue }
+        ensures periods { self.new.periods ≡ self.old.periods }
     {
-        let Some(place) = self.lanes.get_mut(usize::from(processor)) else {
-            return Err(Astray);
+        let Some(place) = self.by_processor.get_mut(usize::from(processor)) else {
+            return Err(BrokenInvariant);
         };
-        *place = lane;
+        *place = processor_state;
         Ok(())
     }
 
     /// How many processors there are.
     pub fn processors(&self) -> usize
-        ensures { result ≡ length self.now.lanes.items }
+        ensures { result ≡ length self.now.by_processor.items }
     {
-        self.lanes.len()
+        self.by_processor.len()
     }
 
     /// What comes due first, and when.
-    pub fn first(&self) -> Result<Option<(u64, Due)>, Astray>
-        ensures first { IfOk result (λ due. MatchOption due (AreNever self.now.agenda) (λ d. IsFirst self.now.agenda d.0 (place_of d.1))) }
-        ensures next { IfOk result (λ due. IsAgreed self.now → MatchOption due (NothingComes self.now.pace.end (accounts_of self.now)) (λ d. IsNext self.now.pace.end (accounts_of self.now) d.1 d.0)) }
-        ensures stray { IfErr result (λ _. (time : ℕ) × (place : ℕ) × IsFirst self.now.agenda time place × (due_at place ≡ None)) }
+    pub fn first(&self) -> Result<Option<(u64, Due)>, BrokenInvariant>
+        ensures first { IfOk result (λ due. MatchOption due (AreNever self.now.event_queue) (λ d. IsFirst self.now.event_queue d.0 (place_of d.1))) }
+        ensures next { IfOk result (λ due. IsAgreed self.now → MatchOption due (NothingComes self.now.periods.end (accounts_of self.now)) (λ d. IsNext self.now.periods.end (accounts_of self.now) d.1 d.0)) }
+        ensures stray { IfErr result (λ _. (time : ℕ) × (place : ℕ) × IsFirst self.now.event_queue time place × (due_at place ≡ None)) }
     {
-        match self.agenda.first() {
+        match self.event_queue.first() {
             None => Ok(None),
             Some((time, place)) => match Due::at(place) {
                 Some(due) => Ok(Some((time, due))),
-                None => Err(Astray),
+                None => Err(BrokenInvariant),
             },
         }
     }
 
     /// This comes due then; what would come after the end never does.
-    pub fn plan(&mut self, due: Due, time: u64) -> Result<(), Astray>
-        ensures planned { OnOk result (IsPlanned self.old.pace.end due time self.old.agenda self.new.agenda) }
+    pub fn plan(&mut self, due: Due, time: u64) -> Result<(), BrokenInvariant>
+        ensures planned { OnOk result (IsPlanned self.old.periods.end due time self.old.event_queue self.new.event_queue) }
         ensures stray { IfErr result (λ _. IsDue due → ⊥) }
-        ensures courses { self.new.courses ≡ self.old.courses }
-        ensures lanes { self.new.lanes ≡ self.old.lanes }
-        ensures pace { self.new.pace ≡ self.old.pace }
+        ensures by_task { self.new.by_task ≡ self.old.by_task }
+        ensures by_processor { self.new.by_processor ≡ self.old.by_processor }
+        ensures periods { self.new.periods ≡ self.old.periods }
     {
         let place = place_of(due)?;
-        self.agenda.set(place, until(self.pace.end, time));
+        self.event_queue.set(place, until(self.periods.end, time));
         Ok(())
     }
 
     /// This does not come due.
-    pub(crate) fn drop_plan(&mut self, due: Due) -> Result<(), Astray>
-        ensures dropped { OnOk result (IsDropped due self.old.agenda self.new.agenda) }
+    pub(crate) fn drop_plan(&mut self, due: Due) -> Result<(), BrokenInvariant>
+        ensures dropped { OnOk result (IsDropped due self.old.event_queue self.new.event_queue) }
         ensures stray { IfErr result (λ _. IsDue due → ⊥) }
-        ensures courses { self.new.courses ≡ self.old.courses }
-        ensures lanes { self.new.lanes ≡ self.old.lanes }
-        ensures pace { self.new.pace ≡ self.old.pace }
+        ensures by_task { self.new.by_task ≡ self.old.by_task }
+        ensures by_processor { self.new.by_processor ≡ self.old.by_processor }
+        ensures periods { self.new.periods ≡ self.old.periods }
     {
         let place = place_of(due)?;
-        self.agenda.set(place, None);
+        self.event_queue.set(place, None);
         Ok(())
     }
 }
@@ -178,19 +178,19 @@ fn until(end: u64, time: u64) -> Option<u64>
 }
 
 /// Each of so many processors looks for a task to pull then, if ever.
-fn plan_looks(agenda: &mut Agenda, processors: u8, time: Option<u64>)
-    requires few { processors ≤ 64 }
+fn plan_looks(event_queue: &mut EventQueue, processors: u8, time: Option<u64>)
+    requires few { processors ≤ PROCESSORS }
     requires early { IfSome time (λ t. t < 2 ^ 48) }
-    requires never { AreNever agenda.old }
-    ensures { AreLooks processors time agenda.new }
+    requires never { AreNever event_queue.old }
+    ensures { AreLooks processors time event_queue.new }
 {
     'processors: for processor in 0..processors {
-        agenda.set(Due::Pull(processor).place(), time);
+        event_queue.set(Due::Pull(processor).place(), time);
     }
 }
 
 /// The place of what comes due.
-fn place_of(due: Due) -> Result<u16, Astray>
+fn place_of(due: Due) -> Result<u16, BrokenInvariant>
     ensures place { IfOk result (λ place. place ≡ place_of due) }
     ensures few { IfOk result (λ place. place < 2048) }
     ensures due { OnOk result (IsDue due) }
@@ -201,29 +201,29 @@ fn place_of(due: Due) -> Result<u16, Astray>
         Due::Wake(task) => task < TASKS,
     };
     if !is_due {
-        return Err(Astray);
+        return Err(BrokenInvariant);
     }
     Ok(due.place())
 }
 
 impl Roster {
     /// A task does not run where it ran last, as far as is kept; so it runs nowhere.
-    pub(crate) fn find_at_rest(&self, task: u16) -> Result<(), Astray>
+    pub(crate) fn find_at_rest(&self, task: u16) -> Result<(), BrokenInvariant>
         ensures { OnOk result (Rests (accounts_of self.now) task) }
     {
-        let course = self.course(task)?;
-        if self.runs_at(course.home, task) {
-            return Err(Astray);
+        let progress = self.progress(task)?;
+        if self.runs_at(progress.home, task) {
+            return Err(BrokenInvariant);
         }
         Ok(())
     }
 
     /// Whether a task runs at a processor.
     fn runs_at(&self, processor: u8, task: u16) -> bool
-        ensures { result ≡ runs_at self.now.lanes.items processor task }
+        ensures { result ≡ runs_at self.now.by_processor.items processor task }
     {
-        match self.lanes.get(usize::from(processor)) {
-            Some(lane) => lane.run == Some(task),
+        match self.by_processor.get(usize::from(processor)) {
+            Some(processor_state) => processor_state.run == Some(task),
             None => false,
         }
     }
@@ -232,27 +232,27 @@ impl Roster {
     pub(crate) fn plan_end(
         &mut self,
         processor: u8,
-        course: &Course,
+        progress: &TaskProgress,
         now: u64,
-    ) -> Result<(), Astray>
-        ensures planned { OnOk result (IsPlanned self.old.pace.end (Due.End processor) (end_of now course.now) self.old.agenda self.new.agenda) }
-        ensures stray { IfErr result (λ _. (course.now.due < course.now.got) ⊎ (64 ≤ processor)) }
-        ensures courses { self.new.courses ≡ self.old.courses }
-        ensures lanes { self.new.lanes ≡ self.old.lanes }
-        ensures pace { self.new.pace ≡ self.old.pace }
+    ) -> Result<(), BrokenInvariant>
+        ensures planned { OnOk result (IsPlanned self.old.periods.end (Due.End processor) (end_of now progress.now) self.old.event_queue self.new.event_queue) }
+        ensures stray { IfErr result (λ _. (progress.now.due < progress.now.got) ⊎ (64 ≤ processor)) }
+        ensures by_task { self.new.by_task ≡ self.old.by_task }
+        ensures by_processor { self.new.by_processor ≡ self.old.by_processor }
+        ensures periods { self.new.periods ≡ self.old.periods }
     {
-        match course.due.checked_sub(course.got) {
+        match progress.due.checked_sub(progress.got) {
             Some(left) => self.plan(Due::End(processor), now.saturating_add(left)),
-            None => Err(Astray),
+            None => Err(BrokenInvariant),
         }
     }
 
     /// A task that runs nowhere is woken, and has no phase yet; no timer wakes it.
-    pub fn wake(&mut self, task: u16) -> Result<(), Astray>
+    pub fn wake(&mut self, task: u16) -> Result<(), BrokenInvariant>
         ensures accounts { OnOk result (accounts_of self.new ≡ of_task woken task (accounts_of self.old)) }
-        ensures dropped { OnOk result (IsDropped (Due.Wake task) self.old.agenda self.new.agenda) }
+        ensures dropped { OnOk result (IsDropped (Due.Wake task) self.old.event_queue self.new.event_queue) }
         ensures agrees { OnOk result (StaysAgreed self.old self.new) }
-        ensures pace { self.new.pace ≡ self.old.pace }
+        ensures periods { self.new.periods ≡ self.old.periods }
     {
         self.find_at_rest(task)?;
         self.drop_plan(Due::Wake(task))?;
@@ -260,84 +260,84 @@ impl Roster {
     }
 
     /// A task has no phase yet, and can run.
-    fn rouse(&mut self, task: u16) -> Result<(), Astray>
+    fn rouse(&mut self, task: u16) -> Result<(), BrokenInvariant>
         ensures accounts { OnOk result (accounts_of self.new ≡ of_task woken task (accounts_of self.old)) }
-        ensures agenda { self.new.agenda ≡ self.old.agenda }
-        ensures pace { self.new.pace ≡ self.old.pace }
+        ensures event_queue { self.new.event_queue ≡ self.old.event_queue }
+        ensures periods { self.new.periods ≡ self.old.periods }
     {
-        let Some(course) = self.courses.get_mut(usize::from(task)) else {
-            return Err(Astray);
+        let Some(progress) = self.by_task.get_mut(usize::from(task)) else {
+            return Err(BrokenInvariant);
         };
-        course.wake();
+        progress.wake();
         Ok(())
     }
 
     /// The task that runs at a processor has come so far: the end of its phase is put down, and its timer where it sleeps by one.
-    pub fn take_up(&mut self, processor: u8, task: u16, course: Course) -> Result<(), Astray>
-        ensures there { OnOk result (task < length self.old.courses.items) }
-        ensures courses { OnOk result (self.new.courses.items ≡ slice_set self.old.courses.items task course) }
-        ensures lanes { self.new.lanes ≡ self.old.lanes }
-        ensures plans { OnOk result ((lane : Lane) × (slice_get self.old.lanes.items processor ≡ Some lane) × PlansCourse self.old.pace.end processor task lane course self.old.agenda self.new.agenda) }
+    pub fn take_up(&mut self, processor: u8, task: u16, progress: TaskProgress) -> Result<(), BrokenInvariant>
+        ensures there { OnOk result (task < length self.old.by_task.items) }
+        ensures by_task { OnOk result (self.new.by_task.items ≡ slice_set self.old.by_task.items task progress) }
+        ensures by_processor { self.new.by_processor ≡ self.old.by_processor }
+        ensures plans { OnOk result ((processor_state : ProcessorState) × (slice_get self.old.by_processor.items processor ≡ Some processor_state) × PlansProgress self.old.periods.end processor task processor_state progress self.old.event_queue self.new.event_queue) }
         ensures agrees { OnOk result (StaysAgreed self.old self.new) }
-        ensures pace { self.new.pace ≡ self.old.pace }
+        ensures periods { self.new.periods ≡ self.old.periods }
     {
-        self.set_course(task, course)?;
-        self.plan_course(processor, task, &course)
+        self.set_progress(task, progress)?;
+        self.plan_progress(processor, task, &progress)
     }
 
     /// The end of the phase of the task that runs at a processor is put down, and its timer where it sleeps by one.
-    fn plan_course(&mut self, processor: u8, task: u16, course: &Course) -> Result<(), Astray>
-        ensures plans { OnOk result ((lane : Lane) × (slice_get self.old.lanes.items processor ≡ Some lane) × PlansCourse self.old.pace.end processor task lane course.now self.old.agenda self.new.agenda) }
-        ensures courses { self.new.courses ≡ self.old.courses }
-        ensures lanes { self.new.lanes ≡ self.old.lanes }
-        ensures pace { self.new.pace ≡ self.old.pace }
+    fn plan_progress(&mut self, processor: u8, task: u16, progress: &TaskProgress) -> Result<(), BrokenInvariant>
+        ensures plans { OnOk result ((processor_state : ProcessorState) × (slice_get self.old.by_processor.items processor ≡ Some processor_state) × PlansProgress self.old.periods.end processor task processor_state progress.now self.old.event_queue self.new.event_queue) }
+        ensures by_task { self.new.by_task ≡ self.old.by_task }
+        ensures by_processor { self.new.by_processor ≡ self.old.by_processor }
+        ensures periods { self.new.periods ≡ self.old.periods }
     {
-        let lane = self.lane(processor)?;
-        if lane.run != Some(task) || course.home != processor {
-            return Err(Astray);
+        let processor_state = self.processor_state(processor)?;
+        if processor_state.run != Some(task) || progress.home != processor {
+            return Err(BrokenInvariant);
         }
-        self.plan_timer(task, course)?;
-        self.plan_end(processor, course, lane.since)
+        self.plan_timer(task, progress)?;
+        self.plan_end(processor, progress, processor_state.since)
     }
 
     /// The timer of a task is put down where it sleeps by one.
-    fn plan_timer(&mut self, task: u16, course: &Course) -> Result<(), Astray>
-        ensures timer { OnOk result (PlansTimer self.old.pace.end task course.now.stance course.now.timer self.old.agenda self.new.agenda) }
-        ensures courses { self.new.courses ≡ self.old.courses }
-        ensures lanes { self.new.lanes ≡ self.old.lanes }
-        ensures pace { self.new.pace ≡ self.old.pace }
+    fn plan_timer(&mut self, task: u16, progress: &TaskProgress) -> Result<(), BrokenInvariant>
+        ensures timer { OnOk result (PlansTimer self.old.periods.end task progress.now.task_state progress.now.timer self.old.event_queue self.new.event_queue) }
+        ensures by_task { self.new.by_task ≡ self.old.by_task }
+        ensures by_processor { self.new.by_processor ≡ self.old.by_processor }
+        ensures periods { self.new.periods ≡ self.old.periods }
     {
-        match course.stance {
-            Stance::Asleep => self.plan(Due::Wake(task), course.timer),
+        match progress.task_state {
+            TaskState::Asleep => self.plan(Due::Wake(task), progress.timer),
             _ => self.drop_plan(Due::Wake(task)),
         }
     }
 
     /// The phase of the task that runs at a processor has ended just now. The task, and how far it has come: it has got what
     /// its phase takes, no more and no less.
-    pub fn end_phase(&mut self, processor: u8, now: u64) -> Result<(u16, Course), Astray>
+    pub fn end_phase(&mut self, processor: u8, now: u64) -> Result<(u16, TaskProgress), BrokenInvariant>
         ensures done { IfOk result (λ ended. IsDone (accounts_of self.new) processor ended.0 ended.1) }
         ensures accounts { OnOk result (accounts_of self.new ≡ charged processor now (accounts_of self.old)) }
-        ensures agenda { self.new.agenda ≡ self.old.agenda }
+        ensures event_queue { self.new.event_queue ≡ self.old.event_queue }
         ensures agrees { OnOk result (StaysAgreed self.old self.new) }
-        ensures pace { self.new.pace ≡ self.old.pace }
+        ensures periods { self.new.periods ≡ self.old.periods }
     {
         self.charge(processor, now)?;
         self.done_at(processor)
     }
 
     /// The task that runs at a processor, and how far it has come, where it has got what its phase takes.
-    fn done_at(&self, processor: u8) -> Result<(u16, Course), Astray>
+    fn done_at(&self, processor: u8) -> Result<(u16, TaskProgress), BrokenInvariant>
         ensures { IfOk result (λ ended. IsDone (accounts_of self.now) processor ended.0 ended.1) }
     {
-        let Some(task) = self.lane(processor)?.run else {
-            return Err(Astray);
+        let Some(task) = self.processor_state(processor)?.run else {
+            return Err(BrokenInvariant);
         };
-        let course = self.course(task)?;
-        if !course.is_done() {
-            return Err(Astray);
+        let progress = self.progress(task)?;
+        if !progress.is_done() {
+            return Err(BrokenInvariant);
         }
-        Ok((task, course))
+        Ok((task, progress))
     }
 
     /// Whether no task has run past its phase, and until the end no timer wakes one any more, no phase of a task that runs ends,
@@ -345,39 +345,39 @@ impl Roster {
     /// phase.
     pub fn is_over(&self, end: u64) -> bool
         ensures over { result ≡ is_over end (accounts_of self.now) }
-        ensures none { end < 2 ^ 48 → HaveHomes (accounts_of self.now) → NothingComes end (accounts_of self.now) → result ≡ list_all keeps_phase self.now.courses.items }
+        ensures none { end < 2 ^ 48 → HaveHomes (accounts_of self.now) → NothingComes end (accounts_of self.now) → result ≡ list_all keeps_phase self.now.by_task.items }
     {
         self.all_keep_time(end) && self.all_run_past(end) && self.all_rest_past(end)
     }
 
     /// Whether no task has run past its phase, and no timer wakes one any more until the end.
     fn all_keep_time(&self, end: u64) -> bool
-        ensures { result ≡ list_all (keeps_time end) self.now.courses.items }
+        ensures { result ≡ list_all (keeps_time end) self.now.by_task.items }
     {
-        self.courses.iter().all(|course| course.keeps_time(end))
+        self.by_task.iter().all(|progress| progress.keeps_time(end))
     }
 
     /// Whether no phase of a task that runs ends any more until the end.
     fn all_run_past(&self, end: u64) -> bool
-        ensures { result ≡ list_all (runs_past end self.now.courses.items) self.now.lanes.items }
+        ensures { result ≡ list_all (runs_past end self.now.by_task.items) self.now.by_processor.items }
     {
-        self.lanes.iter().all(|lane| self.runs_past(lane, end))
+        self.by_processor.iter().all(|processor_state| self.runs_past(processor_state, end))
     }
 
     /// Whether no processor ticks or looks for a task to pull any more until the end.
     fn all_rest_past(&self, end: u64) -> bool
-        ensures { result ≡ list_all (rests_past end) self.now.lanes.items }
+        ensures { result ≡ list_all (rests_past end) self.now.by_processor.items }
     {
-        self.lanes.iter().all(|lane| lane.rests_past(end))
+        self.by_processor.iter().all(|processor_state| processor_state.rests_past(end))
     }
 
     /// Whether the phase of the task that runs at a processor ends after the end; also where none runs.
-    fn runs_past(&self, lane: &Lane, end: u64) -> bool
-        ensures { result ≡ runs_past end self.now.courses.items lane.now }
+    fn runs_past(&self, processor_state: &ProcessorState, end: u64) -> bool
+        ensures { result ≡ runs_past end self.now.by_task.items processor_state.now }
     {
-        match lane.run {
-            Some(task) => match self.courses.get(usize::from(task)) {
-                Some(course) => course.lacks_more(lane.since, end),
+        match processor_state.run {
+            Some(task) => match self.by_task.get(usize::from(task)) {
+                Some(progress) => progress.lacks_more(processor_state.since, end),
                 None => false,
             },
             None => true,

@@ -5,7 +5,7 @@ use Rattle.bq_transfer.proofs.sides.side.Goals as goal
 pub returns-in-Some : goal.returns-in-Some
 returns-in-Some c = record {
   fits = c.in-Some.ensures.fits;
-  doubts = tt;
+  obligations = tt;
   compared = c.in-Some.ensures.compared;
   accepts = λ left right. refl;
   number = λ left right. number_on_side c.in-Some.side (c.in-Some.ensures.numbers left right);
@@ -16,7 +16,7 @@ returns-in-Some c = record {
 pub returns-in-None : goal.returns-in-None
 returns-in-None c = record {
   fits = tt;
-  doubts = λ insn uses. uses;
+  obligations = λ insn uses. uses;
   compared = tt;
   accepts = λ left right. absurd (c.in-None.ensures.numbers left right);
   number = λ left right. tt;

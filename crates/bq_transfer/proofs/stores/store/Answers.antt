@@ -32,7 +32,7 @@ pub returns-in_default : goal.returns-in_default
 returns-in_default c = record {
   stores = tt;
   inside = tt;
-  doubts = λ insn access reads uses. access;
+  obligations = λ insn access reads uses. access;
   accepts = λ number place placed.
       let there = c.in_ok-found.ensures.there Stack place placed in
       absurd (c.in_default.not-Stack there.0);
@@ -50,8 +50,8 @@ returns-in-Stack-clause-entry c = λ number map place placed.
     let there = c.in_ok-found.ensures.there (Entry map) place placed in
     absurd (stack_or_entry c.in_ok-found.found.kind map c.in-Stack.is there.0)
 
-pub returns-else-ne-clause-doubts : goal.returns-else-ne-clause-doubts
-returns-else-ne-clause-doubts c = tt
+pub returns-else-ne-clause-obligations : goal.returns-else-ne-clause-obligations
+returns-else-ne-clause-obligations c = tt
 
 pub returns-else-ne-clause-inside : goal.returns-else-ne-clause-inside
 returns-else-ne-clause-inside c = tt

@@ -67,10 +67,10 @@ returns-in_err-yes-clause-checks c = λ map below check answer.
     let left : Stands (Pointer (EntryOrNull map) 0) (Some c.in-Some-known.left) = subst (λ (v : Option AbstractValue). Stands (Pointer (EntryOrNull map) 0) v) (sym c.in-Some-known.ensures) answer in
     absurd (false≢true (c.in_err-yes.ensures.checks map check left))
 
-pub returns-in_err-yes-clause-doubts : goal.returns-in_err-yes-clause-doubts
-returns-in_err-yes-clause-doubts c =
+pub returns-in_err-yes-clause-obligations : goal.returns-in_err-yes-clause-obligations
+returns-in_err-yes-clause-obligations c =
     let error = err_from_is_err_and c.from_residual.result c.from_residual.ensures.1 in
-    rw (error.1, error.2) (λ insn reads uses. c.in_err-yes.ensures.doubts insn uses)
+    rw (error.1, error.2) (λ insn reads uses. c.in_err-yes.ensures.obligations insn uses)
 
 pub returns-in_err-no-clause-accepts : goal.returns-in_err-no-clause-accepts
 returns-in_err-no-clause-accepts c = λ below scalar operand.
@@ -82,13 +82,13 @@ returns-in_err-no-clause-checks c = λ map below check answer.
     let left : Stands (Pointer (EntryOrNull map) 0) (Some c.in-Some-known.left) = subst (λ (v : Option AbstractValue). Stands (Pointer (EntryOrNull map) 0) v) (sym c.in-Some-known.ensures) answer in
     absurd (false≢true (c.in_err-no.ensures.checks map check left))
 
-pub returns-in_err-no-clause-doubts : goal.returns-in_err-no-clause-doubts
-returns-in_err-no-clause-doubts c =
+pub returns-in_err-no-clause-obligations : goal.returns-in_err-no-clause-obligations
+returns-in_err-no-clause-obligations c =
     let error = err_from_is_err_and c.from_residual-in_err-no.result c.from_residual-in_err-no.ensures.1 in
-    rw (error.1, error.2) (λ insn reads uses. c.in_err-no.ensures.doubts insn uses)
+    rw (error.1, error.2) (λ insn reads uses. c.in_err-no.ensures.obligations insn uses)
 
-pub returns-in_err-wait_on_side-clause-doubts : goal.returns-in_err-wait_on_side-clause-doubts
-returns-in_err-wait_on_side-clause-doubts c =
+pub returns-in_err-wait_on_side-clause-obligations : goal.returns-in_err-wait_on_side-clause-obligations
+returns-in_err-wait_on_side-clause-obligations c =
     let error = err_from_is_err_and c.from_residual-in_err-wait_on_side.result c.from_residual-in_err-wait_on_side.ensures.1 in
     rw (error.1, error.2) (λ insn reads uses. tt)
 

@@ -62,7 +62,7 @@ returns-in_ok-wait-in_default c = record {
         c.args.insn c.transfer.new.state c.requires.here c.in_ok-transfer-in_default.ensures.straight c.in_ok-transfer-in_default.ensures.transfers
         (λ f s at contains. inl (c.in_ok-wait-in_default.ensures.added f s (rw c.slots-count.ensures at) contains)),
   );
-  doubts = tt;
+  obligations = tt;
   accepts = λ ready. tt;
   sure = λ ready x k waits after.
       record {
@@ -98,7 +98,7 @@ returns-then-count-eq1 c = record {
         c.args.insn c.transfer.new.state c.requires.here c.in_ok-transfer-in_default.ensures.straight c.in_ok-transfer-in_default.ensures.transfers
         (λ f s at contains. inr (refl, at ∙ ap (λ (n : ℕ). c.args.slot + n) one, contains)),
   );
-  doubts = tt;
+  obligations = tt;
   accepts = λ ready. tt;
   sure = λ ready x k waits after.
       record {
@@ -196,25 +196,25 @@ returns-in-Branch-clause-accepts c = λ ready.
 pub transfer-requires-clause-transferred : goal.transfer-requires-clause-transferred
 transfer-requires-clause-transferred c = transferred_if_no_jump c.args.insn c.in_default.not-Exit c.in_default.not-Goto c.in_default.not-Goto32 c.in_default.not-Branch
 
-pub returns-in_err-leave-in-Exit-clause-doubts : goal.returns-in_err-leave-in-Exit-clause-doubts
-returns-in_err-leave-in-Exit-clause-doubts c =
+pub returns-in_err-leave-in-Exit-clause-obligations : goal.returns-in_err-leave-in-Exit-clause-obligations
+returns-in_err-leave-in-Exit-clause-obligations c =
     let error = err_from_is_err_and c.from_residual.result c.from_residual.ensures.1 in
-    rw (error.1, error.2, c.in-Exit.is) c.in_err-leave-in-Exit.ensures.doubts
+    rw (error.1, error.2, c.in-Exit.is) c.in_err-leave-in-Exit.ensures.obligations
 
 pub returns-in_err-leave-in-Exit-clause-accepts : goal.returns-in_err-leave-in-Exit-clause-accepts
 returns-in_err-leave-in-Exit-clause-accepts c = λ ready.
     absurd (false≢true (c.in_err-leave-in-Exit.ensures.accepts (subst (λ (i : Insn). IsReady c.args.subject.now.shapes.now c.args.subject.now.context c.args.state.now i) c.in-Exit.is ready)))
 
-pub returns-in_err-transfer-in_default-clause-doubts : goal.returns-in_err-transfer-in_default-clause-doubts
-returns-in_err-transfer-in_default-clause-doubts c =
+pub returns-in_err-transfer-in_default-clause-obligations : goal.returns-in_err-transfer-in_default-clause-obligations
+returns-in_err-transfer-in_default-clause-obligations c =
     let error = err_from_is_err_and c.from_residual-in_err-transfer-in_default.result c.from_residual-in_err-transfer-in_default.ensures.1 in
-    rw (error.1, error.2) c.in_err-transfer-in_default.ensures.doubts
+    rw (error.1, error.2) c.in_err-transfer-in_default.ensures.obligations
 
 pub returns-in_err-transfer-in_default-clause-accepts : goal.returns-in_err-transfer-in_default-clause-accepts
 returns-in_err-transfer-in_default-clause-accepts c = λ ready. absurd (false≢true (c.in_err-transfer-in_default.ensures.accepts ready).0)
 
-pub returns-in_err-wait-in-Goto-clause-doubts : goal.returns-in_err-wait-in-Goto-clause-doubts
-returns-in_err-wait-in-Goto-clause-doubts c =
+pub returns-in_err-wait-in-Goto-clause-obligations : goal.returns-in_err-wait-in-Goto-clause-obligations
+returns-in_err-wait-in-Goto-clause-obligations c =
     let error = err_from_is_err_and c.from_residual-in_err-wait-in-Goto.result c.from_residual-in_err-wait-in-Goto.ensures.1 in
     rw (error.1, error.2) tt
 
@@ -223,8 +223,8 @@ returns-in_err-wait-in-Goto-clause-accepts c = λ ready.
     let error = err_from_is_err_and c.from_residual-in_err-wait-in-Goto.result c.from_residual-in_err-wait-in-Goto.ensures.1 in
     rw (error.1, error.2) refl
 
-pub returns-in_err-wait-in-Goto32-clause-doubts : goal.returns-in_err-wait-in-Goto32-clause-doubts
-returns-in_err-wait-in-Goto32-clause-doubts c =
+pub returns-in_err-wait-in-Goto32-clause-obligations : goal.returns-in_err-wait-in-Goto32-clause-obligations
+returns-in_err-wait-in-Goto32-clause-obligations c =
     let error = err_from_is_err_and c.from_residual-in_err-wait-in-Goto32.result c.from_residual-in_err-wait-in-Goto32.ensures.1 in
     rw (error.1, error.2) tt
 
@@ -233,9 +233,9 @@ returns-in_err-wait-in-Goto32-clause-accepts c = λ ready.
     let error = err_from_is_err_and c.from_residual-in_err-wait-in-Goto32.result c.from_residual-in_err-wait-in-Goto32.ensures.1 in
     rw (error.1, error.2) refl
 
-pub returns-in-Branch-clause-doubts : goal.returns-in-Branch-clause-doubts
-returns-in-Branch-clause-doubts c =
-    rw c.in-Branch.is (IfErr-weaker c.branch-alloc.result _ _ (λ stop doubts. doubts (Branch c.in-Branch.width c.in-Branch.cond c.in-Branch.dst c.in-Branch.src c.in-Branch.off) tt tt) c.branch-alloc.ensures.doubts)
+pub returns-in-Branch-clause-obligations : goal.returns-in-Branch-clause-obligations
+returns-in-Branch-clause-obligations c =
+    rw c.in-Branch.is (IfErr-weaker c.branch-alloc.result _ _ (λ stop obligations. obligations (Branch c.in-Branch.width c.in-Branch.cond c.in-Branch.dst c.in-Branch.src c.in-Branch.off) tt tt) c.branch-alloc.ensures.obligations)
 
 pub returns-in_ok-leave-in-Exit-clause-goes : goal.returns-in_ok-leave-in-Exit-clause-goes
 returns-in_ok-leave-in-Exit-clause-goes c = (

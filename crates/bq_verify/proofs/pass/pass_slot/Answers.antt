@@ -33,4 +33,4 @@ returns-in-Err-clause-accepts c = λ straight sure.
     c.refuse.ensures.memory (c.in-Err.ensures.accepts (ready_at c.args.subject.now.slots.now c.args.subject.now.shapes.now c.args.subject.now.context c.args.slot c.in-Some.insn c.arrive.new.state here straight has))
 
 pub returns-in-Err-clause-stopped : goal.returns-in-Err-clause-stopped
-returns-in-Err-clause-stopped c = c.refuse.ensures.stopped c.args.subject.now.slots.now c.in-Some.insn (sym c.in-Some.ensures) c.in-Err.ensures.doubts
+returns-in-Err-clause-stopped c = c.refuse.ensures.stopped c.args.subject.now.slots.now c.in-Some.insn (sym c.in-Some.ensures) c.in-Err.ensures.obligations

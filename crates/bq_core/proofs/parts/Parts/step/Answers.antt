@@ -11,7 +11,7 @@ use Rattle.bq_parts.specs.declared.refusal.Refusal.{Refusal}
 use Rattle.bq_parts.specs.declared.refusal.Refusal.TheVariants as no
 use Rattle.bq_parts.specs.World.{World, count_in}
 use Rattle.bq_parts.specs.Refusals.{refusal, argument_refusal, state_refusal, either}
-use Rattle.bq_parts.specs.Choices.{Regime, policies}
+use Rattle.bq_parts.specs.Choices.{PolicySemantics, policies}
 use Rattle.bq_parts.specs.Steps.{WorldStep}
 use Rattle.bq_core.proofs.OrderLemmas.{not_refused_is_there, first_refusal_passed}
 use Rattle.bq_core.proofs.parts.Parts.step.Goals as goal
@@ -42,11 +42,11 @@ pulls_inside count processor from now h =
     (f.0, k.0, eqb-false processor from (first_refusal_passed (processor == from) no.SameProcessor None k.1).0)
 
 -- a step by what the event is, is one by the event
-step_at : (s : Regime) (w w' : World) (e e' : Event) (calls : List Asked) (r : Result Reply Refusal) → e ≡ e' → WorldStep s w e' calls r w' → WorldStep s w e calls r w'
+step_at : (s : PolicySemantics) (w w' : World) (e e' : Event) (calls : List Asked) (r : Result Reply Refusal) → e ≡ e' → WorldStep s w e' calls r w' → WorldStep s w e calls r w'
 step_at s w w' e e' calls r h k = subst (λ (x : Event). WorldStep s w x calls r w') (sym h) k
 
 -- and one that asked nothing of the counters
-step_unasked : (s : Regime) (w w' : World) (e e' : Event) (calls : List Asked) (r : Result Reply Refusal) → calls ≡ [] → e ≡ e' → WorldStep s w e' [] r w' → WorldStep s w e calls r w'
+step_unasked : (s : PolicySemantics) (w w' : World) (e e' : Event) (calls : List Asked) (r : Result Reply Refusal) → calls ≡ [] → e ≡ e' → WorldStep s w e' [] r w' → WorldStep s w e calls r w'
 step_unasked s w w' e e' calls r f h k = subst (λ (cs : List Asked). WorldStep s w e cs r w') (sym f) (step_at s w w' e e' [] r h k)
 
 -- where nothing is asked of the counters, the board stays

@@ -59,9 +59,9 @@ pub commit_two-requires-clause-told : goal.commit_two-requires-clause-told
 commit_two-requires-clause-told g c =
     let t = c.drain-reply in
     rw (c.told_twice-logged.ensures.entry, c.hold_calls-calls.ensures.receipt, c.calls.ensures.value)
-    (ahead_of (λ x. x.tally) c.sit-desk.result t.new.board c.args.working.now.caller.1 c.stand.new.self.caller.1 t.new.scratch c.stand.new.self.tally
-    (c.sit-desk.ensures.desk ∙ c.requires.tally) t.ensures.board c.stand.ensures.tally
-    (ap (λ x. x.1) (c.stand.ensures.caller ∙ c.sit-desk.ensures.caller)))
+    (ahead_of (λ x. x.tally) c.open_board-counter_board.result t.new.board c.args.working.now.caller.1 c.close_board.new.self.caller.1 t.new.scratch c.close_board.new.self.tally
+    (c.open_board-counter_board.ensures.counter_board ∙ c.requires.tally) t.ensures.board c.close_board.ensures.tally
+    (ap (λ x. x.1) (c.close_board.ensures.caller ∙ c.open_board-counter_board.ensures.caller)))
 
 pub told_twice-logged-requires-clause-answer : goal.told_twice-logged-requires-clause-answer
 told_twice-logged-requires-clause-answer g c = ap (λ r. has_loads (Ok r)) c.drain-reply.ensures.share.3

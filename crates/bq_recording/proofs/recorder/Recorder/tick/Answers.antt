@@ -38,6 +38,6 @@ pub commit_one-requires-clause-told : goal.commit_one-requires-clause-told
 commit_one-requires-clause-told g c =
     let t = c.tick-reply in
     rw (c.both_records-logged.ensures.entry, c.hold_calls-calls.ensures.receipt, c.calls.ensures.value)
-    (ahead_of (λ x. x.tally) c.sit-desk.result t.new.board c.args.working.now.caller.1 c.stand.new.self.caller.1 t.new.scratch c.stand.new.self.tally
-    (c.sit-desk.ensures.desk ∙ c.requires.tally) t.ensures.board c.stand.ensures.tally
-    (ap (λ x. x.1) (c.stand.ensures.caller ∙ c.sit-desk.ensures.caller)))
+    (ahead_of (λ x. x.tally) c.open_board-counter_board.result t.new.board c.args.working.now.caller.1 c.close_board.new.self.caller.1 t.new.scratch c.close_board.new.self.tally
+    (c.open_board-counter_board.ensures.counter_board ∙ c.requires.tally) t.ensures.board c.close_board.ensures.tally
+    (ap (λ x. x.1) (c.close_board.ensures.caller ∙ c.open_board-counter_board.ensures.caller)))

@@ -27,7 +27,7 @@ admit_kind-requires-clause-kind g c =
     slice_get_read c.args.workload.now.tasks.items _ c.kinds.number c.kind-item.result (ap length same) c.kinds-test.true (c.kind-item.is ∙ ap (λ l. get_or l c.kinds.number c.kind-item.result) same)
 
 pub admit_kind-requires-clause-first : goal.admit_kind-requires-clause-first
-admit_kind-requires-clause-first g c = ap (λ (r : Roster). length r.courses.items) c.in_ok-begin_kind.ensures.courses ∙ c.kinds.invariant.tasks
+admit_kind-requires-clause-first g c = ap (λ (r : Roster). length r.by_task.items) c.in_ok-begin_kind.ensures.by_task ∙ c.kinds.invariant.tasks
 
 pub admit_kind-requires-clause-streams : goal.admit_kind-requires-clause-streams
 admit_kind-requires-clause-streams g c = ap (λ v. length v.items) c.in_ok-begin_kind.ensures.streams ∙ c.kinds.invariant.streams
@@ -47,7 +47,7 @@ kinds-preserved g c =
     let these = AreAdmitted all number kind first kind.count in
     let after = AreAllAdmitted all 0 0 (take (number + 1) kinds) in
     let more : (xs ys : List Deed) → before xs → these ys → after (xs ++ ys) = λ xs ys h k. AreAllAdmitted-next all kinds number kind xs ys there h k in
-    let tasks = ap (λ (r : Roster). length r.courses.items) c.in_ok-begin_kind.ensures.courses ∙ c.kinds.invariant.tasks in
+    let tasks = ap (λ (r : Roster). length r.by_task.items) c.in_ok-begin_kind.ensures.by_task ∙ c.kinds.invariant.tasks in
     let streams = ap (λ v. length v.items) c.in_ok-begin_kind.ensures.streams ∙ c.kinds.invariant.streams in
     let next = sym (first-more kinds number kind there) in
     record {

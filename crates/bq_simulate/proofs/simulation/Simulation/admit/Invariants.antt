@@ -8,6 +8,6 @@ use Rattle.bq_simulate.proofs.simulation.Simulation.admit.Given as goal
 abbrev pub invariant-kinds : goal.invariant-kinds
 invariant-kinds g l = record {
   lived : Lived g.S.Sink.takes l.workload.tasks.items (AreAllAdmitted (processors_in l.workload.machine.size) 0 0 (take l.number l.workload.tasks.items)) l.initial.sink l.initial.self l.sink l.self;
-  tasks : length l.self.roster.courses.items ≡ first_of l.workload.tasks.items l.number;
+  tasks : length l.self.roster.by_task.items ≡ first_of l.workload.tasks.items l.number;
   streams : length l.self.streams.items ≡ first_of l.workload.tasks.items l.number;
 }

@@ -33,11 +33,11 @@ tasks-preserved g c =
     let all = processors_in w.machine.size in
     let count = c.tasks.counter in
     let first = first_of kinds number in
-    let task = c.tasks.self.tally.tasks in
+    let task = c.tasks.self.counts.tasks in
     let home = c.in_ok-home.home in
     let least : IsFirstAllowed c.processors-processors.result kind.mask home = subst (λ (o : Option ℕ). IfSome o (IsFirstAllowed c.processors-processors.result kind.mask)) c.in_ok-home.ensures.ok_part c.first_of_mask.ensures.some in
     let mine : IsFirstAllowed all kind.mask home = subst (λ (n : ℕ). IsFirstAllowed n kind.mask home) c.processors-processors.ensures least in
-    let here : length c.admit_one.new.self.roster.courses.items ≡ first + count = ap (λ (r : Roster). length r.courses.items) c.in_ok-admit_one.ensures.courses ∙ c.tasks.invariant.tasks ∙ ap (λ n. n + count) c.requires.first in
+    let here : length c.admit_one.new.self.roster.by_task.items ≡ first + count = ap (λ (r : Roster). length r.by_task.items) c.in_ok-admit_one.ensures.by_task ∙ c.tasks.invariant.tasks ∙ ap (λ n. n + count) c.requires.first in
     let streams : length c.admit_one.new.self.streams.items ≡ first + count = ap (λ v. length v.items) c.in_ok-admit_one.ensures.streams ∙ c.tasks.invariant.streams ∙ ap (λ n. n + count) c.requires.streams in
     let of = nth-of-kind kinds kind _ number count c.requires.kind here c.tasks-test.true in
     let start : kind.start ≡ start_of kinds number = sym (ap (λ (o : Option TaskKind). option_map_or (λ (k : TaskKind). k.start) o 0) c.requires.kind) in
@@ -53,6 +53,6 @@ tasks-preserved g c =
     λ xs ys h k. subst (λ (n : ℕ). AreAdmitted all number kind first n (xs ++ ys)) next (AreAdmitted-more all number kind first count task xs ys (c.in_ok-join.ensures.number ∙ streams) h k) in
     record {
       lived = Lived-join takes kinds before one after more _ _ _ _ _ _ c.tasks.invariant.lived begun;
-      tasks = ap (λ v. length v.items) c.count_task.ensures.courses ∙ c.in_ok-join.ensures.tasks ∙ omega (arith, here, c.requires.first);
+      tasks = ap (λ v. length v.items) c.count_task.ensures.by_task ∙ c.in_ok-join.ensures.tasks ∙ omega (arith, here, c.requires.first);
       streams = ap (λ v. length v.items) c.count_task.ensures.same.stays.streams ∙ c.in_ok-join.ensures.streams ∙ omega (arith, streams, c.requires.streams);
     }

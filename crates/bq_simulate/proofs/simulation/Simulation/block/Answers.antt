@@ -10,5 +10,5 @@ returns g c =
     let said = c.in_ok-run.ensures in
     let was = c.args.self.now.roster in
     let event = Block c.args.processor c.args.now in
-    let accounts = c.in_ok-leave.ensures.accounts ∙ ap (λ (r : Option ℕ). left_by c.args.processor r c.args.now was.pace (accounts_of was)) (sym said.1) in
-    Lived-event g.S.Sink.takes (AreJust (event ∷ [])) _ _ _ _ event said.0 (said.0, [], refl, refl) tt (record { agrees = c.in_ok-leave.ensures.agrees; pace = c.in_ok-leave.ensures.pace; seed = refl; streams = refl; firsts = refl }) said.2 accounts
+    let accounts = c.in_ok-leave.ensures.accounts ∙ ap (λ (r : Option ℕ). left_by c.args.processor r c.args.now was.periods (accounts_of was)) (sym said.1) in
+    Lived-event g.S.Sink.takes (AreJust (event ∷ [])) _ _ _ _ event said.0 (said.0, [], refl, refl) tt (record { agrees = c.in_ok-leave.ensures.agrees; periods = c.in_ok-leave.ensures.periods; seed = refl; streams = refl; firsts = refl }) said.2 accounts

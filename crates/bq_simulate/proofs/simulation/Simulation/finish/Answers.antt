@@ -4,7 +4,7 @@ use Rattle.bq_workload.specs.Accounts.{accounts_of}
 use Rattle.bq_simulate.specs.Chronicles.{Deed}
 use Rattle.bq_simulate.specs.Steps.{AreJust, all_processors, last_ticks}
 use Rattle.bq_simulate.proofs.DeedLemmas.{Lived-join, Lived-same, Lived-weaker, Same-here}
-use Rattle.bq_simulate.proofs.LaneLemmas.{same_tick, ticks_more}
+use Rattle.bq_simulate.proofs.ProcessorStateLemmas.{same_tick, ticks_more}
 use Rattle.bq_simulate.proofs.StepLemmas.{AreJust-join}
 use Rattle.bq_simulate.proofs.simulation.Simulation.finish.Goals as goal
 

@@ -17,8 +17,8 @@ steps-preserved g c =
     let now = c.in-Some.now in
     let later : last ≤ now = omega (arith, c.if-now-last.false) in
     let here = c.steps.self.roster in
-    let next : IsAgreed here → IsNext here.pace.end (accounts_of here) due now =
-    λ agreed. MatchOption-at_some (NothingComes here.pace.end (accounts_of here)) (λ d. IsNext here.pace.end (accounts_of here) d.1 d.0) (now, due) c.in-Some.is (c.in_ok-now.ensures.next agreed) in
+    let next : IsAgreed here → IsNext here.periods.end (accounts_of here) due now =
+    λ agreed. MatchOption-at_some (NothingComes here.periods.end (accounts_of here)) (λ d. IsNext here.periods.end (accounts_of here) d.1 d.0) (now, due) c.in-Some.is (c.in_ok-now.ensures.next agreed) in
     record {
       lived = met-more g.S.Sink.takes c.args.workload.now.tasks.items count last now due _ _ _ _ _ _ later next c.steps.invariant.lived c.in_ok-meet.ensures;
       within = omega (arith, c.if-now-end.false);
@@ -29,14 +29,14 @@ steps-init g c =
     let was = c.args.self.now in
     let kinds = c.args.workload.now.tasks.items in
     record {
-      lived = λ drawn had firsts agreed. Lived-same g.S.Sink.takes (AreMet kinds was.seed was.roster.pace 0 0 (book_of was drawn)) (AreMet-none kinds was.seed was.roster.pace (book_of was drawn)) _ _ _ (Same-here _) kinds drawn had firsts;
+      lived = λ drawn had firsts agreed. Lived-same g.S.Sink.takes (AreMet kinds was.seed was.roster.periods 0 0 (book_of was drawn)) (AreMet-none kinds was.seed was.roster.periods (book_of was drawn)) _ _ _ (Same-here _) kinds drawn had firsts;
       within = omega arith;
     }
 
 pub returns-in_default-clause-none : goal.returns-in_default-clause-none
 returns-in_default-clause-none g c =
     let here = c.steps.self.roster in
-    λ agreed. MatchOption-at_none (NothingComes here.pace.end (accounts_of here)) (λ d. IsNext here.pace.end (accounts_of here) d.1 d.0) c.in_default.is (c.in_ok-now.ensures.next agreed)
+    λ agreed. MatchOption-at_none (NothingComes here.periods.end (accounts_of here)) (λ d. IsNext here.periods.end (accounts_of here) d.1 d.0) c.in_default.is (c.in_ok-now.ensures.next agreed)
 
 pub returns-in_default-clause-lived : goal.returns-in_default-clause-lived
 returns-in_default-clause-lived g c =
@@ -46,5 +46,5 @@ returns-in_default-clause-lived g c =
     let last = c.steps.last in
     let end = c.args.workload.now.machine.duration in
     let few : count ≤ c.args.most = omega (arith, c.steps-test.true) in
-    λ drawn had firsts agreed. Goes-weaker g.S.Sink.takes kinds (AreMet kinds was.seed was.roster.pace count last (book_of was drawn)) (AreMet kinds was.seed was.roster.pace c.args.most end (book_of was drawn))
-    (λ xs met. AreMet-within kinds was.seed was.roster.pace count c.args.most last end (book_of was drawn) xs few c.steps.invariant.within met) _ _ _ drawn _ (c.steps.invariant.lived drawn had firsts agreed)
+    λ drawn had firsts agreed. Goes-weaker g.S.Sink.takes kinds (AreMet kinds was.seed was.roster.periods count last (book_of was drawn)) (AreMet kinds was.seed was.roster.periods c.args.most end (book_of was drawn))
+    (λ xs met. AreMet-within kinds was.seed was.roster.periods count c.args.most last end (book_of was drawn) xs few c.steps.invariant.within met) _ _ _ drawn _ (c.steps.invariant.lived drawn had firsts agreed)

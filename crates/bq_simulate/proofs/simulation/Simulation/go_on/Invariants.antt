@@ -5,6 +5,6 @@ use Rattle.bq_simulate.proofs.simulation.Simulation.go_on.Given as goal
 
 abbrev pub invariant-steps : goal.invariant-steps
 invariant-steps g l = record {
-  lived : LivedFrom g.S.Sink.takes l.workload.tasks.items (AreMet l.workload.tasks.items l.initial.self.seed l.initial.self.roster.pace l.counter l.last) l.initial.sink l.initial.self l.sink l.self;
+  lived : LivedFrom g.S.Sink.takes l.workload.tasks.items (AreMet l.workload.tasks.items l.initial.self.seed l.initial.self.roster.periods l.counter l.last) l.initial.sink l.initial.self l.sink l.self;
   within : l.last ≤ l.end;
 }

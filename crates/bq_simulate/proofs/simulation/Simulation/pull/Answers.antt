@@ -16,9 +16,9 @@ returns-in-Some g c =
     let processor = c.args.processor in
     let now = c.args.now in
     let from = c.in-Some.from in
-    let source = subst (λ (o : Option ℕ). IsSource was.roster.lanes.items processor o) c.in-Some.is looks.source in
+    let source = subst (λ (o : Option ℕ). IsSource was.roster.by_processor.items processor o) c.in-Some.is looks.source in
     on_ok_weaker c.pull_from.result
-    (λ h. Befell-looks g.S.Sink.takes (AreJust (Pull processor from now ∷ [])) (Meet (due.Pull processor) now) _ _ was here _ processor now (Some from) looks.due source (record { agrees = looks.agrees; pace = looks.pace; seed = refl; streams = refl; firsts = refl }) refl looks.accounts (λ deeds are. (Some from, deeds, refl, are)) h)
+    (λ h. Befell-looks g.S.Sink.takes (AreJust (Pull processor from now ∷ [])) (Meet (due.Pull processor) now) _ _ was here _ processor now (Some from) looks.due source (record { agrees = looks.agrees; periods = looks.periods; seed = refl; streams = refl; firsts = refl }) refl looks.accounts (λ deeds are. (Some from, deeds, refl, are)) h)
     c.pull_from.ensures
 
 pub returns-in-None : goal.returns-in-None
@@ -28,5 +28,5 @@ returns-in-None g c =
     let here : Simulation = record was { roster = c.look.new.self } in
     let processor = c.args.processor in
     let now = c.args.now in
-    let source = subst (λ (o : Option ℕ). IsSource was.roster.lanes.items processor o) c.in-None.is looks.source in
-    Befell-looks g.S.Sink.takes (AreJust []) (Meet (due.Pull processor) now) _ _ was here _ processor now None looks.due source (record { agrees = looks.agrees; pace = looks.pace; seed = refl; streams = refl; firsts = refl }) refl looks.accounts (λ deeds are. (None, deeds, refl, are)) (Lived-same g.S.Sink.takes (AreJust []) refl _ here here (Same-here here))
+    let source = subst (λ (o : Option ℕ). IsSource was.roster.by_processor.items processor o) c.in-None.is looks.source in
+    Befell-looks g.S.Sink.takes (AreJust []) (Meet (due.Pull processor) now) _ _ was here _ processor now None looks.due source (record { agrees = looks.agrees; periods = looks.periods; seed = refl; streams = refl; firsts = refl }) refl looks.accounts (λ deeds are. (None, deeds, refl, are)) (Lived-same g.S.Sink.takes (AreJust []) refl _ here here (Same-here here))

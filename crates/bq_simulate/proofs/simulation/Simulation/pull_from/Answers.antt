@@ -13,6 +13,6 @@ returns g c =
     let was = c.args.self.now.roster in
     let event = Pull c.args.processor c.args.from c.args.now in
     let moved : Option ℕ → Accounts = λ o. option_map_or (λ (task : ℕ). passed c.args.from c.args.processor (accounts_of was)) o (accounts_of was) in
-    let runs = ap (λ (r : Option ℕ). switched c.args.processor r c.args.now was.pace (moved c.in_ok-moved.moved.task)) (sym said.1) in
-    let takes = ap (λ (o : Option ℕ). switched c.args.processor (runs_now said.0) c.args.now was.pace (moved o)) (sym said.2) in
-    Lived-event g.S.Sink.takes (AreJust (event ∷ [])) _ _ _ _ event said.0 (said.0, [], refl, refl) tt (record { agrees = c.in_ok-keep_pull.ensures.agrees; pace = c.in_ok-keep_pull.ensures.pace; seed = refl; streams = refl; firsts = refl }) said.3 (c.in_ok-keep_pull.ensures.accounts ∙ runs ∙ takes)
+    let runs = ap (λ (r : Option ℕ). switched c.args.processor r c.args.now was.periods (moved c.in_ok-moved.moved.task)) (sym said.1) in
+    let takes = ap (λ (o : Option ℕ). switched c.args.processor (runs_now said.0) c.args.now was.periods (moved o)) (sym said.2) in
+    Lived-event g.S.Sink.takes (AreJust (event ∷ [])) _ _ _ _ event said.0 (said.0, [], refl, refl) tt (record { agrees = c.in_ok-keep_pull.ensures.agrees; periods = c.in_ok-keep_pull.ensures.periods; seed = refl; streams = refl; firsts = refl }) said.3 (c.in_ok-keep_pull.ensures.accounts ∙ runs ∙ takes)

@@ -25,7 +25,7 @@ returns-clause-runs g c =
     let opened = Lived-join takes kinds installs admits opens (Opens-join policies all kinds) _ _ _ _ _ _ installed c.in_ok-admit.ensures.lived in
     let was = c.args.self.now in
     let mid = c.admit.new.self in
-    let met = subst (λ (n : ℕ). LivedFrom takes kinds (AreMet kinds mid.seed mid.roster.pace n end) c.admit.new.sink mid c.go_on.new.sink ended) c.most_steps.ensures c.in_ok-go_on.ensures.lived in
+    let met = subst (λ (n : ℕ). LivedFrom takes kinds (AreMet kinds mid.seed mid.roster.periods n end) c.admit.new.sink mid c.go_on.new.sink ended) c.most_steps.ensures c.in_ok-go_on.ensures.lived in
     let proceeds = Proceeds-join takes policies all kinds (most_steps w) end _ _ _ was mid ended opened met in
     let ticks : ℕ → List Deed → Type 0 = λ n. AreJust (last_ticks end (all_processors n) (accounts_of ended.roster)) in
     record { sink = c.go_on.new.sink; ended = ended; proceeds = proceeds; none = c.in_ok-go_on.ensures.none; over = sym c.is_over.ensures.over ∙ c.if-not-is_over.false; ticks = Lived-weaker takes kinds _ _ (λ xs are. subst (λ (n : ℕ). ticks n xs) c.processors-processors.ensures are) _ _ _ _ (c.in_ok-finish.ensures kinds) }

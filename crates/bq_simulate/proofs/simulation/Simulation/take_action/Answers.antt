@@ -17,4 +17,4 @@ returns c =
     let P : Option Length → Type 0 = λ o. DrawsFor task o (record c.args.self.now { roster = c.end_phase.new.self }) length c.length_for.new.self in
     let draws = subst P (c.asked_by.ensures ∙ ap asked_by c.in_ok-action.ensures) c.in_ok-length.ensures in
     let does = c.in_ok-after.ensures ∙ ap (λ (a : Option Action). acted kinds a length c.args.now before) c.in_ok-action.ensures in
-    Silent-acts kinds _ _ _ _ c.args.processor task c.args.now length c.in_ok-action.action before c.in_ok-after.after c.in_ok-action.ensures (record { agrees = ended.agrees; pace = ended.pace; seed = refl; streams = refl; firsts = refl }) refl ended.accounts ended.done draws does (record { agrees = set.agrees; pace = set.pace; seed = refl; streams = refl; firsts = refl }) refl set.courses (ap (λ l. l.items) set.lanes)
+    Silent-acts kinds _ _ _ _ c.args.processor task c.args.now length c.in_ok-action.action before c.in_ok-after.after c.in_ok-action.ensures (record { agrees = ended.agrees; periods = ended.periods; seed = refl; streams = refl; firsts = refl }) refl ended.accounts ended.done draws does (record { agrees = set.agrees; periods = set.periods; seed = refl; streams = refl; firsts = refl }) refl set.by_task (ap (λ l. l.items) set.by_processor)

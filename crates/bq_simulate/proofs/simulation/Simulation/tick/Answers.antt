@@ -4,7 +4,7 @@ use Rattle.bq_parts.specs.declared.event.Event.TheVariants.{Tick}
 use Rattle.bq_workload.specs.Accounts.{Accounts, accounts_of, switched}
 use Rattle.bq_simulate.specs.Steps.{AreJust}
 use Rattle.bq_simulate.proofs.DeedLemmas.{Lived-event}
-use Rattle.bq_simulate.proofs.LaneLemmas.{switched-others}
+use Rattle.bq_simulate.proofs.ProcessorStateLemmas.{switched-others}
 use Rattle.bq_simulate.proofs.simulation.Simulation.tick.Goals as goal
 
 pub returns-clause-befell : goal.returns-clause-befell
@@ -12,12 +12,12 @@ returns-clause-befell g c =
     let said = c.in_ok-run.ensures in
     let was = c.args.self.now.roster in
     let event = Tick c.args.processor c.args.now in
-    let accounts = c.in_ok-switch.ensures.accounts ∙ ap (λ (r : Option ℕ). switched c.args.processor r c.args.now was.pace (accounts_of was)) (sym said.1) in
-    Lived-event g.S.Sink.takes (AreJust (event ∷ [])) _ _ _ _ event said.0 (said.0, [], refl, refl) c.requires (record { agrees = c.in_ok-switch.ensures.agrees; pace = c.in_ok-switch.ensures.pace; seed = refl; streams = refl; firsts = refl }) said.2 accounts
+    let accounts = c.in_ok-switch.ensures.accounts ∙ ap (λ (r : Option ℕ). switched c.args.processor r c.args.now was.periods (accounts_of was)) (sym said.1) in
+    Lived-event g.S.Sink.takes (AreJust (event ∷ [])) _ _ _ _ event said.0 (said.0, [], refl, refl) c.requires (record { agrees = c.in_ok-switch.ensures.agrees; periods = c.in_ok-switch.ensures.periods; seed = refl; streams = refl; firsts = refl }) said.2 accounts
 
 -- only what runs at this processor may be another task
 pub returns-clause-others : goal.returns-clause-others
 returns-clause-others g c =
     let was = c.args.self.now.roster in
     let accounts = c.in_ok-switch.ensures.accounts in
-    λ other apart. ap (λ (a : Accounts). slice_get a.lanes other) accounts ∙ switched-others c.args.processor _ c.args.now was.pace other (accounts_of was) apart
+    λ other apart. ap (λ (a : Accounts). slice_get a.by_processor other) accounts ∙ switched-others c.args.processor _ c.args.now was.periods other (accounts_of was) apart

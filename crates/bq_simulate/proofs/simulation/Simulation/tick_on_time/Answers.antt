@@ -15,5 +15,5 @@ returns-in-Some g c =
     let now = c.args.now in
     let tick = AreJust (Tick processor now ∷ []) in
     on_ok_weaker c.tick.result
-    (λ h. Befell-beats g.S.Sink.takes tick (Meet (due.Tick processor) now) _ _ c.args.self.now here _ processor now beats.due (record { agrees = beats.agrees; pace = beats.pace; seed = refl; streams = refl; firsts = refl }) refl beats.accounts (λ deeds are. (deeds, refl, are)) h)
+    (λ h. Befell-beats g.S.Sink.takes tick (Meet (due.Tick processor) now) _ _ c.args.self.now here _ processor now beats.due (record { agrees = beats.agrees; periods = beats.periods; seed = refl; streams = refl; firsts = refl }) refl beats.accounts (λ deeds are. (deeds, refl, are)) h)
     c.tick.ensures.befell

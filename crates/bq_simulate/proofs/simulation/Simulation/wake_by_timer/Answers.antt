@@ -11,11 +11,11 @@ pub returns-in-Asleep : goal.returns-in-Asleep
 returns-in-Asleep g c =
     let takes = g.S.Sink.takes in
     let here : Simulation = c.args.self.now in
-    let home = c.in_ok-course.course.home in
+    let home = c.in_ok-progress.progress.home in
     let task = c.args.task in
     let now = c.args.now in
     let met = Meet (Wake task) now in
     on_ok_weaker c.wake.result
     (λ h. Befell-first takes (AreWake home task now) met _ _ here here _ (Rings task now) (Stays-here here)
-    (λ kinds drawn. (c.in_ok-course.course, c.in_ok-course.ensures.there, c.in-Asleep.is, c.if-course-now.false, (refl, refl, refl))) (λ deeds are. (home, deeds, refl, are)) h)
+    (λ kinds drawn. (c.in_ok-progress.progress, c.in_ok-progress.ensures.there, c.in-Asleep.is, c.if-progress-now.false, (refl, refl, refl))) (λ deeds are. (home, deeds, refl, are)) h)
     c.wake.ensures.lived

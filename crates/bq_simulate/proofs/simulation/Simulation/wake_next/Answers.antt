@@ -28,15 +28,15 @@ returns-in-Waiting g c =
     on_ok_weaker c.wake.result
     (λ h kinds. aimed-at takes kinds c.args.kind c.args.woken c.in_ok-first.first target processor now _ _ _ _ c.in_ok-first.ensures (rw c.in_ok-target.ensures.ok_part at c.checked_add.ensures).1
     (Befell-first takes (AreWake processor target now) wakes _ _ c.args.self.now c.args.self.now _ (Reaches target) (Stays-here c.args.self.now)
-    (λ kinds drawn. (c.in_ok-course.course, c.in_ok-course.ensures.there, c.in-Waiting.is, (refl, refl, refl))) (λ deeds are. inr (deeds, refl, are)) h))
+    (λ kinds drawn. (c.in_ok-progress.progress, c.in_ok-progress.ensures.there, c.in-Waiting.is, (refl, refl, refl))) (λ deeds are. inr (deeds, refl, are)) h))
     c.wake.ensures.lived
 
-pub returns-in_default-stance : goal.returns-in_default-stance
-returns-in_default-stance g c =
+pub returns-in_default-task_state : goal.returns-in_default-task_state
+returns-in_default-task_state g c =
     let takes = g.S.Sink.takes in
     let target = c.in_ok-target.target in
     let processor = c.args.processor in
     let now = c.args.now in
     λ kinds. aimed-at takes kinds c.args.kind c.args.woken c.in_ok-first.first target processor now _ _ _ _ c.in_ok-first.ensures (rw c.in_ok-target.ensures.ok_part at c.checked_add.ensures).1
     (Befell-first takes (AreJust []) (Wakes target processor now) _ _ c.args.self.now c.args.self.now _ (Misses target) (Stays-here c.args.self.now)
-    (λ kinds drawn. (c.in_ok-course.course, c.in_ok-course.ensures.there, c.in_default-stance.not-Waiting, (refl, refl, refl))) (λ deeds none. inl (ap (λ (l : List Deed). Misses target ∷ l) none)) (Lived-same takes (AreJust []) refl _ _ _ c.miss.ensures))
+    (λ kinds drawn. (c.in_ok-progress.progress, c.in_ok-progress.ensures.there, c.in_default-task_state.not-Waiting, (refl, refl, refl))) (λ deeds none. inl (ap (λ (l : List Deed). Misses target ∷ l) none)) (Lived-same takes (AreJust []) refl _ _ _ c.miss.ensures))

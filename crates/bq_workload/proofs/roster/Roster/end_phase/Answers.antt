@@ -1,6 +1,6 @@
 use Rattle.std.proofs.Common.{sym, subst}
 use Rattle.std.proofs.lemmas.Result.{IfOk-weaker}
-use Rattle.bq_workload.specs.declared.roster.Pace.{Pace}
+use Rattle.bq_workload.specs.declared.roster.Periods.{Periods}
 use Rattle.bq_workload.specs.declared.roster.Roster.{Roster}
 use Rattle.bq_workload.specs.Accounts.{accounts_of}
 use Rattle.bq_workload.specs.Next.{Agrees}
@@ -14,6 +14,6 @@ returns-clause-agrees c =
     let charge = c.in_ok-charge.ensures in
     let since = charge.since in
     IfOk-weaker c.done_at.result _ _
-    (λ ended done h. subst (λ (k : Pace). Agrees k.end (accounts_of new) new.agenda) (sym charge.pace)
-    (done-agrees old.pace.end c.args.processor c.args.now ended.0 since.0 ended.1 (accounts_of old) (accounts_of new) old.agenda new.agenda since.1 since.2 c.ranges.now.fits charge.accounts charge.agenda done h))
+    (λ ended done h. subst (λ (k : Periods). Agrees k.end (accounts_of new) new.event_queue) (sym charge.periods)
+    (done-agrees old.periods.end c.args.processor c.args.now ended.0 since.0 ended.1 (accounts_of old) (accounts_of new) old.event_queue new.event_queue since.1 since.2 c.ranges.now.fits charge.accounts charge.event_queue done h))
     c.done_at.ensures

@@ -6,7 +6,7 @@ pub returns-clause-agrees : goal.returns-clause-agrees
 returns-clause-agrees c =
     let old : Roster = c.args.self.now in
     let mid : Roster = c.plan.new.self in
-    let new : Roster = c.set_lane.new.self in
+    let new : Roster = c.set_processor_state.new.self in
     let plan = c.in_ok-plan.ensures in
-    let set = c.in_ok-set_lane.ensures in
-    looked-agreed c.args.processor c.args.now c.in_ok-next.next c.in_ok-lane.lane old mid new c.in_ok-lane.ensures.there c.in_ok-next.ensures.next plan.planned plan.courses plan.lanes plan.pace set.lanes set.courses set.agenda set.pace
+    let set = c.in_ok-set_processor_state.ensures in
+    looked-agreed c.args.processor c.args.now c.in_ok-next.next c.in_ok-processor_state.processor_state old mid new c.in_ok-processor_state.ensures.there c.in_ok-next.ensures.next plan.planned plan.by_task plan.by_processor plan.periods set.by_processor set.by_task set.event_queue set.periods

@@ -1,6 +1,6 @@
 use Rattle.std.proofs.Common.{sym, subst}
 use Rattle.std.proofs.lemmas.Result.{on_ok_weaker}
-use Rattle.bq_workload.specs.declared.roster.Pace.{Pace}
+use Rattle.bq_workload.specs.declared.roster.Periods.{Periods}
 use Rattle.bq_workload.specs.declared.roster.Roster.{Roster}
 use Rattle.bq_workload.specs.Accounts.{accounts_of}
 use Rattle.bq_workload.specs.Next.{Agrees}
@@ -20,8 +20,8 @@ returns-in-Some-clause-agrees c =
     on_ok_weaker c.start.result
     (λ w h.
     let plans = w.1 in
-    subst (λ (k : Pace). Agrees k.end (accounts_of new) new.agenda) (sym start.pace)
-    (started-agrees mid.pace p c.in-Some.task now plans.0 plans.2 (accounts_of mid) (accounts_of new) mid.agenda new.agenda (charged-agreed p now c.in_ok-lane.lane old mid c.in_ok-lane.ensures.there charge.accounts charge.agenda charge.pace h) plans.1 w.0.1 w.0.0 plans.3 plans.4))
+    subst (λ (k : Periods). Agrees k.end (accounts_of new) new.event_queue) (sym start.periods)
+    (started-agrees mid.periods p c.in-Some.task now plans.0 plans.2 (accounts_of mid) (accounts_of new) mid.event_queue new.event_queue (charged-agreed p now c.in_ok-processor_state.processor_state old mid c.in_ok-processor_state.ensures.there charge.accounts charge.event_queue charge.periods h) plans.1 w.0.1 w.0.0 plans.3 plans.4))
     (both-ok _ _ c.start.result (both-ok _ _ c.start.result start.accounts start.rests) start.plans)
 
 pub returns-in-None-clause-agrees : goal.returns-in-None-clause-agrees
@@ -36,6 +36,6 @@ returns-in-None-clause-agrees c =
     on_ok_weaker c.idle.result
     (λ w h.
     let plans = w.1 in
-    subst (λ (k : Pace). Agrees k.end (accounts_of new) new.agenda) (sym idle.pace)
-    (idled-agrees mid.pace p now plans.0 (accounts_of mid) (accounts_of new) mid.agenda new.agenda (charged-agreed p now c.in_ok-lane.lane old mid c.in_ok-lane.ensures.there charge.accounts charge.agenda charge.pace h) plans.1 w.0 plans.2))
+    subst (λ (k : Periods). Agrees k.end (accounts_of new) new.event_queue) (sym idle.periods)
+    (idled-agrees mid.periods p now plans.0 (accounts_of mid) (accounts_of new) mid.event_queue new.event_queue (charged-agreed p now c.in_ok-processor_state.processor_state old mid c.in_ok-processor_state.ensures.there charge.accounts charge.event_queue charge.periods h) plans.1 w.0 plans.2))
     (both-ok _ _ c.idle.result idle.accounts idle.plans)

@@ -1,27 +1,27 @@
 use Rattle.std.proofs.Common.{ap, ◌∙◌, sym, subst, List, ℕ}
 use Rattle.std.specs.Prelude.{slice_get}
 use Rattle.std.proofs.lemmas.Result.{on_ok_weaker}
-use Rattle.bq_workload.specs.declared.lane.Lane.{Lane}
-use Rattle.bq_workload.specs.declared.roster.Pace.{Pace}
+use Rattle.bq_workload.specs.declared.processor_state.ProcessorState.{ProcessorState}
+use Rattle.bq_workload.specs.declared.roster.Periods.{Periods}
 use Rattle.bq_workload.specs.declared.roster.Roster.{Roster}
 use Rattle.bq_workload.specs.Accounts.{accounts_of}
 use Rattle.bq_workload.specs.Next.{Agrees}
-use Rattle.bq_workload.specs.Plans.{PlansCourse}
+use Rattle.bq_workload.specs.Plans.{PlansProgress}
 use Rattle.bq_workload.proofs.DueLemmas.{taken_up-agrees}
 use Rattle.bq_workload.proofs.roster.Roster.take_up.Goals as goal
 
 pub returns-clause-agrees : goal.returns-clause-agrees
 returns-clause-agrees c =
     let old : Roster = c.args.self.now in
-    let mid : Roster = c.set_course.new.self in
-    let new : Roster = c.plan_course.new.self in
-    let set = c.in_ok-set_course.ensures in
-    let plan = c.plan_course.ensures in
-    let end = old.pace.end in
-    let planned : (lane : Lane) → PlansCourse mid.pace.end c.args.processor c.args.task lane c.args.course mid.agenda new.agenda → PlansCourse end c.args.processor c.args.task lane c.args.course old.agenda new.agenda =
-    λ lane p. subst (λ (l : List ℕ). PlansCourse end c.args.processor c.args.task lane c.args.course l new.agenda) set.agenda (subst (λ (k : Pace). PlansCourse k.end c.args.processor c.args.task lane c.args.course mid.agenda new.agenda) set.pace p) in
-    on_ok_weaker c.plan_course.result
+    let mid : Roster = c.set_progress.new.self in
+    let new : Roster = c.plan_progress.new.self in
+    let set = c.in_ok-set_progress.ensures in
+    let plan = c.plan_progress.ensures in
+    let end = old.periods.end in
+    let planned : (processor_state : ProcessorState) → PlansProgress mid.periods.end c.args.processor c.args.task processor_state c.args.progress mid.event_queue new.event_queue → PlansProgress end c.args.processor c.args.task processor_state c.args.progress old.event_queue new.event_queue =
+    λ processor_state p. subst (λ (l : List ℕ). PlansProgress end c.args.processor c.args.task processor_state c.args.progress l new.event_queue) set.event_queue (subst (λ (k : Periods). PlansProgress k.end c.args.processor c.args.task processor_state c.args.progress mid.event_queue new.event_queue) set.periods p) in
+    on_ok_weaker c.plan_progress.result
     (λ w h.
-    subst (λ (k : Pace). Agrees k.end (accounts_of new) new.agenda) (sym (plan.pace ∙ set.pace))
-    (taken_up-agrees end c.args.processor c.args.task w.0 c.args.course (accounts_of old) (accounts_of new) old.agenda new.agenda (ap (λ v. slice_get v.items c.args.processor) (sym set.lanes) ∙ w.1) (ap (λ v. v.items) plan.courses ∙ set.courses) (ap (λ v. v.items) (plan.lanes ∙ set.lanes)) (planned w.0 w.2) h))
+    subst (λ (k : Periods). Agrees k.end (accounts_of new) new.event_queue) (sym (plan.periods ∙ set.periods))
+    (taken_up-agrees end c.args.processor c.args.task w.0 c.args.progress (accounts_of old) (accounts_of new) old.event_queue new.event_queue (ap (λ v. slice_get v.items c.args.processor) (sym set.by_processor) ∙ w.1) (ap (λ v. v.items) plan.by_task ∙ set.by_task) (ap (λ v. v.items) (plan.by_processor ∙ set.by_processor)) (planned w.0 w.2) h))
     plan.plans

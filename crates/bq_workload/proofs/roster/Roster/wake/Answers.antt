@@ -1,9 +1,9 @@
 use Rattle.std.proofs.Common.{ap, ◌∙◌, sym, subst, List, ℕ}
 use Rattle.std.proofs.lemmas.Result.{on_ok_weaker}
-use Rattle.bq_workload.specs.declared.roster.Pace.{Pace}
+use Rattle.bq_workload.specs.declared.roster.Periods.{Periods}
 use Rattle.bq_workload.specs.declared.roster.Roster.{Roster}
 use Rattle.bq_workload.specs.Accounts.{accounts_of, of_task}
-use Rattle.bq_workload.specs.Courses.{woken}
+use Rattle.bq_workload.specs.TaskProgress.{woken}
 use Rattle.bq_workload.specs.Next.{Agrees}
 use Rattle.bq_workload.proofs.DueLemmas.{same-accounts, woken-agrees}
 use Rattle.bq_workload.proofs.roster.Roster.wake.Goals as goal
@@ -14,10 +14,10 @@ returns-clause-agrees c =
     let mid : Roster = c.drop_plan.new.self in
     let new : Roster = c.rouse.new.self in
     let plan = c.in_ok-drop_plan.ensures in
-    let here = same-accounts _ _ _ _ (ap (λ v. v.items) plan.courses) (ap (λ v. v.items) plan.lanes) in
-    let end = old.pace.end in
+    let here = same-accounts _ _ _ _ (ap (λ v. v.items) plan.by_task) (ap (λ v. v.items) plan.by_processor) in
+    let end = old.periods.end in
     on_ok_weaker c.rouse.result
-    (λ is h. subst (λ (p : Pace). Agrees p.end (accounts_of new) new.agenda) (sym (c.rouse.ensures.pace ∙ plan.pace))
-    (subst (λ (l : List ℕ). Agrees end (accounts_of new) l) (sym c.rouse.ensures.agenda)
-    (woken-agrees end c.args.task (accounts_of old) (accounts_of new) old.agenda mid.agenda c.in_ok-find_at_rest.ensures (is ∙ ap (of_task woken c.args.task) here) plan.dropped h)))
+    (λ is h. subst (λ (p : Periods). Agrees p.end (accounts_of new) new.event_queue) (sym (c.rouse.ensures.periods ∙ plan.periods))
+    (subst (λ (l : List ℕ). Agrees end (accounts_of new) l) (sym c.rouse.ensures.event_queue)
+    (woken-agrees end c.args.task (accounts_of old) (accounts_of new) old.event_queue mid.event_queue c.in_ok-find_at_rest.ensures (is ∙ ap (of_task woken c.args.task) here) plan.dropped h)))
     c.rouse.ensures.accounts

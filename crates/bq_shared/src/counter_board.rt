@@ -7,13 +7,13 @@ use bq_bpf::{Board, Call};
 
 /// The counters of a machine, with the account of the seat that runs a program.
 #[derive(Drop)]
-pub struct Desk<'a, N: Counting> {
+pub struct CounterBoard<'a, N: Counting> {
     pub counters: &'a Counters<N>,
     pub tally: CounterTally<N>,
     ghost seated: { 1 ≤ tally.seats },
 }
 
-impl<'a, N: Counting> Board for Desk<'a, N> {
+impl<'a, N: Counting> Board for CounterBoard<'a, N> {
     ghost use Rattle.std.specs.Prelude.{◌≡◌};
     ghost use Rattle.bq_shared.specs.Sums.{calling};
 

@@ -11,8 +11,8 @@ use Rattle.bq_insn.specs.declared.Width.TheVariants.{W32}
 use Rattle.bq_states.specs.declared.abstract_state.ValueKind.TheVariants.{Number}
 use Rattle.bq_states.specs.declared.abstract_state.AbstractValue.{AbstractValue}
 use Rattle.bq_states.specs.declared.abstract_state.AbstractState.{AbstractState}
-use Rattle.bq_transfer.specs.declared.doubt.Doubt.{Doubt}
-use Rattle.bq_transfer.specs.declared.doubt.Doubt.TheVariants.{Unset, Access, PointerUse, Argument, Answer}
+use Rattle.bq_transfer.specs.declared.obligation.Obligation.{Obligation}
+use Rattle.bq_transfer.specs.declared.obligation.Obligation.TheVariants.{Unset, Access, PointerUse, Argument, Answer}
 
 abbrev pub IsAccess : Insn → Type 0
 IsAccess (Load size signed dst src off) = Unit {0}
@@ -60,12 +60,12 @@ UsesWord (Branch w c dst src off) = Unit {0}
 UsesWord _ = ⊥
 
 -- an operand where one is read, a pointer's use where a word is used, an access at a load or a store, an argument at a call or a map reference, an answer at an EXIT
-abbrev pub MayDoubt : Doubt → Insn → Type 0
-MayDoubt Unset insn = ReadsOperand insn
-MayDoubt PointerUse insn = UsesWord insn
-MayDoubt Access insn = IsAccess insn
-MayDoubt Argument insn = TakesArgument insn
-MayDoubt Answer insn = IsExit insn
+abbrev pub MayBeUnproven : Obligation → Insn → Type 0
+MayBeUnproven Unset insn = ReadsOperand insn
+MayBeUnproven PointerUse insn = UsesWord insn
+MayBeUnproven Access insn = IsAccess insn
+MayBeUnproven Argument insn = TakesArgument insn
+MayBeUnproven Answer insn = IsExit insn
 
 -- of the register it is not shown that it is set
 abbrev pub IsUnknownAt : AbstractState → ℕ → Type 0
@@ -75,10 +75,10 @@ IsUnknownAt state r = slice_index_or state.registers r None ≡ None
 abbrev pub IsNoNumberAt : AbstractState → ℕ → Type 0
 IsNoNumberAt state r = (k : AbstractValue) × (slice_index_or state.registers r None ≡ Some k) × (k.kind ≢ Number)
 
--- the number of a doubt, after the letter V
-abbrev pub doubt_number : Doubt → ℕ
-doubt_number Unset = 4
-doubt_number Access = 5
-doubt_number PointerUse = 6
-doubt_number Argument = 8
-doubt_number Answer = 9
+-- the number of an obligation, after the letter V
+abbrev pub obligation_number : Obligation → ℕ
+obligation_number Unset = 4
+obligation_number Access = 5
+obligation_number PointerUse = 6
+obligation_number Argument = 8
+obligation_number Answer = 9

@@ -1,6 +1,6 @@
 use Rattle.std.proofs.Common.{◌≡◌, ◌≤◌, ◌<◌, ◌/◌, ℕ, slice_index}
 use Rattle.bq_workload.specs.Minima.{HasOtherMinima}
-use Rattle.bq_workload.proofs.agenda.recompute.Given as goal
+use Rattle.bq_workload.proofs.event_queue.recompute.Given as goal
 
 abbrev pub invariant-up : goal.invariant-up
 invariant-up l = record {

@@ -5,7 +5,7 @@ ghost use Rattle.bq_workload.specs.Accounts.{at_rest, is_past, rests_past};
 /// What a simulation knows of a processor: what runs there and since when, how many tasks it has, when it ticks and when it looks
 /// for a task next.
 #[derive(Clone, Copy)]
-pub struct Lane {
+pub struct ProcessorState {
     /// The task that runs.
     pub run: Option<u16>,
     /// Since when its time is not counted yet.
@@ -18,12 +18,12 @@ pub struct Lane {
     pub look: Option<u64>,
 }
 
-impl Lane {
+impl ProcessorState {
     /// Nothing runs, and it looks next for a task to pull then, where it looks at all.
-    pub fn new(look: Option<u64>) -> Lane
+    pub fn new(look: Option<u64>) -> ProcessorState
         ensures { result ≡ at_rest look }
     {
-        Lane {
+        ProcessorState {
             run: None,
             since: 0,
             size: 0,

@@ -1,7 +1,7 @@
 use Rattle.std.proofs.Common.{◌∙◌, refl, arith}
 use Rattle.std.proofs.lemmas.List.{get_or-set_other}
 use Rattle.bq_workload.proofs.TreeLemmas.{recomputed-node}
-use Rattle.bq_workload.proofs.agenda.recompute.Goals as goal
+use Rattle.bq_workload.proofs.event_queue.recompute.Goals as goal
 
 pub up-init : goal.up-init
 up-init c = record { low = omega arith; high = c.requires.high; others = c.requires.others; leaves = λ k low. refl }

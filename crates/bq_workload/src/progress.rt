@@ -3,7 +3,7 @@ ghost use Rattle.std.specs.Prelude.{◌≡◌, ◌≤◌, ◌+◌, ◌^◌, true
 
 /// Where a task is.
 #[derive(Clone, Copy)]
-pub enum Stance {
+pub enum TaskState {
     /// It sleeps until its timer wakes it.
     Asleep,
     /// It sleeps until another task wakes it.
@@ -16,7 +16,7 @@ pub enum Stance {
 
 /// How far a task has come. Times are nanoseconds.
 #[derive(Clone, Copy)]
-pub struct Course {
+pub struct TaskProgress {
     /// The index of its kind.
     pub kind: usize,
     /// The index of the action that it does next.
@@ -25,7 +25,7 @@ pub struct Course {
     pub woken: u16,
     /// How often it has done all its actions.
     pub loops: u64,
-    pub stance: Stance,
+    pub task_state: TaskState,
     /// When its timer wakes it, where it is asleep.
     pub timer: u64,
     /// What its run phase takes: its length, and the costs of changes of processor.
@@ -38,19 +38,19 @@ pub struct Course {
     pub has_run: bool,
 }
 
-impl Course {
-    ghost use Rattle.bq_workload.specs.Courses.{advanced, begun, fresh, run_for, migrates_to, moved_to, woken, is_done, keeps_time, lacks_more, sleeps_past};
+impl TaskProgress {
+    ghost use Rattle.bq_workload.specs.TaskProgress.{advanced, begun, fresh, run_for, migrates_to, moved_to, woken, is_done, keeps_time, lacks_more, sleeps_past};
 
     /// A task that has done nothing, and sleeps until its timer wakes it first.
-    pub fn new(kind: usize, home: u8, start: u64) -> Course
+    pub fn new(kind: usize, home: u8, start: u64) -> TaskProgress
         ensures { result ≡ fresh kind home start }
     {
-        Course {
+        TaskProgress {
             kind,
             action: 0,
             woken: 0,
             loops: 0,
-            stance: Stance::Asleep,
+            task_state: TaskState::Asleep,
             timer: start,
             due: 0,
             got: 0,
@@ -96,7 +96,7 @@ impl Course {
     pub fn wake(&mut self)
         ensures { self.new ≡ woken self.old }
     {
-        self.stance = Stance::Runnable;
+        self.task_state = TaskState::Runnable;
         self.due = 0;
         self.got = 0;
     }
@@ -119,8 +119,8 @@ impl Course {
     fn sleeps_past(&self, end: u64) -> bool
         ensures { result ≡ sleeps_past end self.now }
     {
-        match self.stance {
-            Stance::Asleep => end < self.timer,
+        match self.task_state {
+            TaskState::Asleep => end < self.timer,
             _ => true,
         }
     }

@@ -1,11 +1,11 @@
-//! What may be in doubt of an instruction.
+//! The obligations of an instruction, by the letter V and a number.
 
 ghost use Rattle.std.specs.Prelude.{◌≡◌};
-ghost use Rattle.bq_transfer.specs.Doubts.{doubt_number};
+ghost use Rattle.bq_transfer.specs.Obligations.{obligation_number};
 
-/// What is not shown of an instruction.
+/// An obligation of an instruction that the state before it does not prove.
 #[derive(Clone, Copy, Debug, PartialEq, Eq)]
-pub enum Doubt {
+pub enum Obligation {
     /// That an operand is set.
     Unset,
     /// That an access is good.
@@ -18,17 +18,17 @@ pub enum Doubt {
     Answer,
 }
 
-impl Doubt {
+impl Obligation {
     /// The number by which it is named, after the letter V.
     pub fn number(self) -> u8
-        ensures { result ≡ doubt_number self }
+        ensures { result ≡ obligation_number self }
     {
         match self {
-            Doubt::Unset => 4,
-            Doubt::Access => 5,
-            Doubt::PointerUse => 6,
-            Doubt::Argument => 8,
-            Doubt::Answer => 9,
+            Obligation::Unset => 4,
+            Obligation::Access => 5,
+            Obligation::PointerUse => 6,
+            Obligation::Argument => 8,
+            Obligation::Answer => 9,
         }
     }
 }

@@ -2,7 +2,7 @@ use Rattle.std.proofs.Common.{◌≡◌, ap, ◌∙◌, replicate, inl, length, 
 use Rattle.std.proofs.lemmas.List.{length-replicate}
 use Rattle.bq_workload.specs.Minima.{never}
 use Rattle.bq_workload.proofs.TreeLemmas.{never-minima, never-places}
-use Rattle.bq_workload.proofs.agenda.Agenda.new.Goals as goal
+use Rattle.bq_workload.proofs.event_queue.EventQueue.new.Goals as goal
 
 pub invariant_of-result : goal.invariant_of-result
 invariant_of-result c =

@@ -1,9 +1,9 @@
 use Rattle.std.proofs.Common.{◌≡◌, ◌≢◌, ◌/◌, ◌%◌, ℕ, List, get_or, length, subst, sym, ◌∙◌, arith}
 use Rattle.bq_workload.specs.Minima.{never, IsFirst, AreNever, HasMinima, HasPlaces}
 use Rattle.bq_workload.proofs.TreeLemmas.{nothing-due, first-due, same-number}
-use Rattle.bq_workload.proofs.agenda.Agenda.first.Goals as goal
+use Rattle.bq_workload.proofs.event_queue.EventQueue.first.Goals as goal
 
--- of the list that the agenda is
+-- of the list that the event queue is
 nothing : (xs ys : List ℕ) (n : ℕ) → xs ≡ ys → length xs ≡ 4096 → HasMinima xs → HasPlaces xs → n ≡ get_or xs 1 n → n ≡ never → AreNever ys
 nothing xs ys n same len m places is none = subst AreNever same (nothing-due xs m places (sym (same-number xs n (omega (arith, len)) is) ∙ none))
 

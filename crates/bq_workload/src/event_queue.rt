@@ -16,11 +16,11 @@ const NEVER: u64 = u64::MAX;
 ///
 /// The numbers are the leaves of a tree, in which each node has the less of the two below it. So the first is the root.
 #[derive(Drop)]
-pub struct Agenda {
+pub struct EventQueue {
     numbers: Vec<u64>,
 }
 
-impl Model for Agenda {
+impl Model for EventQueue {
     ghost use Rattle.std.specs.Prelude.{◌≡◌, List, ℕ, length};
     ghost use Rattle.bq_workload.specs.Minima.{HasMinima, HasPlaces};
 
@@ -31,12 +31,12 @@ impl Model for Agenda {
     ghost invariant = { λ a. (length a.numbers.items ≡ 4096) × HasMinima a.numbers.items × HasPlaces a.numbers.items };
 }
 
-impl Agenda {
+impl EventQueue {
     /// Nothing is ever due. It takes all the memory that it will need.
-    pub fn new(alloc: Global) -> Result<Agenda, AllocError>
+    pub fn new(alloc: Global) -> Result<EventQueue, AllocError>
         ensures { IfOk result AreNever }
     {
-        Ok(Agenda {
+        Ok(EventQueue {
             numbers: vec![in alloc; NEVER; 2 * PLACES]?,
         })
     }

@@ -2,7 +2,7 @@
 
 /// What a simulation counts beside its trace. Each count stops at its greatest value.
 #[derive(Clone, Copy, PartialEq, Eq)]
-pub struct Tally {
+pub struct Counts {
     /// How many tasks there were.
     pub tasks: u16,
     /// How many run phases ended, each with just the processor time that it takes.
