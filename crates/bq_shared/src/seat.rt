@@ -6,7 +6,7 @@ ghost use Rattle.bq_history.specs.Items.{caller_of};
 ghost use Rattle.bq_shared.specs.Sums.{both, opened};
 ghost use Rattle.bq_shared.specs.Calls.{account_of};
 
-use bq_bpf::COUNTERS;
+use bq_bpf::board::COUNTERS;
 use crate::calls::CallRooms;
 use crate::working::Working;
 use crate::{CounterTally, Counters, Counting};

@@ -7,7 +7,7 @@ ghost use Rattle.bq_trace.specs.Machines.{opening_machine};
 ghost use Rattle.bq_trace.specs.Cores.{processor_in};
 ghost use Rattle.bq_trace.specs.Seeing.{seen_of};
 
-use bq_bpf::COUNTERS;
+use bq_bpf::board::COUNTERS;
 use bq_bpf::Plain;
 use bq_cfs::CfsQueue;
 use bq_core::DynamicCore;
