@@ -4,10 +4,10 @@ ghost use Rattle.bq_parts.specs.Refusals.{argument_refusal};
 ghost use Rattle.bq_parts.specs.Moves.{admitted};
 ghost use Rattle.bq_machine.specs.Calls.{IsCallRefused};
 
-use bq_disc::limits::PROCESSORS;
 use crate::clock::Clock;
 use crate::locks::Machine;
 use bq_disc::RunQueue;
+use bq_disc::limits::PROCESSORS;
 use bq_history::{Naming, Receipt, Room};
 use bq_parts::{Event, Refusal, Unlinked, argument_refusal, new_task};
 use bq_recording::{Admission, Seat};

@@ -2,10 +2,10 @@
 ghost use Rattle.std.specs.Prelude.{◌≡◌, ◌≤◌, ◌^◌, [], All, IfOk, length};
 ghost use Rattle.bq_shared.specs.Calls.{fresh};
 
-use bq_disc::limits::PROCESSORS;
 use crate::clock::Clock;
 use crate::locks::Machine;
 use bq_disc::RunQueue;
+use bq_disc::limits::PROCESSORS;
 use bq_history::Naming;
 use bq_recording::{Opening, Prepared, Seat, no_tasks};
 use bq_shared::{Counting, UnnamedCounters};

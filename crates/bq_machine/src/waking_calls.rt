@@ -10,11 +10,11 @@ ghost use Rattle.bq_recording.specs.Placing.{IsPlaced};
 ghost use Rattle.bq_machine.specs.Calls.{IsCallRefused};
 ghost use Rattle.bq_machine.specs.Waking.{IsWake};
 
-use bq_disc::limits::TASKS;
 use crate::clock::Clock;
 use crate::locks::Machine;
 use crate::needs::rooms_of_event;
 use bq_disc::RunQueue;
+use bq_disc::limits::TASKS;
 use bq_history::{Naming, Receipt, Room};
 use bq_parts::{Event, Refusal, argument_refusal};
 use bq_recording::{BeginRooms, CpuCell, EventRooms, LoadRooms, Placing, Seat, WorkingSeat};

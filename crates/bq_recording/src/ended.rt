@@ -11,11 +11,11 @@ ghost use Rattle.bq_shared.specs.Parts.{RecordStep, told_calls, cpu_part, inbox_
 ghost use Rattle.bq_shared.specs.declared.law.WorldPart.{WorldPart as PartOf};
 ghost use Rattle.bq_recording.specs.AllParts.{all_parts};
 
-use bq_disc::limits::PROCESSORS;
 use crate::closed::Closed;
 use crate::closing_room::ClosingRoom;
 use bq_core::Core;
 use bq_disc::RunQueue;
+use bq_disc::limits::PROCESSORS;
 use bq_history::{Holder, Item, Journal, Naming, contents_in_order, gather};
 use bq_parts::{Cpu, Inbox, Lobby};
 use bq_shared::{

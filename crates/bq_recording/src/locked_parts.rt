@@ -4,8 +4,8 @@ ghost use Rattle.bq_history.specs.Items.{callers_from, part_item};
 ghost use Rattle.bq_shared.specs.Parts.{first_parts};
 ghost use Rattle.bq_shared.specs.Opened.{ItemOf, cpu_items, inbox_items};
 
-use bq_disc::limits::PROCESSORS;
 use bq_disc::RunQueue;
+use bq_disc::limits::PROCESSORS;
 use bq_history::{Holder, Item, Locked, Naming};
 use bq_installed::Scratch;
 use bq_parts::{Cpu, Inbox, Lobby};

@@ -5,11 +5,11 @@ ghost use Rattle.bq_shared.specs.Calls.{fresh};
 ghost use Rattle.bq_shared.specs.Sums.{opened};
 ghost use Rattle.bq_shared.specs.Parts.{first_parts};
 
-use bq_disc::limits::PROCESSORS;
 use crate::locked_parts::{PartLocks, part_locks};
 use crate::prepared::Prepared;
 use crate::{ClosingRoom, Recorder, Seat};
 use bq_disc::RunQueue;
+use bq_disc::limits::PROCESSORS;
 use bq_history::{Holder, Item, Journal, Naming};
 use bq_hooks::Loads;
 use bq_shared::{

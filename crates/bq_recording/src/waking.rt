@@ -11,12 +11,11 @@ ghost use Rattle.bq_parts.specs.declared.refusal.Refusal.TheVariants as no;
 ghost use Rattle.bq_shared.specs.Parts.{cpu_part, told_calls};
 ghost use Rattle.bq_recording.specs.Placing.{IsPlaced};
 
-use bq_disc::limits::TASKS;
-use bq_disc::limits::PROCESSORS;
 use crate::recorder::{CpuCell, Recorder, WorkingSeat, need_own};
 use crate::rooms::{BeginRooms, EventRooms};
 use crate::told::{both_records, event_twice, no_calls, told_twice};
 use bq_disc::RunQueue;
+use bq_disc::limits::{PROCESSORS, TASKS};
 use bq_history::{CommitDraft, Naming, Receipt};
 use bq_parts::{Event, Placement, Reply};
 use bq_shared::{

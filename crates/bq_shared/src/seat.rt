@@ -6,10 +6,10 @@ ghost use Rattle.bq_history.specs.Items.{caller_of};
 ghost use Rattle.bq_shared.specs.Sums.{both, opened};
 ghost use Rattle.bq_shared.specs.Calls.{account_of};
 
-use bq_bpf::board::COUNTERS;
 use crate::calls::CallRooms;
 use crate::working::Working;
 use crate::{CounterTally, Counters, Counting};
+use bq_bpf::board::COUNTERS;
 use bq_history::{Caller, History, Holder, Item, Naming, Numbered, Room, World};
 use std::marker::Model;
 

@@ -5,7 +5,7 @@ ghost use Rattle.bq_shared.specs.Sums.{spent};
 ghost use Rattle.bq_shared.specs.Calls.{account_of, ahead};
 
 use crate::seat::TellsCalls;
-use crate::{CounterTally, Counters, Counting, CounterBoard};
+use crate::{CounterBoard, CounterTally, Counters, Counting};
 use bq_history::{
     AsPart, Caller, Cell, CommitDraft, History, Journal, Naming, Receipt, World, commit,
     commit_one, commit_two,
