@@ -2,8 +2,8 @@
 ghost use Rattle.std.specs.Prelude.{◌≡◌, ◌<◌, ◌^◌};
 ghost use Rattle.bq_disc.specs.Chains.{task_of, IsLone};
 
-use bq_disc::limits::PROCESSORS;
 use crate::command::{Command, Newcomer};
+use bq_disc::limits::PROCESSORS;
 use bq_disc::{Entity, Entry, Node, RunQueue};
 use std::alloc::Global;
 use std::process::Abort;

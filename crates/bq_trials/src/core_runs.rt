@@ -3,13 +3,13 @@
 
 ghost use Rattle.std.specs.Prelude.{◌≤◌};
 
-use bq_disc::limits::PROCESSORS;
 use crate::asserting::{is_number, is_text};
 use crate::hex_text::bytes_of;
 use bq_bpf::{Board, Plain};
 use bq_cfs::CfsQueue;
 use bq_core::Core;
 use bq_disc::RunQueue;
+use bq_disc::limits::PROCESSORS;
 use bq_eevdf::EevdfQueue;
 use bq_hooks::{By, Hook};
 use bq_installed::Policy;
