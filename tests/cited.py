@@ -10,7 +10,7 @@ that stands in several crates is written with its crate, as `bq_load::load`; one
 "clauses" are those of clauses.
 
 In all pages of docs/ each path that begins with a crate's name is there. So is, in the pages of NAMES, each crate, each `Type::call`, and each
-path below `src/` or `specs/` in a crate of the same line.
+path below `src/` or `specs/` in a crate of the same line. docs/ARCHITECTURE.md lists every crate.
 """
 import re
 import sys
@@ -145,8 +145,16 @@ def pages():
 VARIANTS = names_in(re.compile(r"(?m)^ +(?:pub )?([A-Z]\w*)(?:\(|,| \{)"), "src", ".rt")
 
 
+def unlisted():
+    """The crates that ARCHITECTURE does not list."""
+    page = "docs/ARCHITECTURE.md"
+    listed = set(re.findall(r"`(\w+)`", "\n".join(re.findall(r"(?ms)^- .*?:", (TOP / page).read_text(encoding="utf-8")))))
+    return [f"{page}: it does not list {crate}" for crate in sorted(CRATES - listed)]
+
+
 def main():
     (first, wrong), (second, also) = promises(), pages()
+    also += unlisted()
     print("\n".join([*wrong, *also, f"{first} names of promises and {second} of pages read, {len(wrong) + len(also)} are wrong"]))
     return 1 if wrong or also or not first else 0
 

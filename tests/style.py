@@ -4,6 +4,7 @@
     tests/style.py [PAGE..]     each fault as `PAGE:LINE: what`; without pages, of all
     tests/style.py --count      the words on each page
     tests/style.py --words      the words that tests/words.txt does not have; read them, then add those that are right
+    tests/style.py --comments   the phrases of the dialect in comments of the crates' sources, definitions and lemmas, tests left out
 
 Code, in blocks and in `marks`, is not read. tests/words.txt is sorted and in lower case; a word with an apostrophe or a hyphen is checked part by part.
 """
@@ -109,6 +110,20 @@ def faults(page):
     return sorted(fault for look in (shape, dialect, spelling, dead_links) for fault in look(page))
 
 
+def comments():
+    """The lines of comments in the crates, with their file and number."""
+    for folder, ending, mark in [("src", "rt", r"\s*//[/!]?"), ("specs", "antt", r"\s*--"), ("proofs", "antt", r"\s*--")]:
+        for path in sorted(Path(TOP).glob(f"crates/*/{folder}/**/*.{ending}")):
+            if "_trials/" not in str(path):
+                for number, line in enumerate(path.read_text(encoding="utf-8").splitlines(), 1):
+                    if found := re.match(mark, line):
+                        yield f"{path.relative_to(TOP)}:{number}", line[found.end() :]
+
+
+def dialect_of_comments():
+    return [f"{place}: {found[0]!r}: {better}" for place, text in comments() for pattern, better in PATTERNS for found in pattern.finditer(text)]
+
+
 def all_pages():
     """The pages at the top and in docs/."""
     top = [it.name for it in sorted(Path(TOP).glob("*.md"))]
@@ -124,6 +139,9 @@ def main():
     elif asked == ["--words"]:
         known = set(Path(TOP, "tests/words.txt").read_text(encoding="utf-8").split())
         print(*sorted({word for page in all_pages() for _, word in words_of(page)} - known), sep="\n")
+    elif asked == ["--comments"]:
+        found = dialect_of_comments()
+        print(*found, f"{len(found)} phrases", sep="\n")
     elif [it for it in asked if it.startswith("-")]:
         print(__doc__.strip(), file=sys.stderr)
         return 2
