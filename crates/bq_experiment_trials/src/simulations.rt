@@ -2,7 +2,7 @@
 
 use crate::cases::holds;
 use bq_parts::Event;
-use bq_simulate::{SimulateFault, Counts, simulate, write_event};
+use bq_simulate::{Counts, SimulateFault, simulate, write_event};
 use bq_words::{ProcessorCount, Rule};
 use bq_workload::{Action, Length, Setup, TaskKind, Unsound, Workload};
 use std::alloc::Global;

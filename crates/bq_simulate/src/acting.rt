@@ -11,7 +11,9 @@ ghost use Rattle.bq_simulate.specs.Steps.{AreJust, Follow, IsAct, Meet, Wakes};
 use crate::fault::SimulateFault;
 use crate::simulation::Simulation;
 use bq_trace::Sink;
-use bq_workload::{Action, BrokenInvariant, TaskProgress, Due, Length, TaskState, TaskKind, Workload};
+use bq_workload::{
+    Action, BrokenInvariant, Due, Length, TaskKind, TaskProgress, TaskState, Workload,
+};
 use std::alloc::Global;
 
 /// What a task does next, once its phase has ended.
@@ -77,7 +79,11 @@ fn count_of(workload: &Workload, kind: usize) -> Result<u16, BrokenInvariant>
 }
 
 /// How far a task has come once its wake has come to one more of the tasks of a kind.
-fn woken_one(workload: &Workload, progress: TaskProgress, kind: usize) -> Result<TaskProgress, BrokenInvariant>
+fn woken_one(
+    workload: &Workload,
+    progress: TaskProgress,
+    kind: usize,
+) -> Result<TaskProgress, BrokenInvariant>
     ensures { IfOk result (λ next. next ≡ woken_one_in workload.now.tasks.items kind progress) }
 {
     let count = count_of(workload, kind)?;
@@ -153,7 +159,12 @@ impl Simulation {
 
     /// The run phase of the task that runs at a processor has ended, with just what it takes, and its next action is taken up:
     /// where it takes a length, that is the next of the task.
-    fn take_action(&mut self, workload: &Workload, processor: u8, now: u64) -> Result<Doing, BrokenInvariant>
+    fn take_action(
+        &mut self,
+        workload: &Workload,
+        processor: u8,
+        now: u64,
+    ) -> Result<Doing, BrokenInvariant>
         ensures { IfOk result (λ doing. Silent workload.now.tasks.items (IsAct processor doing.task now doing.action (aim_of workload.now.tasks.items doing.before doing.action)) self.old self.new) }
     {
         let (task, before) = self.roster.end_phase(processor, now)?;
@@ -237,7 +248,9 @@ impl Simulation {
         ensures { OnOk result ((kinds : List TaskKind) → Lived S.takes kinds (Wakes (first_of kinds kind + woken) processor now) sink.old self.old sink.new self.new) }
     {
         let first = self.first_of(kind)?;
-        let target = first.checked_add(woken).ok_or(SimulateFault::BrokenInvariant)?;
+        let target = first
+            .checked_add(woken)
+            .ok_or(SimulateFault::BrokenInvariant)?;
         let processor_state = self.roster.processor_state(processor)?;
         let Some(_) = processor_state.run else {
             return Err(SimulateFault::BrokenInvariant);

@@ -12,9 +12,9 @@ ghost use Rattle.bq_simulate.specs.Steps.{AreJust, AreMet, KeepsOthers, all_proc
 ghost use Rattle.bq_trace.specs.News.{Gets};
 
 use crate::Driver;
+use crate::counts::Counts;
 use crate::fault::SimulateFault;
 use crate::simulation::Simulation;
-use crate::counts::Counts;
 use bq_installed::Policy;
 use bq_trace::Sink;
 use bq_workload::{Periods, Roster, Setup, Workload, most_steps, soundness};

@@ -7,6 +7,7 @@
 
 pub mod acting;
 pub mod calls;
+pub mod counts;
 pub mod drive_fault;
 pub mod driver;
 pub mod fault;
@@ -16,15 +17,14 @@ pub mod laws;
 pub mod line_laws;
 pub mod opening;
 pub mod simulation;
-pub mod counts;
 pub mod trace_writer;
 pub mod writing;
 
+pub use counts::Counts;
 pub use drive_fault::DriveFault;
 pub use driver::Driver;
 pub use fault::SimulateFault;
 pub use following::{simulate, simulate_seed};
 pub use images::Images;
-pub use counts::Counts;
 pub use trace_writer::TraceWriter;
 pub use writing::{write_event, write_machine};

@@ -12,7 +12,7 @@ use crate::fault::SimulateFault;
 use crate::simulation::Simulation;
 use bq_installed::Policy;
 use bq_trace::Sink;
-use bq_workload::{TaskProgress, Due, Stream, TaskKind, Workload, first_of_mask};
+use bq_workload::{Due, Stream, TaskKind, TaskProgress, Workload, first_of_mask};
 use std::alloc::Global;
 
 impl Simulation {

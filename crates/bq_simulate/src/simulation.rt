@@ -11,10 +11,10 @@ ghost use Rattle.bq_simulate.specs.Steps.{AreJust, AreWake, KeepsOthers, Meet};
 
 use crate::Driver;
 use crate::calls::Moved;
-use crate::fault::SimulateFault;
 use crate::counts::Counts;
+use crate::fault::SimulateFault;
 use bq_trace::Sink;
-use bq_workload::{BrokenInvariant, Due, Length, Roster, TaskState, Stream, Workload};
+use bq_workload::{BrokenInvariant, Due, Length, Roster, Stream, TaskState, Workload};
 use std::alloc::Global;
 
 /// A simulation on its way: its machine, its tasks and processors, the draws of each task, the first task of each kind,
@@ -187,7 +187,12 @@ fn keep_pull(
 }
 
 /// A task that was taken has gone from the queue of one processor to another.
-fn pass_where_taken(roster: &mut Roster, taken: Option<u16>, from: u8, to: u8) -> Result<(), BrokenInvariant>
+fn pass_where_taken(
+    roster: &mut Roster,
+    taken: Option<u16>,
+    from: u8,
+    to: u8,
+) -> Result<(), BrokenInvariant>
     ensures accounts { OnOk result (accounts_of roster.new ≡ option_map_or (λ task. passed from to (accounts_of roster.old)) taken (accounts_of roster.old)) }
     ensures agrees { OnOk result (StaysAgreed roster.old roster.new) }
     ensures periods { roster.new.periods ≡ roster.old.periods }

@@ -6,15 +6,15 @@
 #![tactic(auto)]
 
 pub mod action;
-pub mod event_queue;
 pub mod bound;
 pub mod clocks;
-pub mod progress;
 pub mod due;
+pub mod event_queue;
 pub mod exponential;
-pub mod processor_state;
 pub mod laws;
 pub mod limits;
+pub mod processor_state;
+pub mod progress;
 pub mod roster;
 pub mod setup;
 pub mod sound;
@@ -23,11 +23,11 @@ pub mod switching;
 pub mod workload;
 
 pub use action::{Action, Length, take_time};
-pub use event_queue::EventQueue;
 pub use bound::most_steps;
-pub use progress::{TaskProgress, TaskState};
 pub use due::Due;
+pub use event_queue::EventQueue;
 pub use processor_state::ProcessorState;
+pub use progress::{TaskProgress, TaskState};
 pub use roster::{BrokenInvariant, Periods, Roster};
 pub use setup::Setup;
 pub use sound::{Unsound, first_of_mask, soundness};

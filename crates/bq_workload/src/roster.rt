@@ -9,9 +9,9 @@ ghost use Rattle.bq_workload.specs.Next.{HaveHomes, IsAgreed, IsNext, NothingCom
 ghost use Rattle.bq_workload.specs.Plans.{PlansProgress, PlansTimer};
 
 use crate::clocks::first_look;
-use crate::progress::{TaskProgress, TaskState};
 use crate::processor_state::ProcessorState;
-use crate::{EventQueue, Due};
+use crate::progress::{TaskProgress, TaskState};
+use crate::{Due, EventQueue};
 use bq_disc::clock::LATEST;
 use bq_disc::limits::{PROCESSORS, TASKS};
 use std::alloc::{AllocError, Global};
@@ -76,7 +76,10 @@ impl Roster {
         ensures there { IfOk result (λ progress. slice_get self.now.by_task.items task ≡ Some progress) }
         ensures missing { IfErr result (λ _. slice_get self.now.by_task.items task ≡ None) }
     {
-        self.by_task.get(usize::from(task)).copied().ok_or(BrokenInvariant)
+        self.by_task
+            .get(usize::from(task))
+            .copied()
+            .ok_or(BrokenInvariant)
     }
 
     /// A task has come so far.
@@ -105,7 +108,11 @@ impl Roster {
             .ok_or(BrokenInvariant)
     }
 
-    pub(crate) fn set_processor_state(&mut self, processor: u8, processor_state: ProcessorState) -> Result<(), BrokenInvariant>
+    pub(crate) fn set_processor_state(
+        &mut self,
+        processor: u8,
+        processor_state: ProcessorState,
+    ) -> Result<(), BrokenInvariant>
         ensures there { OnOk result (processor < length self.old.by_processor.items) }
         ensures by_processor { OnOk result (self.new.by_processor.items ≡ slice_set self.old.by_processor.items processor processor_state) }
         ensures by_task { self.new.by_task ≡ self.old.by_task }
@@ -273,7 +280,12 @@ impl Roster {
     }
 
     /// The task that runs at a processor has come so far: the end of its phase is put down, and its timer where it sleeps by one.
-    pub fn take_up(&mut self, processor: u8, task: u16, progress: TaskProgress) -> Result<(), BrokenInvariant>
+    pub fn take_up(
+        &mut self,
+        processor: u8,
+        task: u16,
+        progress: TaskProgress,
+    ) -> Result<(), BrokenInvariant>
         ensures there { OnOk result (task < length self.old.by_task.items) }
         ensures by_task { OnOk result (self.new.by_task.items ≡ slice_set self.old.by_task.items task progress) }
         ensures by_processor { self.new.by_processor ≡ self.old.by_processor }
@@ -286,7 +298,12 @@ impl Roster {
     }
 
     /// The end of the phase of the task that runs at a processor is put down, and its timer where it sleeps by one.
-    fn plan_progress(&mut self, processor: u8, task: u16, progress: &TaskProgress) -> Result<(), BrokenInvariant>
+    fn plan_progress(
+        &mut self,
+        processor: u8,
+        task: u16,
+        progress: &TaskProgress,
+    ) -> Result<(), BrokenInvariant>
         ensures plans { OnOk result ((processor_state : ProcessorState) × (slice_get self.old.by_processor.items processor ≡ Some processor_state) × PlansProgress self.old.periods.end processor task processor_state progress.now self.old.event_queue self.new.event_queue) }
         ensures by_task { self.new.by_task ≡ self.old.by_task }
         ensures by_processor { self.new.by_processor ≡ self.old.by_processor }
@@ -315,7 +332,11 @@ impl Roster {
 
     /// The phase of the task that runs at a processor has ended just now. The task, and how far it has come: it has got what
     /// its phase takes, no more and no less.
-    pub fn end_phase(&mut self, processor: u8, now: u64) -> Result<(u16, TaskProgress), BrokenInvariant>
+    pub fn end_phase(
+        &mut self,
+        processor: u8,
+        now: u64,
+    ) -> Result<(u16, TaskProgress), BrokenInvariant>
         ensures done { IfOk result (λ ended. IsDone (accounts_of self.new) processor ended.0 ended.1) }
         ensures accounts { OnOk result (accounts_of self.new ≡ charged processor now (accounts_of self.old)) }
         ensures event_queue { self.new.event_queue ≡ self.old.event_queue }
@@ -361,14 +382,18 @@ impl Roster {
     fn all_run_past(&self, end: u64) -> bool
         ensures { result ≡ list_all (runs_past end self.now.by_task.items) self.now.by_processor.items }
     {
-        self.by_processor.iter().all(|processor_state| self.runs_past(processor_state, end))
+        self.by_processor
+            .iter()
+            .all(|processor_state| self.runs_past(processor_state, end))
     }
 
     /// Whether no processor ticks or looks for a task to pull any more until the end.
     fn all_rest_past(&self, end: u64) -> bool
         ensures { result ≡ list_all (rests_past end) self.now.by_processor.items }
     {
-        self.by_processor.iter().all(|processor_state| processor_state.rests_past(end))
+        self.by_processor
+            .iter()
+            .all(|processor_state| processor_state.rests_past(end))
     }
 
     /// Whether the phase of the task that runs at a processor ends after the end; also where none runs.

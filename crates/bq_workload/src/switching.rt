@@ -13,7 +13,12 @@ use crate::roster::{BrokenInvariant, Roster};
 
 impl Roster {
     /// From now on this task runs at a processor, or none does.
-    pub fn switch(&mut self, processor: u8, run: Option<u16>, now: u64) -> Result<(), BrokenInvariant>
+    pub fn switch(
+        &mut self,
+        processor: u8,
+        run: Option<u16>,
+        now: u64,
+    ) -> Result<(), BrokenInvariant>
         ensures accounts { OnOk result (accounts_of self.new ≡ switched processor run now self.old.periods (accounts_of self.old)) }
         ensures plans { OnOk result (PlansSwitch self.old.periods processor run now (accounts_of self.old) self.new.by_task.items self.old.event_queue self.new.event_queue) }
         ensures agrees { OnOk result (StaysAgreed self.old self.new) }
@@ -114,7 +119,12 @@ impl Roster {
     }
 
     /// The task that ran at a processor has gone from its queue; the next one runs there, or none.
-    pub fn leave(&mut self, processor: u8, run: Option<u16>, now: u64) -> Result<(), BrokenInvariant>
+    pub fn leave(
+        &mut self,
+        processor: u8,
+        run: Option<u16>,
+        now: u64,
+    ) -> Result<(), BrokenInvariant>
         ensures accounts { OnOk result (accounts_of self.new ≡ left_by processor run now self.old.periods (accounts_of self.old)) }
         ensures plans { OnOk result (PlansSwitch self.old.periods processor run now (shrunk processor (accounts_of self.old)) self.new.by_task.items self.old.event_queue self.new.event_queue) }
         ensures agrees { OnOk result (StaysAgreed self.old self.new) }

@@ -108,7 +108,11 @@ impl fmt::Display for Why<'_> {
             }
             Why::LongName => write!(f, "name: it has more than {LONGEST_NAME} bytes"),
             Why::TwoOfName { name, first } => {
-                write!(f, "name: {} is the name of [[task]] {first} too", Quoted(name))
+                write!(
+                    f,
+                    "name: {} is the name of [[task]] {first} too",
+                    Quoted(name)
+                )
             }
             Why::TwoForms => f.write_str("do stands beside run or sleep, which are short for one"),
             Why::NoTime => f.write_str("do: nothing in it takes time; let it run or sleep"),
@@ -223,7 +227,10 @@ fn no_time<W: fmt::Write>(f: &mut fmt::Formatter<W>, value: &Value, range: &Rang
             " is not from {} ns to {} ns",
             range.least, range.greatest
         ),
-        None => f.write_str(with_units!(" is not a duration (a number and ", ", as 1500us or 1.5ms)")),
+        None => f.write_str(with_units!(
+            " is not a duration (a number and ",
+            ", as 1500us or 1.5ms)"
+        )),
     }
 }
 
