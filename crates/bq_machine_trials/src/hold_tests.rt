@@ -14,7 +14,7 @@ use std::thread::Threads;
 /// A reading is held under the lock of processor 0 alone, and that of a pull under none. A call of the queue is held under the
 /// locks that its event needs; the journal's is not among them, before a policy has run and after (the queue gives the task that
 /// comes to run once the policy has answered). A block has the lobby, too.
-const HOLDS: [(Held, Point, Beside); 18] = [
+const HOLDS: [(Held, Point, Beside); 19] = [
     (Held::Tick, Point::Clock, Beside::Inbox),
     (Held::Drain, Point::Clock, Beside::Inbox),
     (Held::Block, Point::Clock, Beside::Inbox),
@@ -23,6 +23,7 @@ const HOLDS: [(Held, Point, Beside); 18] = [
     (Held::Tick, Point::Mark, Beside::Inbox),
     (Held::Drain, Point::Mark, Beside::Life),
     (Held::Block, Point::Mark, Beside::Queues),
+    (Held::Wake, Point::Mark, Beside::Inbox),
     (Held::Pull, Point::Mark, Beside::Life),
     (Held::Tick, Point::Preempt, Beside::Inbox),
     (Held::Drain, Point::Preempt, Beside::Life),

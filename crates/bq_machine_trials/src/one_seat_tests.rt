@@ -2,10 +2,10 @@
 //! follow from the rules.
 ghost use Rattle.std.specs.Prelude.{◌≡◌, ◌≤◌};
 
-use bq_disc::limits::PROCESSORS;
 use crate::asking::{Request, ask};
 use crate::images::ZERO;
 use bq_cfs::CfsQueue;
+use bq_disc::limits::PROCESSORS;
 use bq_history::{Naming, Receipt};
 use bq_hooks::{By, Hook};
 use bq_load::LoadFault;

@@ -1,11 +1,11 @@
 //! A history that a core goes through once more, event by event.
 ghost use Rattle.std.specs.Prelude.{◌≤◌};
 
-use bq_disc::limits::PROCESSORS;
 use bq_bpf::{Board, Call, Plain};
 use bq_core::Core;
 use bq_disc::RunQueue;
 use bq_disc::clock::LATEST;
+use bq_disc::limits::PROCESSORS;
 use bq_hooks::Hook;
 use bq_parts::{Event, Refusal, Reply};
 use bq_recording::Closed;

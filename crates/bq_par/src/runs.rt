@@ -5,11 +5,11 @@ ghost use Rattle.bq_words.specs.Sizes.{processors_in};
 ghost use Rattle.bq_par.specs.Shifts.{IsShift};
 ghost use Rattle.bq_par.specs.Summaries.{IsSummary};
 
-use bq_disc::limits::PROCESSORS;
 use crate::metronome::Metronome;
 use crate::shift::{ReturnedSeat, drive};
 use crate::summary::{HistorySummary, finish};
 use bq_disc::RunQueue;
+use bq_disc::limits::PROCESSORS;
 use bq_history::Naming;
 use bq_machine::Machine;
 use bq_parts::Refusal;
