@@ -1,8 +1,9 @@
 -- Why an object has no policy that can be read.
 use Rattle.std.specs.Prelude.{◌≡◌, ◌≢◌, ℕ, ◌+◌, ◌*◌, ◌<◌, ◌≤◌, ◌⊎◌, List, length}
 use Rattle.bq_object.specs.declared.fault.ObjectFault.{ObjectFault}
-use Rattle.bq_object.specs.declared.fault.ObjectFault.TheVariants.{Class, Machine, HeaderSize, NoPolicy, Relocation, Cut}
+use Rattle.bq_object.specs.declared.fault.ObjectFault.TheVariants.{Class, Machine, HeaderSize, Sections, NoPolicy, Relocation, Cut}
 use Rattle.bq_object.specs.declared.fault.Piece.TheVariants as piece
+use Rattle.bq_object.specs.declared.fault.TheConstants.{MOST_SECTIONS}
 use Rattle.bq_object.specs.declared.section.Section.{Section}
 use Rattle.bq_object.specs.declared.symbol.Symbol.{Symbol}
 use Rattle.bq_object.specs.Numbers.{number_at}
@@ -17,8 +18,11 @@ IsHeaderFault file (Cut piece.Header) = length file < 64
 IsHeaderFault file Class = (64 ≤ length file) × (IsClass file → ⊥)
 IsHeaderFault file Machine = (64 ≤ length file) × IsClass file × (number_at 2 file 18 ≢ 247)
 IsHeaderFault file HeaderSize = (64 ≤ length file) × IsClass file × (number_at 2 file 18 ≡ 247) × (number_at 2 file 58 ≢ 64)
+IsHeaderFault file Sections =
+    (64 ≤ length file) × IsClass file × (number_at 2 file 18 ≡ 247) × (number_at 2 file 58 ≡ 64) × (MOST_SECTIONS < number_at 2 file 60)
 IsHeaderFault file (Cut piece.Headers) =
-    (64 ≤ length file) × IsClass file × (number_at 2 file 18 ≡ 247) × (number_at 2 file 58 ≡ 64) × (length file < number_at 8 file 40 + 64 * number_at 2 file 60)
+    (64 ≤ length file) × IsClass file × (number_at 2 file 18 ≡ 247) × (number_at 2 file 58 ≡ 64) × (number_at 2 file 60 ≤ MOST_SECTIONS)
+    × (length file < number_at 8 file 40 + 64 * number_at 2 file 60)
 IsHeaderFault file fault = ⊥
 
 -- the bytes of a section go on past the end of the file

@@ -1,6 +1,7 @@
 -- What the policy of an object file is: the bytes of its function `policy` (System V ABI, "Object Files": ELF64, little-endian;
 -- BPF is machine 247).
 use Rattle.std.specs.Prelude.{◌≡◌, ℕ, ◌*◌, ◌≤◌, List, length, slice_index}
+use Rattle.bq_object.specs.declared.fault.TheConstants.{MOST_SECTIONS}
 use Rattle.bq_object.specs.declared.section.Section.{Section}
 use Rattle.bq_object.specs.declared.symbol.Symbol.{Symbol}
 use Rattle.bq_object.specs.Numbers.{IsPart, number_at}
@@ -26,6 +27,7 @@ pub record HasHeaders (file headers : List ℕ) : Type 0 where
   pub class : IsClass file
   pub machine : number_at 2 file 18 ≡ 247
   pub size : number_at 2 file 58 ≡ 64
+  pub few : number_at 2 file 60 ≤ MOST_SECTIONS
   pub headers_are : IsPart file (number_at 8 file 40) (64 * number_at 2 file 60) headers
 
 -- the symbols of the first section that has some, and their names, in the section that it links to

@@ -6,6 +6,7 @@ use Rattle.bq_object.specs.Numbers.{IsPart, number_at}
 -- what a section header says
 abbrev pub section_of : List ℕ → Section
 section_of header = record {
+  name = number_at 4 header 0;
   kind = number_at 4 header 4;
   at = number_at 8 header 24;
   long = number_at 8 header 32;

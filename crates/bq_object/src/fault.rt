@@ -2,6 +2,9 @@
 
 use thiserror::Error;
 
+/// The most sections of an object.
+pub const MOST_SECTIONS: u16 = 256;
+
 /// What a file has to hold, and ends before.
 #[derive(Clone, Copy, Debug, PartialEq, Eq, Error)]
 pub enum Piece {
@@ -40,6 +43,9 @@ pub enum ObjectFault {
     /// Its section headers have another size than those of ELF64.
     #[error("the object's section headers are not of 64 bytes")]
     HeaderSize,
+    /// It has more sections than are read.
+    #[error("the object has more than {most} sections; put the policy into a file of its own", most = MOST_SECTIONS)]
+    Sections,
     /// It has no function of that name.
     #[error("the object has no function `policy`; name the policy so, without `static`")]
     NoPolicy,

@@ -3,7 +3,7 @@ ghost use Rattle.std.specs.Prelude.{◌≡◌, IfOk, IfErr};
 ghost use Rattle.bq_object.specs.Objects.{HasHeaders};
 ghost use Rattle.bq_object.specs.Faults.{IsHeaderFault};
 
-use crate::fault::{ObjectFault, Piece};
+use crate::fault::{MOST_SECTIONS, ObjectFault, Piece};
 use crate::numbers::{half, part, wide};
 
 /// How long the head of a file is, and a section header.
@@ -28,7 +28,11 @@ pub fn headers_of(file: &[u8]) -> Result<&[u8], ObjectFault>
     if half(file, 58) != 64 {
         return Err(ObjectFault::HeaderSize);
     }
-    let long = 64 * u64::from(half(file, 60));
+    let count = half(file, 60);
+    if count > MOST_SECTIONS {
+        return Err(ObjectFault::Sections);
+    }
+    let long = 64 * u64::from(count);
     match part(file, wide(file, 40), long) {
         Some(headers) => Ok(headers),
         None => Err(ObjectFault::Cut(Piece::Headers)),

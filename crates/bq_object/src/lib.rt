@@ -1,9 +1,11 @@
 //! The object files that clang makes for BPF (ELF64, little-endian), as far as a policy needs them: the bytes of the function
-//! `policy`, wherever it stands, and the other functions, which are left out. Each read is checked; nothing here needs memory.
+//! `policy`, wherever it stands, the lines of C that these come from, and the other functions, which are left out. Each read is checked.
 #![tactic(auto)]
 
 pub mod fault;
 pub mod header;
+pub mod lines;
+mod named;
 pub mod numbers;
 pub mod object;
 pub mod relocation;
@@ -11,4 +13,5 @@ pub mod section;
 pub mod symbol;
 
 pub use fault::{Filled, ObjectFault, Piece};
+pub use lines::{SourceLine, source_lines};
 pub use object::{is_object, others, policy_of};

@@ -23,9 +23,9 @@ pub fn is_object(file: &[u8]) -> bool
 
 /// The symbols of an object, and their names.
 #[derive(Clone, Copy)]
-struct Tables<'a> {
-    entries: &'a [u8],
-    names: &'a [u8],
+pub(crate) struct Tables<'a> {
+    pub(crate) entries: &'a [u8],
+    pub(crate) names: &'a [u8],
 }
 
 /// The instructions of the function `policy`, as they stand in the file.
@@ -39,7 +39,7 @@ pub fn policy_of(file: &[u8]) -> Result<&[u8], ObjectFault>
 }
 
 /// The symbols and their names.
-fn read_tables<'a>(file: &'a [u8], headers: &[u8]) -> Result<Tables<'a>, ObjectFault>
+pub(crate) fn read_tables<'a>(file: &'a [u8], headers: &[u8]) -> Result<Tables<'a>, ObjectFault>
     ensures ok { IfOk result (λ t. HasTables file.now headers.now t.entries.now t.names.now) }
     ensures err { IfErr result (IsTableFault file.now headers.now) }
 {

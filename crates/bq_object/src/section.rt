@@ -9,6 +9,8 @@ use crate::numbers::{part, wide, word};
 /// What a section header says.
 #[derive(Clone, Copy)]
 pub struct Section {
+    /// Where its name begins among the names of sections.
+    pub name: u32,
     /// What kind of section it is: 2 has symbols, 4 and 9 have relocations.
     pub kind: u32,
     /// Where in the file it begins.
@@ -31,6 +33,7 @@ impl Section {
         ensures { result ≡ section_of header.now }
     {
         Section {
+            name: word(header, 0),
             kind: word(header, 4),
             at: wide(header, 24),
             long: wide(header, 32),
@@ -42,6 +45,7 @@ impl Section {
     /// The bytes of the section, if the file has all of them.
     pub fn contents(self, file: &[u8]) -> Option<&[u8]>
         ensures some { IfSome result (λ bytes. IsPart file.now self.at self.long bytes.now) }
+        ensures whole { IfSome result (λ bytes. length bytes.now ≡ self.long) }
         ensures none { IfNone result (length file.now < self.at + self.long) }
     {
         part(file, self.at, self.long)

@@ -88,12 +88,16 @@ pub fn policy_in(entries: &[u8], names: &[u8]) -> Option<Symbol>
     None
 }
 
-/// The name that begins there, up to the 0 that ends it.
+/// The longest name that is read.
+const LONGEST: usize = 256;
+
+/// The name that begins there, up to the 0 that ends it. A longer one is cut behind 256 bytes.
 pub fn name_at(names: &[u8], at: u32) -> &[u8] {
     let from = (at as usize).min(names.len());
     let rest = &names[from..];
+    let most = rest.len().min(LONGEST);
     let mut long = 0;
-    while long < rest.len() && rest[long] != 0 {
+    while long < most && rest[long] != 0 {
         long += 1;
     }
     &rest[..long]
