@@ -9,6 +9,7 @@ use bq_comparison::{
     Comparing, ComparingFault, MachineSize, SeedsFault, asked_comparison, compare, comparison_text,
     size_of_machine,
 };
+use bq_complain::{TextKind, kind_of_text};
 use bq_console::status::{BAD_INPUT, REFUSED};
 use bq_console::{
     MOST_BYTES, Name, WordsFault, all_words, file_named, name_of, refused_words, say_out_of_memory,
@@ -18,7 +19,6 @@ use bq_experiment::{
     AskedFault, AttachFault, HookWords, MachineWords, Policies, ShownAs, StudyWords, asked_changes,
     run_as,
 };
-use bq_explain::{TextKind, kind_of_text};
 use bq_hooks::Hook;
 use bq_load::LoadFault;
 use bq_policy_file::{Head, fault_text, read_policy};

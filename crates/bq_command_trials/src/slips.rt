@@ -1,7 +1,8 @@
 // The usual slips: the text of a policy, and what is said of it. The slots, lines and numbers were counted by hand.
 
 use crate::done::holds;
-use bq_explain::{Limits, complaint, explain, explanation_text};
+use bq_complain::complaint;
+use bq_explain::{Limits, explain, explanation_text};
 use bq_policy_file::{Head, read_policy};
 use std::alloc::Global;
 use std::process::Abort;
@@ -18,7 +19,7 @@ struct Told {
 fn explained(alloc: Global, text: &str) -> Result<Told, Fail> {
     match read_policy(alloc, text.as_bytes(), &Head::nothing()) {
         Ok(policy) => {
-            let said = explain(alloc, &policy, &Limits::none())?;
+            let said = explain(alloc, &policy, text.as_bytes(), &Limits::none())?;
             Ok(Told {
                 text: explanation_text(alloc, &policy, None, &said)?,
                 accepted: said.verdict.is_accepted(),
@@ -62,7 +63,7 @@ static REFUSED: [(&str, &str, &str, &str); 23] = [
     (
         ";@ hook preempt\nmov64 r0, 0\nagain:\nadd64 r0, 1\njlt64 r0, 4, again\nexit\n",
         "refused L8 V1 2\n",
-        "line 5, slot 2:  jlt64 r0, 4, -2\n  jumps back to line 4, slot 1: a policy has no loops\n",
+        "line 5, slot 2:  jlt64 r0, 4, -2\n  jumps back to label again, line 4, slot 1: a policy has no loops\n",
         "write a loop out as often as it may run",
     ),
     // an unknown helper
@@ -261,7 +262,7 @@ static COMPLAINED: [(&str, &str); 32] = [
     ),
     (
         "ldxw r0, [r1\t+4]\nexit\n",
-        "line 1: [r1\t+4]: no blank inside brackets\n",
+        "line 1: [r1\\t+4]: no blank inside brackets\n",
     ),
     (
         "foreach\nexit\n",

@@ -1,7 +1,7 @@
 pub mod BeginningLemmas
-pub mod ComplaintLemmas
 pub mod ExplainLemmas
 pub mod MakerLemmas
+pub mod MeasureLemmas
 pub mod RunLemmas
 pub mod SlotLemmas
 pub mod StateTextLemmas

@@ -1,5 +1,4 @@
 pub mod Beginnings
-pub mod Complaints
 pub mod Explained
 pub mod Makers
 pub mod Measures

@@ -90,6 +90,23 @@ pub record IsOver (p : PolicySource) (l : Limits) (over : Over) : Type 0 where
   pub used : over.used ≡ measure_of p over.measure
   pub more : over.most < over.used
 
+-- the policy is within the limits of the measures that are asked before that one
+abbrev pub KeepsBefore : PolicySource → Limits → Measure → Type 0
+KeepsBefore p l Maps = Unit {0}
+KeepsBefore p l MapBytes = IsWithin (measure_of p Maps) l.maps
+KeepsBefore p l Counters = IsWithin (measure_of p Maps) l.maps × IsWithin (measure_of p MapBytes) l.map_bytes
+
+-- it uses more of that measure than is allowed, and of none before it
+pub record IsFirstOver (p : PolicySource) (l : Limits) (over : Over) : Type 0 where
+  pub is_over : IsOver p l over
+  pub before : KeepsBefore p l over.measure
+
+-- the policy is safe within its budget, and within the limits of steps and helpers
+pub record IsSafeWithin (p : PolicySource) (l : Limits) (budget : ℕ) : Type 0 where
+  pub safe : IsSafePolicy p budget
+  pub steps : IsWithin budget l.steps
+  pub helpers : All (CallsNoOther (allowed l)) p.insns.items
+
 -- the policy is within all limits
 pub record KeepsLimits (p : PolicySource) (l : Limits) (budget : ℕ) : Type 0 where
   pub steps : IsWithin budget l.steps
@@ -97,13 +114,13 @@ pub record KeepsLimits (p : PolicySource) (l : Limits) (budget : ℕ) : Type 0 w
   pub hook : AllowsHook l p.hook
   pub measures : KeepsMeasures p l
 
--- the verifier's answer, or what is beyond the limits of a program that is safe
+-- the verifier's answer, or the first of the limits that a program exceeds which is safe
 abbrev pub IsVerdict : PolicySource → Limits → Verdict → Type 0
 IsVerdict p l (Accepted budget) = IsSafePolicy p budget × KeepsLimits p l budget
 IsVerdict p l (OverSteps budget most) = IsSafePolicy p budget × (l.steps ≡ Some most) × (most < budget)
 IsVerdict p l (Forbidden helper) = (budget : ℕ) × IsSafePolicy p budget × IsWithin budget l.steps × IsCalledAgainst (allowed l) p.insns.items helper
-IsVerdict p l OtherHook = (budget : ℕ) × IsSafePolicy p budget × (¬ (AllowsHook l p.hook))
-IsVerdict p l (Beyond over) = (budget : ℕ) × IsSafePolicy p budget × IsOver p l over
+IsVerdict p l OtherHook = (budget : ℕ) × IsSafeWithin p l budget × (¬ (AllowsHook l p.hook))
+IsVerdict p l (Beyond over) = (budget : ℕ) × IsSafeWithin p l budget × AllowsHook l p.hook × IsFirstOver p l over
 IsVerdict p l (Refused slot cause) = IsRefusedPolicy p slot cause
 
 abbrev pub is_accepted : Verdict → Bool

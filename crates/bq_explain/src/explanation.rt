@@ -31,21 +31,27 @@ pub enum Detail {
 }
 
 /// The verdict on a policy, and what explains it. What it tells of registers and stack at the slot of a refusal holds in every run
-/// that comes there.
+/// that comes there. The label of a jump at fault is taken from the bytes of the policy's file, where that is a text.
 pub fn explain(
     alloc: Global,
     policy: &PolicySource,
+    file: &[u8],
     limits: &Limits,
 ) -> Result<Explanation, AllocError>
     ensures { IfOk result (Explains policy.now limits.now) }
 {
     let verdict = judge(alloc, policy, limits)?;
-    let detail = detail_of(alloc, policy, verdict)?;
+    let detail = detail_of(alloc, policy, file, verdict)?;
     Ok(Explanation { verdict, detail })
 }
 
 /// What explains the verdict.
-fn detail_of(alloc: Global, policy: &PolicySource, verdict: Verdict) -> Result<Detail, AllocError>
+fn detail_of(
+    alloc: Global,
+    policy: &PolicySource,
+    file: &[u8],
+    verdict: Verdict,
+) -> Result<Detail, AllocError>
     requires { IsOfVerifier policy.now verdict }
     ensures { IfOk result (IsDetail policy.now verdict) }
 {
@@ -59,7 +65,7 @@ fn detail_of(alloc: Global, policy: &PolicySource, verdict: Verdict) -> Result<D
         }
         Verdict::Forbidden { helper } => Ok(Detail::Limited(call_of(policy, helper))),
         Verdict::Refused { slot, cause } => {
-            let refusal = refusal_of(alloc, policy, slot, cause)?;
+            let refusal = refusal_of(alloc, policy, file, slot, cause)?;
             Ok(Detail::Refused(refusal))
         }
     }

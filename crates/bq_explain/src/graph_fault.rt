@@ -69,15 +69,49 @@ fn called(insn: Insn) -> i32 {
     }
 }
 
-/// The fault of the policy in words.
+/// The label to which the jump on that line of a text goes, if it goes to one.
+pub(crate) fn label_on(file: &[u8], line: Option<usize>) -> Option<&str> {
+    let text = std::str::from_utf8(file).ok()?;
+    let line = text.lines().nth(line?.checked_sub(1)?)?;
+    let said = match line.split_once(';') {
+        Some((said, _)) => said,
+        None => line,
+    };
+    let label = said
+        .split(is_between)
+        .filter(|word| !word.is_empty())
+        .last()?;
+    if label.starts_with('+') || label.starts_with('-') {
+        return None;
+    }
+    Some(label)
+}
+
+/// Whether the letter stands between words of the assembler's language.
+fn is_between(letter: char) -> bool {
+    letter == ' ' || letter == '\t' || letter == ','
+}
+
+/// The fault of the policy in words. A jump is told by the label that it names, if it names one.
 pub(crate) fn graph_text(
     alloc: Global,
     policy: &PolicySource,
     fault: GraphFault,
+    label: Option<&str>,
 ) -> Result<String, AllocError> {
     match fault {
-        GraphFault::JumpsOut(to) => { format!(in alloc; "jumps to slot {to}, out of the program") }
-        GraphFault::JumpsBack(to) => loop_text(alloc, policy, to),
+        GraphFault::JumpsOut(to) => {
+            let to = target_text(alloc, label, None, to)?;
+            format!(in alloc; "jumps to {to}, out of the program")
+        }
+        GraphFault::JumpsBack(to) => {
+            let line = match usize::try_from(to) {
+                Ok(slot) => line_at(policy, slot),
+                Err(_) => None,
+            };
+            let to = target_text(alloc, label, line, to)?;
+            format!(in alloc; "jumps back to {to}: a policy has no loops")
+        }
         GraphFault::JumpsInside(to) => {
             format!(in alloc; "jumps to slot {to}, into a wide instruction")
         }
@@ -86,17 +120,20 @@ pub(crate) fn graph_text(
     }
 }
 
-/// A jump back to that slot; where the policy came as a text, with the line of the instruction behind the label.
-fn loop_text(alloc: Global, policy: &PolicySource, to: i64) -> Result<String, AllocError> {
-    let line = match usize::try_from(to) {
-        Ok(slot) => line_at(policy, slot),
-        Err(_) => None,
-    };
-    match line {
-        Some(line) => format!(in alloc;
-            "jumps back to line {line}, slot {to}: a policy has no loops"
-        ),
-        None => format!(in alloc; "jumps back to slot {to}: a policy has no loops"),
+/// The target of a jump: its label and the line of the instruction there, as far as there are any, and its slot.
+fn target_text(
+    alloc: Global,
+    label: Option<&str>,
+    line: Option<usize>,
+    slot: i64,
+) -> Result<String, AllocError> {
+    match (label, line) {
+        (Some(label), Some(line)) => {
+            format!(in alloc; "label {label}, line {line}, slot {slot}")
+        }
+        (Some(label), None) => format!(in alloc; "label {label}, slot {slot}"),
+        (None, Some(line)) => format!(in alloc; "line {line}, slot {slot}"),
+        (None, None) => format!(in alloc; "slot {slot}"),
     }
 }
 

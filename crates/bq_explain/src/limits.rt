@@ -1,6 +1,6 @@
 //! A keeper's own limits on programs.
-ghost use Rattle.std.specs.Prelude.{◌≡◌, ◌↔◌, IsTrue, MatchOption, All, None, Some};
-ghost use Rattle.bq_explain.specs.Verdicts.{AllowsHook, CallsNoOther, IsBeside, IsCalledAgainst, IsOver, IsWithin, KeepsMeasures, most_of};
+ghost use Rattle.std.specs.Prelude.{◌≡◌, ◌↔◌, IfSome, IsTrue, MatchOption, All, None, Some};
+ghost use Rattle.bq_explain.specs.Verdicts.{AllowsHook, CallsNoOther, IsBeside, IsCalledAgainst, IsFirstOver, IsOver, IsWithin, KeepsMeasures, most_of};
 ghost use Rattle.bq_explain.specs.Measures.{measure_of};
 
 use crate::measure::Measure;
@@ -67,7 +67,7 @@ impl Limits {
 
     /// The first limit of maps, their bytes and counters that the policy is beyond.
     pub(crate) fn exceeded(&self, policy: &PolicySource) -> Option<Over>
-        ensures { MatchOption result (KeepsMeasures policy.now self.now) (IsOver policy.now self.now) }
+        ensures { MatchOption result (KeepsMeasures policy.now self.now) (IsFirstOver policy.now self.now) }
     {
         if let Some(over) = self.beyond(policy, Measure::Maps) {
             return Some(over);
@@ -80,7 +80,8 @@ impl Limits {
 
     /// The limit of that measure, where the policy is beyond it.
     fn beyond(&self, policy: &PolicySource, measure: Measure) -> Option<Over>
-        ensures { MatchOption result (IsWithin (measure_of policy.now measure) (most_of self.now measure)) (IsOver policy.now self.now) }
+        ensures over { MatchOption result (IsWithin (measure_of policy.now measure) (most_of self.now measure)) (IsOver policy.now self.now) }
+        ensures measure { IfSome result (λ over. over.measure ≡ measure) }
     {
         let most = self.most(measure)?;
         let used = measure.of(policy);

@@ -43,6 +43,17 @@ impl Measure {
     }
 }
 
+impl Measure {
+    /// What it counts, for a reader.
+    pub(crate) fn words(self) -> &'static str {
+        match self {
+            Measure::Maps => "maps",
+            Measure::MapBytes => "bytes in the values of all maps",
+            Measure::Counters => "instructions that call a counter",
+        }
+    }
+}
+
 /// The bytes of the values of these maps.
 fn value_bytes(shapes: &[MapShape]) -> u64
     requires { length shapes.now ≤ 8 }
@@ -50,9 +61,18 @@ fn value_bytes(shapes: &[MapShape]) -> u64
 {
     let mut sum: u64 = 0;
     for shape in shapes {
-        sum += u64::from(shape.value_size) * u64::from(shape.entries);
+        sum += map_bytes(*shape);
     }
     sum
+}
+
+/// The bytes of the values of a map.
+#[tactic(auto, using(crate::proofs::MeasureLemmas::few_bytes))]
+fn map_bytes(shape: MapShape) -> u64
+    ensures value { result ≡ bytes_of shape }
+    ensures few { result ≤ 65536 }
+{
+    u64::from(shape.value_size) * u64::from(shape.entries)
 }
 
 /// How many of the instructions call a counter.

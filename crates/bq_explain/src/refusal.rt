@@ -7,7 +7,7 @@ ghost use Rattle.bq_explain.specs.Explained.{AreMade, IsFinding, IsOfState, IsRe
 ghost use Rattle.bq_explain.specs.Verdicts.{IsRefusedPolicy};
 
 use crate::advice::{Advice, graph_advice, state_advice};
-use crate::graph_fault::{GraphFault, graph_fault};
+use crate::graph_fault::{GraphFault, graph_fault, label_on};
 use crate::place::{Place, place_at};
 use crate::trail::{Trail, no_trail, trail_of};
 use crate::verdict::program_of;
@@ -27,6 +27,8 @@ pub struct Refusal {
     pub cause: Cause,
     /// What is wrong there.
     pub finding: Finding,
+    /// The label that the instruction names, where it is a jump at fault of a policy that came as a text.
+    pub label: Option<String>,
     /// Where the registers come from that matter to it.
     pub trail: Trail,
     /// What helps.
@@ -48,6 +50,7 @@ pub enum Finding {
 pub(crate) fn refusal_of(
     alloc: Global,
     policy: &PolicySource,
+    file: &[u8],
     slot: usize,
     cause: Cause,
 ) -> Result<Refusal, AllocError>
@@ -59,7 +62,7 @@ pub(crate) fn refusal_of(
         unreachable!()
     };
     match cause {
-        Cause::Graph(named) => graph_refusal(alloc, slots.as_slice(), place, named),
+        Cause::Graph(named) => graph_refusal(alloc, file, slots.as_slice(), place, named),
         Cause::State(_) => state_refusal(alloc, policy, slots.as_slice(), place, cause),
     }
 }
@@ -67,6 +70,7 @@ pub(crate) fn refusal_of(
 /// The same, for a fault of the control graph.
 fn graph_refusal(
     alloc: Global,
+    file: &[u8],
     slots: &[Option<Insn>],
     place: Place,
     named: GraphCause,
@@ -77,13 +81,28 @@ fn graph_refusal(
     ensures made { IfOk result (λ refusal. refusal.trail.made.items ≡ []) }
 {
     let fault = graph_fault(slots.len(), place.slot, place.insn, named);
+    let label = label_of(alloc, file, place, named)?;
     Ok(Refusal {
         place,
         cause: Cause::Graph(named),
         finding: Finding::Graph(fault),
+        label,
         trail: no_trail(alloc),
         advice: graph_advice(fault),
     })
+}
+
+/// The label that a jump at fault names.
+fn label_of(
+    alloc: Global,
+    file: &[u8],
+    place: Place,
+    named: GraphCause,
+) -> Result<Option<String>, AllocError> {
+    match (named, label_on(file, place.line)) {
+        (GraphCause::Jump, Some(label)) => Ok(Some(String::from_str(alloc, label)?)),
+        _ => Ok(None),
+    }
 }
 
 /// The same, for what is not shown of the states.
@@ -112,6 +131,7 @@ fn state_refusal(
         place,
         cause,
         finding,
+        label: None,
         trail,
         advice,
     })

@@ -100,11 +100,14 @@ fn limit_text(
             "  the policy is for a hook that the limit of --hooks leaves out\n",
         ),
         (Verdict::Beyond(over), _) => {
-            let word = over.measure.word();
-            let Over { used, most, .. } = over;
-            format!(in alloc;
-                "  the policy has {word} {used}, and the limit of --max-{word} is {most}\n"
-            )
+            let Over {
+                measure,
+                used,
+                most,
+            } = over;
+            let what = measure.words();
+            let word = measure.word();
+            format!(in alloc; "  {what}: {used}; the limit of --max-{word} is {most}\n")
         }
         _ => Ok(String::new(alloc)),
     }
@@ -125,7 +128,7 @@ fn refusal_text(
     let after = after_text(alloc, refusal)?;
     match refusal.finding {
         Finding::Graph(fault) => {
-            let need = graph_text(alloc, policy, fault)?;
+            let need = graph_text(alloc, policy, fault, refusal.label.as_deref())?;
             format!(in alloc; "{line}{at}\n  {need}\n{after}")
         }
         Finding::Unknown => format!(in alloc; "{line}{at}\n  is not shown to be safe\n{after}"),
@@ -144,7 +147,7 @@ pub fn need_words(
     refusal: &Refusal,
 ) -> Result<String, AllocError> {
     match refusal.finding {
-        Finding::Graph(fault) => graph_text(alloc, policy, fault),
+        Finding::Graph(fault) => graph_text(alloc, policy, fault, refusal.label.as_deref()),
         Finding::Unknown => String::from_str(alloc, "is not shown to be safe"),
         Finding::State { need, known } => {
             need_text(alloc, policy, &known, refusal.place.insn, need)

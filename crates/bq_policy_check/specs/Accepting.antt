@@ -1,11 +1,12 @@
 -- The image of a policy that `check` accepts.
-use Rattle.std.specs.Prelude.{◌≡◌, ℕ, true, false, List, ◌⊎◌}
+use Rattle.std.specs.Prelude.{◌≡◌, ◌≢◌, ℕ, true, false, List, ◌⊎◌}
 use Rattle.bq_explain.specs.declared.limits.Limits.{Limits}
 use Rattle.bq_explain.specs.declared.verdict.Verdict.{Verdict}
 use Rattle.bq_explain.specs.Verdicts.{IsVerdict, is_accepted}
 use Rattle.bq_insn.specs.Spelling.{spelling}
 use Rattle.bq_load.specs.Layout.{IsImage}
 use Rattle.bq_policy_file.specs.declared.fault.PolicyFault.{PolicyFault}
+use Rattle.bq_policy_file.specs.declared.fault.PolicyFault.TheVariants.{OutOfMemory}
 use Rattle.bq_policy_file.specs.declared.head.Head.{Head}
 use Rattle.bq_policy_file.specs.declared.policy_source.PolicySource.{PolicySource}
 use Rattle.bq_policy_file.specs.Files.{IsPolicy, IsPolicyFault}
@@ -31,7 +32,7 @@ pub record IsNotAccepted (bytes : List ℕ) (h : Head) (l : Limits) : Type 0 whe
 
 -- the file is no policy, or one that is not accepted
 abbrev pub HasNoImage : List ℕ → Head → Limits → Type 0
-HasNoImage bytes h l = ((named : PolicyFault) × IsPolicyFault bytes h named) ⊎ IsNotAccepted bytes h l
+HasNoImage bytes h l = ((named : PolicyFault) × IsPolicyFault bytes h named × (named ≢ OutOfMemory)) ⊎ IsNotAccepted bytes h l
 
 -- the image by the head and the limits that the words say
 pub record IsAcceptedImage (w : CheckWords) (bytes image : List ℕ) : Type 0 where

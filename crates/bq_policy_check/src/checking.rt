@@ -65,23 +65,24 @@ fn check_file(
     ensures { IfOk result (ChecksFile words.now bytes.now terms.now.head terms.now.limits) }
 {
     match read_policy(alloc, bytes, &terms.head) {
-        Ok(policy) => check_policy(alloc, words, name, &policy, &terms.limits),
+        Ok(policy) => check_policy(alloc, words, name, bytes, &policy, &terms.limits),
         Err(fault) => Ok(Answered::Refused(refusal(alloc, words, name, bytes, fault)?)),
     }
 }
 
-/// The verdict on a policy, in the form that the words ask for.
+/// The verdict on the policy in the file of these bytes, in the form that the words ask for.
 fn check_policy(
     alloc: Global,
     words: &CheckWords,
     name: Option<&str>,
+    bytes: &[u8],
     policy: &PolicySource,
     limits: &Limits,
 ) -> Result<Answered, AllocError>
     ensures { IfOk result (TellsVerdict words.now policy.now limits.now) }
 {
     if words.is_explained || words.is_json {
-        let explanation = explain(alloc, policy, limits)?;
+        let explanation = explain(alloc, policy, bytes, limits)?;
         let text = shown(alloc, words, name, policy, &explanation)?;
         return Ok(answered(explanation.verdict.is_accepted(), text));
     }

@@ -7,8 +7,8 @@ use crate::image_words::{image_words, spelling_words};
 use crate::json_parts::{number_value, put_text};
 use crate::maps_words::maps_words;
 use bq_asm::Cause;
+use bq_complain::assembly_words;
 use bq_console::{Lines, Name, Quoted};
-use bq_explain::assembly_words;
 use bq_hooks::hook::{NO_HOOK, NO_VERSION};
 use bq_insn::fault::Cause as Spelling;
 use bq_policy_file::{HeadCause, Key, PolicyFault, SHAPES_FORM};
@@ -65,7 +65,7 @@ fn is_object(bytes: &[u8]) -> bool {
 
 /// What is said of an object file.
 const OBJECT: &str =
-    "the file is an ELF object file, and no policy: bqsim import makes a policy of its text section (docs/POLICIES_IN_C.md)";
+    "the file is an ELF object file, and no policy: bqsim import makes a policy of it (docs/POLICIES_IN_C.md)";
 
 /// What is wrong with the file of these bytes.
 pub(crate) fn reason_of(
@@ -215,6 +215,9 @@ fn head_reason(
 /// The keys of such lines.
 const KEYS: [&str; 3] = ["hook", "maps", "format"];
 
+/// The most bytes of a word that a key may be near.
+const LONGEST: usize = 40;
+
 /// The key that the line of that number has misspelled, if it is a near one.
 fn near_key(
     alloc: Global,
@@ -231,6 +234,9 @@ fn near_key(
     let Some(written) = behind.split_whitespace().next() else {
         return Ok(None);
     };
+    if written.len() > LONGEST {
+        return Ok(None);
+    }
     let mut best: Option<&'static str> = None;
     let mut near = Near::of(written);
     for key in &KEYS {

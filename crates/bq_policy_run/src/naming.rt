@@ -8,7 +8,7 @@ ghost use Rattle.bq_console.specs.Words.{SaysNone};
 ghost use Rattle.bq_policy_check.specs.Saying.{option_bytes};
 
 use crate::{Inputs, inputs_of};
-use bq_console::{WordsFault, words_fault};
+use bq_console::{Quoted, WordsFault, words_fault};
 use bq_interp::Env;
 use bq_policy_check::{RunWords, small_number};
 use bq_verify::Verified;
@@ -100,7 +100,10 @@ fn time(alloc: Global, word: &Option<String>) -> Result<u64, WordsFault>
     };
     match time_in(word.as_str()) {
         Some(time) => Ok(time),
-        None => Err(words_fault(format!(in alloc; "--time {word}: {TIME}"))),
+        None => {
+            let word = Quoted(word.as_str());
+            Err(words_fault(format!(in alloc; "--time {word}: {TIME}")))
+        }
     }
 }
 
@@ -126,6 +129,9 @@ fn number(alloc: Global, word: &Option<String>) -> Result<u32, WordsFault>
     };
     match small_number(word.as_str()) {
         Some(number) => Ok(number),
-        None => Err(words_fault(format!(in alloc; "--processor {word} {NO_PROCESSOR}"))),
+        None => {
+            let word = Quoted(word.as_str());
+            Err(words_fault(format!(in alloc; "--processor {word} {NO_PROCESSOR}")))
+        }
     }
 }

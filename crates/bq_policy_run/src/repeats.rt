@@ -4,7 +4,7 @@ ghost use Rattle.bq_policy_run.specs.Running.{IsBefore};
 ghost use Rattle.bq_console.specs.Words.{SaysNone};
 ghost use Rattle.bq_policy_check.specs.Saying.{option_bytes};
 
-use bq_console::{WordsFault, words_fault};
+use bq_console::{Quoted, WordsFault, words_fault};
 use bq_policy_check::small_number;
 use std::alloc::Global;
 
@@ -21,8 +21,11 @@ pub(crate) fn runs_before(alloc: Global, word: &Option<String>) -> Result<u32, W
     };
     match small_number(word.as_str()) {
         Some(count) if count > 0 => Ok(count - 1),
-        _ => Err(words_fault(format!(in alloc;
-            "--repeat {word}: a number of runs is wanted, from 1 to {MOST}"
-        ))),
+        _ => {
+            let word = Quoted(word.as_str());
+            Err(words_fault(format!(in alloc;
+                "--repeat {word}: a number of runs is wanted, from 1 to {MOST}"
+            )))
+        }
     }
 }

@@ -8,7 +8,7 @@ use crate::faults::refused;
 use crate::fields::{field_named, field_names, put};
 use crate::inputs::Inputs;
 use bq_console::words::{cut, value};
-use bq_console::{WordsFault, words_fault};
+use bq_console::{Quoted, WordsFault, words_fault};
 use bq_hooks::{Hook, NOBODY, Version};
 use std::alloc::Global;
 
@@ -132,11 +132,13 @@ fn shows_nobody(hook: Hook, name: &str) -> bool
 
 /// The fault of a part whose value is of no use, with what is wrong with that.
 fn unfit(alloc: Global, part: &str, value: &str, why: &str) -> WordsFault {
+    let (part, value) = (Quoted(part), Quoted(value));
     words_fault(format!(in alloc; "--set {part}: {value} {why}"))
 }
 
 /// The fault of a part that names no field of the hook, with the names that there are.
 fn unknown(alloc: Global, part: &str, name: &str, hook: Hook) -> WordsFault {
     let names = field_names(hook);
+    let (part, name) = (Quoted(part), Quoted(name));
     words_fault(format!(in alloc; "--set {part}: there is no field {name}; the fields are {names}"))
 }

@@ -22,6 +22,9 @@ const FOREIGN: [(&str, &str); 15] = [
     ("return", "exit"),
 ];
 
+/// The most bytes of a word that a known one may be near. Each that is known has fewer.
+const LONGEST: usize = 40;
+
 /// The first word of the language that is the same.
 fn known_as(word: &str) -> Option<&'static str> {
     for (known, _) in mnemonics() {
@@ -45,6 +48,9 @@ fn meant_by(word: &str) -> Option<&'static str> {
 /// The known word that is meant, whatever its case: the word with its width, where only that is left out, what a word of another
 /// assembler means here, else the nearest, if one is near.
 pub(crate) fn nearest(alloc: Global, word: &str) -> Result<Option<&'static str>, AllocError> {
+    if word.len() > LONGEST {
+        return Ok(None);
+    }
     let word = word.to_ascii_lowercase(alloc)?;
     let with_width = format!(in alloc; "{word}64")?;
     if let Some(known) = known_as(with_width.as_str()) {

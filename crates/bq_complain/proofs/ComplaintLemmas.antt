@@ -5,7 +5,7 @@ use Rattle.bq_asm.specs.Lines.{lines_of}
 use Rattle.bq_asm.specs.Assembly.{Assembles}
 use Rattle.bq_asm.specs.Faults.{Faulty}
 use Rattle.bq_asm.proofs.LawLemmas.{no_program_is_faulty}
-use Rattle.bq_explain.specs.Complaints.{IsAssembly}
+use Rattle.bq_complain.specs.Complaints.{IsAssembly}
 
 -- a text that has a fault does not assemble
 pub faulty_is_none : (text said : List ℕ) (line : ℕ) (cause : Cause) → said ≡ text → Faulty (lines_of said) line cause → IsAssembly text → ⊥

@@ -3,6 +3,7 @@ use crate::forms::form_of;
 use crate::number_reason::number_reason;
 use crate::vocabulary::nearest;
 use bq_asm::{Cause, named};
+use bq_console::Quoted;
 use bq_insn::SLOTS;
 use std::alloc::{AllocError, Global};
 
@@ -12,11 +13,11 @@ pub(crate) fn line_reason(alloc: Global, line: &str, cause: Cause) -> Result<Str
         Cause::Word => word_reason(alloc, line),
         Cause::Number => number_reason(alloc, without_comment(line).trim()),
         Cause::LabelTwice => {
-            let said = without_comment(line).trim();
+            let said = Quoted(without_comment(line).trim());
             format!(in alloc; "the label \"{said}\" was set before; one of them wants another name")
         }
         Cause::LabelMissing => {
-            let said = without_comment(line).trim();
+            let said = Quoted(without_comment(line).trim());
             format!(in alloc;
                 "\"{said}\" jumps to a label that is set nowhere; a label is set by a line of its own, as end:"
             )
@@ -34,14 +35,16 @@ fn without_comment(line: &str) -> &str {
 
 /// Why the words of a line are none that the language has.
 fn word_reason(alloc: Global, line: &str) -> Result<String, AllocError> {
-    let said = without_comment(line).trim();
+    let words = without_comment(line);
+    let said = words.trim();
     if let Some(mark) = foreign_comment(said) {
         return format!(in alloc; "\"{mark}\" begins no comment here: a comment begins with ;");
     }
     if let Some(inside) = blank_in_brackets(said) {
+        let inside = Quoted(inside);
         return format!(in alloc; "[{inside}]: no blank inside brackets");
     }
-    let first = first_word(said);
+    let first = first_word(words);
     if first.ends_with(':') {
         return label_reason(alloc, said, first);
     }
@@ -49,35 +52,41 @@ fn word_reason(alloc: Global, line: &str) -> Result<String, AllocError> {
         return unknown(alloc, first);
     };
     let form = form_of(alloc, first, mnemonic)?;
+    let said = Quoted(said);
     format!(in alloc; "\"{said}\" has other operands than {first} takes; write it as {form}")
 }
 
-/// The first word of a line that begins with none of the marks between words: space, tab and comma.
+/// The first word of a line; nothing where it has none.
 pub(crate) fn first_word(said: &str) -> &str {
-    match said.split(is_between).next() {
-        Some(first) => first,
-        None => said,
+    for word in said.split(is_between) {
+        if !word.is_empty() {
+            return word;
+        }
     }
+    ""
 }
 
-/// Whether the letter stands between words.
+/// Whether the letter stands between words: a space, a tab or a comma.
 pub(crate) fn is_between(letter: char) -> bool {
     letter == ' ' || letter == '\t' || letter == ','
 }
 
 /// Why a line whose first word ends with a colon sets no label.
 fn label_reason(alloc: Global, said: &str, first: &str) -> Result<String, AllocError> {
+    let shown = Quoted(said);
     if said == first {
         return format!(in alloc;
-            "\"{said}\" is no label: a label is a letter or _, then up to 31 letters, digits or _, and a colon"
+            "\"{shown}\" is no label: a label is a letter or _, then up to 31 letters, digits or _, and a colon"
         );
     }
-    format!(in alloc; "\"{said}\" has words after its label: a label stands alone on its line")
+    format!(in alloc; "\"{shown}\" has words after its label: a label stands alone on its line")
 }
 
 /// A word that no instruction begins with, and the one that may be meant.
 fn unknown(alloc: Global, word: &str) -> Result<String, AllocError> {
-    match nearest(alloc, word)? {
+    let known = nearest(alloc, word)?;
+    let word = Quoted(word);
+    match known {
         Some(known) => format!(in alloc; "unknown word \"{word}\", did you mean \"{known}\"?"),
         None => format!(in alloc;
             "unknown word \"{word}\"; docs/ASSEMBLER.md has those that there are"
