@@ -5,9 +5,8 @@ ghost use Rattle.bq_explain.specs.Makers.{AreLeading, AreOnTrail, IsMaker, IsOnT
 ghost use Rattle.bq_explain.specs.declared.makers.Maker.{Maker as Named};
 ghost use Rattle.bq_verify.specs.Straight.{spares};
 
-use bq_insn::SLOTS;
 use bq_bpf::instruction::destination;
-use bq_insn::Insn;
+use bq_insn::{Insn, SLOTS};
 use bq_needs::{Registers, read_registers};
 use bq_verify::edges::{Targets, instruction};
 use bq_verify::passes::targets;

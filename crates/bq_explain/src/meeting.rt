@@ -4,11 +4,10 @@ ghost use Rattle.bq_insn.specs.Spelling.{is_well_formed};
 ghost use Rattle.bq_verify.specs.Passes.{IsSound};
 ghost use Rattle.bq_explain.specs.Makers.{IsLaidOut};
 
-use bq_insn::SLOTS;
 use crate::after::known_after;
 use crate::makers::leading_to;
 use crate::place::{Place, place_at};
-use bq_insn::Insn;
+use bq_insn::{Insn, SLOTS};
 use bq_policy_file::PolicySource;
 use bq_states::abstract_state::AbstractValue;
 use bq_states::registers::known;

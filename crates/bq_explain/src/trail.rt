@@ -4,11 +4,10 @@ ghost use Rattle.bq_verify.specs.Passes.{IsSound};
 ghost use Rattle.bq_explain.specs.Explained.{AreMade, AreOf, IsOf};
 ghost use Rattle.bq_explain.specs.Makers.{IsLaidOut};
 
-use bq_insn::SLOTS;
 use crate::makers::{Maker, leading_to, makers, trail};
 use crate::meeting::{Meeting, known_behind, meeting_of};
 use crate::place::{Place, place_at};
-use bq_insn::Insn;
+use bq_insn::{Insn, SLOTS};
 use bq_needs::{Registers, read_registers};
 use bq_policy_file::PolicySource;
 use bq_states::abstract_state::AbstractValue;
