@@ -5,10 +5,9 @@ ghost use Rattle.std.specs.Str.{bytes_eq};
 ghost use Rattle.bq_asm.specs.Operands.{texts};
 ghost use Rattle.bq_asm.specs.Jumps.{is_jump, target_of, aimed, awaited_by, awaited_at, with_jumps, places_of};
 
-use bq_insn::SLOTS;
 use crate::fault::AsmFault;
 use crate::line::is_label;
-use bq_insn::Insn;
+use bq_insn::{Insn, SLOTS};
 use indexmap::IndexMap;
 
 /// A jump whose label may be set by a later line.

@@ -5,12 +5,12 @@ ghost use Rattle.bq_bounds.specs.Glances.{IsGlance};
 ghost use Rattle.bq_bounds.specs.LagWatches.{all_lags_after, effect_of, lags_of, needs_no_look, source_forgotten, unasked};
 ghost use Rattle.bq_bounds.specs.Watches.{unwatched, source_disturbed, watches_after};
 
-use bq_disc::limits::TASKS;
 use crate::glance::Glance;
 use crate::lags::Lags;
 use crate::running_task::RunningTask;
 use crate::watch::Watch;
 use bq_disc::Entity;
+use bq_disc::limits::TASKS;
 use bq_parts::{Event, Reply};
 use bq_words::Rule;
 use std::alloc::{AllocError, Global};

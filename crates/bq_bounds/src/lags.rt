@@ -6,12 +6,12 @@ ghost use Rattle.bq_bounds.specs.Glances.{IsGlance};
 ghost use Rattle.bq_bounds.specs.Lags.{stretched};
 ghost use Rattle.bq_bounds.specs.LagWatches.{effect_by, effect_of, decided_in, forgotten, gone_on, lags_after, needs_no_look, unasked};
 
-use bq_disc::limits::TASKS;
 use crate::charge::Charge;
 use crate::glance::Glance;
 use crate::stretch::Stretch;
 use crate::watch::greater;
 use bq_disc::Entity;
+use bq_disc::limits::TASKS;
 use bq_hooks::By;
 use bq_parts::{Event, Reply};
 

@@ -4,12 +4,12 @@ ghost use Rattle.bq_weights.specs.VirtualTime.{IsWeight};
 ghost use Rattle.bq_bounds.specs.Glances.{at_most_owed};
 ghost use Rattle.bq_bounds.specs.Lags.{allowed, beginning, furthest, heaviest, lag_by, most_owed, stretched};
 
-use bq_disc::limits::TASKS;
 use crate::charge::Charge;
 use crate::glance::Glance;
 use crate::totals::totals;
 use crate::watch::greater;
 use bq_disc::Entity;
+use bq_disc::limits::TASKS;
 use bq_weights::{NICE_0_WEIGHT, time_of};
 
 /// A stretch as it goes on. Under EEVDF no task gets further ahead of the mean in it than one was at its beginning, but for one

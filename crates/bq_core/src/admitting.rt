@@ -5,9 +5,9 @@ ghost use Rattle.bq_parts.specs.Refusals.{argument_refusal};
 ghost use Rattle.bq_parts.specs.Choices.{policies};
 ghost use Rattle.bq_parts.specs.Steps.{WorldStep};
 
-use bq_disc::limits::TASKS;
 use crate::parts::Parts;
 use bq_disc::RunQueue;
+use bq_disc::limits::TASKS;
 use bq_parts::{Event, Refusal, Reply, new_task};
 use std::alloc::Global;
 

@@ -2,8 +2,8 @@
 ghost use Rattle.std.specs.Prelude.{◌≡◌, ◌≤◌, ◌<◌, IfOk, length};
 ghost use Rattle.bq_parts.specs.World.{opening_world, processor_at, count_in};
 
-use bq_disc::limits::PROCESSORS;
 use bq_disc::RunQueue;
+use bq_disc::limits::PROCESSORS;
 use bq_parts::{Cpu, Inbox, Lobby};
 use std::alloc::{AllocError, Global};
 use std::marker::Model;

@@ -9,10 +9,10 @@ ghost use Rattle.bq_parts.specs.Shares.{Pulls};
 ghost use Rattle.bq_parts.specs.Steps.{WorldStep};
 ghost use Rattle.bq_parts.specs.StandsOnce.{IsOrderly};
 
-use bq_disc::limits::PROCESSORS;
 use crate::parts::Parts;
 use bq_bpf::Board;
 use bq_disc::RunQueue;
+use bq_disc::limits::PROCESSORS;
 use bq_installed::Scratch;
 use bq_parts::{Cpu, Event, Refusal, Reply};
 

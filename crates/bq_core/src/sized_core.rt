@@ -9,10 +9,10 @@ ghost use Rattle.bq_parts.specs.StandsOnce.{IsOrderly};
 ghost use Rattle.bq_parts.specs.declared.refusal.Refusal.TheVariants as no;
 ghost use Rattle.bq_core.specs.Laws.{StaysOrderly};
 
-use bq_disc::limits::PROCESSORS;
 use crate::world::DynamicCore;
 use bq_bpf::Board;
 use bq_disc::RunQueue;
+use bq_disc::limits::PROCESSORS;
 use bq_parts::{Cpu, Event, Inbox, Lobby, Refusal, Reply};
 use std::alloc::{AllocError, Global};
 use std::marker::Model;

@@ -7,11 +7,10 @@ ghost use Rattle.bq_parts.specs.Choices.{policies};
 ghost use Rattle.bq_parts.specs.Steps.{WorldStep};
 ghost use Rattle.bq_parts.specs.StandsOnce.{IsOrderly};
 
-use bq_disc::limits::TASKS;
-use bq_disc::limits::PROCESSORS;
 use crate::parts::Parts;
 use bq_bpf::Board;
 use bq_disc::RunQueue;
+use bq_disc::limits::{PROCESSORS, TASKS};
 use bq_hooks::Loads;
 use bq_installed::Scratch;
 use bq_parts::{Cpu, Event, Inbox, Placement, Refusal, Reply};

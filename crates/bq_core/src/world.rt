@@ -9,10 +9,10 @@ ghost use Rattle.bq_parts.specs.StandsOnce.{IsOrderly};
 ghost use Rattle.bq_parts.specs.declared.refusal.Refusal.TheVariants as no;
 ghost use Rattle.bq_core.specs.Laws.{StaysOrderly};
 
-use bq_disc::limits::PROCESSORS;
 use crate::parts::Parts;
 use bq_bpf::Board;
 use bq_disc::RunQueue;
+use bq_disc::limits::PROCESSORS;
 use bq_installed::Scratch;
 use bq_parts::{Cpu, Event, Inbox, Lobby, Refusal, Reply, argument_refusal};
 use std::alloc::{AllocError, Global};

@@ -6,8 +6,8 @@ ghost use Rattle.bq_disc.specs.Dues.{due_of};
 ghost use Rattle.bq_disc.specs.Totals.{is_at_most_mean};
 ghost use Rattle.bq_disc.specs.Queues.{can_use, key_of};
 
-use crate::limits::PROCESSORS;
 use crate::Deadline;
+use crate::limits::PROCESSORS;
 use crate::mask::allows;
 use std::marker::Model;
 

@@ -3,8 +3,8 @@ ghost use Rattle.std.specs.Prelude.{◌≡◌, ◌<◌, ◌≤◌, ◌^◌, ◌+
 ghost use Rattle.bq_disc.specs.Queues.{can_use};
 ghost use Rattle.bq_disc.specs.Movable.{Adds};
 
-use crate::limits::PROCESSORS;
 use crate::Entity;
+use crate::limits::PROCESSORS;
 use arrayvec::ArrayVec;
 
 /// How many may go, and the ids of the first of them, the greatest (v, id) first.

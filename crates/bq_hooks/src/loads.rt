@@ -1,8 +1,8 @@
 //! How many tasks each processor has.
 ghost use Rattle.std.specs.Prelude.{◌≡◌, ◌<◌, ◌≤◌, [], ◌∷◌, ◌++◌, length, slice_index, slice_set, ◌↔◌, IsTrue};
 
-use bq_disc::limits::PROCESSORS;
 use arrayvec::ArrayVec;
+use bq_disc::limits::PROCESSORS;
 use std::marker::Model;
 
 /// The loads of up to 64 processors, by their numbers.

@@ -4,9 +4,9 @@ ghost use Rattle.std.specs.List.{range_with_len};
 ghost use Rattle.bq_disc.specs.Masks.{allows};
 ghost use Rattle.bq_hooks.specs.OwnPlace.{own_place, first_place, place_before, HasPlace};
 
-use bq_disc::limits::PROCESSORS;
 use crate::Loads;
 use bq_disc::Entity;
+use bq_disc::limits::PROCESSORS;
 use bq_disc::mask::has;
 
 /// The processor of least load in the task's mask, of the first `count`; of equal loads the task's previous processor, and

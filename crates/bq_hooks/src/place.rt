@@ -2,10 +2,10 @@
 ghost use Rattle.std.specs.Prelude.{◌≡◌, ◌≤◌, ◌<◌, ◌^◌, ◌%◌, ◌+◌, ◌*◌, min, length, take, Option};
 ghost use Rattle.bq_hooks.specs.Contexts.{place_header, place_bytes_below, place_bytes_first, place_bytes_second, if_shown, if_any_shown};
 
-use bq_disc::limits::PROCESSORS;
 use crate::Loads;
 use crate::fields::{NOBODY, put_four, put_u32, put_u64};
 use bq_disc::Entity;
+use bq_disc::limits::PROCESSORS;
 use std::marker::Model;
 
 /// How many bytes the place context of an image of version 1 has.

@@ -7,8 +7,8 @@ ghost use Rattle.bq_disc.specs.Queues.{HasDistinctIds};
 ghost use Rattle.bq_disc.specs.Movable.{movable_to};
 ghost use Rattle.bq_hooks.specs.Contexts.{pull_bytes, or_nobody};
 
-use bq_disc::limits::PROCESSORS;
 use crate::fields::{NOBODY, put_four, put_task};
+use bq_disc::limits::PROCESSORS;
 use bq_disc::{Node, RunQueue};
 
 /// How many bytes a pull context has.

@@ -5,8 +5,8 @@ ghost use Rattle.bq_hooks.specs.Contexts.{as_number, or_nobody};
 ghost use Rattle.bq_hooks.specs.Permitted.{may_place, may_preempt, may_pull, task_numbered};
 ghost use Rattle.bq_hooks.specs.Settled.{settled};
 
-use bq_disc::limits::PROCESSORS;
 use crate::fields;
+use bq_disc::limits::PROCESSORS;
 use bq_disc::{Entity, RunQueue};
 
 /// A pull policy's answer that no task is to be taken.

@@ -2,9 +2,8 @@
 ghost use Rattle.std.specs.Prelude.{◌≡◌, ◌<◌, ◌≤◌, Some, None};
 ghost use Rattle.bq_parts.specs.Refusals.{argument_refusal};
 
-use bq_disc::limits::PROCESSORS;
 use crate::{Event, Refusal};
-use bq_disc::limits::{GREATEST_SLICE, LEAST_SLICE, TASKS};
+use bq_disc::limits::{GREATEST_SLICE, LEAST_SLICE, PROCESSORS, TASKS};
 use bq_hooks::{Hook, low_bits};
 use bq_installed::Policy;
 use bq_weights::is_nice;

@@ -12,10 +12,10 @@ ghost use Rattle.bq_disc.specs.OneProcessor.{present_at};
 ghost use Rattle.bq_parts.specs.Processors.{HasEachOnce, HasLobbyIds, size_of};
 ghost use Rattle.bq_parts.specs.Choices.{policies, place_bytes, SettlesPlace, SettlesPreempt, SettlesPull, decided_by};
 
-use bq_disc::limits::PROCESSORS;
 use crate::{Carried, Cpu, Decision};
 use bq_bpf::Board;
 use bq_disc::RunQueue;
+use bq_disc::limits::PROCESSORS;
 use bq_hooks::place::{PLACE_LENGTH, Place, WIDE_PLACE_LENGTH, place_ctx, wide_place_ctx};
 use bq_hooks::preempt::{PREEMPT_LENGTH, Preempt, preempt_ctx};
 use bq_hooks::pull::{PULL_LENGTH, Pull, pull_ctx};

@@ -13,9 +13,9 @@ ghost use Rattle.bq_installed.specs.Standing.{WasAnswered};
 ghost use Rattle.bq_parts.specs.Processors.{opening, load_of, size_of, count_of, HasEachOnce};
 ghost use Rattle.bq_parts.specs.Moves.{taken_from, without_task, with_pulled, started_if_idle};
 
-use bq_disc::limits::PROCESSORS;
 use crate::{Carried, Inbox, Unlinked};
 use bq_disc::clock::LATEST;
+use bq_disc::limits::PROCESSORS;
 use bq_disc::node::{self, Link};
 use bq_disc::{Entry, Node, RunQueue};
 use bq_hooks::Hook;

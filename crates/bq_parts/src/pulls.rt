@@ -8,10 +8,10 @@ ghost use Rattle.bq_parts.specs.Choices.{policies};
 ghost use Rattle.bq_parts.specs.Moves.{taken_from, without_task, with_pulled, started_if_idle};
 ghost use Rattle.bq_parts.specs.Shares.{Pulls};
 
-use bq_disc::limits::PROCESSORS;
 use crate::{Cpu, Reply};
 use bq_bpf::Board;
 use bq_disc::RunQueue;
+use bq_disc::limits::PROCESSORS;
 use bq_installed::Scratch;
 
 impl<Q: RunQueue> Cpu<Q> {

@@ -8,10 +8,9 @@ ghost use Rattle.bq_parts.specs.Choices.{policies};
 ghost use Rattle.bq_parts.specs.Moves.{admitted};
 ghost use Rattle.bq_parts.specs.Shares.{Admits, Blocks, Drains, Retires, Ticks};
 
-use bq_disc::limits::TASKS;
-use bq_disc::limits::PROCESSORS;
 use crate::{Cpu, Event, Inbox, Lobby, Refusal, Reply, Unlinked};
 use bq_bpf::Board;
+use bq_disc::limits::{PROCESSORS, TASKS};
 use bq_disc::{Node, RunQueue};
 use bq_hooks::low_bits;
 use bq_installed::Scratch;

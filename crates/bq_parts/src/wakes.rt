@@ -7,11 +7,10 @@ ghost use Rattle.bq_parts.specs.Refusals.{install_refusal};
 ghost use Rattle.bq_parts.specs.Choices.{policies};
 ghost use Rattle.bq_parts.specs.Shares.{Begins, Installs, Places};
 
-use bq_disc::limits::TASKS;
-use bq_disc::limits::PROCESSORS;
 use crate::{Carried, Cpu, Lobby, Refusal, Reply, Unlinked};
 use bq_bpf::Board;
 use bq_disc::RunQueue;
+use bq_disc::limits::{PROCESSORS, TASKS};
 use bq_hooks::{By, Hook, Loads};
 use bq_installed::{Installed, Scratch};
 

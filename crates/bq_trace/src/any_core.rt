@@ -7,8 +7,8 @@ ghost use Rattle.bq_trace.specs.Machines.{opening_machine};
 ghost use Rattle.bq_trace.specs.Cores.{processor_in};
 ghost use Rattle.bq_trace.specs.Seeing.{seen_of};
 
-use bq_bpf::board::COUNTERS;
 use bq_bpf::Plain;
+use bq_bpf::board::COUNTERS;
 use bq_cfs::CfsQueue;
 use bq_core::DynamicCore;
 use bq_disc::RunQueue;

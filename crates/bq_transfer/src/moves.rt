@@ -80,7 +80,12 @@ pub fn negate(state: &mut AbstractState, width: Width, dst: u8) -> Result<(), Ob
 }
 
 /// The low bits of a register in a byte order.
-pub fn reorder(state: &mut AbstractState, kind: Order, bits: Bits, dst: u8) -> Result<(), Obligation>
+pub fn reorder(
+    state: &mut AbstractState,
+    kind: Order,
+    bits: Bits,
+    dst: u8,
+) -> Result<(), Obligation>
     requires { dst < 10 }
     ensures transfers { OnOk result ((shapes : List MapShape) (context_length : ℕ) → Transfers shapes context_length (Insn.End kind bits dst) state.old state.new) }
     ensures obligations { IfErr result (λ obligation. MayBeUnproven obligation (Insn.End kind bits dst)) }

@@ -10,9 +10,9 @@ ghost use Rattle.bq_transfer.specs.Ready.{IsTransferred, IsReady, WritesBelowFra
 use crate::access::Access;
 use crate::alu::alu;
 use crate::calls::{call, map_ref};
-use crate::obligation::Obligation;
 use crate::loads::load;
 use crate::moves::{extend, immediate, negate, reorder};
+use crate::obligation::Obligation;
 use crate::stores::{store_imm, store_reg};
 use bq_bpf::MapShape;
 use bq_insn::Insn;

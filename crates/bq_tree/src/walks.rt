@@ -12,9 +12,9 @@ ghost use Rattle.bq_tree.specs.Taking.{Finds};
 ghost use Rattle.bq_tree.specs.Knowing.{knows_sums};
 ghost use Rattle.bq_disc.specs.Dues.{first_due, sooner_of};
 
-use bq_disc::limits::PROCESSORS;
 use crate::edits::{is_after, is_at};
 use crate::summary::due;
+use bq_disc::limits::PROCESSORS;
 use bq_disc::node::Link;
 use bq_disc::{Deadline, Movable, Node, Totals};
 

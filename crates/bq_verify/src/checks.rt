@@ -5,14 +5,13 @@ ghost use Rattle.bq_verify.specs.Edges.{IsWhole};
 ghost use Rattle.bq_verify.specs.Paths.{IsMostCalls};
 ghost use Rattle.bq_verify.specs.Faults.{HasFault, IsLateCall, IsLeast, IsFirstFault, IsFaultless, IsOnWay, IsUnreached};
 
-use bq_insn::SLOTS;
 use crate::edges::instruction;
 use crate::graph_cause::GraphCause;
 use crate::passes::{count_at, count_calls};
 use crate::single::{calls_unknown, is_bad_jump, runs_out, writes_frame};
 use bq_bpf::board::MOST_CALLS;
 use bq_bpf::instruction::is_counter_call;
-use bq_insn::Insn;
+use bq_insn::{Insn, SLOTS};
 
 /// Where a program is at fault, and why.
 #[derive(Clone, Copy)]

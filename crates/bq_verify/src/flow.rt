@@ -15,13 +15,12 @@ ghost use Rattle.bq_states.specs.Told.{IsLasting};
 ghost use Rattle.bq_states.specs.AbstractStates.{Contains};
 ghost use Rattle.bq_verify.specs.Control.{Goes, IsKnown, IsOnSide, PartsTo, WaitsBoxed};
 
-use bq_insn::SLOTS;
 use crate::passes::target;
 use crate::stop::PassStop;
 use crate::subject::Subject;
 use crate::waiting::wait;
 use bq_bpf::instruction::is_counter_call;
-use bq_insn::{Condition, Insn, Source, Width};
+use bq_insn::{Condition, Insn, SLOTS, Source, Width};
 use bq_states::abstract_state::{AbstractState, AbstractValue, ValueKind};
 use bq_states::registers::{known, operand};
 use bq_states::told::tell;

@@ -14,7 +14,6 @@ ghost use Rattle.bq_verify.specs.Refusals.{IsOutOfMemory};
 ghost use Rattle.bq_verify.specs.Straight.{IsStraightBefore};
 ghost use Rattle.bq_verify.specs.Sure.{IsSure};
 
-use bq_insn::SLOTS;
 use crate::layout::lay_out;
 use crate::pass::{pass_slot, start};
 use crate::program::{Program, check_graph};
@@ -22,6 +21,7 @@ use crate::refused::Refused;
 use crate::subject::Subject;
 use crate::waiting::{arrive, nothing_waits};
 use bq_hooks::context_length;
+use bq_insn::SLOTS;
 use bq_states::abstract_state::AbstractState;
 use std::alloc::{AllocError, Global};
 

@@ -13,13 +13,13 @@ ghost use Rattle.bq_verify.specs.Sure.{IsSure};
 ghost use Rattle.bq_states.specs.AbstractStates.{Contains};
 ghost use Rattle.bq_verify.specs.Control.{AreHeights, AreMade, IsKnown, PassesOn, RestIsSafe, SparesFrame};
 
-use bq_insn::SLOTS;
 use crate::edges::instruction;
 use crate::flow::visit;
 use crate::refused::{Refused, refuse};
 use crate::subject::Subject;
 use crate::waiting::{arrive, nothing_waits};
 use bq_bpf::addresses::STACK_SIZE;
+use bq_insn::SLOTS;
 use bq_ranges::Range;
 use bq_states::abstract_state::{AbstractState, AbstractValue, StackPart, ValueKind};
 use bq_states::registers::learn;

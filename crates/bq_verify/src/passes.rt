@@ -7,10 +7,9 @@ ghost use Rattle.bq_verify.specs.Edges.{IsStart};
 ghost use Rattle.bq_verify.specs.Paths.{IsMostCalls, IsGreatest, PathOut, calls_of};
 ghost use Rattle.bq_verify.specs.Passes.{IsSound, LeadsOut, Raises, CountsFollowed, Measured, height_to};
 
-use bq_insn::SLOTS;
 use crate::edges::{Targets, instruction, landing};
 use bq_bpf::instruction::{distance, is_counter_call, may_go_on};
-use bq_insn::Insn;
+use bq_insn::{Insn, SLOTS};
 
 /// The slot of the next instruction, if control may go on to it.
 pub fn next_slot(slot: usize, insn: Insn) -> Option<usize>

@@ -14,7 +14,6 @@ ghost use Rattle.bq_verify.specs.Control.{AreMade};
 ghost use Rattle.bq_hooks.specs.Hooks.{context_length_of};
 ghost use Rattle.bq_verify.specs.Straight.{IsStraightProgram};
 
-use bq_insn::SLOTS;
 use crate::cause::Cause;
 use crate::checks::check;
 use crate::layout::lay_out;
@@ -23,7 +22,7 @@ use crate::refused::Refused;
 use crate::verified::Verified;
 use bq_bpf::MapShape;
 use bq_hooks::{Hook, Version};
-use bq_insn::Insn;
+use bq_insn::{Insn, SLOTS};
 use std::alloc::{AllocError, Global};
 
 /// A program as it is handed in.

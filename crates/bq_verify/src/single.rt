@@ -3,11 +3,10 @@ ghost use Rattle.std.specs.Prelude.{◌≡◌, ◌<◌, ◌≤◌, ◌+◌, leng
 ghost use Rattle.bq_bpf.specs.Steps.{instruction_at};
 ghost use Rattle.bq_verify.specs.Faults.{is_helper, IsBadJump, RunsOut, WritesFrame, CallsUnknown};
 
-use bq_insn::SLOTS;
 use crate::edges::landing;
 use bq_bpf::helper::Helper;
 use bq_bpf::instruction::{destination, distance, may_go_on};
-use bq_insn::Insn;
+use bq_insn::{Insn, SLOTS};
 
 /// Whether there is such a helper.
 pub fn is_known_helper(helper: i32) -> bool

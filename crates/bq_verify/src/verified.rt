@@ -1,12 +1,11 @@
 //! Programs that were accepted.
 
-use bq_insn::SLOTS;
 use crate::pass::judge;
 use crate::refused::Refused;
 use crate::subject::Subject;
 use bq_bpf::{MapShape, Packed, pack_all};
 use bq_hooks::{Hook, Version, context_length};
-use bq_insn::Insn;
+use bq_insn::{Insn, SLOTS};
 use std::alloc::Global;
 use std::marker::Model;
 
