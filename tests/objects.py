@@ -33,6 +33,8 @@ def policy_of(file):
     machine, = struct.unpack_from('<H', file, 18)
     place, = struct.unpack_from('<Q', file, 40)
     size, count = struct.unpack_from('<HH', file, 58)
+    if count > 256:
+        return None
     table = part(file, place, 64 * count)
     if machine != 247 or size != 64 or table is None:
         return None
@@ -126,6 +128,7 @@ def functions(room):
         ('an object for this machine', room.compile('int policy(void)\n{\n    return 0;\n}\n', '-target', 'x86_64-linux-gnu'), 'not for BPF'),
         ('a big-endian object', room.compile(HEAD + POLICY, '-target', 'bpfeb', '-mcpu=v4'), 'little-endian'),
         ('an object that is cut off', code[:-1], 'cut off'),
+        ('an object of 257 sections', code[:60] + struct.pack('<H', 257) + code[62:], 'more than 256 sections'),
     ):
         ran = room.imported(data, *hook)
         room.holds(f'{what} is refused', ran[0] == 1 and ran[1] == b'' and words in ran[2], ran)
