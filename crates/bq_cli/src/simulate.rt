@@ -280,25 +280,29 @@ fn others(rt: &HostRuntime, words: &StudyWords) -> Result<Option<Policies>, Exit
 fn workload(rt: &HostRuntime, words: &StudyWords, changes: Changes) -> Result<Workload, ExitCode> {
     let name = name_of(&words.shown.file);
     let bytes = whole_input(rt, &words.shown.file, MOST_BYTES)?;
-    if let Some(what) = foreign_text(bytes.as_slice()) {
-        let name = Name(name);
-        let _ = eprintln!(rt; "{name}: {what}");
-        return Err(ExitCode::from(BAD_INPUT));
-    }
     let Ok(text) = from_utf8(bytes.as_slice()) else {
-        let name = Name(name);
-        let _ = eprintln!(rt; "{name}: the file is not UTF-8 text");
-        return Err(ExitCode::from(BAD_INPUT));
+        let what = foreign_text(bytes.as_slice()).unwrap_or("the file is not UTF-8 text");
+        return Err(say_no_workload(rt, name, what));
     };
     match read(rt.alloc(), text, changes) {
         Ok(workload) => Ok(workload),
         Err(Fault::OutOfMemory) => Err(say_out_of_memory(rt)),
-        Err(fault) => {
-            let name = Name(name);
-            let _ = eprintln!(rt; "{name}{fault}");
-            Err(ExitCode::from(BAD_INPUT))
-        }
+        Err(fault) => match foreign_text(bytes.as_slice()) {
+            Some(what) => Err(say_no_workload(rt, name, what)),
+            None => {
+                let name = Name(name);
+                let _ = eprintln!(rt; "{name}{fault}");
+                Err(ExitCode::from(BAD_INPUT))
+            }
+        },
     }
+}
+
+/// Says what a file is that is no workload.
+fn say_no_workload(rt: &HostRuntime, name: &str, what: &str) -> ExitCode {
+    let name = Name(name);
+    let _ = eprintln!(rt; "{name}: {what}");
+    ExitCode::from(BAD_INPUT)
 }
 
 /// What a file is that was given as a workload and is none, and what to do with it, if that can be told.
