@@ -96,6 +96,8 @@ fn name_others(rt: &HostRuntime, name: &str, bytes: &[u8]) {
     let name = Name(name);
     for other in others {
         let other = Name(other);
-        let _ = eprintln!(rt; "{name}: note: the function {other} is left out; only policy is imported");
+        let _ = eprintln!(rt;
+            "{name}: note: the function {other} is left out; only policy is imported"
+        );
     }
 }

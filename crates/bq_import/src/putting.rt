@@ -8,11 +8,10 @@ ghost use Rattle.bq_import.specs.Backward.{IsBuilt, IsFront, IsLengthened};
 ghost use Rattle.bq_import.specs.Faults.{IsFull, IsLinked};
 ghost use Rattle.bq_import.specs.Search.{AreClosed, AreTargets, AreKnown, IsDone, IsReady, JumpsTo, place_at};
 
-use bq_insn::SLOTS;
 use crate::backward::Backward;
 use crate::fault::Disorder;
 use crate::linked::targets;
-use bq_insn::Insn;
+use bq_insn::{Insn, SLOTS};
 use bq_verify::edges::{Targets, instruction};
 
 impl Backward {
