@@ -21,10 +21,10 @@ def missing():
     if late is None or late > rule["latency"]["p95"] / 10:
         yield f"95 % of the editor's wakes wait up to {late} ns; wanted is a tenth of the rule's {rule['latency']['p95']}"
     if mine["cpu"] < rule["cpu"]:
-        yield f"the editor runs for {mine['ran']} ns; wanted is the rule's {rule['ran']}"
+        yield f"the editor runs for {mine['cpu']} ns; wanted is the rule's {rule['cpu']}"
     for task in tasks("workloads/nice_values.toml", POLICY).values():
         if task["cpu"] < task["fair"] * 0.9:
-            yield f"{task['name']} runs for {task['ran']} ns in nice_values; wanted is 90 % of its fair {task['fair']}"
+            yield f"{task['name']} runs for {task['cpu']} ns in nice_values; wanted is 90 % of its fair {task['fair']}"
 
 
 found = list(missing())
