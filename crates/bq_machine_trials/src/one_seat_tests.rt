@@ -260,20 +260,40 @@ fn is_kept<N: Naming + Counting, R: Abort + Wait, const P: usize>(
     events == Some(closed.len()) && closed.core.processors() == P
 }
 
-/// Whether the calls of a row are answered as they should be on an opening machine of so many processors.
-fn is_answered<R: Abort + Wait, const P: usize>(rt: &R, alloc: Global, row: Row) -> bool
-    requires few { P ≤ PROCESSORS }
+/// The same of two processors or three, a number that the type of the machine takes as a constant.
+fn is_kept_by<N: Naming + Counting, R: Abort + Wait>(
+    rt: &R,
+    alloc: Global,
+    prepared: Prepared<CfsQueue>,
+    unnamed: UnnamedCounters,
+    processors: u64,
+    row: Row,
+) -> bool
+    requires name { prepared.0 ≡ N.table }
+    requires counters { unnamed.0 ≡ N.counters }
+    requires counts { (prepared.1.about ≡ processors) × (prepared.1.callers ≡ 1) × (unnamed.1 ≡ 1) }
 {
-    let Ok((prepared, unnamed)) = prepare::<CfsQueue>(alloc, P as u64, 1) else {
+    if processors == 2 {
+        return is_kept::<N, R, 2>(rt, alloc, prepared, unnamed, row);
+    }
+    if processors == 3 {
+        return is_kept::<N, R, 3>(rt, alloc, prepared, unnamed, row);
+    }
+    panic!(rt; "two processors or three")
+}
+
+/// Whether the calls of a row are answered as they should be on an opening machine of two processors or three.
+fn is_answered<R: Abort + Wait>(rt: &R, alloc: Global, processors: u64, row: Row) -> bool {
+    let Ok((prepared, unnamed)) = prepare::<CfsQueue>(alloc, processors, 1) else {
         panic!(rt; "memory")
     };
-    is_kept::<Brand, R, P>(rt, alloc, prepared, unnamed, row)
+    is_kept_by::<Brand, R>(rt, alloc, prepared, unnamed, processors, row)
 }
 
 #[test]
 fn one_seat_is_answered(rt: HostRuntime) {
     for row in [Row::Block, Row::Pull, Row::Load] {
-        assert!(&rt; is_answered::<_, 2>(&rt, rt.alloc(), row));
+        assert!(&rt; is_answered(&rt, rt.alloc(), 2, row));
     }
-    assert!(&rt; is_answered::<_, 3>(&rt, rt.alloc(), Row::Three));
+    assert!(&rt; is_answered(&rt, rt.alloc(), 3, Row::Three));
 }

@@ -43,7 +43,7 @@ receipt_send = search (receipt.the_send, record_send) depth 10
 
 -- a seat with what it is to do
 job_send : (N : RattleType) (n : Naming.Ghosts N.Denot) (m : Counting.Ghosts N.Denot) → IsSend (Job.the_row N n m)
-job_send N n m = declared_send (Job.the_type N n m) (seat_send N n m, (search (crosses, sendable) depth 80, tt))
+job_send N n m = declared_send (Job.the_type N n m) (seat_send N n m, (search (gate.the_send, gate.the_sync, crosses, sendable) depth 80 fits 20000, tt))
 
 -- a seat that has come back, with its receipts
 played_send : (N : RattleType) (n : Naming.Ghosts N.Denot) (m : Counting.Ghosts N.Denot) → IsSend (Played.the_row N n m)
