@@ -2,9 +2,10 @@
 
 use crate::cases::holds;
 use bq_streams::Counted;
-use bq_timeline::numbers::{tasks, time, width};
+use bq_timeline::numbers::{tasks, width};
 use bq_timeline::{Settings, Words, show};
 use bq_why::faults::why_bad;
+use bq_words::duration;
 use std::alloc::{AllocError, Global};
 use std::process::Abort;
 use std::str::from_utf8;
@@ -433,7 +434,12 @@ fn are_one_and_four(named: &Option<Vec<u16>>) -> bool {
 #[test]
 fn words_are_times_sets_and_widths(rt: HostRuntime) -> Result<(), Fail> {
     for (word, nanoseconds) in &TIMES {
-        holds(&rt, time(word) == *nanoseconds, "another time", word);
+        holds(
+            &rt,
+            duration(word.as_bytes()) == *nanoseconds,
+            "another time",
+            word,
+        );
     }
     for (word, wanted) in &SETS {
         let told = told_of_cpus(rt.alloc(), word)?;
