@@ -44,6 +44,8 @@ LEFT_OUT = {
     "native_policies.py": "needs clang 19",
     "long_runs.py": "needs clang 19",
     "fail_each_call.py": "needs a C compiler, and takes minutes",
+    "hostile.py": "takes up to ten minutes",
+    "objects.py": "needs clang 19",
 }
 
 
