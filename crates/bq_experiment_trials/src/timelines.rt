@@ -238,7 +238,7 @@ long runs: the earliest deadline of the eligible {long}; short is due first (2.0
         trace: EQUAL_DEADLINES,
         text: Text::Parts(&[
             "line 4: wake of 1 at cpu 0\n",
-            "line 6: end of the wake of 1 at cpu 0\n",
+            "line 6: end of the wake of 2 at cpu 0\n",
             "    2 runs: the earliest deadline of the eligible {2}; 1 has the same deadline and the lower id (1 < 2), but is not eligible\n",
             "    1 runs: the earliest deadline of the eligible {1, 2}; 2 has the same deadline, and the lower id wins (1 < 2)\n",
             "    1 goes to sleep\n    mark 1.500  mean 1.000\n",

@@ -2,7 +2,6 @@
 
 ghost use Rattle.std.specs.Prelude.{◌≤◌, length};
 
-use bq_disc::limits::TASKS;
 use crate::asked::Asked;
 use crate::presence::present;
 use crate::reasons::{Reason, why};
@@ -11,6 +10,7 @@ use crate::table::{TaskRow, measured_from, rows};
 use crate::words_of::{Ids, Lag, Standing, Virtual, Who, eligibility};
 use bq_cfs::GRANULARITY;
 use bq_disc::Entity;
+use bq_disc::limits::TASKS;
 use bq_hooks::{By, Hook};
 use bq_report::{Millis, Names};
 use bq_trace::{AnyCore, Seen};

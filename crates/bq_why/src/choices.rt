@@ -5,9 +5,9 @@ ghost use Rattle.bq_disc.specs.Dues.{due_before};
 ghost use Rattle.bq_disc.specs.Totals.{is_at_most_mean};
 ghost use Rattle.bq_trace.specs.Machines.{discipline_of};
 
-use bq_disc::limits::TASKS;
 use bq_bounds::totals::totals;
 use bq_disc::Entity;
+use bq_disc::limits::TASKS;
 use bq_words::Rule;
 
 /// The task that a rule chooses: under CFS that of least (v, id), under EEVDF of the eligible that of least (deadline, id).

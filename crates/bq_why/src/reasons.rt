@@ -3,10 +3,10 @@ ghost use Rattle.std.specs.Prelude.{◌≡◌, ◌≤◌, length};
 ghost use Rattle.bq_disc.specs.Tasks.{with_id};
 ghost use Rattle.bq_why.specs.Reasons.{reason_of, cfs_reason_of, least_reason_of, eevdf_reason_of};
 
-use bq_disc::limits::TASKS;
 use crate::choices::choice;
 use bq_cfs::GRANULARITY;
 use bq_disc::Entity;
+use bq_disc::limits::TASKS;
 use bq_hooks::By;
 use bq_words::Rule;
 

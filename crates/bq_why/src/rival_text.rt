@@ -1,11 +1,11 @@
 //! The tasks that a choice was told apart from, in words.
 ghost use Rattle.std.specs.Prelude.{◌≤◌, length};
 
-use bq_disc::limits::TASKS;
 use crate::reasons::with_number;
 use crate::rivals::{passed_over, tied_with};
 use crate::words_of::{Virtual, Who};
 use bq_disc::Entity;
+use bq_disc::limits::TASKS;
 use bq_report::{Millis, Names};
 use bq_words::Rule;
 use std::alloc::AllocError;

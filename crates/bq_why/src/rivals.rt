@@ -4,10 +4,10 @@ ghost use Rattle.bq_disc.specs.Tasks.{first_by};
 ghost use Rattle.bq_disc.specs.Dues.{due_before};
 ghost use Rattle.bq_why.specs.Rivals.{passed_over, is_tied, tied_with};
 
-use bq_disc::limits::TASKS;
 use crate::choices::due_first;
 use bq_bounds::totals::totals;
 use bq_disc::Entity;
+use bq_disc::limits::TASKS;
 use bq_words::Rule;
 
 /// Under EEVDF the task that is due first of all, where it is not eligible: the choice passes it over.

@@ -2,10 +2,10 @@
 ghost use Rattle.std.specs.Prelude.{◌≡◌, ◌≤◌, length, map, IfOk};
 ghost use Rattle.bq_why.specs.Rows.{row_of, row_by, measured_from};
 
-use bq_disc::limits::TASKS;
 use crate::choices::choice;
 use bq_bounds::totals::totals;
 use bq_disc::Entity;
+use bq_disc::limits::TASKS;
 use bq_weights::time_of;
 use bq_words::Rule;
 use std::alloc::{AllocError, Global};
