@@ -1,14 +1,15 @@
 #!/usr/bin/env python3
 """Compares the examples of the public calls with the tests that run them.
 
-Each `# Example` of a doc comment in crates/*/src has to stand, line for line, in the body of one function of
-crates/bq_trials/src/examples.rt (without the lines that fetch `alloc` and end the test). Usage: tests/examples.py
+Each `# Example` of a doc comment in crates/*/src has to stand, line for line, in the body of one function of examples.rt or
+world_examples.rt in crates/bq_trials/src (without the lines that fetch `alloc` and end the test). Usage: tests/examples.py
 """
 import pathlib
 import re
 import sys
 
 TOP = pathlib.Path(__file__).resolve().parent.parent
+FILES = ("examples.rt", "world_examples.rt")
 LEFT_OUT = ("let alloc = rt.alloc();", "Ok(())")
 
 
@@ -26,7 +27,9 @@ def examples(text):
 
 
 def main():
-    known = set(bodies((TOP / "crates/bq_trials/src/examples.rt").read_text()))
+    known = set()
+    for name in FILES:
+        known |= set(bodies((TOP / "crates/bq_trials/src" / name).read_text()))
     number, wrong = 0, 0
     for file in sorted(TOP.glob("crates/*/src/**/*.rt")):
         for example in examples(file.read_text()):

@@ -6,10 +6,13 @@
 - Each policy of policies/c, as an object, is imported as the same text as its text section is, which llvm-objcopy takes out.
 - A function that stands before `policy` changes nothing, and is named; a call, a global, another machine, another order of
   bytes and an object without `policy` are refused with their reasons.
+- With -g the text is the same below comments that name lines of the C: those that llvm-objdump tells of the same instructions. Where
+  `check` would refuse the policy, `import` says why by the line of the C.
 - An object that is cut off at any length, or has up to four bytes changed, ends with status 0 or 1. What is imported of it is
   what `policy_of` below finds, which reads the file by the ELF specification alone: the text is that of these bytes.
 
-Needs clang and llvm-objcopy for BPF: CLANG and OBJCOPY name them (clang-19 and llvm-objcopy-19 if they do not).
+Needs clang, llvm-objcopy and llvm-objdump for BPF: CLANG, OBJCOPY and OBJDUMP name them (clang-19, llvm-objcopy-19 and
+llvm-objdump-19 if they do not).
 """
 import os, pathlib, random, re, struct, subprocess, sys, tempfile
 
@@ -17,11 +20,13 @@ HERE = pathlib.Path(__file__).resolve().parent
 POLICIES = HERE.parent / 'policies/c'
 CLANG = os.environ.get('CLANG', 'clang-19')
 OBJCOPY = os.environ.get('OBJCOPY', 'llvm-objcopy-19')
+OBJDUMP = os.environ.get('OBJDUMP', 'llvm-objdump-19')
 
 HEAD = '#include "bqsim.h"\n'
 POLICY = 'u64 policy(const struct bq_preempt *ask)\n{\n    if (ask->next == BQ_NONE)\n        return 0;\n    return ask->v > ask->next_v + 500000;\n}\n'
 BEFORE = HEAD + 'u64 before(const struct bq_preempt *ask)\n{\n    return ask->own;\n}\n'
 CALLS = HEAD + '__attribute__((noinline)) u64 other(u64 x)\n{\n    return x * 3;\n}\nu64 policy(const struct bq_preempt *ask)\n{\n    return other(ask->v) > 9;\n}\n'
+BEYOND = HEAD + 'u64 policy(const struct bq_preempt *ask)\n{\n    return ((const u8 *)ask)[200];\n}\n'
 GLOBAL = HEAD + 'u64 kept = 5;\nu64 policy(const struct bq_preempt *ask)\n{\n    return ask->v > kept;\n}\n'
 
 
@@ -134,6 +139,52 @@ def functions(room):
         room.holds(f'{what} is refused', ran[0] == 1 and ran[1] == b'' and words in ran[2], ran)
 
 
+def lines_of_dump(file):
+    """The line of C of each instruction of an object, as llvm-objdump tells it."""
+    said = subprocess.run([OBJDUMP, '-d', '-l', '--no-show-raw-insn', file], check=True, capture_output=True, text=True).stdout
+    lines, line = [], None
+    for row in said.splitlines():
+        if place := re.match(r'; .*:(\d+)$', row):
+            line = int(place.group(1))
+        elif re.match(r' +[0-9a-f]+:\s', row):
+            lines.append(line)
+    return lines
+
+
+def lines_of_text(text):
+    """The line of C of each instruction of an imported text, by the comments above them."""
+    lines, line = [], None
+    for row in text.splitlines():
+        if place := re.fullmatch(r'; [^ ]+:(\d+)', row):
+            line = int(place.group(1))
+        elif not row.startswith(';'):
+            lines.append(line)
+    return lines
+
+
+def sources(room):
+    hook = ('--hook', 'preempt')
+    plain = room.imported(room.compile(HEAD + POLICY), *hook)
+    code = room.compile(HEAD + POLICY, '-target', 'bpf', '-mcpu=v4', '-g')
+    noted = room.imported(code, *hook)
+    text = noted[1].decode()
+    bare = ''.join(row + '\n' for row in text.splitlines() if not re.fullmatch(r'; drawn\.c:\d+', row))
+    room.holds('-g adds comments and nothing else', (noted[0], bare.encode()) == plain[:2] and bare != text, noted, plain)
+    told, wanted = lines_of_text(text), lines_of_dump(room.folder / 'made.o')
+    # of the first instruction BTF has the line of the function's name, and llvm-objdump that of its brace
+    room.holds('the lines of C are those of the instructions', told[1:] == wanted[1:], told, wanted)
+    for words, place in (('-g',), 'drawn.c line 4, slot'), ((), ' slot'):
+        refused = room.imported(room.compile(BEYOND, '-target', 'bpf', '-mcpu=v4', *words), *hook)
+        is_told = refused[0] == 0 and 'note: check refuses this policy' in refused[2] and place in refused[2] and 'context + 200' in refused[2]
+        room.holds('a policy that check refuses is imported, and the reason told', is_told, refused)
+    called = room.imported(room.compile(CALLS, '-target', 'bpf', '-mcpu=v4', '-g'), *hook)
+    room.holds('a refusal names the line of C', called[0] == 1 and 'drawn.c:8: slot ' in called[2], called)
+    many = bytearray(code)
+    struct.pack_into('<H', many, 60, 257)
+    ran = room.imported(bytes(many), *hook)
+    room.holds('an object of 257 sections is refused', ran[0] == 1 and 'more than 256 sections' in ran[2], ran)
+
+
 def is_right(room, what, data):
     """The answer is that of the bytes which the model finds."""
     hook = ('--hook', 'preempt', '--maps', '16:64')
@@ -170,6 +221,7 @@ def main():
         room = Room(os.path.abspath(sys.argv[1]), folder)
         whole(room)
         functions(room)
+        sources(room)
         broken(room, edits, seed)
     print(f'{room.failed} failed')
     sys.exit(room.failed > 0)

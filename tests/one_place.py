@@ -3,9 +3,9 @@
 
     tests/one_place.py        exit status 0: none but those that ALLOWED names with a reason
 
-Five things are looked for: a known fact outside its home (FACTS: a pattern, and the file that may have it); the same function
+Six things are looked for: a known fact outside its home (FACTS: a pattern, and the file that may have it); the same function
 twice, by its text without its name; the same definition twice in specs, by its right side; the same lemma twice in proofs of two
-crates; the same long text twice. Trials and tests are left out.
+crates; the same long text twice; and, in trials and tests too, a lemma outside the files that may name it (SHUT).
 """
 import re
 import sys
@@ -101,6 +101,11 @@ DEFINED = [
     ('the size of the stack', r'(?<!the )\b51[23]\b', {'bq_bpf/specs/Memory.antt'}),
 ]
 
+# Lemmas that show what only their crate may show, and the files that may name them.
+SHUT = [
+    ('what only the verifier says', r'\bstopped_at\b', {'bq_verify/specs/Refusals.antt', 'bq_verify/proofs/refused/refuse/Answers.antt'}),
+]
+
 
 # What may stand in two places, and why.
 ALLOWED = {
@@ -134,6 +139,13 @@ def facts(files, known, comment):
         for what, pattern, homes in known:
             if name not in homes and re.search(pattern, bare):
                 yield f'{what}: {name}'
+
+
+def shut():
+    """The lemmas of SHUT in any source, definition or proof that may not name them, comments, trials and tests too; what a build wrote is left out."""
+    for path in sorted(path for folder in ('src', 'specs', 'proofs') for path in TOP.glob(f'*/{folder}/**/*') if path.suffix in ('.antt', '.rt')):
+        name, text = str(path.relative_to(TOP)), path.read_text(encoding='utf-8')
+        yield from (f'{what}: {name}' for what, pattern, homes in SHUT if name not in homes and re.search(pattern, text))
 
 
 def functions(files):
@@ -187,7 +199,7 @@ def texts(files):
 
 def main():
     code, specs, proofs = list(product('src', '.rt')), list(product('specs', '.antt')), list(product('proofs', '.antt'))
-    found = [*facts(code, FACTS, '//'), *facts(specs, DEFINED, '--'), *functions(code), *definitions(specs), *lemmas(proofs), *texts(code)]
+    found = [*facts(code, FACTS, '//'), *facts(specs, DEFINED, '--'), *shut(), *functions(code), *definitions(specs), *lemmas(proofs), *texts(code)]
     bad = [it for it in found if it not in ALLOWED]
     for it in bad:
         print(it)

@@ -16,9 +16,11 @@ MODELS = [
     "tests/compare_timeline.py BQSIM --near 200 1",
     "tests/compare_why.py BQSIM 60 1",
     "tests/simulate_model.py BQSIM 500 1",
+    "tests/refusals.py BQSIM",
     "tests/seeds.py BQSIM 3 5",
     "tests/simulate_forms.py BQSIM",
     "tests/simulate_theory.py BQSIM",
+    "tests/received.py BQSIM",
     "tests/compare_with_model.py BQSIM tests/every_line.trace",
     "tests/pages.py BQSIM",
 ]

@@ -35,7 +35,7 @@ list_all-weaker p q f (x ∷ xs) h =
     let parts = and_parts (p x) (list_all p xs) h in
     and_from (q x) (list_all q xs) (f x parts.0) (list_all-weaker p q f xs parts.1)
 
--- a number in decimal has digits alone
+-- a number in decimal has only digits
 pub decimal_digits : (n : ℕ) → n < 2 ^ 64 → list_all is_digit (decimal n) ≡ true
 decimal_digits n h = decimal_by_steps (λ m ds. list_all is_digit ds ≡ true) one more n h
   where

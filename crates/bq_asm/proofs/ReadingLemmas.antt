@@ -281,7 +281,7 @@ plain_or_awaiting first operands i h = by (named first) refl h
 abbrev what_is_read : Mnemonic → List (List ℕ) → Option ℤ → Result Insn Cause
 what_is_read m operands d = read m operands d
 
--- a line's words are read, with no distance known yet, as an instruction of so many slots
+-- a line's words are read, with no distance known yet, as an instruction of this many slots
 pub record IsRead (first : List ℕ) (operands : List (List ℕ)) (size : ℕ) : Type 0 where
   pub insn : Insn
   pub read : instruction_of first operands (Some (pos 0)) ≡ Ok insn

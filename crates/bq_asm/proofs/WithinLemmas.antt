@@ -27,7 +27,7 @@ places_within limit slot (Blank ∷ lines) h = places_within limit (slot + 0) li
 places_within limit slot (Label name ∷ lines) h = (omega arith, places_within limit (slot + 0) lines (omega arith))
 places_within limit slot (Instruction first operands ∷ lines) h = places_within limit (slot + slots_of_line (Instruction first operands)) lines (omega arith)
 
--- a jump whose next slot is within a limit, and which is one of so many instructions
+-- a jump whose next slot is within a limit, and which is one of this many instructions
 abbrev pub IsNear : ℕ → ℕ → Awaited → Type 0
 IsNear limit count jump = (jump.next ≤ limit) × (jump.index < count)
 

@@ -14,7 +14,7 @@ cause_number LabelTwice = 3
 cause_number LabelMissing = 4
 cause_number Slots = 5
 
--- a fault by its cause and the line; want of memory is none of the text
+-- a fault by its cause and the line; lack of memory is no fault of the text
 abbrev pub fault_text : AsmFault → List ℕ
 fault_text (At line cause) = cause_and_place (codes "A") (cause_number cause) line
 fault_text OutOfMemory = codes "out of memory"

@@ -26,7 +26,7 @@ slots_in (line ∷ lines) = slots_of_line line + slots_in lines
 abbrev pub cause_of_label : List (List ℕ) → List ℕ → Option Cause
 cause_of_label before name = if is_label name then (if list_any (bytes_eq name) before then Some LabelTwice else None) else Some Word
 
--- what is wrong with an instruction, so many slots after the first
+-- what is wrong with an instruction, this many slots after the first
 abbrev pub cause_of_insn : ℕ → Result Insn Cause → Option Cause
 cause_of_insn slots (Err c) = Some c
 cause_of_insn slots (Ok insn) = if nat_le (slots + slots_of insn) 4096 then None else Some Slots

@@ -64,7 +64,7 @@ pub record WatchesWithin : Type 0 where
   pub eevdf : WatchWithin Eevdf eevdf
   pub leaves : (e : Event) (r : Reply) (busy : Bool) (w : Watch) → (decided_by_event e r busy w).greatest ≡ w.greatest
 
--- a stretch goes on by a step: a reading stretches it by how far the clock rises, and from a decision on that is counted anew
+-- a stretch goes on by a step: a reading stretches it by how far the clock rises, and from a decision on that is counted again
 abbrev pub stretch_by : Running → Step → Stretch → Stretch
 stretch_by p (Pass now) s = stretched (rise p now) s
 stretch_by p Decide s = decided_in Decides s

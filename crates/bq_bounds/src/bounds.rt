@@ -26,7 +26,7 @@ pub struct Bounds {
 }
 
 impl Bounds {
-    /// Nothing has happened at so many processors.
+    /// Nothing has happened at this many processors.
     pub fn new(alloc: Global, rule: Rule, processors: usize) -> Result<Bounds, AllocError>
         ensures rule { IfOk result (λ b. b.rule ≡ rule) }
         ensures watches { IfOk result (λ b. b.watches.items ≡ replicate processors unwatched) }

@@ -33,7 +33,7 @@ pub struct Lags {
     pub stretch: Option<Stretch>,
     /// At how many readings of the clock they were measured.
     pub measured: u64,
-    /// At how many a stretch began anew.
+    /// At how many a new stretch began.
     pub left_out: u64,
     /// The first of the greatest of what any task was owed, and what it might be.
     pub greatest: Option<Charge>,

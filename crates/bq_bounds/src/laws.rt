@@ -27,7 +27,7 @@ pub fn eevdf_owes_within()
 {}
 
 /// So no measure passes its bound: from a decision of the discipline on, as long as nothing comes or goes, what the charge of
-/// the task that runs is measured by at a reading of the clock is at most the bound that is told with it.
+/// the task that runs is measured by at a reading of the clock is at most the bound that is reported with it.
 pub fn measures_within()
     ensures { MeasuresWithin }
 {}

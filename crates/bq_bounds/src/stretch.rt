@@ -12,7 +12,7 @@ use bq_disc::Entity;
 use bq_disc::limits::TASKS;
 use bq_weights::{NICE_0_WEIGHT, time_of};
 
-/// A stretch as it goes on. Under EEVDF no task gets further ahead of the mean in it than one was at its beginning, but for one
+/// A stretch as it goes on. Under EEVDF no task gets further ahead of the mean in it than one was at its beginning, except for one
 /// rise of the clock between two decisions; so none is owed more than the others can be ahead by together.
 #[derive(Clone, Copy)]
 pub struct Stretch {

@@ -1,4 +1,4 @@
-//! The charges of one processor, as far as its discipline alone decides who runs there.
+//! The charges of one processor, as far as only its discipline decides who runs there.
 ghost use Rattle.std.specs.Prelude.{◌≡◌};
 ghost use Rattle.bq_bounds.specs.Watches.{unwatched, risen, measured, decided, disturbed, charged, greater, watch_after, decided_by_event};
 

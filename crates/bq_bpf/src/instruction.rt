@@ -1,4 +1,4 @@
-//! What is told of an instruction by itself.
+//! What can be said of an instruction by itself.
 ghost use Rattle.std.specs.Prelude.{◌≡◌, IsTrue};
 ghost use Rattle.bq_bpf.specs.Instructions.{asks_counter, destination_of, distance_of, goes_on};
 ghost use Rattle.bq_bpf.specs.Steps.{IsCounterCall};

@@ -8,6 +8,6 @@ never_falls : (old : ℕ) (o : Option Task) → old ≤ option_map_or (λ (t : T
 never_falls old None = omega arith
 never_falls old (Some t) = omega arith
 
--- the mark is computed anew to no less than it was
+-- the mark is computed again to no less than it was
 pub mark_never_falls : MarkNeverFalls
 mark_never_falls old xs = never_falls old (least xs)

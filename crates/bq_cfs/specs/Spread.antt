@@ -38,7 +38,7 @@ abbrev pub departed : Running → ℕ → Option Task → Running
 departed p now None = p
 departed p now (Some t) = start cfs (record (charge cfs p now) { current = None })
 
--- the processor that an event leaves, where the rule alone says whether the current task gives way
+-- the processor that an event leaves, where only the rule says whether the current task gives way
 abbrev pub passed : Running → Event → Running
 passed p (Tick now) = ticked cfs p now
 passed p (Block now) = departed p now p.current

@@ -30,7 +30,7 @@ pub fn begins_within()
     ensures { BeginsWithin }
 {}
 
-/// A Tick or a Block at which the clock rises by at most d ns keeps a processor within V and d, where the rule alone
+/// A Tick or a Block at which the clock rises by at most d ns keeps a processor within V and d, where only the rule
 /// decides whether the current task gives way, each weight present is from 15 to 88761 and no virtual time present is
 /// beyond 2^62. These premises are kept too.
 pub fn stays_within()

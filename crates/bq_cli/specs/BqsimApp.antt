@@ -63,8 +63,8 @@ abbrev pub machine_commands : List Shape
 machine_commands =
     command (codes "par") par_rules
     ∷ command (codes "replay") (word_rule (codes "file") ∷ option_rule (codes "max-bytes") ∷ [])
-    ∷ command (codes "timeline") (word_rule (codes "file") ∷ option_rule (codes "as") ∷ part_rules)
-    ∷ command (codes "simulate") (workload_rules ++ simulate_rules ++ part_rules) ∷ []
+    ∷ command (codes "timeline") (word_rule (codes "file") ∷ option_rule (codes "as") ∷ option_rule (codes "max-bytes") ∷ part_rules)
+    ∷ command (codes "simulate") (workload_rules ++ (option_rule (codes "max-bytes") ∷ simulate_rules) ++ part_rules) ∷ []
 
 -- the program with its nine commands
 abbrev pub bqsim_app : App

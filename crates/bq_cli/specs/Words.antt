@@ -23,6 +23,8 @@ use Rattle.bq_cli.specs.declared.asm.AsmWords.{AsmWords}
 use Rattle.bq_cli.specs.declared.par.Parallel.{Parallel}
 use Rattle.bq_cli.specs.declared.par.TheConstants.{MOST_TICKS}
 use Rattle.bq_cli.specs.declared.replaying.ReplayWords.{ReplayWords}
+use Rattle.bq_cli.specs.declared.simulate.SimulateWords.{SimulateWords}
+use Rattle.bq_cli.specs.declared.timeline.TimelineWords.{TimelineWords}
 
 -- the word is the first that was found for the option
 abbrev pub IsFirst : Text → List Row → Option (String Global) → Type 0
@@ -106,8 +108,8 @@ pub record AreReplayWords (rows : List Row) (w : ReplayWords) : Type 0 where
   pub file : IsFirst (codes "file") rows w.file
   pub max_bytes : IsFirst (codes "max-bytes") rows w.max_bytes
 
--- the values of `timeline`: a file, and how it is shown
-pub record AreTimelineWords (rows : List Row) (w : Words) : Type 0 where
+-- a file, and how it is shown
+pub record AreShownWords (rows : List Row) (w : Words) : Type 0 where
   pub file : IsFirst (codes "file") rows w.file
   pub form : IsFirst (codes "as") rows w.form
   pub from : IsFirst (codes "from") rows w.from
@@ -117,6 +119,11 @@ pub record AreTimelineWords (rows : List Row) (w : Words) : Type 0 where
   pub width : IsFirst (codes "width") rows w.width
   pub theme : IsFirst (codes "theme") rows w.theme
   pub title : IsFirst (codes "title") rows w.title
+
+-- the values of `timeline`
+pub record AreTimelineWords (rows : List Row) (w : TimelineWords) : Type 0 where
+  pub shown : AreShownWords rows w.shown
+  pub max_bytes : IsFirst (codes "max-bytes") rows w.max_bytes
 
 -- what stands in the place of a workload's own machine
 pub record AreMachineWords (rows : List Row) (w : MachineWords) : Type 0 where
@@ -131,13 +138,18 @@ pub record AreHookWords (rows : List Row) (w : HookWords) : Type 0 where
   pub preempt : IsFirst (codes "preempt") rows w.preempt
   pub pull : IsFirst (codes "pull") rows w.pull
 
--- the values of `simulate`
-pub record AreSimulateWords (rows : List Row) (w : StudyWords) : Type 0 where
+-- a simulation, and how it is shown
+pub record AreStudyWords (rows : List Row) (w : StudyWords) : Type 0 where
   pub machine : AreMachineWords rows w.machine
   pub seeds : IsFirst (codes "seeds") rows w.seeds
   pub hooks : AreHookWords rows w.hooks
   pub against : AreAll (codes "against") rows w.against.items
-  pub shown : AreTimelineWords rows w.shown
+  pub shown : AreShownWords rows w.shown
+
+-- the values of `simulate`
+pub record AreSimulateWords (rows : List Row) (w : SimulateWords) : Type 0 where
+  pub study : AreStudyWords rows w.study
+  pub max_bytes : IsFirst (codes "max-bytes") rows w.max_bytes
 
 -- no word names a file, a hook, maps, a format or a number of bytes
 abbrev pub name_nothing : PolicyWords → Bool

@@ -12,13 +12,11 @@ use crate::import::import_words;
 use crate::par::{Parallel, par_words};
 use crate::replaying::{ReplayWords, replay_words};
 use crate::run::run_words;
-use crate::simulate::simulate_words;
+use crate::simulate::{SimulateWords, simulate_words};
 use crate::tables::program;
-use crate::timeline::timeline_words;
+use crate::timeline::{TimelineWords, timeline_words};
 use bq_console::{WordsFault, found_in, words_fault};
-use bq_experiment::StudyWords;
 use bq_policy_check::{CheckWords, ListWords, PolicyWords, RunWords};
-use bq_timeline::Words;
 use clap::ArgMatches;
 use std::alloc::Global;
 
@@ -40,9 +38,9 @@ pub enum Command {
     /// Reads a trace and writes what answers it.
     Replay(ReplayWords),
     /// Shows the schedule of a trace.
-    Timeline(Words),
+    Timeline(TimelineWords),
     /// Runs a workload, and shows it.
-    Simulate(StudyWords),
+    Simulate(SimulateWords),
 }
 
 /// Reads the words after the program's name. A fault is either a text for standard error (what is wrong with the words, the help that

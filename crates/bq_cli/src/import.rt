@@ -8,13 +8,15 @@ ghost use Rattle.bq_cli.specs.Importing.{AskFor};
 use crate::policy_words::{most_bytes, policy_words};
 use bq_console::status::BAD_INPUT;
 use bq_console::{
-    Name, WordsFault, name_of, refused_words, say_out_of_memory, whole_input, written,
+    Lines, Name, WordsFault, name_of, refused_words, say_out_of_memory, whole_input, written,
 };
+use bq_explain::{Limits, explain, explanation_text};
 use bq_hooks::Version;
-use bq_import::{ImportRefusal, ImportSettings, imported};
-use bq_object::{is_object, others};
+use bq_import::{ImportRefusal, ImportSettings, ImportedText, imported_text};
+use bq_object::{SourceLine, is_object, others, source_lines};
 use bq_policy_check::{PolicyWords, said_by};
-use bq_policy_file::{Head, ImageForm};
+use bq_policy_file::{Head, read_policy};
+use bq_verify::PolicyForm;
 use clap::ArgMatches;
 use std::alloc::{AllocError, Global};
 use std::process::ExitCode;
@@ -47,10 +49,10 @@ pub fn import_settings(alloc: Global, words: &PolicyWords) -> Result<ImportSetti
         None => Vec::new(alloc),
     };
     let version = format.unwrap_or(Version::First);
-    let form = ImageForm {
+    let form = PolicyForm {
         hook,
-        shapes,
         version,
+        shapes,
     };
     let maps = match &words.maps {
         Some(text) => Some(String::from_str(alloc, text.as_str())?),
@@ -71,33 +73,107 @@ pub(crate) fn do_import(rt: &HostRuntime, words: &PolicyWords) -> Result<ExitCod
 
 /// Writes the text of a program, or says why it has none.
 fn import_bytes(rt: &HostRuntime, name: &str, settings: &ImportSettings, bytes: &[u8]) -> ExitCode {
-    match imported(rt.alloc(), settings, bytes) {
-        Ok(text) => {
-            name_others(rt, name, bytes);
-            written(rt, text.as_str(), ExitCode::SUCCESS)
+    match imported_text(rt.alloc(), settings, bytes) {
+        Ok(made) => {
+            say_beside(rt, name, bytes, &made);
+            written(rt, made.text.as_str(), ExitCode::SUCCESS)
         }
         Err(ImportRefusal::OutOfMemory) => say_out_of_memory(rt),
         Err(refusal) => {
             let name = Name(name);
-            let _ = eprintln!(rt; "{name}: {refusal}");
+            let _ = match source_of(rt.alloc(), &refusal, bytes) {
+                Some(SourceLine { file, line }) => {
+                    eprintln!(rt; "{name}: {file}:{line}: {refusal}")
+                }
+                None => eprintln!(rt; "{name}: {refusal}"),
+            };
             ExitCode::from(BAD_INPUT)
         }
     }
 }
 
-/// Names the functions of an object that are left out.
-fn name_others(rt: &HostRuntime, name: &str, bytes: &[u8]) {
+/// The line of C that a refusal is of, where an object says it.
+fn source_of<'a>(
+    alloc: Global,
+    refusal: &ImportRefusal,
+    bytes: &'a [u8],
+) -> Option<SourceLine<'a>> {
+    let slot = refusal.slot()?;
+    if !is_object(bytes) {
+        return None;
+    }
+    let lines = source_lines(alloc, bytes).ok()?;
+    lines.as_slice().get(slot as usize).copied().flatten()
+}
+
+/// How many functions that are left out are named.
+const NAMED: usize = 20;
+
+/// Says what of an object is left out, and why `check` refuses what is imported, if it does.
+fn say_beside(rt: &HostRuntime, name: &str, bytes: &[u8], made: &ImportedText<'_>) {
+    let name = Name(name);
+    name_others(rt, name, bytes);
+    if let Ok(Some(why)) = refused_by_check(rt.alloc(), made) {
+        let why = Lines(why.as_str());
+        let _ = eprint!(rt; "{name}: note: check refuses this policy:\n{why}");
+    }
+}
+
+/// Names functions of an object that are left out, at most `NAMED` of them.
+fn name_others(rt: &HostRuntime, name: Name<'_>, bytes: &[u8]) {
     if !is_object(bytes) {
         return;
     }
     let Ok(others) = others(rt.alloc(), bytes) else {
         return;
     };
-    let name = Name(name);
-    for other in others {
-        let other = Name(other);
+    for other in others.as_slice().iter().take(NAMED) {
+        let other = Name(*other);
         let _ = eprintln!(rt;
             "{name}: note: the function {other} is left out; only policy is imported"
         );
     }
+}
+
+/// Why `check` refuses what is imported, if it does: by lines of C where all instructions come from one file of it.
+fn refused_by_check(alloc: Global, made: &ImportedText<'_>) -> Result<Option<String>, AllocError> {
+    let Ok(mut policy) = read_policy(alloc, made.text.as_bytes(), &Head::nothing()) else {
+        return Ok(None);
+    };
+    let file = file_of(made.sources.as_slice());
+    policy.lines = match file {
+        Some(_) => line_numbers(alloc, made.sources.as_slice())?,
+        None => Vec::new(alloc),
+    };
+    let explanation = explain(alloc, &policy, &[], &Limits::none())?;
+    if explanation.verdict.is_accepted() {
+        return Ok(None);
+    }
+    Ok(Some(explanation_text(alloc, &policy, file, &explanation)?))
+}
+
+/// The file that all these lines are of, if it is one.
+fn file_of<'a>(sources: &[Option<SourceLine<'a>>]) -> Option<&'a str> {
+    let first = sources.first().copied().flatten()?;
+    for source in sources {
+        match source {
+            Some(source) if source.file == first.file => {}
+            _ => return None,
+        }
+    }
+    Some(first.file)
+}
+
+/// The numbers of these lines.
+fn line_numbers(
+    alloc: Global,
+    sources: &[Option<SourceLine<'_>>],
+) -> Result<Vec<usize>, AllocError> {
+    let mut numbers = Vec::new(alloc);
+    for source in sources {
+        if let Some(source) = source {
+            numbers.push(source.line as usize)?;
+        }
+    }
+    Ok(numbers)
 }

@@ -17,9 +17,10 @@ mod performing;
 mod policy_words;
 pub mod replaying;
 mod run;
-mod simulate;
+pub mod simulate;
+mod simulate_files;
 pub mod tables;
-mod timeline;
+pub mod timeline;
 
 pub use answer::{exit_status_of, written_answer};
 pub use bq_console::{WordsFault as JobFault, exit_status};

@@ -49,12 +49,12 @@ const POLICY_FILES: &[OptionText] = options! {
 
 /// How much is read.
 const READING_OPTIONS: &[OptionText] = options! {
-    ("max-bytes", Once("N"), "Reads no file of more than N bytes; without this a file that is read whole has 16777216 at most")
+    ("max-bytes", Once("N"), "Refuses files of more than N bytes (without this 16777216, for files that are read whole)")
 };
 
 /// What the file of a policy leaves unsaid.
 const POLICY_OPTIONS: &[OptionText] = options! {
-    ("hook", Once("HOOK"), with_hooks!("The choice that the program makes, if the file does not say it: ")),
+    ("hook", Once("HOOK"), with_hooks!("The policy's hook, if the file does not say it: ")),
     ("maps", Once("MAPS"), "The value size and the entries of each map, if the file does not say them, as in 8:2,16:4"),
     ("format", Once("FORMAT"), with_versions!("The version of the image, if the file does not say it: ", "; 1 if neither says it"))
 };
@@ -74,7 +74,7 @@ const CHECK_OPTIONS: &[OptionText] = options! {
 
 /// What `dis` writes.
 const DIS_OPTIONS: &[OptionText] = options! {
-    ("slots", Flag, "Writes beside each instruction its slot and its bytes, as a comment")
+    ("slots", Flag, "Writes the slot and the bytes of each instruction beside it, as a comment")
 };
 
 /// What a run begins with.
@@ -82,21 +82,21 @@ const INPUT_OPTIONS: &[OptionText] = options! {
     ("ctx", Once("HEX"), "The bytes of the context; all 0 without it"),
     ("set", Often("FIELDS"), "Fields of the context by their names, as in task=3,mask=0x6,previous=none; other fields keep their bytes"),
     ("map", Often("ENTRY"), "An entry of a map by the map's number and its own, as in 0:0=0a00; bytes that are left out are 0"),
-    ("time", Once("T"), with_helper!(NOW, "The time, which helper ", " answers, as 1500us, 1.5ms or 2s; 0 without it")),
-    ("processor", Once("P"), with_helper!(PROCESSOR, "The processor, which helper ", " answers; 0 without it")),
+    ("time", Once("T"), with_helper!(NOW, "The time that helper ", " answers, as 1500us, 1.5ms or 2s; 0 without it")),
+    ("processor", Once("P"), with_helper!(PROCESSOR, "The processor that helper ", " answers; 0 without it")),
     ("counter", Often("COUNTER"), "A counter before the run, as in 3=10; others are 0")
 };
 
 /// How a run is reported.
 const RUN_OPTIONS: &[OptionText] = options! {
-    ("trace", Flag, "Writes each instruction that the run executes, with its place and the registers that it changes"),
-    ("repeat", Once("N"), "Runs the policy N times, each time on the maps and counters that the run before left. Writes the last run with its calls of counters, the entries of maps that the runs changed, and the mean time of a run")
+    ("trace", Flag, "Writes each instruction that the run executes, its place and the registers that it changes"),
+    ("repeat", Once("N"), "Runs the policy N times, each on the maps and counters that the run before left, and shows the last run, the changed entries and the mean time")
 };
 
 /// The program of `import`, and the image that it is for.
 const IMPORT_OPTIONS: &[OptionText] = options! {
     ("file", Alone("FILE"), "The object file or the text section; standard input without it, or as -"),
-    ("hook", Needed("HOOK"), with_hooks!("The choice that the program makes: ")),
+    ("hook", Needed("HOOK"), with_hooks!("The policy's hook: ")),
     ("maps", Once("MAPS"), "The value size and the entries of each map, as in 8:2,16:4"),
     ("format", Once("FORMAT"), with_versions!("The version of the image: ", "; 1 without this"))
 };
@@ -105,7 +105,7 @@ const IMPORT_OPTIONS: &[OptionText] = options! {
 const PAR_OPTIONS: &[OptionText] = options! {
     ("rule", Needed("RULE"), with_rules!("How processors choose: ")),
     ("processors", Needed("PROCESSORS"), with_sizes!("How many processors there are: ", " (a mask has a bit for each, 64 in all)")),
-    ("ticks", Needed("TICKS"), with_ticks!("How often each of them ticks: ", " (the history keeps each tick)"))
+    ("ticks", Needed("TICKS"), with_ticks!("How often each processor ticks: ", " (the history keeps each tick)"))
 };
 
 /// The trace of `replay`.
@@ -121,8 +121,8 @@ const TIMELINE_OPTIONS: &[OptionText] = options! {
 
 /// The part of a schedule that is shown.
 const PART_OPTIONS: &[OptionText] = options! {
-    ("from", Once("TIME"), "Shows only what happens from then on, as 1500us, 1.5ms or 2s; the figures of report and json stay those of the whole"),
-    ("to", Once("TIME"), "Shows only what happens up to then; the figures of report and json stay those of the whole"),
+    ("from", Once("TIME"), "Shows only what happens from this time on, as 1500us, 1.5ms or 2s; the figures of report and json stay those of the whole"),
+    ("to", Once("TIME"), "Shows only what happens up to this time; the figures of report and json stay those of the whole"),
     ("cpus", Once("LIST"), "Shows only these processors, as in 0-3,8"),
     ("tasks", Once("LIST"), "Shows only these tasks, as in 1-3,9"),
     ("width", Once("COLUMNS"), with_columns!("How wide a map is, ", " without it")),
@@ -136,20 +136,20 @@ const WORKLOAD_OPTIONS: &[OptionText] = options! {
     ("discipline", Once("RULE"), with_rules!("How processors choose, in place of the workload's own: ")),
     ("processors", Once("P"), with_sizes!("How many processors, in place of the workload's own: ")),
     ("duration", Once("TIME"), "How long it runs, in place of the workload's own, as 1500us, 1.5ms or 2s"),
-    ("seed", Once("N"), "The seed of the lengths that are drawn, in place of the workload's own"),
-    ("seeds", Once("N"), "Runs it with this many seeds, from its own on, and shows means and deviations")
+    ("seed", Once("N"), "The seed of drawn lengths, in place of the workload's own"),
+    ("seeds", Once("N"), "Runs the workload with N seeds, from its own on, and shows means and deviations")
 };
 
 /// What help says of the policy at a hook.
 const HOOK_HELP: &str =
-    "The file of the policy at this hook of every processor (an image, its hex, or assembler text with its ;@ lines), or none, as without this";
+    "The policy at this hook of every processor: the file of an image, of its hex or of assembler text with ;@ lines; or none, as without this";
 
 /// The policies of `simulate`, and its form.
 const SIMULATE_OPTIONS: &[OptionText] = options! {
     ("place", Once("POLICY"), HOOK_HELP),
     ("preempt", Once("POLICY"), HOOK_HELP),
     ("pull", Once("POLICY"), HOOK_HELP),
-    ("against", Often("POLICY"), "Runs the same seeds again with these policies instead, or with none, and shows both side by side; given once for each policy"),
+    ("against", Often("POLICY"), "Runs the same seeds again with this policy instead, or with none, and shows both side by side; give it once for each policy"),
     ("as", Once("FORM"), with_forms!("report (without it), trace, "))
 };
 
@@ -162,7 +162,7 @@ static PROGRAM_COMMANDS: [CommandText<'static>; 2] = [
     },
     CommandText {
         name: "import",
-        about: "Reads a compiled policy, as an object file or as the bytes or the hex of its text section, and writes it as an assembler text",
+        about: "Writes a compiled policy as an assembler text, from an object file or from the bytes or the hex of its text section",
         options: &[IMPORT_OPTIONS, READING_OPTIONS],
     },
 ];
@@ -171,17 +171,17 @@ static PROGRAM_COMMANDS: [CommandText<'static>; 2] = [
 static POLICY_COMMANDS: [CommandText<'static>; 3] = [
     CommandText {
         name: "check",
-        about: "Says whether policies are accepted, and if not, why; without file and options it reads the hex of an image from standard input and writes its hook and its budget",
+        about: "Judges policies: accepted, or refused and why. Without a file and options it reads the hex of an image and writes its hook and budget",
         options: &[POLICY_FILES, POLICY_OPTIONS, READING_OPTIONS, CHECK_OPTIONS],
     },
     CommandText {
         name: "dis",
-        about: "Lists a policy under the marks that describe it; without file and options it reads the hex of a program from standard input and writes its listing",
+        about: "Lists a policy under the ;@ lines that describe it. Without a file and options it reads the hex of a program and writes its listing",
         options: &[POLICY_FILE, POLICY_OPTIONS, READING_OPTIONS, DIS_OPTIONS],
     },
     CommandText {
         name: "run",
-        about: "Runs an accepted policy once, and says what it answered, whether that is permitted, how many instructions it took, and which maps and counters changed",
+        about: "Runs an accepted policy once: its answer, whether that is permitted, its instructions, and the maps and counters that it changed",
         options: &[
             POLICY_FILE,
             POLICY_OPTIONS,
@@ -196,7 +196,7 @@ static POLICY_COMMANDS: [CommandText<'static>; 3] = [
 static MACHINE_COMMANDS: [CommandText<'static>; 4] = [
     CommandText {
         name: "par",
-        about: "Runs processors by threads of their own, and says how long their one history is",
+        about: "Runs each processor in a thread of its own, and reports their one history",
         options: &[PAR_OPTIONS],
     },
     CommandText {
@@ -206,13 +206,18 @@ static MACHINE_COMMANDS: [CommandText<'static>; 4] = [
     },
     CommandText {
         name: "timeline",
-        about: "Reads a trace and shows its schedule in a form that people read",
-        options: &[TIMELINE_OPTIONS, PART_OPTIONS],
+        about: "Shows the schedule of a trace",
+        options: &[TIMELINE_OPTIONS, READING_OPTIONS, PART_OPTIONS],
     },
     CommandText {
         name: "simulate",
         about: "Runs a workload and shows its schedule, or writes it as a trace",
-        options: &[WORKLOAD_OPTIONS, SIMULATE_OPTIONS, PART_OPTIONS],
+        options: &[
+            WORKLOAD_OPTIONS,
+            READING_OPTIONS,
+            SIMULATE_OPTIONS,
+            PART_OPTIONS,
+        ],
     },
 ];
 

@@ -1,11 +1,13 @@
 //! `timeline`: the schedule of a trace, in a form that people read.
 ghost use Rattle.std.specs.Prelude.{IfOk};
 ghost use Rattle.clap.specs.Words.{found_of, rows_of};
-ghost use Rattle.bq_cli.specs.Words.{AreTimelineWords};
+ghost use Rattle.bq_cli.specs.Words.{AreShownWords, AreTimelineWords};
 ghost use Rattle.bq_timeline.specs.Settings.{AsksFor};
 
+use crate::policy_words::limit_of_bytes;
 use bq_console::{
-    Lines, WordsFault, ended, file_named, opened, refused_words, say_unread, waiting_input, word,
+    Bounded, Lines, WordsFault, ended, file_named, opened, refused_words, say_unread,
+    waiting_input, word,
 };
 use bq_streams::{Counted, Kept};
 use bq_timeline::{Settings, SettingsFault, Words, show};
@@ -14,9 +16,30 @@ use std::alloc::{AllocError, Global};
 use std::io::Read;
 use std::process::ExitCode;
 
-/// The words that were found for a trace or a workload, and how it is shown.
-pub(crate) fn timeline_words(alloc: Global, matches: &ArgMatches<'_>) -> Result<Words, AllocError>
+/// The words after `timeline`.
+#[derive(Drop)]
+pub struct TimelineWords {
+    /// How it is shown, and the file of the trace.
+    pub shown: Words,
+    /// The most bytes that are read.
+    pub max_bytes: Option<String>,
+}
+
+/// The words that were found.
+pub(crate) fn timeline_words(
+    alloc: Global,
+    matches: &ArgMatches<'_>,
+) -> Result<TimelineWords, AllocError>
     ensures { IfOk result (AreTimelineWords (rows_of (found_of matches.now))) }
+{
+    let shown = shown_words(alloc, matches)?;
+    let max_bytes = word(alloc, matches, "max-bytes")?;
+    Ok(TimelineWords { shown, max_bytes })
+}
+
+/// The words that were found for a trace or a workload, and how it is shown.
+pub(crate) fn shown_words(alloc: Global, matches: &ArgMatches<'_>) -> Result<Words, AllocError>
+    ensures { IfOk result (AreShownWords (rows_of (found_of matches.now))) }
 {
     let file = word(alloc, matches, "file")?;
     let form = word(alloc, matches, "as")?;
@@ -52,13 +75,15 @@ fn settings(alloc: Global, words: &Words) -> Result<Settings, WordsFault>
 }
 
 /// Shows the trace in the file that is named, or on standard input.
-pub(crate) fn do_timeline(rt: &HostRuntime, words: &Words) -> Result<ExitCode, WordsFault> {
-    let settings = settings(rt.alloc(), words)?;
-    let Some(path) = file_named(&words.file) else {
-        return Ok(show_from(rt, settings, None, waiting_input(rt)));
+pub(crate) fn do_timeline(rt: &HostRuntime, words: &TimelineWords) -> Result<ExitCode, WordsFault> {
+    let settings = settings(rt.alloc(), &words.shown)?;
+    let most = limit_of_bytes(rt.alloc(), &words.max_bytes)?;
+    let Some(path) = file_named(&words.shown.file) else {
+        let input = Bounded::new(waiting_input(rt), most);
+        return Ok(show_from(rt, settings, None, input));
     };
     match opened(rt, path) {
-        Ok(trace) => Ok(show_from(rt, settings, Some(path), trace)),
+        Ok(trace) => Ok(show_from(rt, settings, Some(path), Bounded::new(trace, most))),
         Err(error) => Ok(say_unread(rt, Some(path), &error)),
     }
 }

@@ -132,10 +132,49 @@ fn file_of(command: &Command) -> Option<&str> {
         Command::Import(words) => &words.file,
         Command::Par(_) => return None,
         Command::Replay(words) => &words.file,
-        Command::Timeline(words) => &words.file,
-        Command::Simulate(words) => &words.shown.file,
+        Command::Timeline(words) => &words.shown.file,
+        Command::Simulate(words) => &words.study.shown.file,
     };
     file.as_deref()
+}
+
+/// The word of `--max-bytes` of a command.
+fn limit_of(command: &Command) -> Option<&str> {
+    let limit = match command {
+        Command::Asm(words) => &words.max_bytes,
+        Command::Check(words) => &words.policy.max_bytes,
+        Command::Dis(words) => &words.policy.max_bytes,
+        Command::Run(words) => &words.policy.max_bytes,
+        Command::Import(words) => &words.max_bytes,
+        Command::Par(_) => return None,
+        Command::Replay(words) => &words.max_bytes,
+        Command::Timeline(words) => &words.max_bytes,
+        Command::Simulate(words) => &words.max_bytes,
+    };
+    limit.as_deref()
+}
+
+/// Every command that reads a file, with the most that is read of it.
+static LIMITED: [&str; 8] = [
+    "asm --max-bytes 20",
+    "check - --max-bytes 20",
+    "dis --max-bytes 20",
+    "run --max-bytes 20",
+    "import --hook pull --max-bytes 20",
+    "replay --max-bytes 20",
+    "timeline --max-bytes 20 --as map",
+    "simulate --seeds 3 --max-bytes 20 one.toml",
+];
+
+#[test]
+fn each_command_takes_a_limit(rt: HostRuntime) -> Result<(), Fail> {
+    for line in &LIMITED {
+        let words = words_of(rt.alloc(), line)?;
+        let command = job(rt.alloc(), words.as_slice())?;
+        let limit = limit_of(&command).unwrap_or("none");
+        holds(&rt, limit == "20", limit, line);
+    }
+    Ok(())
 }
 
 #[test]

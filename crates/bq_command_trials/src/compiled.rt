@@ -171,6 +171,22 @@ fn programs_in_order(rt: HostRuntime) -> Result<(), Fail> {
     is_imported(&rt, rt.alloc(), &BYTES, "mov32 r0, 1\nexit\n")
 }
 
+/// A hundred slots: a jump over the exit, 97 moves, and a jump back to the exit.
+#[test]
+fn a_long_program(rt: HostRuntime) -> Result<(), Fail> {
+    let alloc = rt.alloc();
+    let mut hex = String::from_str(alloc, "0500010000000000\n9500000000000000\n")?;
+    let mut listing = String::from_str(alloc, "ja +0\n")?;
+    for _ in 0..97 {
+        hex.push_str("b400000000000000\n")?;
+        listing.push_str("mov32 r0, 0\n")?;
+    }
+    // a distance counts from the slot behind the jump, 100: -99 to slot 1
+    hex.push_str("05009dff00000000\n")?;
+    listing.push_str("ja +0\nexit\n")?;
+    is_imported(&rt, alloc, hex.as_bytes(), listing.as_str())
+}
+
 #[test]
 fn refusals_in_words(rt: HostRuntime) -> Result<(), Fail> {
     for (hex, words) in &REFUSED {

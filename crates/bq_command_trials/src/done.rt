@@ -39,6 +39,13 @@ pub struct Performed {
     is_unread: bool,
 }
 
+impl Performed {
+    /// What it wrote.
+    pub fn text(&self) -> &str {
+        from_utf8(self.written.as_slice()).unwrap_or("no text")
+    }
+}
+
 /// The words of a line, with blanks between.
 pub fn words_of<'a>(alloc: Global, line: &'a str) -> Result<Vec<&'a str>, AllocError> {
     let mut words = Vec::new(alloc);
@@ -80,7 +87,7 @@ pub fn done<R: Threads + Wait + Sync>(
 }
 
 /// The command of a line's words, over this input.
-fn done_by<R: Threads + Wait + Sync>(
+pub fn done_by<R: Threads + Wait + Sync>(
     rt: &R,
     alloc: Global,
     line: &str,
@@ -106,7 +113,7 @@ fn done_in_turn<R: Threads + Wait + Sync>(
 
 /// It wrote this line, or these, and ended so.
 fn writes(rt: &impl Abort, done: &Performed, text: &str, status: u8) {
-    let written = from_utf8(done.written.as_slice()).unwrap_or("no text");
+    let written = done.text();
     let is = written.strip_suffix("\n") == Some(text) && done.status == status;
     holds(rt, is, written, text);
 }

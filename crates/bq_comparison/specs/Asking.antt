@@ -23,7 +23,7 @@ within least most (Some n) = if nat_le least n && nat_le n most then Some n else
 abbrev pub seeds_in : List ℕ → Option ℕ
 seeds_in word = within 1 1000 (decimal_of word)
 
--- so many seeds, where the words are right: one, where none of them says how many
+-- the number of seeds, if the words are right: one, if none of them says how many
 abbrev pub seeds_asked : Option (String Global) → Option ℕ
 seeds_asked None = Some 1
 seeds_asked (Some word) = seeds_in (string_bytes word)
@@ -43,7 +43,7 @@ table_asked w = option_and_then table_of (form_asked w)
 abbrev pub AskForNone : StudyWords → Type 0
 AskForNone words = IsNone words.seeds × (words.against.items ≡ [])
 
--- the words ask for so many seeds, and for a table of that form that shows the window that they ask for
+-- the words ask for this many seeds, and for a table of that form that shows the window that they ask for
 pub record AskToCompare (words : StudyWords) (c : Comparing) : Type 0 where
   pub seeds : seeds_asked words.seeds ≡ Some c.seeds
   pub settings : Settings

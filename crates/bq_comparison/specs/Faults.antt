@@ -14,13 +14,13 @@ abbrev pub fault_of_run : SimulateFault → SeedsFault
 fault_of_run run_fault.OutOfMemory = fault.OutOfMemory
 fault_of_run why = fault.Run why
 
--- a run of the workload is refused: for the workload's first flaw just where it has one; memory may run out whatever the workload is
+-- a run of the workload is refused: for the workload's first flaw exactly when it has one; memory may run out whatever the workload is
 abbrev pub IsNoRun : Workload → SeedsFault → Type 0
 IsNoRun w (fault.Run why) = flaw_told why ≡ first_flaw w
 IsNoRun w fault.Last = ⊥
 IsNoRun w fault.OutOfMemory = ⊤
 
--- so many runs are refused for what one of them is; or the last seed is not below 2^64
+-- this many runs are refused for what one of them is; or the last seed is not below 2^64
 abbrev pub IsNoSummary : Workload → ℕ → SeedsFault → Type 0
 IsNoSummary w count (fault.Run why) = flaw_told why ≡ first_flaw w
 IsNoSummary w count fault.Last = 2 ^ 64 < w.machine.seed + count

@@ -1,7 +1,7 @@
 -- The mean and the standard deviation of some whole numbers, in whole thousandths.
 use Rattle.std.specs.Prelude.{ℕ, ◌+◌, ◌-◌, ◌*◌, ◌^◌, ◌<◌, ◌≤◌, ◌⊎◌, List, length, sum, sum_by}
 
--- the mean: so many thousandths, and not one more
+-- the mean: this many thousandths, and not one more
 abbrev pub IsMean : List ℕ → ℕ → Type 0
 IsMean xs mean = (mean * length xs ≤ sum xs * 1000) × (sum xs * 1000 < (mean + 1) * length xs)
 
@@ -12,7 +12,7 @@ squares xs = sum_by (λ x. x * x) xs
 abbrev pub spread : List ℕ → ℕ
 spread xs = length xs * squares xs - sum xs * sum xs
 
--- the root of a ratio in thousandths: so many of them, and not one more
+-- the root of a ratio in thousandths: this many of them, and not one more
 abbrev pub IsRoot : ℕ → ℕ → ℕ → Type 0
 IsRoot above below root = (root * root * below ≤ above * 1000000) × (above * 1000000 < (root + 1) * (root + 1) * below)
 

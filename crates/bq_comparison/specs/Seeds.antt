@@ -25,7 +25,7 @@ abbrev pub AreRuns : List Accepted → Workload → List Figure → ℕ → List
 AreRuns policies w figures seed [] = Unit {0}
 AreRuns policies w figures seed (run ∷ runs) = IsRun policies (with_seed w seed) figures run × AreRuns policies w figures (seed + 1) runs
 
--- what the runs with so many seeds, from the workload's own on, say of each figure
+-- what the runs with this many seeds, from the workload's own on, say of each figure
 pub record IsSummary (policies : List Accepted) (w : Workload) (count : ℕ) (figures : List Figure) (rows : List FigureRow) : Type 0 where
   pub runs : List RunFigures
   pub number : length runs ≡ count

@@ -53,7 +53,7 @@ percentile_value p of_latency.P95 = p.p95
 percentile_value p of_latency.P99 = p.p99
 percentile_value p of_latency.Greatest = p.greatest
 
--- a percentile of just these numbers, or the greatest of them; nothing where there are no numbers
+-- a percentile of exactly these numbers, or the greatest of them; nothing where there are no numbers
 abbrev pub IsPercentile : LatencyFigure → List ℕ → Option ℕ → Type 0
 IsPercentile f xs v = (sorted : List ℕ) × IsPermutation xs sorted × IsSorted nat_cmp sorted × (v ≡ percentile_value (percentiles_of sorted) f)
 

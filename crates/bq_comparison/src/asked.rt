@@ -48,14 +48,14 @@ pub fn asked_comparison(
     alloc: Global,
     words: &StudyWords,
 ) -> Result<Option<Comparing>, ComparingFault>
-    // Nothing where the words ask for neither, and else so many seeds as they say, in the window and the form that they name.
+    // Nothing where the words ask for neither, and else as many seeds as they say, in the window and the form that they name.
     ensures asked { IfOk result (AskFor words.now) }
     ensures bound { IfOk result (λ asked. IfSome asked (λ c. (1 ≤ c.seeds) × (c.seeds ≤ 1000))) }
 
     // The fault names a word that is none of its kind.
     ensures fault { IfErr result (IsNoComparison words.now) }
 
-    // That of the seeds comes just where they say another number.
+    // That of the seeds comes exactly when they say another number.
     ensures seeds { IsErrOf result why.Seeds ↔ ((¬ AskForNone words.now) × (seeds_asked words.now.seeds ≡ None)) }
 {
     if words.seeds.is_none() && words.against.is_empty() {

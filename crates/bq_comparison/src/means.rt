@@ -26,7 +26,7 @@ pub fn deviation(numbers: &[u64]) -> Option<u128>
     Some(root(whole.saturating_sub(square), count * (count - 1)))
 }
 
-/// So many times the sum of their squares, where a million times that fits too.
+/// This many times the sum of their squares, where a million times that fits too.
 fn whole(count: u128, numbers: &[u64]) -> Option<u128>
     requires some { 0 < count }
     requires count { count ≡ length numbers.now }

@@ -20,22 +20,22 @@ pub type Rows = Vec<FigureRow>;
 /// What comes of some runs.
 type Results = Vec<Result<RunFigures, SeedsFault>>;
 
-/// What runs share that differ by their seeds alone.
+/// What is shared by runs that differ only in their seeds.
 #[derive(Clone, Copy)]
 struct Experiment<'a> {
     workload: &'a Workload,
     /// The policies at all processors.
     policies: &'a [Policy],
-    /// What is told of each run.
+    /// What is reported of each run.
     figures: &'a [Figure],
 }
 
-/// At most so many runs are done at once.
+/// At most this many runs are done at once.
 const MOST_AT_ONCE: usize = 64;
 
-/// Runs a workload with so many seeds, from its own on, with these policies at all processors; what the runs say of each of
-/// the figures. So many runs are done at once as there are processors at hand, each on a thread of its own. A workload with a
-/// flaw is refused for the first of its flaws, and `Last` comes just where the last seed would be 2^64 or more.
+/// Runs a workload with this many seeds, from its own on, with these policies at all processors; what the runs say of each of
+/// the figures. As many runs are done at once as there are processors available, each on a thread of its own. A workload with a
+/// flaw is refused for the first of its flaws, and `Last` comes exactly when the last seed would be 2^64 or more.
 pub fn summary<T: Threads + Sync>(
     threads: &T,
     alloc: Global,
@@ -57,7 +57,7 @@ pub fn summary<T: Threads + Sync>(
     Ok(rows)
 }
 
-/// The runs with so many seeds, from the workload's own on.
+/// The runs with this many seeds, from the workload's own on.
 fn runs<T: Threads + Sync>(
     threads: &T,
     alloc: Global,
@@ -85,7 +85,7 @@ fn runs<T: Threads + Sync>(
     Ok(runs)
 }
 
-/// How many runs are done at once: as many as there are processors at hand.
+/// How many runs are done at once: as many as there are processors available.
 fn hands<T: Threads + Sync>(threads: &T) -> usize
     ensures { 1 ≤ result }
 {
@@ -95,7 +95,7 @@ fn hands<T: Threads + Sync>(threads: &T) -> usize
     }
 }
 
-/// So many runs at once, with seeds from this one on, each on a thread of its own.
+/// This many runs at once, with seeds from this one on, each on a thread of its own.
 fn at_once<T: Threads + Sync>(
     threads: &T,
     alloc: Global,
@@ -115,7 +115,7 @@ fn at_once<T: Threads + Sync>(
     )
 }
 
-/// The run whose seed is so many above the first.
+/// The run whose seed is this many above the first.
 fn nth_run(
     alloc: Global,
     experiment: &Experiment<'_>,

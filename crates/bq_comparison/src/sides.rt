@@ -16,8 +16,8 @@ pub struct Sides {
     pub theirs: Option<Rows>,
 }
 
-/// Runs a workload with so many seeds, from its own on, under policies, and with the same seeds under others, if there are
-/// others; as many runs at once as there are processors at hand. A workload with a flaw is refused for the first of its flaws,
+/// Runs a workload with this many seeds, from its own on, under policies, and with the same seeds under others, if there are
+/// others; as many runs at once as there are processors available. A workload with a flaw is refused for the first of its flaws,
 /// and `Last` comes just for the numbers of the seeds.
 pub fn compare<T: Threads + Sync>(
     threads: &T,

@@ -10,7 +10,7 @@ use bq_experiment::{shown_name, task_names};
 use bq_workload::Workload;
 use std::alloc::{AllocError, Global};
 
-/// What is shown of the two sides of a workload's comparison, as it is asked for. A table has the head of both sides just where
+/// What is shown of the two sides of a workload's comparison, as it is asked for. A table has the head of both sides exactly when
 /// there are both, even if no line is left. Tasks have the names that the forms of one run show.
 pub fn comparison_text(
     alloc: Global,

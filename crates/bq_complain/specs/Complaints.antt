@@ -22,7 +22,7 @@ ComplainsOf text (Some told) = ¬ (IsAssembly text)
 abbrev pub line_words : ℕ → List ℕ
 line_words line = if line == 0 then codes "the text has no instruction" else codes "line " ++ (decimal line ++ codes ": ")
 
--- what is told of a text begins with the line of its fault
+-- what is said of a text begins with the line of its fault
 pub record NamesLine (text told : List ℕ) : Type 0 where
   pub line : ℕ
   pub cause : Cause

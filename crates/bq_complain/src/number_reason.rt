@@ -54,7 +54,7 @@ fn kind_of(mnemonic: Mnemonic, place: usize) -> NumberKind {
 /// What is wrong with a number.
 #[derive(Clone, Copy)]
 enum Slip {
-    /// It is written with a unit, and has so many nanoseconds.
+    /// It is written with a unit, and has this many nanoseconds.
     Time(u64),
     /// The same, of more than 32 bits.
     LongTime(u64),

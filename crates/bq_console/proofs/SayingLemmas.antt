@@ -10,7 +10,7 @@ pub none_said : {A : Type 0} (Says : A → Type 0) (e : WordsFault) → ((a : A)
 none_said Says (Words why) none = none
 none_said Says OutOfMemory none = tt
 
--- want of memory says nothing of the words
+-- lack of memory says nothing of the words
 pub no_memory : {A : Type 0} (Says : A → Type 0) (e : WordsFault) → e ≡ OutOfMemory → SaysNone Says e
 no_memory {A} Says e is = subst (λ (f : WordsFault). SaysNone Says f) (sym is) tt
 

@@ -17,7 +17,7 @@ status_of (Err Read) = 4
 status_of (Err Write) = 4
 status_of (Err TooLong) = 4
 
--- the status of words that ask for nothing, or of which want of memory kept what is to be said
+-- the status of words that ask for nothing, or of which lack of memory kept what is to be said
 abbrev pub refused_status : WordsFault → ℕ
 refused_status (fault.Words text) = 2
 refused_status fault.OutOfMemory = 3

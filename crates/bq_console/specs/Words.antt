@@ -6,17 +6,17 @@ use Rattle.bq_words.specs.Numbers.{number_of, value_of}
 use Rattle.bq_console.specs.declared.fault.WordsFault.{WordsFault}
 use Rattle.bq_console.specs.declared.fault.WordsFault.TheVariants as fault
 
--- the fault with this text, or want of memory where there was none for it
+-- the fault with this text, or lack of memory for it
 abbrev pub words_fault : Result (String Global) AllocError → WordsFault
 words_fault (Ok text) = fault.Words text
 words_fault (Err e) = fault.OutOfMemory
 
--- the fault is that text, or want of memory for it
+-- the fault is that text, or lack of memory for it
 abbrev pub IsRefusedBy : List ℕ → WordsFault → Type 0
 IsRefusedBy text (fault.Words why) = string_bytes why ≡ text
 IsRefusedBy text fault.OutOfMemory = Unit {0}
 
--- words that are refused say none of that kind; want of memory says nothing of the words
+-- words that are refused say none of that kind; lack of memory says nothing of the words
 abbrev pub SaysNone : {A : Type 0} → (A → Type 0) → WordsFault → Type 0
 SaysNone {A} Says (fault.Words why) = (a : A) → ¬ Says a
 SaysNone Says fault.OutOfMemory = Unit {0}

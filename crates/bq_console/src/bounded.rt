@@ -1,4 +1,4 @@
-//! Readers that give no more than so many bytes.
+//! Readers that give no more than this many bytes.
 ghost use Rattle.std.specs.Prelude.{◌≡◌};
 ghost use Rattle.std.specs.Io.{ReadsAtMost};
 ghost use Rattle.std.specs.Io.KnownBytes.{ReadConsumes};

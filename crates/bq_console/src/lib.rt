@@ -1,6 +1,6 @@
-//! What the program shares with whoever calls it: the words that it is given and what clap finds in them by a table of commands, the
-//! files and streams that it reads and writes, and its exit statuses. Each table is taken by clap as it stands, an option's value is
-//! what clap found, and a command ends by the exit status of its outcome, by contract. Texts on standard error are only safe.
+//! How the program meets its caller: its words and what clap finds in them by a table of commands, the files and streams that it
+//! reads and writes, and its exit statuses. Promises that clap takes each table as it is, that an option's value is what clap
+//! found, and that a command ends with the exit status of its outcome. Texts on standard error are only safe.
 #![tactic(auto)]
 
 mod bounded;

@@ -38,7 +38,7 @@ pub fn name_of(file: &Option<String>) -> &str
 /// How many bytes a file that is read whole may have, unless `--max-bytes` says another number.
 pub const MOST_BYTES: u64 = 1 << 24;
 
-/// All bytes of the file that is named, or of standard input, of at most so many. Where they can't be read, standard error says
+/// All bytes of the file that is named, or of standard input, of at most this many. Where they can't be read, standard error says
 /// why, and the error is the exit status.
 pub fn whole_input(rt: &HostRuntime, file: &Option<String>, most: u64) -> Result<Vec<u8>, ExitCode>
     ensures { IfErr result EndsFailed }
@@ -60,7 +60,7 @@ pub fn whole_file(rt: &HostRuntime, path: &str) -> Result<Vec<u8>, ExitCode>
     }
 }
 
-/// All bytes of the file of that name, or of standard input where no name is given, of at most so many.
+/// All bytes of the file of that name, or of standard input where no name is given, of at most this many.
 pub fn read_input(rt: &HostRuntime, name: Option<&str>, most: u64) -> io::Result<Vec<u8>> {
     let mut bytes = Vec::new(rt.alloc());
     match name {

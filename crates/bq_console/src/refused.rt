@@ -22,7 +22,7 @@ pub(crate) fn fault_of(alloc: Global, error: &clap::Error) -> WordsFault
     }
 }
 
-/// What clap says of the words. Beside an option that there is not, its usage line has the near one as if that were required, so
+/// What clap says of the words. Beside an option that does not exist, its usage line has the near one as if that were required, so
 /// the line is left out.
 fn error_text(alloc: Global, error: &clap::Error) -> Result<String, AllocError> {
     let text = error.to_string(alloc)?;

@@ -52,7 +52,7 @@ retire_tidy count w id y a = entry_tidy count [] w id Absent y (sym (ap as_numbe
 pub draw_tidy : (count : ℕ) (w : World) (n : ℕ) → IsTidy count [] w → IsTidy count [] (record w { drawn = n })
 draw_tidy count w n y = record { many = y.many; boxes = y.boxes; away = y.away; blocked = y.blocked; hand = y.hand; present = y.present; placed = y.placed }
 
--- what stands at the hooks moves no task
+-- what is installed at the hooks moves no task
 pub install_tidy : (count : ℕ) (w : World) (processor : ℕ) (hooks : Attachments) → IsTidy count [] w → processor < count → IsTidy count [] (with_processor w processor (record (processor_at w processor) { hooks = hooks }))
 install_tidy count w processor hooks y l = running_tidy count [] [] w processor (record (processor_at w processor) { hooks = hooks }) y l refl (λ g. refl) refl
 

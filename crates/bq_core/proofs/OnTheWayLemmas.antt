@@ -26,7 +26,7 @@ use Rattle.bq_parts.proofs.OnceLemmas.{count_of-held_by, as_number_le}
 abbrev pub with_entry : World → ℕ → LobbyEntry → World
 with_entry w id s = with_lobby w (set w.lobby id s)
 
--- order in a world of so many processors, with some tasks on their way
+-- order in a world of this many processors, with some tasks on their way
 pub record IsTidy (count : ℕ) (floating : List Task) (w : World) : Type 0 where
   pub many : length w.processors ≡ count
   pub boxes : length w.inboxes ≡ count
@@ -208,7 +208,7 @@ same_everywhere x zero i = refl
 same_everywhere x (suc n) zero = refl
 same_everywhere x (suc n) (suc i) = same_everywhere x n i
 
--- a world of so many lobby that opens is tidy
+-- a world of this many lobby that opens is tidy
 pub opening_tidy : (n many : ℕ) → IsTidy n [] (record { processors = replicate n opening; inboxes = replicate n []; lobby = replicate many Absent; drawn = 0 })
 opening_tidy n many =
     let w : World = record { processors = replicate n opening; inboxes = replicate n []; lobby = replicate many Absent; drawn = 0 } in

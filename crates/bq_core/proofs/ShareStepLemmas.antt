@@ -82,7 +82,7 @@ pub blocks_at : (d : Discipline) (w w' : World) (processor now : ℕ) (r : Resul
     Blocks d processor now p lobby r q lobby' → w' ≡ with_lobby (with_processor w processor q) lobby' → WorldStep (policies d) w (Block processor now) [] r w'
 blocks_at d w w' processor now r q p lobby lobby' h at is b e = rw e (blocks_step d w processor now r q lobby' h (rw (← at, ← is) b))
 
--- where no argument is refused, the generation alone is
+-- where no argument is refused, only the generation is
 pub installs_step : (d : Discipline) (w : World) (processor g : ℕ) (h : Hook) (o : Option Accepted) (r : Result Reply Refusal) (q : Processor) → argument_refusal (count_in w) (Install processor h g o) ≡ None →
     Installs h w.drawn (processor_at w processor) (record { policy = o; generation = g; maps = fresh_maps o }) r q → WorldStep (policies d) w (Install processor h g o) [] r (with_processor w processor q)
 installs_step d w processor g h o (Ok r) q l k = (rw (l, k.0) refl, (q, k, refl, refl))

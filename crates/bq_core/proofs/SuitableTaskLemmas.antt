@@ -1,4 +1,4 @@
--- Tasks that suit a processor: their masks allow it, and have processors of the machine alone.
+-- Tasks that suit a processor: their masks allow it, and have only processors of the machine.
 use Rattle.std.proofs.Common.{◌≡◌, ℕ, ◌^◌, Bool, true, false, cond, List, [], ◌∷◌, refl, arith, ltb-true, lt-ltb, ne_eqb}
 use Rattle.std.specs.Prelude.{◌&&◌, ◌==◌, not, nat_lt, All}
 use Rattle.std.specs.List.{AllByRecursion}

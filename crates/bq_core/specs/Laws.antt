@@ -50,7 +50,7 @@ RunKeepsOrder = (d : Discipline) → RunKeeps (policies d)
 abbrev pub HistoryIsOrderly : Type 0
 HistoryIsOrderly = (d : Discipline) (n : ℕ) (es : List Event) → StaysOrderly (policies d) (opening_world n) es
 
--- the answer is not want of memory
+-- the answer is not lack of memory
 abbrev pub HadMemory : Result Reply Refusal → Type 0
 HadMemory answer = IfErr answer (λ refusal. refusal ≢ no.OutOfMemory)
 

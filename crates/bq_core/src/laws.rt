@@ -27,7 +27,7 @@ pub fn history_is_orderly()
 {}
 
 /// What an event does is decided by the world, the event and what the counters answer: there is one reply, one world
-/// afterwards, and one list of calls. Want of memory is excepted.
+/// afterwards, and one list of calls. Lack of memory is excepted.
 pub fn step_is_one()
     ensures { StepIsOne }
 {}

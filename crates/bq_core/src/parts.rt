@@ -19,17 +19,18 @@ pub struct Parts<Q: RunQueue> {
 
 impl<Q: RunQueue> Model for Parts<Q> {
     ghost use Rattle.std.specs.Prelude.{◌≡◌, ◌≤◌, length};
+    ghost use Rattle.bq_disc.specs.declared.limits.TheConstants.{PROCESSORS, TASKS};
     ghost use Rattle.bq_parts.specs.World.{World};
 
     ghost Value = { World };
 
     ghost view = { λ w. record { processors = w.cpus.items; inboxes = w.inboxes.items; lobby = w.lobby; drawn = w.drawn } };
 
-    ghost invariant = { λ w. (length w.cpus.items ≡ length w.inboxes.items) × (length w.inboxes.items ≤ 64) × (length w.lobby ≡ 1024) };
+    ghost invariant = { λ w. (length w.cpus.items ≡ length w.inboxes.items) × (length w.inboxes.items ≤ PROCESSORS) × (length w.lobby ≡ TASKS) };
 }
 
 impl<Q: RunQueue + Drop> Parts<Q> {
-    /// The opening world. It takes all the memory that later events need, but for Admit and Install.
+    /// The opening world. It takes all the memory that later events need, except for Admit and Install.
     pub fn new(alloc: Global, count: usize) -> Result<Parts<Q>, AllocError>
         requires few { count ≤ PROCESSORS }
         ensures { IfOk result (λ w. w ≡ opening_world count) }
@@ -78,7 +79,7 @@ impl<Q: RunQueue> Parts<Q> {
     /// How many processors there are.
     pub fn processors(&self) -> usize
         ensures value { result ≡ count_in self.now }
-        ensures few { result ≤ 64 }
+        ensures few { result ≤ PROCESSORS }
     {
         self.cpus.len()
     }

@@ -17,8 +17,8 @@ use bq_parts::{Cpu, Event, Inbox, Lobby, Refusal, Reply};
 use std::alloc::{AllocError, Global};
 use std::marker::Model;
 
-/// A world of `P` processors, at most 64, each with a run queue `Q`. Each task that is admitted stands in it exactly
-/// once, on a processor of its mask where it runs or waits.
+/// A world of `P` processors, at most 64, each with a run queue `Q`. Each admitted task is in it exactly once, and while it
+/// runs or waits, on a processor of its mask.
 #[derive(Drop)]
 pub struct Core<Q: RunQueue, const P: usize> {
     world: DynamicCore<Q>,
@@ -36,8 +36,8 @@ impl<Q: RunQueue, const P: usize> Model for Core<Q, P> {
 }
 
 impl<Q: RunQueue + Drop, const P: usize> Core<Q, P> {
-    /// The opening world, in which nothing is admitted, drawn or installed. It takes all the memory that later events
-    /// need, but for Admit and Install.
+    /// The opening world, in which nothing is admitted, drawn or installed. Allocates all that later events need, except for
+    /// Admit and Install.
     pub fn new(alloc: Global) -> Result<Core<Q, P>, AllocError>
         requires few { P ≤ PROCESSORS }
         ensures opening { IfOk result (λ c. c ≡ opening_world P) }
@@ -68,8 +68,8 @@ impl<Q: RunQueue, const P: usize> Core<Q, P> {
         }
     }
 
-    /// One event. What policies ask of the counters goes through the board. A refusal leaves the world as it was, and the
-    /// board. Only Admit and Install may be refused for want of memory.
+    /// Does one event. Policies reach the counters through the board. A refusal changes neither the world nor the board. Only
+    /// Admit and Install may run out of memory.
     ///
     /// # Example
     ///
@@ -98,8 +98,27 @@ impl<Q: RunQueue, const P: usize> Core<Q, P> {
         self.world.step(alloc, event, board)
     }
 
-    /// Some events in order, and the answer to each. The list of answers is made before the first event: where that growth
-    /// is refused the answer is OutOfMemory, and nothing has happened. Each event leaves a world in order.
+    /// Does some events in order, and lists the answer to each. The list is allocated before the first event: if memory runs
+    /// out for it, the answer is OutOfMemory, and nothing has happened.
+    ///
+    /// # Example
+    ///
+    /// ```
+    /// let mut core = Core::<CfsQueue, 1>::new(alloc)?;
+    /// let mut board = Plain::new();
+    /// let mut events = Vec::new(alloc);
+    /// events.push(Event::Admit {
+    ///     task: 1,
+    ///     nice: 0,
+    ///     mask: 1,
+    ///     slice: 3_000_000,
+    /// })?;
+    /// events.push(Event::Retire { task: 1 })?;
+    /// let answers = core.run(alloc, events, &mut board)?;
+    /// let [Ok(Reply::Admitted), Ok(Reply::Retired)] = answers.as_slice() else {
+    ///     return Err(Fail::from("refused"));
+    /// };
+    /// ```
     pub fn run<B: Board>(
         &mut self,
         alloc: Global,
@@ -127,7 +146,7 @@ impl<Q: RunQueue, const P: usize> Core<Q, P> {
     /// How many processors there are.
     pub fn processors(&self) -> usize
         ensures value { result ≡ count_in self.now }
-        ensures few { result ≤ 64 }
+        ensures few { result ≤ PROCESSORS }
     {
         self.world.processors()
     }

@@ -38,8 +38,8 @@ impl<Q: RunQueue> Model for DynamicCore<Q> {
 }
 
 impl<Q: RunQueue + Drop> DynamicCore<Q> {
-    /// The opening world of so many processors, in which nothing is admitted, drawn or installed. It takes all the memory
-    /// that later events need, but for Admit and Install.
+    /// The opening world of this many processors, in which nothing is admitted, drawn or installed. It takes all the memory
+    /// that later events need, except for Admit and Install.
     pub fn new(alloc: Global, count: usize) -> Result<DynamicCore<Q>, AllocError>
         requires few { count ≤ PROCESSORS }
         ensures opening { IfOk result (λ c. c ≡ opening_world count) }
@@ -73,7 +73,7 @@ impl<Q: RunQueue> DynamicCore<Q> {
     }
 
     /// One event. What policies ask of the counters goes through the board. A refusal leaves the world as it was, and the
-    /// board. Only Admit and Install may be refused for want of memory.
+    /// board. Only Admit and Install may be refused for lack of memory.
     ///
     /// # Example
     ///
@@ -102,8 +102,27 @@ impl<Q: RunQueue> DynamicCore<Q> {
         self.parts.step(alloc, event, &mut self.scratch, board)
     }
 
-    /// Some events in order, and the answer to each. The list of answers is made before the first event: where that growth
-    /// is refused the answer is OutOfMemory, and nothing has happened. Each event leaves a world in order.
+    /// Does some events in order, and lists the answer to each. The list is allocated before the first event: if memory runs
+    /// out for it, the answer is OutOfMemory, and nothing has happened.
+    ///
+    /// # Example
+    ///
+    /// ```
+    /// let mut core = DynamicCore::<CfsQueue>::new(alloc, 1)?;
+    /// let mut board = Plain::new();
+    /// let mut events = Vec::new(alloc);
+    /// events.push(Event::Admit {
+    ///     task: 1,
+    ///     nice: 0,
+    ///     mask: 1,
+    ///     slice: 3_000_000,
+    /// })?;
+    /// events.push(Event::Retire { task: 1 })?;
+    /// let answers = core.run(alloc, events, &mut board)?;
+    /// let [Ok(Reply::Admitted), Ok(Reply::Retired)] = answers.as_slice() else {
+    ///     return Err(Fail::from("refused"));
+    /// };
+    /// ```
     pub fn run<B: Board>(
         &mut self,
         alloc: Global,
@@ -158,7 +177,7 @@ impl<Q: RunQueue> DynamicCore<Q> {
     /// How many processors there are.
     pub fn processors(&self) -> usize
         ensures value { result ≡ count_in self.now }
-        ensures few { result ≤ 64 }
+        ensures few { result ≤ PROCESSORS }
     {
         self.parts.processors()
     }

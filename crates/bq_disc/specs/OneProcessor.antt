@@ -24,11 +24,11 @@ present_at p = present p.current p.queue
 abbrev pub reading : ℕ → ℕ → ℕ
 reading last now = max last (min now (2 ^ 48 - 1))
 
--- the mark is computed anew over those present
+-- the mark is computed again over those present
 abbrev pub marked : Discipline → Running → Running
 marked d p = record p { kept = d.mark p.kept (present_at p) }
 
--- Charge: the current task has run since the last reading, and the mark is computed anew
+-- Charge: the current task has run since the last reading, and the mark is computed again
 abbrev pub charge : Discipline → Running → ℕ → Running
 charge d p now =
     let at = reading p.last now in

@@ -11,7 +11,7 @@ macro_rules! with_processors {
     };
 }
 
-/// The number of the last of so many processors.
+/// The number of the last of this many processors.
 pub const LAST_PROCESSOR: u8 = PROCESSORS - 1;
 
 /// How many tasks there may be: ids are 0 to 1023.

@@ -40,14 +40,14 @@ pub trait RunQueue {
     fn len(&self) -> usize
         ensures { result ≡ length (members self.now) };
 
-    /// Puts a task in, as it is. Its id is not there.
+    /// Inserts a task as it is. No task of its id may be there.
     fn insert(&mut self, node: Box<Node>)
         requires lone { IsLone node.value }
         requires fresh { with_id (task_of node.value).id (members self.old) ≡ None }
         ensures members { members self.new ≡ place (task_of node.value) (members self.old) }
         ensures mark { kept_mark self.new ≡ kept_mark self.old };
 
-    /// Takes out the task of an id, if it is there.
+    /// Removes the task of an id, if it is there.
     fn take(&mut self, id: u16) -> Option<Box<Node>>
         ensures taken { option_map (λ b. task_of b.value) result ≡ with_id id (members self.old) }
         ensures lone { IfSome result (λ b. IsLone b.value) }
@@ -67,7 +67,7 @@ pub trait RunQueue {
         ensures distinct { HasDistinctIds (members self.now) }
         ensures small { HasSmallIds (members self.now) };
 
-    /// The tasks that may go to a processor, the greatest (v, id) first.
+    /// The tasks that may move to a processor, the greatest (v, id) first.
     fn movable(&self, processor: u8) -> Movable
         requires { processor < PROCESSORS }
         ensures count { result.count ≡ length (movable_to processor (members self.now)) }
@@ -86,13 +86,13 @@ pub trait RunQueue {
         }
     }
 
-    /// The task that an emptier processor takes from this queue, where no policy chooses it. `size` tasks run or wait
-    /// there, and `from` here, with the one that runs.
+    /// The task that an emptier processor takes from this queue if no policy chooses. `size` tasks run or wait there, and `from`
+    /// here, the running one included.
     fn own_pull(&self, processor: u8, size: usize, from: usize) -> Option<u16>
         requires processor { processor < PROCESSORS }
         ensures { result ≡ id_of (pull_of processor size from (members self.now)) };
 
-    /// Who should run, of the queue and of the current task.
+    /// The task that should run, of the queue and the current task.
     fn choice(&self, current: Option<&Node>) -> Option<u16>
         ensures { result ≡ id_of (Self.R.discipline.choice (present (option_map (λ n. task_of n.now) current.entry) (members self.now))) };
 
@@ -100,7 +100,7 @@ pub trait RunQueue {
     fn wants_preempt(&self, current: &Node) -> bool
         ensures { result ≡ Self.R.discipline.wants_preempt (task_of current.now) (members self.now) };
 
-    /// Whom the current task gives way to; None where that is the current task itself.
+    /// The task that the current one gives way to; None if that is the current task itself.
     fn next(&self, current: &Node) -> Option<u16>
         ensures { result ≡ next_other Self.R.discipline (task_of current.now) (members self.now) }
     {
@@ -111,7 +111,7 @@ pub trait RunQueue {
         }
     }
 
-    /// Computes the mark anew, and keeps it.
+    /// Computes the mark again, and keeps it.
     fn mark(&mut self, current: Option<&Node>) -> u64
         ensures value { result ≡ Self.R.discipline.mark (kept_mark self.old) (present (option_map (λ n. task_of n.now) current.entry) (members self.old)) }
         ensures kept { kept_mark self.new ≡ result }
@@ -122,7 +122,7 @@ pub trait RunQueue {
         ensures value { result ≡ kept_mark self.now }
         ensures high { result ≤ 2 ^ 62 };
 
-    /// The node has run for a time.
+    /// Charges a task for the time that it ran, in nanoseconds.
     fn charge(&self, node: &mut Node, time: u64)
         requires { time < 2 ^ 48 }
         ensures task { task_of node.new ≡ charged Self.R.discipline (task_of node.old) time }
@@ -134,7 +134,7 @@ pub trait RunQueue {
         entity.set_times(v, deadline);
     }
 
-    /// The node takes the times at which it enters, by the mark that is kept.
+    /// Gives a task its v and deadline as it enters, by the mark that is kept.
     fn enter(&self, node: &mut Node, entry: Entry)
         ensures task { task_of node.new ≡ entered_by Self.R.discipline (kept_mark self.now) entry (task_of node.old) }
         ensures lone { IsLone node.old → IsLone node.new }
@@ -153,7 +153,7 @@ pub trait RunQueue {
         entity.set_times(v, deadline);
     }
 
-    /// The node takes along how far it is from the mark that is kept.
+    /// Keeps in a task that leaves its distance from the mark that is kept.
     fn leave(&self, node: &mut Node)
         ensures task { task_of node.new ≡ left_at (kept_mark self.now) (task_of node.old) }
         ensures lone { IsLone node.old → IsLone node.new }

@@ -7,7 +7,7 @@ use crate::Entity;
 
 /// How many tasks there are, their weights together, and each weight times its v together.
 ///
-/// A queue adds up as it changes, so that their mean v, `moment / weight`, is at hand at any time.
+/// A queue adds up as it changes, so that their mean v, `moment / weight`, is available at any time.
 #[derive(Clone, Copy)]
 pub struct Totals {
     pub moment: u128,

@@ -2,7 +2,7 @@
 
 use std::fmt;
 
-/// A text as XML writes it, cut after so many characters. A character that XML can't hold is shown as `?`.
+/// A text as XML writes it, cut after this many characters. A character that XML can't hold is shown as `?`.
 ///
 /// `a<b` is `a&lt;b`.
 #[derive(Clone, Copy)]

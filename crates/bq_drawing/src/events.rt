@@ -93,7 +93,7 @@ pub fn write_overruled(
     )
 }
 
-/// So many runnable tasks at a processor.
+/// This many runnable tasks at a processor.
 pub fn write_counter(
     reading: &ClockReading,
     count: u64,

@@ -28,7 +28,7 @@ impl Frame<'_> {
         Amount { time, unit }
     }
 
-    /// Adds the name of a task, cut after so many characters, or its number.
+    /// Adds the name of a task, cut after this many characters, or its number.
     pub fn write_name(&self, task: u16, most: usize, text: &mut String) -> Result<(), AllocError> {
         match self.names.of(task) {
             Some(name) => {

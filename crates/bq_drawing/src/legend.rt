@@ -38,7 +38,7 @@ impl Key {
     }
 }
 
-/// How high the legend of so many tasks is.
+/// How high the legend of this many tasks is.
 pub fn legend_height(tasks: usize, key: &Key) -> usize {
     let rest = if key.leaves_out() { 2 } else { 1 };
     tasks

@@ -24,7 +24,7 @@ pub struct Perfetto {
     window: Window,
     /// For each processor the arrows that end where the run that goes on began.
     ends: Vec<Arrows>,
-    /// For each processor how many tasks were runnable when it was told last.
+    /// For each processor how many tasks were runnable when it was reported last.
     runnable: Vec<u64>,
     /// For each task that was woken and has not run since: the arrow of that wake.
     woken: BTreeMap<u16, u64>,

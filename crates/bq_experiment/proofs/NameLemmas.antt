@@ -50,7 +50,7 @@ comments-more names task name low =
     ap (comments_from 0) (map_more string_bytes names task name low) ∙ comments_from-append 0 before (string_bytes (get_or names task name) ∷ [])
     ∙ ap (λ n. comments_from 0 before ++ comment_of n (string_bytes (get_or names task name)) ∷ []) so_far
 
--- one comment more is told
+-- one more comment is reported
 pub told-more : (names : List (String Global)) (task : ℕ) (name : String Global) (line : List ℕ) → task < length names → line ≡ comment_of task (string_bytes (get_or names task name))
     → map skipped (comments_from 0 (map string_bytes (take task names))) ++ skipped line ∷ [] ≡ map skipped (comments_from 0 (map string_bytes (take (task + 1) names)))
 told-more names task name line low is =

@@ -23,12 +23,12 @@ agrees : (given : Option Hook) (hook named : Hook) → given ≡ Some hook → A
 agrees (Some other) hook named is e = cc
 agrees None hook named is e = cc
 
-of_kind : (k : FileKind) (bytes : List ℕ) (asked : Head) (policy : PolicySource) (hook : Hook) → asked.hook ≡ Some hook → IsOfKind k bytes asked policy → policy.hook ≡ hook
-of_kind kind.Image bytes asked policy hook is h = agrees asked.hook hook policy.hook is h.agrees.hooks
-of_kind kind.Hex bytes asked policy hook is (image, spells, h) = agrees asked.hook hook policy.hook is h.agrees.hooks
-of_kind kind.Text bytes asked policy hook is h = either_is asked.hook h.said.hook hook policy.hook is h.combined.hook_is
+of_kind : (k : FileKind) (bytes : List ℕ) (asked : Head) (policy : PolicySource) (hook : Hook) → asked.hook ≡ Some hook → IsOfKind k bytes asked policy → policy.form.hook ≡ hook
+of_kind kind.Image bytes asked policy hook is h = agrees asked.hook hook policy.form.hook is h.agrees.hooks
+of_kind kind.Hex bytes asked policy hook is (image, spells, h) = agrees asked.hook hook policy.form.hook is h.agrees.hooks
+of_kind kind.Text bytes asked policy hook is h = either_is asked.hook h.said.hook hook policy.form.hook is h.combined.hook_is
 
-hook_read : (file : List ℕ) (asked : Head) (policy : PolicySource) (hook : Hook) → asked.hook ≡ Some hook → IsPolicy file asked policy → policy.hook ≡ hook
+hook_read : (file : List ℕ) (asked : Head) (policy : PolicySource) (hook : Hook) → asked.hook ≡ Some hook → IsPolicy file asked policy → policy.form.hook ≡ hook
 hook_read file asked policy hook is h = of_kind (kind_of file) file asked policy hook is h
 
 -- it is taken as what was asked for
@@ -73,21 +73,21 @@ pub told_of : (result : Result (Unit {0}) AttachFault) (hook : Option Hook) (ask
 told_of (Ok x) hook asked file old t asks = tt
 told_of (Err e) hook asked file old t asks = fault_told hook asked file old e t asks
 
--- what is told of a file that is none is why it is not taken
+-- what is reported of a file that is none is why it is not taken
 pub none_told : (Reads : PolicySource → Type 0) (Refuses : FileFault → Type 0) (s : Standing) (named : FileFault) (fault : AttachFault) → Refuses named → IsToldOf named fault → IsTold Reads Refuses s fault
 none_told Reads Refuses s (Disagrees key) fault refused is = subst (IsTold Reads Refuses s) (sym is) (key, refused)
 none_told Reads Refuses s named (told.File words) refused is = (named, refused)
 none_told Reads Refuses s named told.OutOfMemory refused is = tt
 none_told Reads Refuses s named fault refused is = absurd is
 
--- so is what is told of an image that is not loaded
+-- so is what is reported of an image that is not loaded
 pub image_told : (Reads : PolicySource → Type 0) (Refuses : FileFault → Type 0) (s : Standing) (read : PolicySource) (image : List ℕ) (fault : AttachFault) → Reads read
-    → IsImage image read.version read.hook read.shapes.items (spelling read.insns.items) → IsToldOfImage image fault → IsTold Reads Refuses s fault
+    → IsImage image read.form.version read.form.hook read.form.shapes.items (spelling read.insns.items) → IsToldOfImage image fault → IsTold Reads Refuses s fault
 image_told Reads Refuses s read image (told.Program named) reads spells is = record { read = read; reads = reads; image = image; spells = spells; unloaded = is }
 image_told Reads Refuses s read image told.OutOfMemory reads spells is = tt
 image_told Reads Refuses s read image fault reads spells is = absurd is
 
--- so is want of memory
+-- so is lack of memory
 pub memory_told : (Reads : PolicySource → Type 0) (Refuses : FileFault → Type 0) (s : Standing) (result : Result (Unit {0}) AttachFault) → IfErr result (λ fault. fault ≡ told.OutOfMemory)
     → IfErr result (IsTold Reads Refuses s)
 memory_told Reads Refuses s (Ok x) is = tt

@@ -1,4 +1,4 @@
--- A simulation that is told as a text.
+-- A simulation that is reported as a text.
 use Rattle.std.proofs.Common.{◌≡◌, List, None, [], ◌∷◌, ◌++◌, map, sym, ap, ◌∙◌, subst, string_bytes}
 use Rattle.std.proofs.lemmas.Grind.{flat_map-append}
 use Rattle.bq_workload.specs.Soundness.{first_flaw}

@@ -1,4 +1,4 @@
--- What a viewer has of a simulation that is told to it further below.
+-- What a viewer has of a simulation that is reported to it.
 use Rattle.std.proofs.Common.{◌≡◌, ℕ, List, [], ◌∷◌, Some, None, Option, map, refl, sym, ap, ◌∙◌}
 use Rattle.std.specs.Prelude.{IfSome}
 use Rattle.bq_workload.specs.Soundness.{first_flaw}
@@ -53,7 +53,7 @@ troubles_simulated policies w told s =
     ap (troubles_after 0) s.whole ∙ troubles_after-append 0 s.first s.more ∙ ap (λ k. troubles_after k s.more) (ap (troubles_after 0) s.starts.tells)
     ∙ troubles_driven 0 s.opening (events_of s.deeds) s.more s.closing s.drives
 
--- where a simulation is refused for the first flaw, no other is told
+-- where a simulation is refused for the first flaw, no other is reported
 pub no_other : (w : Workload) (why : SimulateFault) → flaw_told why ≡ first_flaw w → TellsNoOther w why
 no_other w why is = of (flaw_told why) is
   where

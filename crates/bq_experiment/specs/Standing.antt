@@ -1,4 +1,4 @@
--- What stands at hooks: policies, and the images that they are of.
+-- What is installed at hooks: policies, and the images that they are of.
 use Rattle.std.specs.Prelude.{◌≡◌, ℕ, List, [], ◌∷◌, ◌++◌, Some, None, Vec, if◌then◌else◌, map}
 use Rattle.std.specs.Global.{Global}
 use Rattle.bq_hooks.specs.declared.hook.Hook.{Hook}

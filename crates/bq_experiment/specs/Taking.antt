@@ -31,17 +31,17 @@ IsRead hook file policy = (asked : Head) × Asks hook asked × IsPolicy file ask
 pub record Takes (Reads : PolicySource → Type 0) (hook : Hook) (old new : Standing) : Type 0 where
   pub read : PolicySource
   pub reads : Reads read
-  pub hook_is : read.hook ≡ hook
+  pub hook_is : read.form.hook ≡ hook
   pub free : image_for old.images hook ≡ None
   pub image : List ℕ
-  pub spells : IsImage image read.version hook read.shapes.items (spelling read.insns.items)
+  pub spells : IsImage image read.form.version hook read.form.shapes.items (spelling read.insns.items)
   pub policy : Accepted
   pub of : IsOfImage (Some image) policy
   pub adds : Adds hook image policy old new
 
 -- a policy that was read so is for a hook at which an image was
 abbrev pub IsSecond : (PolicySource → Type 0) → Standing → Type 0
-IsSecond Reads s = (read : PolicySource) × Reads read × IsSome (image_for s.images read.hook)
+IsSecond Reads s = (read : PolicySource) × Reads read × IsSome (image_for s.images read.form.hook)
 
 -- where that is asked for, a file is none for this fault
 abbrev pub IsNone : Option Hook → List ℕ → FileFault → Type 0
@@ -52,11 +52,11 @@ pub record IsUnaccepted (Reads : PolicySource → Type 0) (named : LoadFault) : 
   pub read : PolicySource
   pub reads : Reads read
   pub image : List ℕ
-  pub spells : IsImage image read.version read.hook read.shapes.items (spelling read.insns.items)
+  pub spells : IsImage image read.form.version read.form.hook read.form.shapes.items (spelling read.insns.items)
   pub unloaded : IsUnloaded image named
 
 -- Why a file is not taken: it holds a policy for a hook at which an image was, it disagrees with what was asked for, it is none in words,
--- or its program is not accepted. Want of memory says nothing of it.
+-- or its program is not accepted. Lack of memory says nothing of it.
 abbrev pub IsTold : (PolicySource → Type 0) → (FileFault → Type 0) → Standing → AttachFault → Type 0
 IsTold Reads Refuses s told.Twice = IsSecond Reads s
 IsTold Reads Refuses s told.Hook = (key : Key) × Refuses (Disagrees key)
@@ -64,14 +64,14 @@ IsTold Reads Refuses s (told.File words) = (named : FileFault) × Refuses named
 IsTold Reads Refuses s (told.Program named) = IsUnaccepted Reads named
 IsTold Reads Refuses s told.OutOfMemory = Unit {0}
 
--- what is told of a file that is none
+-- what is reported of a file that is none
 abbrev pub IsToldOf : FileFault → AttachFault → Type 0
 IsToldOf (Disagrees key) said = said ≡ told.Hook
 IsToldOf named (told.File words) = Unit {0}
 IsToldOf named told.OutOfMemory = Unit {0}
 IsToldOf named said = ⊥
 
--- what is told of an image that is not loaded
+-- what is reported of an image that is not loaded
 abbrev pub IsToldOfImage : List ℕ → AttachFault → Type 0
 IsToldOfImage image (told.Program named) = IsUnloaded image named
 IsToldOfImage image told.OutOfMemory = Unit {0}

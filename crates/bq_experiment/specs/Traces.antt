@@ -15,7 +15,7 @@ use Rattle.bq_experiment.specs.Views.{AreNotesOf}
 use Rattle.bq_trace.specs.Feeding.{with_feeds}
 use Rattle.bq_trace.specs.News.{News, Told, Skipped, texts}
 
--- a comment that is told beside the lines of the trace
+-- a comment that is reported beside the lines of the trace
 abbrev pub skipped : List ℕ → ℕ × News
 skipped line = (0, Skipped line)
 

@@ -9,7 +9,7 @@ use bq_trace::{AnyCore, Sink};
 use bq_words::{ProcessorCount, Rule};
 use std::alloc::AllocError;
 
-/// A viewer that is told each line by the number that it has below so many others: those with the tasks' names, which stand
+/// A viewer that gets each line with the number that it has below some others: those with the tasks' names, which stand
 /// above all in a trace.
 #[derive(Drop)]
 pub struct Later {

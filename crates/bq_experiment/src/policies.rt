@@ -103,12 +103,12 @@ impl Policies {
             Ok(read) => read,
             Err(fault) => return Err(told(alloc, file, fault)),
         };
-        if self.image_at(read.hook).is_some() {
+        if self.image_at(read.form.hook).is_some() {
             return Err(AttachFault::Twice);
         }
         let image = read.image(alloc)?;
         let policy = policy_of(alloc, image.as_slice())?;
-        self.keep(read.hook, image, policy)
+        self.keep(read.form.hook, image, policy)
     }
 
     /// Keeps a policy and its image, for a hook at which none is.

@@ -31,7 +31,7 @@ pub fn run_as(
 ) -> Result<Written, SimulateFault>
     ensures written { IfOk result (IsWritten shown workload.now policies.now) }
 
-    // Where a flaw is told, it is the first that the workload has.
+    // Where a flaw is reported, it is the first that the workload has.
     ensures flaw { IfErr result (TellsNoOther workload.now) }
 {
     match shown {
@@ -77,7 +77,7 @@ fn as_timeline(
     })
 }
 
-/// Runs it before a viewer, which is told the names of its tasks first.
+/// Runs it before a viewer, which gets the names of its tasks first.
 fn viewed(
     alloc: Global,
     workload: &Workload,

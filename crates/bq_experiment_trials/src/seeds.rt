@@ -6,6 +6,7 @@
 // instructions.
 
 use crate::cases::holds;
+use bq_cli::simulate::SimulateWords;
 use bq_cli::{Command, job};
 use bq_comparison::{Comparing, ComparingFault, asked_comparison, compare, comparison_text};
 use bq_experiment::{Policies, ShownAs, StudyWords};
@@ -235,7 +236,7 @@ fn shown<T: Threads + Sync>(
 /// The words as clap takes them.
 fn taken(alloc: Global, words: &[&str]) -> Result<StudyWords, Fail> {
     match job(alloc, words) {
-        Ok(Command::Simulate(words)) => Ok(words),
+        Ok(Command::Simulate(SimulateWords { study, .. })) => Ok(study),
         _ => Err(Fail::from("clap refuses the words")),
     }
 }

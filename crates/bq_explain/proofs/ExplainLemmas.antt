@@ -7,12 +7,13 @@ use Rattle.bq_verify.specs.Edges.{IsStart}
 use Rattle.bq_verify.specs.Faults.{HasFault, IsFaultless}
 use Rattle.bq_verify.specs.declared.graph_cause.GraphCause.{GraphCause}
 use Rattle.bq_verify.specs.declared.graph_cause.GraphCause.TheVariants.{Jump, NoExit, Unreached, Helper, Frame, Counters}
-use Rattle.bq_verify.specs.Refusals.{IsRefusal}
+use Rattle.bq_verify.specs.Refusals.{IsVerdictOn, unproven_where_it_stops}
+use Rattle.bq_verify.specs.Subjects.{Subject}
 use Rattle.bq_verify.specs.declared.cause.Cause.{Cause}
 use Rattle.bq_verify.specs.declared.cause.Cause.TheVariants as cause
 use Rattle.bq_verify.specs.declared.refused.Refused.TheVariants as refused
 use Rattle.bq_policy_file.specs.declared.policy_source.PolicySource.{PolicySource}
-use Rattle.bq_hooks.specs.Hooks.{context_length_of}
+use Rattle.bq_policy_file.specs.Subjects.{subject_in}
 use Rattle.bq_verify.specs.KnownAt.{ContainsRuns, IsNotReached}
 use Rattle.bq_verify.specs.Straight.{IsStraightBefore}
 use Rattle.bq_states.specs.declared.abstract_state.AbstractState.{AbstractState}
@@ -47,24 +48,26 @@ fault_here slots Helper slot fault = record { insn = _; here = fault.here }
 fault_here slots Counters slot fault = record { insn = fault.insn; here = fault.here }
 
 -- so does one that is refused
-pub refused_here : (slots : List (Option Insn)) (slot : ℕ) (named : Cause) → IsRefusal slots (refused.At slot named) → IsStart slots slot
-refused_here slots slot (cause.Graph named) is = fault_here slots named slot is.1.0
-refused_here slots slot (cause.State obligation) is = record { insn = is.1.insn; here = is.1.here }
+pub refused_here : (p : Subject) (slot : ℕ) (named : Cause) → IsVerdictOn p (refused.At slot named) → IsStart p.slots slot
+refused_here p slot (cause.Graph named) is = fault_here p.slots named slot is.1.0
+refused_here p slot (cause.State obligation) is =
+    let unproven = unproven_where_it_stops p slot obligation is.1 in
+    record { insn = unproven.insn; here = unproven.here }
 
 -- where it is refused for what is not shown of the states, the control graph has no fault
-pub refused_faultless : (slots : List (Option Insn)) (slot : ℕ) (named : Cause) → IsRefusal slots (refused.At slot named) → IsOfState named → IsFaultless slots
-refused_faultless slots slot (cause.Graph named) is of = absurd of
-refused_faultless slots slot (cause.State obligation) is of = is.0
+pub refused_faultless : (p : Subject) (slot : ℕ) (named : Cause) → IsVerdictOn p (refused.At slot named) → IsOfState named → IsFaultless p.slots
+refused_faultless p slot (cause.Graph named) is of = absurd of
+refused_faultless p slot (cause.State obligation) is of = is.0
 
 -- for a cause of the states what is known, and a need that it does not give, are what is found
 pub finds_state : (p : PolicySource) (slot : ℕ) (insn : Insn) (named : Cause) (need : Need) (known : AbstractState) → IsOfState named
-    → ContainsRuns (spread p.insns.items) p.shapes.items (context_length_of p.hook p.version) slot known → IsNeed p known insn named need → IsFinding p slot insn named (finding.State need known)
+    → ContainsRuns (subject_in p) slot known → IsNeed p known insn named need → IsFinding p slot insn named (finding.State need known)
 finds_state p slot insn (cause.Graph named) need known of contains is = absurd of
 finds_state p slot insn (cause.State obligation) need known of contains is = (contains, is)
 
 -- and that nothing is known, where so no run comes there
 pub finds_none : (p : PolicySource) (slot : ℕ) (insn : Insn) (named : Cause) → IsOfState named
-    → (IsStraightBefore (spread p.insns.items) p.shapes.items (context_length_of p.hook p.version) slot → IsNotReached (spread p.insns.items) p.shapes.items (context_length_of p.hook p.version) slot)
+    → (IsStraightBefore (subject_in p) slot → IsNotReached (subject_in p) slot)
     → IsFinding p slot insn named finding.Unknown
 finds_none p slot insn (cause.Graph named) of none = absurd of
 finds_none p slot insn (cause.State obligation) of none = none

@@ -1,4 +1,5 @@
 pub mod BeginningLemmas
+pub mod VerdictLemmas
 pub mod ExplainLemmas
 pub mod MakerLemmas
 pub mod MeasureLemmas

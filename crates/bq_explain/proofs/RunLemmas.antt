@@ -4,11 +4,11 @@ use Rattle.std.specs.Prelude.{codes, slice_index_or}
 use Rattle.bq_needs.specs.Accesses.{AreSet}
 use Rattle.bq_explain.specs.Texts.{AreRuns, no_byte, unset_byte, one_run, EndsAt, IsStackText, run_text, stack_text}
 
--- nothing is told yet
+-- nothing is said yet
 pub none_yet : (set : List Bool) (text : List ℕ) → text ≡ [] → AreRuns set (max 0 0) text
 none_yet set text is = subst (λ (t : List ℕ). AreRuns set 0 t) (sym is) (no_byte set)
 
--- the byte is of the run that was told last
+-- the byte is of the run that was reported last
 pub byte_in_last_run : (set : List Bool) (byte past : ℕ) (text : List ℕ) → byte < past → AreRuns set (max byte past) text → AreRuns set (max (byte + 1) past) text
 byte_in_last_run set byte past text within are =
     let same : max byte past ≡ max (byte + 1) past = omega arith in
@@ -29,21 +29,21 @@ with_run set byte past until text run told behind some inside all ends are run_i
     let more : AreRuns set until (text ++ run_text byte until) = one_run set text byte until (subst (λ (n : ℕ). AreRuns set n text) here are) some inside all ends in
     subst (λ (n : ℕ). AreRuns set n told) next (subst (λ (t : List ℕ). AreRuns set until t) (sym (told_is ∙ ap (λ (t : List ℕ). text ++ t) run_is)) more)
 
--- all runs are told
+-- all runs are reported
 pub all_told : (set : List Bool) (byte past : ℕ) (text : List ℕ) → byte ≡ 512 → past ≤ 512 → AreRuns set (max byte past) text → AreRuns set 512 text
 all_told set byte past text whole most are =
     let same : max byte past ≡ 512 = omega arith in
     subst (λ (n : ℕ). AreRuns set n text) same are
 
--- no run is told
+-- no run is reported
 pub none_written : (set : List Bool) (runs text : List ℕ) → AreRuns set 512 runs → runs ≡ [] → text ≡ codes " stack: nothing written\n" → IsStackText set text
 none_written set runs text are none is = (runs, are, is ∙ sym (ap stack_text none))
 
--- what is told of runs
+-- what is said of runs
 told_of : (runs text : List ℕ) → (runs ≡ [] → ⊥) → text ≡ codes " stack:" ++ (runs ++ codes " written\n") → text ≡ stack_text runs
 told_of [] text some is = absurd (some refl)
 told_of (first ∷ rest) text some is = is
 
--- runs are told
+-- runs are reported
 pub some_written : (set : List Bool) (runs text : List ℕ) → AreRuns set 512 runs → (runs ≡ [] → ⊥) → text ≡ codes " stack:" ++ (runs ++ codes " written\n") → IsStackText set text
 some_written set runs text are some is = (runs, are, told_of runs text some is)

@@ -40,7 +40,7 @@ tells_runs s is (unset_byte set before byte rest unset) = tells_runs s is rest
 tells_runs s is (one_run set before first past rest some inside all ends) =
     one_run_told s before first past (tells_runs s is rest) some inside (λ i from to. is i (all i from to))
 
--- runs that are told, or none
+-- runs that are reported, or none
 tells_line : (s : State) (runs text : List ℕ) → text ≡ stack_text runs → TellsRuns s runs → TellsStack s text
 tells_line s [] text is told = inl is
 tells_line s (first ∷ rest) text is told = inr (first ∷ rest, is, told)

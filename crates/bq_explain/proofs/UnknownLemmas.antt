@@ -5,7 +5,7 @@ use Rattle.bq_states.specs.declared.abstract_state.AbstractValue.{AbstractValue}
 use Rattle.bq_explain.specs.Telling.{AreNames, no_name, one_name, NamesUnknown}
 use Rattle.bq_explain.specs.Texts.{called_unknown, unknown_below, unknown_name, unknown_text}
 
--- without a name nothing is told
+-- without a name nothing is said
 pub none_unknown : (names : List ℕ) (registers : List (Option AbstractValue)) → names ≡ unknown_below 11 registers → names ≡ [] → names ≡ unknown_text registers
 none_unknown names registers are none = none ∙ sym (ap called_unknown (sym are ∙ none))
 
@@ -14,7 +14,7 @@ called : (names text : List ℕ) → (names ≡ [] → ⊥) → text ≡ names +
 called [] text some is = absurd (some refl)
 called (first ∷ rest) text some is = is
 
--- names are told, and that they are unknown
+-- names are reported, and that they are unknown
 pub some_unknown : (names text : List ℕ) (registers : List (Option AbstractValue)) → names ≡ unknown_below 11 registers → (names ≡ [] → ⊥) → text ≡ names ++ codes " unknown  " → text ≡ unknown_text registers
 some_unknown names text registers are some is = called names text some is ∙ ap called_unknown are
 
@@ -33,6 +33,6 @@ named : (names : List ℕ) → AreNames names → NamesUnknown (called_unknown n
 named [] are = inl refl
 named (first ∷ rest) are = inr (first ∷ rest, refl, are)
 
--- no word of any of them is told
+-- no word of any of them is reported
 pub names_unknown : (registers : List (Option AbstractValue)) → NamesUnknown (unknown_text registers)
 names_unknown registers = named (unknown_below 11 registers) (are_names registers 11)

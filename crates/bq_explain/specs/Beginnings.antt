@@ -18,10 +18,10 @@ maps_text (first ∷ rest) = decimal first.value_size ++ (codes ":" ++ (decimal 
 -- of a policy that is accepted: its hook, its budget, its version and its maps
 abbrev pub accepted_words : PolicySource → ℕ → List ℕ
 accepted_words p budget =
-    codes "accepted " ++ (hook_word p.hook ++ (codes " budget " ++ (decimal budget ++ (codes " of " ++ (decimal SLOTS ++ (codes ", version "
-    ++ (decimal (version_number p.version) ++ (codes ", maps " ++ maps_text p.shapes.items))))))))
+    codes "accepted " ++ (hook_word p.form.hook ++ (codes " budget " ++ (decimal budget ++ (codes " of " ++ (decimal SLOTS ++ (codes ", version "
+    ++ (decimal (version_number p.form.version) ++ (codes ", maps " ++ maps_text p.form.shapes.items))))))))
 
 -- of a policy that is not, the whole line of the verdict
 abbrev pub first_words : PolicySource → Verdict → List ℕ
 first_words p (Accepted budget) = accepted_words p budget
-first_words p verdict = verdict_line p.hook verdict
+first_words p verdict = verdict_line p.form.hook verdict

@@ -1,10 +1,10 @@
--- What an explanation says of a policy, and how it is told.
+-- What an explanation says of a policy, and how it is said.
 use Rattle.std.specs.Prelude.{◌≡◌, ℕ, List, ◌++◌, Bool, Option, Some, Contains, codes}
 use Rattle.bq_insn.specs.declared.Insn.{Insn}
 use Rattle.bq_insn.specs.Slots.{spread}
 use Rattle.bq_bpf.specs.Memory.{Setting, State}
 use Rattle.bq_bpf.specs.Steps.{instruction_at}
-use Rattle.bq_hooks.specs.Hooks.{context_length_of}
+use Rattle.bq_policy_file.specs.Subjects.{subject_in}
 use Rattle.bq_verify.specs.declared.graph_cause.GraphCause.{GraphCause}
 use Rattle.bq_verify.specs.declared.graph_cause.GraphCause.TheVariants.{Jump, NoExit, Unreached, Helper, Frame, Counters}
 use Rattle.bq_verify.specs.declared.cause.Cause.{Cause}
@@ -63,9 +63,9 @@ IsOfState (cause.Graph named) = ⊥
 abbrev pub IsFinding : PolicySource → ℕ → Insn → Cause → Finding → Type 0
 IsFinding p slot insn (cause.Graph named) (finding.Graph wrong) = graph_cause_of wrong ≡ named
 IsFinding p slot insn (cause.State obligation) (finding.State need known) =
-    ContainsRuns (spread p.insns.items) p.shapes.items (context_length_of p.hook p.version) slot known × IsNeed p known insn (cause.State obligation) need
+    ContainsRuns (subject_in p) slot known × IsNeed p known insn (cause.State obligation) need
 IsFinding p slot insn (cause.State obligation) finding.Unknown =
-    IsStraightBefore (spread p.insns.items) p.shapes.items (context_length_of p.hook p.version) slot → IsNotReached (spread p.insns.items) p.shapes.items (context_length_of p.hook p.version) slot
+    IsStraightBefore (subject_in p) slot → IsNotReached (subject_in p) slot
 IsFinding p slot insn _ other = ⊥
 
 -- each of them is on the trail of these registers at the slot

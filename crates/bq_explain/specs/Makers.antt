@@ -66,6 +66,5 @@ pub record MakesAsked (slots : List (Option Insn)) (slot : ℕ) (asked : List Bo
 -- a program and its slots, whose control graph may be walked
 pub record IsLaidOut (program : Program) (slots : List (Option Insn)) : Type 0 where
   pub whole : is_well_formed program.insns.items ≡ true
-  pub few : length program.shapes.items ≤ 8
   pub short : length slots ≤ 4096
   pub sound : IsSound slots

@@ -12,8 +12,8 @@ bytes_of shape = shape.value_size * shape.entries
 
 -- its maps, the bytes of their values, and its instructions that call a counter
 abbrev pub measure_of : PolicySource → Measure → ℕ
-measure_of p Maps = length p.shapes.items
-measure_of p MapBytes = sum_by bytes_of p.shapes.items
+measure_of p Maps = length p.form.shapes.items
+measure_of p MapBytes = sum_by bytes_of p.form.shapes.items
 measure_of p Counters = count_by asks_counter p.insns.items
 
 -- what answers call it

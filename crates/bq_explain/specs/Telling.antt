@@ -11,12 +11,12 @@ pub data TellsRegisters : Setting → State → List ℕ → Type 0 where
   no_register : (f : Setting) (s : State) → TellsRegisters f s []
   one_register : (f : Setting) (s : State) (before text : List ℕ) (register word : ℕ) → TellsRegisters f s before → s.register register ≡ Some word → Says f.shapes text word → TellsRegisters f s (before ++ (codes " r" ++ (decimal register ++ (codes " " ++ (text ++ codes "  ")))))
 
--- registers by their names alone
+-- registers by only their names
 pub data AreNames : List ℕ → Type 0 where
   no_name : AreNames []
   one_name : (before : List ℕ) (register : ℕ) → AreNames before → AreNames (before ++ (codes " r" ++ decimal register))
 
--- nothing, or registers by their names, and that they are unknown: no word of any is told
+-- nothing, or registers by their names, and that they are unknown: no word of any is reported
 abbrev pub NamesUnknown : List ℕ → Type 0
 NamesUnknown text = (text ≡ []) ⊎ ((names : List ℕ) × (text ≡ names ++ codes " unknown  ") × AreNames names)
 
@@ -34,7 +34,7 @@ pub data TellsKept : Setting → State → List ℕ → Type 0 where
   no_kept : (f : Setting) (s : State) → TellsKept f s []
   one_kept : (f : Setting) (s : State) (before text : List ℕ) (slot word : ℕ) → TellsKept f s before → ((i : ℕ) → i < 8 → s.stack (8 * slot + i) ≡ Some (byte_at i word)) → Says f.shapes text word → TellsKept f s (before ++ (codes "  the 8 bytes at stack end - " ++ (decimal (stack_size - slot * 8) ++ (codes ": " ++ (text ++ codes "\n")))))
 
--- what is printed of a state holds of it: of each register whose word is told, of the bytes of the stack, and of the words in it; beside these
+-- what is printed of a state holds of it: of each register whose word is reported, of the bytes of the stack, and of the words in it; beside these
 -- registers are only named
 pub record TellsState (f : Setting) (s : State) (text : List ℕ) : Type 0 where
   pub registers : List ℕ

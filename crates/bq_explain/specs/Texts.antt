@@ -12,7 +12,7 @@ abbrev pub register_text : ℕ → Option AbstractValue → List ℕ
 register_text register None = []
 register_text register (Some k) = codes " r" ++ (decimal register ++ (codes " " ++ (known_text k ++ codes "  ")))
 
--- the first registers, so many of them
+-- the first registers, this many of them
 abbrev pub registers_below : ℕ → List (Option AbstractValue) → List ℕ
 registers_below zero registers = []
 registers_below (suc n) registers = registers_below n registers ++ register_text n (slice_index_or registers n None)
@@ -22,7 +22,7 @@ abbrev pub unknown_name : ℕ → Option AbstractValue → List ℕ
 unknown_name register None = codes " r" ++ decimal register
 unknown_name register (Some k) = []
 
--- those of the first registers, so many of them
+-- those of the first registers, this many of them
 abbrev pub unknown_below : ℕ → List (Option AbstractValue) → List ℕ
 unknown_below zero registers = []
 unknown_below (suc n) registers = unknown_below n registers ++ unknown_name n (slice_index_or registers n None)
@@ -55,7 +55,7 @@ run_text first past =
 abbrev pub EndsAt : List Bool → ℕ → Type 0
 EndsAt set past = (past ≡ stack_size) ⊎ (slice_index_or set past false ≡ false)
 
--- the runs of bytes that are set, in order, as long as each is: all of them among the first bytes, so many
+-- the runs of bytes that are set, in order, as long as each is: all of them among the first bytes, this many
 pub data AreRuns : List Bool → ℕ → List ℕ → Type 0 where
   no_byte : (set : List Bool) → AreRuns set 0 []
   unset_byte : (set : List Bool) (before : List ℕ) (byte : ℕ) → AreRuns set byte before → slice_index_or set byte false ≡ false → AreRuns set (byte + 1) before

@@ -1,4 +1,4 @@
--- What is answered to a policy under limits, and how it is told.
+-- What is answered to a policy under limits, and how it is said.
 use Rattle.std.specs.Prelude.{◌≡◌, ℕ, ℤ, ◌<◌, ◌≤◌, Bool, true, false, List, ◌++◌, Option, Some, None, option_map, codes, All, Contains, slice_get, take}
 use Rattle.std.specs.Fmt.{decimal, signed_decimal}
 use Rattle.bq_insn.specs.declared.Insn.{Insn}
@@ -9,8 +9,10 @@ use Rattle.bq_verify.specs.Paths.{IsGreatest, PathOut}
 use Rattle.bq_bpf.specs.Safe.{Safe}
 use Rattle.bq_load.specs.declared.fault.LoadFault.TheVariants as load
 use Rattle.bq_load.specs.Naming.{fault_text}
-use Rattle.bq_hooks.specs.Hooks.{context_length_of, hook_word}
-use Rattle.bq_verify.specs.Refusals.{IsRefusal}
+use Rattle.bq_hooks.specs.Hooks.{hook_word}
+use Rattle.bq_verify.specs.Refusals.{IsVerdictOn}
+use Rattle.bq_verify.specs.Subjects.{context_of}
+use Rattle.bq_policy_file.specs.Subjects.{subject_in}
 use Rattle.bq_verify.specs.Straight.{IsStraightProgram}
 use Rattle.bq_hooks.specs.declared.hook.Hook.{Hook}
 use Rattle.bq_verify.specs.declared.cause.Cause.{Cause}
@@ -29,13 +31,13 @@ use Rattle.bq_explain.specs.declared.verdict.Verdict.TheVariants.{Accepted, Over
 -- the program's control graph has no fault, and it is safe within its budget, which is the longest path
 pub record IsSafePolicy (p : PolicySource) (budget : ℕ) : Type 0 where
   pub faultless : IsFaultless (spread p.insns.items)
-  pub safe : Safe (spread p.insns.items) p.shapes.items (context_length_of p.hook p.version) budget
+  pub safe : Safe (spread p.insns.items) p.form.shapes.items (context_of p.form) budget
   pub longest : IsGreatest (PathOut (spread p.insns.items) 0) budget
 
--- the verifier refuses the policy's program at that slot for that cause, which it does to no straight program
+-- the verifier's verdict on the policy's program is that cause at that slot, which it is on no straight program
 pub record IsRefusedPolicy (p : PolicySource) (slot : ℕ) (cause : Cause) : Type 0 where
-  pub refusal : IsRefusal (spread p.insns.items) (refused.At slot cause)
-  pub not_straight : ¬ (IsStraightProgram (spread p.insns.items) p.shapes.items (context_length_of p.hook p.version))
+  pub refusal : IsVerdictOn (subject_in p) (refused.At slot cause)
+  pub not_straight : ¬ (IsStraightProgram (subject_in p))
 
 -- without a limit each budget is within it
 abbrev pub IsWithin : ℕ → Option ℕ → Type 0
@@ -111,7 +113,7 @@ pub record IsSafeWithin (p : PolicySource) (l : Limits) (budget : ℕ) : Type 0 
 pub record KeepsLimits (p : PolicySource) (l : Limits) (budget : ℕ) : Type 0 where
   pub steps : IsWithin budget l.steps
   pub helpers : All (CallsNoOther (allowed l)) p.insns.items
-  pub hook : AllowsHook l p.hook
+  pub hook : AllowsHook l p.form.hook
   pub measures : KeepsMeasures p l
 
 -- the verifier's answer, or the first of the limits that a program exceeds which is safe
@@ -119,8 +121,8 @@ abbrev pub IsVerdict : PolicySource → Limits → Verdict → Type 0
 IsVerdict p l (Accepted budget) = IsSafePolicy p budget × KeepsLimits p l budget
 IsVerdict p l (OverSteps budget most) = IsSafePolicy p budget × (l.steps ≡ Some most) × (most < budget)
 IsVerdict p l (Forbidden helper) = (budget : ℕ) × IsSafePolicy p budget × IsWithin budget l.steps × IsCalledAgainst (allowed l) p.insns.items helper
-IsVerdict p l OtherHook = (budget : ℕ) × IsSafeWithin p l budget × (¬ (AllowsHook l p.hook))
-IsVerdict p l (Beyond over) = (budget : ℕ) × IsSafeWithin p l budget × AllowsHook l p.hook × IsFirstOver p l over
+IsVerdict p l OtherHook = (budget : ℕ) × IsSafeWithin p l budget × (¬ (AllowsHook l p.form.hook))
+IsVerdict p l (Beyond over) = (budget : ℕ) × IsSafeWithin p l budget × AllowsHook l p.form.hook × IsFirstOver p l over
 IsVerdict p l (Refused slot cause) = IsRefusedPolicy p slot cause
 
 abbrev pub is_accepted : Verdict → Bool

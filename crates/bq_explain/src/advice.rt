@@ -30,7 +30,7 @@ pub enum Advice {
     FewerCalls,
     /// Set that register on each way.
     Set(u8),
-    /// Keep that register over a call, or set it anew.
+    /// Keep that register over a call, or set it again.
     Keep(u8),
     /// Make that register one kind of word on both ways.
     OneKind(u8),
@@ -150,7 +150,7 @@ fn unknown_advice(register: u8, trail: &Trail) -> Advice {
     Advice::OneKind(register)
 }
 
-/// What helps where an argument of a helper is not what it wants; a register of two kinds is told of as such.
+/// What helps where an argument of a helper is not what it wants; a register of two kinds is reported as such.
 fn argument_advice(state: &AbstractState, argument: Argument, trail: &Trail) -> Advice {
     let register = argument.register();
     if known(state, register).is_some() {
@@ -198,7 +198,7 @@ fn is_range(pointer: AbstractValue) -> bool {
 
 /// Whether format 2 helps: all bytes of the load are in the context of its place policies, with each address that the pointer may have.
 fn is_in_second(policy: &PolicySource, pointer: AbstractValue, insn: Insn) -> bool {
-    match (policy.hook, policy.version, insn) {
+    match (policy.form.hook, policy.form.version, insn) {
         (Hook::Place, Version::First, Insn::Load { size, off, .. }) => is_within(
             pointer, size, off,
         ),

@@ -6,7 +6,6 @@ ghost use Rattle.bq_explain.specs.Makers.{IsLaidOut};
 
 use bq_bpf::MapShape;
 use bq_bpf::instruction::{destination, is_counter_call};
-use bq_hooks::context_length;
 use bq_insn::{Condition, Insn, Source, Width};
 use bq_states::abstract_state::AbstractState;
 use bq_states::registers::{known, operand};
@@ -36,11 +35,11 @@ pub(crate) fn known_after(
     let Some(mut state) = state_at(alloc, program, from)? else {
         return Ok(None);
     };
-    let context = context_length(program.hook, program.version);
+    let context = program.form.context_length();
     let is_next = to == from.saturating_add(insn.slots());
     if comes(
         &mut state,
-        program.shapes.as_slice(),
+        program.form.shapes.as_slice(),
         context,
         insn,
         is_next,

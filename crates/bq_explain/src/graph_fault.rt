@@ -23,7 +23,7 @@ pub enum GraphFault {
     RunsOut,
     /// No path leads to it.
     Unreached,
-    /// It calls a helper that there is not.
+    /// It calls a helper that does not exist.
     Helper(i32),
     /// It writes register 10.
     Frame,
@@ -31,7 +31,7 @@ pub enum GraphFault {
     Calls,
 }
 
-/// The fault of that cause, of an instruction in a program of so many slots.
+/// The fault of that cause, of an instruction in a program of this many slots.
 pub(crate) fn graph_fault(count: usize, slot: usize, insn: Insn, cause: GraphCause) -> GraphFault
     ensures { graph_cause_of result ≡ cause }
 {
@@ -92,7 +92,7 @@ fn is_between(letter: char) -> bool {
     letter == ' ' || letter == '\t' || letter == ','
 }
 
-/// The fault of the policy in words. A jump is told by the label that it names, if it names one.
+/// The fault of the policy in words. A jump is reported by the label that it names, if it names one.
 pub(crate) fn graph_text(
     alloc: Global,
     policy: &PolicySource,
@@ -137,7 +137,7 @@ fn target_text(
     }
 }
 
-/// A helper that there is not.
+/// A helper that does not exist.
 fn called_text(alloc: Global, helper: i32) -> Result<String, AllocError> {
     let numbers = with_helper_numbers!("there are ");
     format!(in alloc; "calls helper {helper}, which there is not; {numbers}")

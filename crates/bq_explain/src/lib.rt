@@ -1,8 +1,7 @@
 //! What the verifier and a keeper's limits say of a policy, explained: as a value and, written from that, in words.
 //!
-//! Of a policy that is accepted its numbers; of one that is refused the place, the need that is not met, what is known there, which
-//! instructions made that by the ways of the control graph, and what helps. What is told of registers and stack is what `state_at`
-//! knows, which holds in every run that comes to the slot.
+//! An accepted policy has its numbers; a refused one the place, the need that is not met, what is known there, which instructions made
+//! that, and what helps. What is said of registers and stack is what `state_at` knows, which holds in every run that comes to the slot.
 #![tactic(auto)]
 
 mod advice;

@@ -25,8 +25,8 @@ impl Measure {
         ensures { result ≡ measure_of policy.now self }
     {
         match self {
-            Measure::Maps => policy.shapes.len() as u64,
-            Measure::MapBytes => value_bytes(policy.shapes.as_slice()),
+            Measure::Maps => policy.form.shapes.len() as u64,
+            Measure::MapBytes => value_bytes(policy.form.shapes.as_slice()),
             Measure::Counters => counter_calls(policy.insns.as_slice()) as u64,
         }
     }

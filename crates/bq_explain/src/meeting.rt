@@ -160,8 +160,7 @@ fn known_at(
     slot: usize,
     register: u8,
 ) -> Result<Option<AbstractValue>, AllocError>
-    requires whole { is_well_formed program.now.insns.items ≡ true }
-    requires few { length program.now.shapes.items ≤ 8 }
+    requires { is_well_formed program.now.insns.items ≡ true }
 {
     match state_at(alloc, program, slot)? {
         Some(state) => Ok(known(&state, register)),

@@ -2,6 +2,8 @@
 ghost use Rattle.std.specs.Prelude.{◌≡◌, ◌<◌, ℕ, Bool, List, [], IfOk, length};
 ghost use Rattle.bq_insn.specs.Slots.{spread};
 ghost use Rattle.bq_verify.specs.Faults.{IsFaultless};
+ghost use Rattle.bq_verify.specs.Subjects.{handed_in};
+ghost use Rattle.bq_policy_file.specs.Subjects.{subject_in};
 ghost use Rattle.bq_policy_file.specs.declared.policy_source.PolicySource.{PolicySource as Named};
 ghost use Rattle.bq_explain.specs.Explained.{AreMade, IsFinding, IsOfState, IsRefusalOf};
 ghost use Rattle.bq_explain.specs.Verdicts.{IsRefusedPolicy};
@@ -10,7 +12,6 @@ use crate::advice::{Advice, graph_advice, state_advice};
 use crate::graph_fault::{GraphFault, graph_fault, label_on};
 use crate::place::{Place, place_at};
 use crate::trail::{Trail, no_trail, trail_of};
-use crate::verdict::program_of;
 use bq_insn::Insn;
 use bq_needs::{Argument, Need, Registers, need_of};
 use bq_policy_file::PolicySource;
@@ -122,7 +123,7 @@ fn state_refusal(
     ensures finds { IfOk result (λ refusal. IsFinding policy.now place.slot place.insn cause refusal.finding) }
     ensures made { IfOk result (λ refusal. (asked : List Bool) × AreMade slots.now place.slot asked refusal.trail.made.items) }
 {
-    let program = program_of(alloc, policy)?;
+    let program = policy.program(alloc)?;
     let finding = finding_of(alloc, policy, &program, place, cause)?;
     let asked = asked_in(finding);
     let trail = trail_of(alloc, policy, &program, slots, place.slot, &asked)?;
@@ -138,7 +139,6 @@ fn state_refusal(
 }
 
 /// What is known before the instruction, and the need that it does not give.
-#[tactic(auto, using(crate::proofs::ExplainLemmas::finds_state, crate::proofs::ExplainLemmas::finds_none))]
 fn finding_of(
     alloc: Global,
     policy: &PolicySource,
@@ -147,9 +147,7 @@ fn finding_of(
     cause: Cause,
 ) -> Result<Finding, AllocError>
     requires insns { program.now.insns.items ≡ policy.now.insns.items }
-    requires shapes { program.now.shapes.items ≡ policy.now.shapes.items }
-    requires hook { program.now.hook ≡ policy.now.hook }
-    requires version { program.now.version ≡ policy.now.version }
+    requires judged { handed_in program.now ≡ subject_in policy.now }
     requires inside { place.slot < length (spread policy.now.insns.items) }
     requires of_state { IsOfState cause }
     ensures { IfOk result (IsFinding policy.now place.slot place.insn cause) }

@@ -58,9 +58,9 @@ pub(crate) fn accepted_words(
 ) -> Result<String, AllocError>
     ensures { IfOk result (λ text. string_bytes text ≡ accepted_words policy.now budget) }
 {
-    let hook = policy.hook.word();
-    let version = policy.version.number();
-    let maps = maps_text(alloc, policy.shapes.as_slice())?;
+    let hook = policy.form.hook.word();
+    let version = policy.form.version.number();
+    let maps = maps_text(alloc, policy.form.shapes.as_slice())?;
     format!(in alloc; "accepted {hook} budget {budget} of {SLOTS}, version {version}, maps {maps}")
 }
 

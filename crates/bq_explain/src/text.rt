@@ -35,13 +35,13 @@ pub fn explanation_text(
     match explanation.verdict {
         Verdict::Accepted { budget } => accepted_text(alloc, policy, budget, &explanation.detail),
         verdict => {
-            let line = verdict_line(alloc, policy.hook, verdict)?;
+            let line = verdict_line(alloc, policy.form.hook, verdict)?;
             refused_text(alloc, policy, line, name, verdict, &explanation.detail)
         }
     }
 }
 
-/// What is told of an accepted policy.
+/// What is said of an accepted policy.
 fn accepted_text(
     alloc: Global,
     policy: &PolicySource,
@@ -56,7 +56,7 @@ fn accepted_text(
     }
 }
 
-/// What is told of a policy that is not, behind the line of its verdict.
+/// What is said of a policy that is not, behind the line of its verdict.
 fn refused_text(
     alloc: Global,
     policy: &PolicySource,
@@ -78,7 +78,7 @@ fn refused_text(
     }
 }
 
-/// What is told of a policy beyond a limit.
+/// What is said of a policy beyond a limit.
 fn limit_text(
     alloc: Global,
     name: Option<&str>,
@@ -113,7 +113,7 @@ fn limit_text(
     }
 }
 
-/// What is told of a policy that the verifier refuses, behind the line of that.
+/// What is said of a policy that the verifier refuses, behind the line of that.
 fn refusal_text(
     alloc: Global,
     policy: &PolicySource,

@@ -173,7 +173,7 @@ fn meetings(
     Ok(meetings)
 }
 
-/// The registers that are asked of at a slot, if each has so many makers at least.
+/// The registers that are asked of at a slot, if each has this many makers at least.
 #[derive(Clone, Copy)]
 struct Asked {
     slot: usize,

@@ -7,13 +7,13 @@ use crate::limits::{Limits, Over};
 use bq_hooks::Hook;
 use bq_load::LoadFault;
 use bq_policy_file::{PolicySource, accepted_line, fault_text};
-use bq_verify::{Cause, Program, Refused, verify};
+use bq_verify::{Cause, Refused, verify};
 use std::alloc::{AllocError, Global};
 
 /// The answer to a policy under limits.
 #[derive(Clone, Copy)]
 pub enum Verdict {
-    /// It is safe, and its runs of at most so many instructions are within the limits.
+    /// It is safe, and its runs of at most this many instructions are within the limits.
     Accepted { budget: u32 },
     /// Its runs take up to `budget` instructions, where `most` are allowed.
     OverSteps { budget: u32, most: u32 },
@@ -42,7 +42,7 @@ impl Verdict {
 pub fn judge(alloc: Global, policy: &PolicySource, limits: &Limits) -> Result<Verdict, AllocError>
     ensures { IfOk result (IsVerdict policy.now limits.now) }
 {
-    let program = program_of(alloc, policy)?;
+    let program = policy.program(alloc)?;
     match verify(alloc, program) {
         Ok(verified) => Ok(limited(policy, limits, verified.budget())),
         Err(Refused::OutOfMemory) => Err(AllocError),
@@ -63,28 +63,13 @@ fn limited(policy: &PolicySource, limits: &Limits, budget: u32) -> Verdict
     if let Some(helper) = limits.forbidden(policy.insns.as_slice()) {
         return Verdict::Forbidden { helper };
     }
-    if !limits.allows(policy.hook) {
+    if !limits.allows(policy.form.hook) {
         return Verdict::OtherHook;
     }
     match limits.exceeded(policy) {
         Some(over) => Verdict::Beyond(over),
         None => Verdict::Accepted { budget },
     }
-}
-
-/// The program of a policy, to be handed to the verifier.
-pub(crate) fn program_of(alloc: Global, policy: &PolicySource) -> Result<Program, AllocError>
-    ensures insns { IfOk result (λ program. program.insns.items ≡ policy.now.insns.items) }
-    ensures shapes { IfOk result (λ program. program.shapes.items ≡ policy.now.shapes.items) }
-    ensures hook { IfOk result (λ program. program.hook ≡ policy.now.hook) }
-    ensures version { IfOk result (λ program. program.version ≡ policy.now.version) }
-{
-    Ok(Program {
-        insns: Vec::from_slice(alloc, policy.insns.as_slice())?,
-        shapes: Vec::from_slice(alloc, policy.shapes.as_slice())?,
-        hook: policy.hook,
-        version: policy.version,
-    })
 }
 
 /// The line that tells a verdict, as `check` tells it of a policy of that hook.

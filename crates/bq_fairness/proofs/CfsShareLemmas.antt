@@ -32,7 +32,7 @@ weighted_sum_within N r (x ∷ xs) h =
 pub share_by : (M W N most B s r n : ℕ) → M + B ≤ W * N + 1024 * r * n → N ≤ s + most → M + B ≤ W * (s + most) + 1024 * r * n
 share_by M W N most B s r n h le = omega (arith, mul-le-mul_left W le)
 
--- under CFS each task is served its share of what is booked, but for a bound that the history does not move
+-- under CFS each task is served its share of what is booked, except for a bound that the history does not move
 pub cfs_serves_its_share : CfsServesItsShare
 cfs_serves_its_share V r p nows j b s room h le f =
     let w = well_formed p s in

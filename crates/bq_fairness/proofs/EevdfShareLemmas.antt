@@ -12,7 +12,7 @@ use Rattle.bq_fairness.proofs.WorkLemmas.{moves_the_sum, books_the_time}
 use Rattle.bq_fairness.proofs.BalanceLemmas.{history_stays_balanced}
 use Rattle.bq_fairness.proofs.OwedLemmas.{none_is_owed_long}
 
--- under EEVDF each task is served its share of what is booked, but for what it may be owed
+-- under EEVDF each task is served its share of what is booked, except for what it may be owed
 pub eevdf_serves_its_share : EevdfServesItsShare
 eevdf_serves_its_share E r p nows j b s room bal le f =
     let w = well_formed p s in

@@ -32,7 +32,7 @@ owed_by_slices V r p nows j b s due h le f =
     let high = (timely.due j b f).high in
     owed_by (moment_at q) (weight_at q) N (max V (b.v + vdelta_of b.slice b.weight)) r (length (present_at q)) sum (omega arith)
 
--- each task is served its share of what is booked, but for its slice or where all began, and a rise for each task
+-- each task is served its share of what is booked, except for its slice or where all began, and a rise for each task
 pub shares_by_slices : EevdfSharesBySlices
 shares_by_slices V r p nows j b s room due h le f =
     let w = well_formed p s in

@@ -48,7 +48,7 @@ unseen w processor at q true e l h =
     subst (λ n. running_at (with_processor w processor q) n ≡ running_at w n) (sym same) (at_itself w processor q (subst (λ n. n < count_in w) same l) ∙ h)
 unseen w processor at q false e l h = at_another w processor at q (eqb-false at processor e)
 
--- what an event does at its own processor alone
+-- what an event does at only its own processor
 seen_there : (d : Discipline) (w : World) (processor at : ℕ) (q : Processor) (ss : List Step) (t : Bool) → (at == processor) ≡ t → at < count_in w →
     (at ≡ processor → q.running ≡ after d (running_at w processor) ss) → running_at (with_processor w processor q) at ≡ after d (running_at w at) (cond t ss [])
 seen_there d w processor at q ss true e l h =

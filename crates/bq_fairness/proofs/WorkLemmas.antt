@@ -1,4 +1,4 @@
--- What is booked is the time that passes, but for what rounding loses; and it is what the sum of weight times v rises by.
+-- What is booked is the time that passes, except for what rounding loses; and it is what the sum of weight times v rises by.
 use Rattle.std.proofs.Common.{◌≡◌, ℕ, ◌+◌, ◌-◌, ◌*◌, ◌^◌, ◌≤◌, min, Bool, true, false, List, [], ◌∷◌, length, Option, Some, None, refl, ap, sym, ◌∙◌, arith}
 use Rattle.std.specs.Prelude.{IsSome}
 use Rattle.std.specs.Option.{option_map_or}
@@ -41,7 +41,7 @@ stays_busy d p now h = stays_busy_by d p.queue p.kept p.current p.last now h
 
 -- What a Tick books
 
--- virtual time times the weight is the time, but for less than a weight
+-- virtual time times the weight is the time, except for less than a weight
 nearly : (x w : ℕ) → 15 ≤ w → w ≤ 88761 → x * 1024 ≤ w * vdelta_of x w + 88760
 nearly x w low high = omega arith
 
@@ -74,7 +74,7 @@ books d p (now ∷ nows) w h =
     let c = rest.2 in
     (omega arith, omega arith, omega arith)
 
--- where a task runs, what Ticks book is the time that passes, but for less than a weight lost at each
+-- where a task runs, what Ticks book is the time that passes, except for less than a weight lost at each
 pub books_the_time : BooksTheTime
 books_the_time d p nows s h = let b = books d p nows (well_formed p s) h in (b.1, b.2)
 

@@ -1,4 +1,4 @@
--- Under EEVDF whoever enters at a processor of the world is due within one slice from where it stands.
+-- Under EEVDF each task that enters at a processor of the world is due within one slice from where it stands.
 use Rattle.std.proofs.Common.{ℕ, ◌+◌, ◌≤◌, Bool, true, false, cond, List, [], ◌∷◌, ◌++◌, Option, Some, None, Result, Ok, Err, sym, subst, arith}
 use Rattle.std.specs.Prelude.{ℤ, pos, negsuc, ◌==◌, ◌^◌, ◌-◌}
 use Rattle.bq_weights.specs.VirtualTime.{vdelta_of, advance_of, shift_of, held_within}
@@ -49,7 +49,7 @@ either_due : (ss rs : List Step) (t : Bool) → EntersDue ss → EntersDue rs �
 either_due ss rs true h k = h
 either_due ss rs false h k = k
 
--- where whoever enters over some steps and over others is due, so is whoever enters over all of them
+-- where each task that enters over some steps and over others is due, so is each that enters over all of them
 pub EntersDue-append : (ss rs : List Step) → EntersDue ss → EntersDue rs → EntersDue (ss ++ rs)
 EntersDue-append [] rs h k = k
 EntersDue-append (Pass now ∷ ss) rs h k = EntersDue-append ss rs h k
@@ -58,7 +58,7 @@ EntersDue-append (Enter t ∷ ss) rs h k = (h.0, EntersDue-append ss rs h.1 k)
 EntersDue-append (Leave id ∷ ss) rs h k = EntersDue-append ss rs h k
 EntersDue-append (Mark ∷ ss) rs h k = EntersDue-append ss rs h k
 
--- whoever enters by an event
+-- each task that enters by an event
 pub event_due : (at : ℕ) (w w' : World) (e : Event) (calls : List Asked) (a : Result Reply Refusal) → WorldStep (policies eevdf) w e calls a w' → EntersDue (steps_at eevdf at w e a)
 event_due at w w' e calls (Err r) h = tt
 event_due at w w' (Admit id nice mask slice) calls (Ok r) h = tt

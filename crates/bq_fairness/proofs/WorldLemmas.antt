@@ -1,4 +1,4 @@
--- Two tasks that stay at a processor of the world where the discipline alone decides are served in proportion.
+-- Two tasks that stay at a processor of the world where only the discipline decides are served in proportion.
 use Rattle.std.proofs.Common.{◌≡◌, ℕ, ◌+◌, ◌<◌, ◌≤◌, List, [], ◌∷◌, Result, ap, subst, ◌∙◌, arith}
 use Rattle.std.specs.Prelude.{◌^◌, max, All, Ok, Err}
 use Rattle.std.proofs.lemmas.List.{length-replicate}
@@ -41,7 +41,7 @@ step_sound : (d : Discipline) (P : Task → Type 0) → IsKept d P → (w : Worl
 step_sound d P k w e calls (Ok r) w' h s = performs_sound (policies d) P k w e calls r w' s h.0 h.1
 step_sound d P k w e calls (Err r) w' h s = rw h.1 s
 
--- a world of so many processors, in order, with sound tasks
+-- a world of this many processors, in order, with sound tasks
 record IsReached (P : Task → Type 0) (count : ℕ) (w : World) : Type 0 where
   many : count_in w ≡ count
   orderly : IsOrderly w
@@ -63,7 +63,7 @@ reached : (d : Discipline) (P : Task → Type 0) → IsKept d P → (count : ℕ
 reached d P k count w es more answers h =
     run_reached d P k count (opening_world count) es more answers w (record { many = length-replicate count opening; orderly = opening_is_orderly count; sound = opening_sound P count }) h
 
--- whoever enters in a history is new
+-- each task that enters in a history is new
 history_new : (d : Discipline) (P : Task → Type 0) → IsKept d P → (count at : ℕ) (w w' : World) (es : List Event) (more : List (List Asked)) (answers : List (Result Reply Refusal)) (ss : List Step) → IsReached P count w → at < count → IsSeenAt d at w es more answers w' ss → EachEntersNew d (running_at w at) ss
 history_new d P k count at w w' [] [] [] ss r l h = rw h.1 tt
 history_new d P k count at w w' (e ∷ es) (calls ∷ more) (a ∷ answers) ss r l h =

@@ -1,4 +1,4 @@
--- Whoever enters at a processor of the world is new there, and so the laws of fairness may speak of it.
+-- Each task that enters at a processor of the world is new there, and so the laws of fairness may speak of it.
 use Rattle.std.proofs.Common.{◌≡◌, ◌≢◌, ℕ, ◌+◌, ◌≤◌, Bool, true, false, cond, List, [], ◌∷◌, ◌++◌, Option, Some, None, Result, Ok, Err, refl, ap, sym, subst, arith, eqb-true}
 use Rattle.std.specs.Prelude.{◌==◌}
 use Rattle.std.specs.Option.{option_map}
@@ -46,7 +46,7 @@ entries_new d P k p kept (t ∷ tasks) once w =
     λ id. omega (arith, once id, count_of-append id (present_at p) (t ∷ tasks), count_of-append id (present_at next) tasks, count_entered id u p.queue p.current) in
     (new, entries_new d P k next kept tasks rest w.1)
 
--- where whoever enters over some steps, and over others after them, is new, so is whoever enters over all
+-- where each task that enters over some steps, and over others after them, is new, so is each that enters over all
 pub EachEntersNew-append : (d : Discipline) (p : Running) (ss rs : List Step) → EachEntersNew d p ss → EachEntersNew d (after d p ss) rs → EachEntersNew d p (ss ++ rs)
 EachEntersNew-append d p [] rs h k = k
 EachEntersNew-append d p (s ∷ ss) rs h k = (h.0, EachEntersNew-append d (stepped d p s) ss rs h.1 k)
@@ -94,7 +94,7 @@ if_at d p ss rs false h k = k refl
 own_new : (d : Discipline) (w : World) (at processor : ℕ) (ss rs : List Step) → EachEntersNew d (running_at w processor) ss → EachEntersNew d (running_at w at) rs → EachEntersNew d (running_at w at) (cond (at == processor) ss rs)
 own_new d w at processor ss rs h k = if_at d (running_at w at) ss rs (at == processor) (λ e. subst (λ n. EachEntersNew d (running_at w n) ss) (sym (eqb-true at processor e)) h) (λ e. k)
 
--- whoever enters by an event is new
+-- each task that enters by an event is new
 pub event_new : (d : Discipline) (P : Task → Type 0) → IsKept d P → (at : ℕ) (w w' : World) (e : Event) (calls : List Asked) (a : Result Reply Refusal) → IsOrderly w → IsSoundWorld P w → WorldStep (policies d) w e calls a w' → EachEntersNew d (running_at w at) (steps_at d at w e a)
 event_new d P k at w w' e calls (Err r) o s h = tt
 event_new d P k at w w' (Admit id nice mask slice) calls (Ok r) o s h = tt

@@ -23,7 +23,7 @@ CfsServesWithin =
     IsSound p → HasRoom p → RisesByAtMost r cfs p nows → task_at i p ≡ Some a → task_at j p ≡ Some b → b.v ≤ a.v + S →
     served i cfs p nows ≤ served j cfs p nows + S + 1000000 + vdelta_of r a.weight
 
--- Service by share: what a task is served, times the weights of all, is at least what is booked, but for a bound
+-- Service by share: what a task is served, times the weights of all, is at least what is booked, except for a bound
 abbrev pub CfsServesItsShare : Type 0
 CfsServesItsShare =
     (V r : ℕ) (p : Running) (nows : List ℕ) (j : ℕ) (b : Task) →

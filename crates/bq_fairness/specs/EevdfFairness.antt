@@ -66,7 +66,7 @@ NoneIsOwedLong =
     (E r : ℕ) (p : Running) (j : ℕ) (b : Task) → IsSound p → IsBalanced E r p → task_at j p ≡ Some b →
     b.weight * moment_at p ≤ b.weight * (weight_at p * b.v) + (weight_at p - b.weight) * E + 1024 * r * ((length (present_at p) - 2) * weight_at p + b.weight)
 
--- Service by share: what a task is served, times its weight and W, is at least its weight of what is booked, but for what it
+-- Service by share: what a task is served, times its weight and W, is at least its weight of what is booked, except for what it
 -- was ahead of the mean at the start and what one may be owed
 abbrev pub EevdfServesItsShare : Type 0
 EevdfServesItsShare =

@@ -1,4 +1,4 @@
--- The events of a processor as steps: what each does by the definitions of one processor, where the rule alone decides.
+-- The events of a processor as steps: what each does by the definitions of one processor, where only the rule decides.
 use Rattle.std.specs.Prelude.{◌≡◌, ℕ, List, [], ◌∷◌, None, Some}
 use Rattle.bq_disc.specs.Tasks.{Task, with_id, without, place}
 use Rattle.bq_disc.specs.Queues.{HasDistinctIds}

@@ -1,4 +1,4 @@
--- What a Tick and a Block of the world leave at their processor, where the discipline alone decides.
+-- What a Tick and a Block of the world leave at their processor, where only the discipline decides.
 use Rattle.std.specs.Prelude.{◌≡◌, ℕ, ◌<◌, List, Option, None, Result, Ok}
 use Rattle.bq_disc.specs.Discipline.{Discipline}
 use Rattle.bq_disc.specs.OneProcessor.{Running, charge, start, ticked}

@@ -1,4 +1,4 @@
--- A history of the world as one processor has it: the steps that each event makes there, where the discipline alone decides.
+-- A history of the world as one processor has it: the steps that each event makes there, where only the discipline decides.
 use Rattle.std.specs.Prelude.{◌≡◌, ℕ, ◌<◌, Bool, false, ◌==◌, if◌then◌else◌, List, [], ◌∷◌, ◌++◌, Option, None, Some, Result, Ok, Err}
 use Rattle.bq_disc.specs.Tasks.{Task}
 use Rattle.bq_disc.specs.Discipline.{Discipline, pulled}
@@ -41,7 +41,7 @@ own_steps d w (event.Pull processor from now) (Moved task run by steps) =
     Pass now ∷ entry d c (taken_from (marked d (running_at w from)) task) ++ begins c.current
 own_steps d w e r = []
 
--- and what a pull does at the other one: the mark is computed anew, and the task leaves
+-- and what a pull does at the other one: the mark is computed again, and the task leaves
 abbrev pub leaving : Option ℕ → List Step
 leaving None = Mark ∷ []
 leaving (Some id) = Mark ∷ Leave id ∷ []
@@ -78,7 +78,7 @@ DecidesAlone at (event.Drain processor now) (Ok (Drained count run by steps)) = 
 DecidesAlone at (event.Tick processor now) (Ok (Ticked run by steps)) = at ≡ processor → by ≡ who.Discipline
 DecidesAlone at e a = Unit {0}
 
--- a history of the world, and the steps that it makes at a processor where the discipline alone decides
+-- a history of the world, and the steps that it makes at a processor where only the discipline decides
 abbrev pub IsSeenAt : Discipline → ℕ → World → List Event → List (List Asked) → List (Result Reply Refusal) → World → List Step → Type 0
 IsSeenAt d at w [] [] [] w' ss = (w' ≡ w) × (ss ≡ [])
 IsSeenAt d at w (e ∷ es) (calls ∷ more) (a ∷ answers) w' ss =

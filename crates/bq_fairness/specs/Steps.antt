@@ -1,5 +1,5 @@
 -- Histories in which tasks come and go. What happens at a processor is made of few steps: time passes and is charged, the rule
--- decides, a task enters the queue, a task leaves, the mark is computed anew. So a Tick is the first two; a Block has a Leave
+-- decides, a task enters the queue, a task leaves, the mark is computed again. So a Tick is the first two; a Block has a Leave
 -- between them, and a Drain its entries; the end of a wake and a pull pass time and decide nothing (specs/Events).
 use Rattle.std.specs.Prelude.{◌≡◌, ℕ, ◌+◌, ◌≤◌, ◌^◌, max, Bool, false, ◌==◌, if◌then◌else◌, List, [], ◌∷◌, Option, None, Some}
 use Rattle.bq_weights.specs.VirtualTime.{IsWeight, vdelta_of}
@@ -16,13 +16,13 @@ use Rattle.bq_fairness.specs.EevdfDeadlines.{HasDeadlines}
 pub data Step : Type 0 where
   -- the clock is read, and what has passed is charged
   Pass : ℕ → Step
-  -- the rule alone decides
+  -- only the rule decides
   Decide : Step
   -- a task enters the queue, wherever it stands in virtual time
   Enter : Task → Step
   -- the task of an id leaves, from the queue or from running
   Leave : ℕ → Step
-  -- the mark is computed anew, as before another processor pulls
+  -- the mark is computed again, as before another processor pulls
   Mark : Step
 
 -- the current task, unless it has that id

@@ -28,7 +28,7 @@ booked d p (now ∷ nows) = booked_at p now + booked d (ticked d p now) nows
 abbrev pub elapsed : Discipline → Running → List ℕ → ℕ
 elapsed d p nows = (history d p nows).last - p.last
 
--- Where a task runs, what is booked is the time that passes, but for less than a weight lost at each Tick
+-- Where a task runs, what is booked is the time that passes, except for less than a weight lost at each Tick
 abbrev pub BooksTheTime : Type 0
 BooksTheTime =
     (d : Discipline) (p : Running) (nows : List ℕ) → IsSound p → IsSome p.current →

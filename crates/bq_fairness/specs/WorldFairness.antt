@@ -1,5 +1,5 @@
 -- Fairness in the world. Whatever has happened since the opening, and whatever policies do elsewhere: two tasks that stay at a
--- processor where the discipline alone decides are served in proportion to their weights from then on.
+-- processor where only the discipline decides are served in proportion to their weights from then on.
 use Rattle.std.specs.Prelude.{◌≡◌, ℕ, ◌+◌, ◌<◌, ◌≤◌, max, List, Some, Result}
 use Rattle.bq_weights.specs.VirtualTime.{vdelta_of}
 use Rattle.bq_disc.specs.Tasks.{Task}

@@ -7,7 +7,7 @@ ghost use Rattle.bq_fairness.specs.Steps.{CfsServesThroughout, EevdfServesThroug
 ghost use Rattle.bq_fairness.specs.Work.{BooksTheTime, MovesTheSum};
 
 /// Under each discipline, where a task runs at the start: what Ticks book, the vdelta of each charge times the weight, is
-/// 1024 times the rise of the clock, but for less than one weight lost at each Tick, since vdelta is rounded down.
+/// 1024 times the rise of the clock, except for less than one weight lost at each Tick, since vdelta is rounded down.
 pub fn books_the_time()
     ensures { BooksTheTime }
 {}
@@ -17,7 +17,7 @@ pub fn moves_the_sum()
     ensures { MovesTheSum }
 {}
 
-/// CFS, proportional service. Over Ticks that the rule alone decides, at each of which the clock rises by at most r: of two
+/// CFS, proportional service. Over Ticks that only the rule decides, at each of which the clock rises by at most r: of two
 /// tasks a and b that are present, a comes to no more virtual time than the greater of where it began and 1,000,000 beyond
 /// where b began, and what b was served, and what r takes at a's own weight.
 pub fn cfs_serves_in_proportion()
@@ -30,7 +30,7 @@ pub fn cfs_serves_within()
     ensures { CfsServesWithin }
 {}
 
-/// CFS, service by share: what a task is served, times the weights of all together, is at least what is booked, but for a
+/// CFS, service by share: what a task is served, times the weights of all together, is at least what is booked, except for a
 /// bound that does not grow with the history.
 pub fn cfs_serves_its_share()
     ensures { CfsServesItsShare }
@@ -82,13 +82,13 @@ pub fn eevdf_none_is_owed_long()
     ensures { NoneIsOwedLong }
 {}
 
-/// EEVDF, service by share: what a task is served, times its weight and W, is at least its weight of what is booked, but for
+/// EEVDF, service by share: what a task is served, times its weight and W, is at least its weight of what is booked, except for
 /// a bound that does not grow with the history.
 pub fn eevdf_serves_its_share()
     ensures { EevdfServesItsShare }
 {}
 
-/// EEVDF, proportional service: of two tasks the one comes to no more virtual time than the other, but for what it may be
+/// EEVDF, proportional service: of two tasks the one comes to no more virtual time than the other, except for what it may be
 /// ahead of the mean and the other may be owed.
 pub fn eevdf_serves_in_proportion()
     ensures { EevdfServesInProportion }
@@ -141,7 +141,7 @@ pub fn eevdf_serves_throughout()
     ensures { EevdfServesThroughout }
 {}
 
-/// Each event of a processor is some of those steps, where the rule alone decides: a Tick, a Block, a Drain, the end of a wake,
+/// Each event of a processor is some of those steps, where only the rule decides: a Tick, a Block, a Drain, the end of a wake,
 /// and a pull at either end.
 pub fn events_are_steps()
     ensures { EventsAreSteps }

@@ -33,7 +33,7 @@ pub fn history_is_steps()
 {}
 
 /// CFS, in the world: whatever has happened since the opening, and whatever policies do elsewhere, two tasks that stay at a
-/// processor where the discipline alone decides are served in proportion to their weights from then on, but for where they
+/// processor where only the discipline decides are served in proportion to their weights from then on, except for where they
 /// stood, one granularity and one rise of the clock.
 #[tactic(auto, using(crate::proofs::WorldLemmas::cfs_world_serves))]
 pub fn cfs_world_serves()

@@ -42,7 +42,7 @@ impl<R: Drop> Chunk<R> {
         self.records.push_reserved(entry);
     }
 
-    /// The record at a place, counted from 0, or none where there are not so many.
+    /// The record at a place, counted from 0, or none if there are not that many.
     pub(crate) fn at(&self, place: u64) -> Option<&R>
         ensures { option_map (λ r. r.now) result ≡ slice_get self.now place }
     {

@@ -1,4 +1,4 @@
-//! What stands at places, taken out in the order of the places.
+//! What is at places, taken out in the order of the places.
 ghost use Rattle.std.specs.Prelude.{◌≡◌, ◌≤◌, ◌<◌, ℕ, List, map, length, slice_index_or, vec_len, vec_capacity};
 ghost use Rattle.bq_history.specs.Whole.{Each};
 ghost use Rattle.bq_history.specs.Places.{times};

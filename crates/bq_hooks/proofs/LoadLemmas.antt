@@ -11,7 +11,7 @@ refill_whole xs ys e =
     let rest : List ℕ = drop (length ys) xs in
     ap (λ n. take n (ys ++ rest)) (sym e) ∙ take-append_seam ys rest
 
--- so a write of one element is that alone
+-- so a write of one element changes only that
 pub refill_set : (xs ys zs : List ℕ) (k n : ℕ) → ys ≡ xs → xs ≡ zs → refill (length xs) xs (set ys k n) ≡ set zs k n
 refill_set xs ys zs k n e f =
     refill_whole xs (set ys k n) (length-set ys k n ∙ ap length e) ∙ ap (λ l. set l k n) (e ∙ f)

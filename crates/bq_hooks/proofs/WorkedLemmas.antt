@@ -1,4 +1,4 @@
--- Contexts worked out by hand, which the definitions give.
+-- Contexts worked out on paper, which the definitions give.
 use Rattle.std.proofs.Common.{◌≡◌, ℕ, [], ◌∷◌, Some, None, false, replicate, pos, refl}
 use Rattle.bq_disc.specs.Tasks.{Task}
 use Rattle.bq_hooks.specs.Contexts.{pull_header, place_header, place_bytes_below, place_bytes_first, preempt_bytes, pull_bytes}
@@ -6,7 +6,7 @@ use Rattle.bq_hooks.specs.Contexts.{pull_header, place_header, place_bytes_below
 abbrev task : ℕ → ℕ → ℕ → Task
 task id mask v = record { id = id; weight = 1024; mask = mask; slice = 3000000; v = v; deadline = 0; rel = pos 0; prev = None }
 
--- task 3 is woken at processor 0 of two; it may use processor 1 alone
+-- task 3 is woken at processor 0 of two; it may use only processor 1
 place : place_bytes_first (record { task = task 3 2 0; waking = 0; processors = 2; own = 1; loads = 0 ∷ 0 ∷ [] }) ≡
     3 ∷ 0 ∷ 0 ∷ 0 ∷ 0 ∷ 4 ∷ 0 ∷ 0 ∷ 2 ∷ 0 ∷ 0 ∷ 0 ∷ 0 ∷ 0 ∷ 0 ∷ 0
     ∷ 192 ∷ 198 ∷ 45 ∷ 0 ∷ 0 ∷ 0 ∷ 0 ∷ 0 ∷ 0 ∷ 0 ∷ 0 ∷ 0 ∷ 255 ∷ 255 ∷ 255 ∷ 255

@@ -36,7 +36,7 @@ pub record PlaceFacts : Type 0 where
   pub loads : List ℕ
 
 -- where a processor asks whether the current task gives way: the processor, its queue, the current task, the rule's choice
--- of the queue alone, and the discipline's own answer
+-- of only the queue, and the discipline's own answer
 pub record PreemptFacts : Type 0 where
   pub processor : ℕ
   pub queue : List Task

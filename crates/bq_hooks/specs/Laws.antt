@@ -9,7 +9,7 @@ use Rattle.bq_hooks.specs.OwnPlace.{own_place, HasPlace}
 use Rattle.bq_hooks.specs.Permitted.{may_place, may_preempt, may_pull}
 use Rattle.bq_hooks.specs.Settled.{settled}
 
--- so many bytes
+-- this many bytes
 abbrev pub AreBytes : ℕ → List ℕ → Type 0
 AreBytes n xs = (length xs ≡ n) × ((i b : ℕ) → slice_get xs i ≡ Some b → b < 256)
 

@@ -27,6 +27,6 @@ first_place loads previous (p ∷ ps) = Some (former_place loads previous p (fir
 abbrev pub own_place : ℕ → List ℕ → Task → Option ℕ
 own_place count loads t = first_place loads t.prev (filter (allows t.mask) (range_with_len 0 count))
 
--- the mask has bits of the machine's processors alone, and at least one
+-- the mask has only bits of the machine's processors, and at least one
 abbrev pub HasPlace : ℕ → Task → Type 0
 HasPlace count t = (t.mask < 2 ^ count) × (t.mask ≢ 0)

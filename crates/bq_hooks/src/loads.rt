@@ -73,7 +73,7 @@ impl Loads {
         self.as_slice() == other.as_slice()
     }
 
-    /// The same loads once more.
+    /// A copy of the loads.
     pub fn copy(&self) -> Loads
         ensures { result ≡ self.now }
     {

@@ -93,7 +93,7 @@ fn put_header(facts: &Place, limit: usize, context: &mut [u8])
     );
 }
 
-/// The bits of a mask below a number of them: those that name one of so many processors.
+/// The bits of a mask below a number of them: those that name one of this many processors.
 pub fn low_bits(mask: u64, count: usize) -> u64
     requires { count ≤ PROCESSORS }
     ensures { result ≡ mask % 2 ^ count }

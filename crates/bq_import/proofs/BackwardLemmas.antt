@@ -20,7 +20,7 @@ use Rattle.bq_insn.proofs.CountLemmas.{slots_positive}
 use Rattle.bq_verify.proofs.EdgeLemmas.{start_inside}
 use Rattle.bq_verify.proofs.SpreadLemmas.{one_or_two}
 use Rattle.bq_import.specs.Copies.{is_reference, wide_copy, copied, Stands}
-use Rattle.bq_import.specs.Backward.{AreGood, JumpsBack, GoesBack, IsPlaced, insns_of, IsBuilt, Keeps, IsLengthened, MayStand}
+use Rattle.bq_import.specs.Backward.{AreGood, JumpsBack, GoesBack, IsPlaced, insns_of, IsBuilt, Keeps, IsLengthened, IsOneMore, MayStand}
 use Rattle.bq_import.proofs.CopyLemmas.{reference_refers}
 use Rattle.bq_import.proofs.PathLemmas.{copy_has_shape}
 
@@ -195,6 +195,26 @@ module _ (maps : ℕ) (old back : List (Option Insn)) (origins : List ℕ) (from
         ]
   ]
 
+  only_one : (place f : ℕ) → Stands (back ++ tail) (origins ++ tail_from) place f → Stands back origins place f ⊎ ((length (back ++ tail) ≡ place + 1) × (f ≡ from))
+  unfolding place_of
+  only_one place f p = elim (compare place (length back)) [
+    | inl lt ↦ inl (stands_was back tail origins tail_from place f built.as_long lt p)
+    | inr low ↦
+        let low' : length back ≤ place = elim low [ inl e ↦ omega (arith, e) | inr gt ↦ omega (arith, gt) ] in
+        let long = length-append back tail in
+        let more = long_tail in
+        let positive = slots_positive insn in
+        elim (compare place place_of) [
+          | inl lt ↦ absurd (some_none _ p.start.insn p.start.here (none_between place low' lt))
+          | inr (inl e) ↦
+              let same : from ≡ f = sym origin_here ∙ (ap (λ (k : ℕ). slice_index (origins ++ tail_from) k) (sym e) ∙ p.origin_is) in
+              inr (omega (arith, long, more, positive, e), sym same)
+          | inr (inr gt) ↦
+              let inside = start_inside (back ++ tail) place p.start in
+              absurd (let no : ⊥ = omega (arith, inside, long, more, gt, positive) in no)
+        ]
+  ]
+
   reverse_tail : (n : ℕ) (c : Option Insn) → n ≤ 1 → reverse (back ++ (replicate n None ++ (c ∷ []))) ≡ c ∷ (replicate n None ++ reverse back)
   reverse_tail zero c le = reverse-append back (c ∷ [])
   reverse_tail (suc zero) c le = reverse-append back (None ∷ c ∷ [])
@@ -263,3 +283,13 @@ module _ (maps : ℕ) (old back : List (Option Insn)) (origins : List ℕ) (from
       let o : origins ++ tail_from ≡ froms = sym (append_assoc origins (replicate (slots_of insn - 1) (from + 1)) (from ∷ [])) ∙ sym e' in
       subst (λ (xs : List (Option Insn)). IsLengthened maps old back origins xs froms from) s
       (subst (λ (ys : List ℕ). IsLengthened maps old back origins (back ++ tail) ys from) o (lengthened few near good may room))
+
+  pub pushed_one : (slots : List (Option Insn)) (froms : List ℕ) →
+      slots ≡ (back ++ replicate (slots_of insn - 1) None) ++ (Some (copied maps insn distance) ∷ []) → froms ≡ (origins ++ replicate (slots_of insn - 1) (from + 1)) ++ (from ∷ []) →
+      IsOneMore back origins slots froms from
+  unfolding tail second tail_from
+  pushed_one slots froms e e' =
+      let s : back ++ tail ≡ slots = sym (append_assoc back second (Some (copied maps insn distance) ∷ [])) ∙ sym e in
+      let o : origins ++ tail_from ≡ froms = sym (append_assoc origins (replicate (slots_of insn - 1) (from + 1)) (from ∷ [])) ∙ sym e' in
+      subst (λ (xs : List (Option Insn)). IsOneMore back origins xs froms from) s
+      (subst (λ (ys : List ℕ). IsOneMore back origins (back ++ tail) ys from) o (record { only = only_one }))

@@ -11,3 +11,8 @@ pub mod TurningLemmas
 pub mod AddressLemmas
 pub mod RoomLemmas
 pub mod RefusalLemmas
+pub mod NotedLemmas
+pub mod KeepLemmas
+pub mod ComposeLemmas
+pub mod ReachLemmas
+pub mod RunningLemmas

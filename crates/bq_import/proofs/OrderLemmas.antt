@@ -25,7 +25,7 @@ module _ (maps : ℕ) (old back : List (Option Insn)) (origins : List ℕ) (buil
     origin_is = mirror_origin slot place sum ∙ p.origin_is;
   }
 
-  stands_here : (slot place from : ℕ) → place + slot + 1 ≡ length back → Stands (reverse back) (reverse origins) slot from → Stands back origins place from
+  pub stands_here : (slot place from : ℕ) → place + slot + 1 ≡ length back → Stands (reverse back) (reverse origins) slot from → Stands back origins place from
   stands_here slot place from sum p = record {
     start = record { insn = p.start.insn; here = sym (mirror slot place sum) ∙ p.start.here };
     origin_is = sym (mirror_origin slot place sum) ∙ p.origin_is;

@@ -116,7 +116,7 @@ module _ (maps : ℕ) (old new : List (Option Insn)) (origin : List ℕ) (copy :
             ]
       ]
 
-  record PathAhead (slot from : ℕ) (rest : List ℕ) : Type 0 where
+  pub record PathAhead (slot from : ℕ) (rest : List ℕ) : Type 0 where
     pub way : List ℕ
     pub is_path : IsPath new slot way
     pub long : length way ≡ length rest
@@ -128,7 +128,7 @@ module _ (maps : ℕ) (old new : List (Option Insn)) (origin : List ℕ) (copy :
     pub long : length way ≡ length rest
     pub stands : Stands new origin (end_of slot way) (end_of from rest)
 
-  path_ahead : (slot from : ℕ) (rest : List ℕ) → Stands new origin slot from → IsPath old from rest → PathAhead slot from rest
+  pub path_ahead : (slot from : ℕ) (rest : List ℕ) → Stands new origin slot from → IsPath old from rest → PathAhead slot from rest
   path_ahead slot from [] stands path = record { way = []; is_path = tt; long = refl; stands = stands }
   path_ahead slot from (to ∷ rest) stands (edge, path) =
       let one = edge_ahead slot from to stands edge in

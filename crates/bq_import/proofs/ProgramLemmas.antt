@@ -28,7 +28,7 @@ all_good (i ∷ rest) all fits (suc slot) insn here = gap_good (slots_of i - 1) 
 pub are_good : (insns : List Insn) → is_well_formed insns ≡ true → AllFit insns → AreGood (spread insns)
 are_good insns whole fits = all_good insns (and_parts (list_all is_insn insns) (nat_le 1 (slot_count insns) && nat_le (slot_count insns) 4096) whole).0 fits
 
--- the other way: a program of so many slots, all in range
+-- the other way: a program of this many slots, all in range
 pub well_formed : (insns : List Insn) → list_all is_insn insns ≡ true → 0 < length (spread insns) → length (spread insns) ≤ 4096 → is_well_formed insns ≡ true
 well_formed insns all some few =
     let long = spread_long insns in

@@ -11,7 +11,7 @@ use Rattle.bq_bpf.specs.Instructions.{goes_on}
 use Rattle.bq_verify.proofs.EdgeLemmas.{start_inside}
 use Rattle.bq_import.specs.declared.fault.Disorder.{Disorder}
 use Rattle.bq_import.specs.declared.fault.Disorder.TheVariants.{Outside, Ends, Loop, Long, OutOfMemory}
-use Rattle.bq_import.specs.Faults.{IsDisorder, IsFull, IsLinked}
+use Rattle.bq_import.specs.Faults.{IsSearchFault, IsFull, IsLinked}
 use Rattle.bq_import.specs.Search.{unopened}
 
 -- at most all slots are not begun
@@ -60,7 +60,7 @@ enough n most full le =
     ]
 
 -- a program whose copy is too long has 64 slots or more
-pub too_long : (slots : List (Option Insn)) (most : ℕ) (d : Disorder) → IsLinked slots → most ≤ length slots * length slots + length slots → IsFull most d → IsDisorder slots d
+pub too_long : (slots : List (Option Insn)) (most : ℕ) (d : Disorder) → IsLinked slots → most ≤ length slots * length slots + length slots → IsFull most d → IsSearchFault slots d
 too_long slots most (Outside slot) linked le full = absurd full
 too_long slots most (Ends slot) linked le full = absurd full
 too_long slots most (Loop from to) linked le full = absurd full

@@ -102,7 +102,7 @@ setting_beside old new shapes context f p = record {
 its_own : (slots : List (Option Insn)) (f : Setting) → f.slots ≡ slots → f ≡ beside f slots
 its_own slots f e = ap (λ (v : List (Option Insn)). beside f v) e
 
--- a copy is safe within a budget just where its original is
+-- a copy is safe within a budget exactly when its original is
 pub same_safety : SameSafety
 same_safety maps old new origin copy shapes context budget as_many = (
   λ safe f contents setting have n calls t chain.

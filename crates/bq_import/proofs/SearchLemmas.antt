@@ -54,6 +54,10 @@ module _ (slots : List (Option Insn)) (slot : ℕ) (insn : Insn) (here : instruc
   next_behind true is to e = some_same _ to (slot + slots_of insn) e is
   next_behind false is to e = absurd (some_none _ to e is)
 
+  next_on : (b : Bool) → goes_on insn ≡ b → targets.next ≡ (if b then Some (slot + slots_of insn) else None) → (to : ℕ) → targets.next ≡ Some to → goes_on insn ≡ true
+  next_on true e is to there = e
+  next_on false e is to there = absurd (some_none _ to there is)
+
   pub are_targets : targets.next ≡ (if goes_on insn then Some (slot + slots_of insn) else None) → IfSome targets.jump (λ to. (far : ℤ) × (distance_of insn ≡ Some far) × LeadsTo slot far to) → IfNone targets.jump (distance_of insn ≡ None) → AreTargets slots slot insn targets
   are_targets next some none =
       let out = leads_out slots slot insn here targets next some none in
@@ -64,6 +68,7 @@ module _ (slots : List (Option Insn)) (slot : ℕ) (insn : Insn) (here : instruc
         starts = starts_at out;
         later = next_later (goes_on insn) next;
         behind = next_behind (goes_on insn) next;
+        on = next_on (goes_on insn) refl next;
       }
 
 -- the jump's copy lies behind

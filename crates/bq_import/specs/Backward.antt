@@ -1,5 +1,5 @@
 -- A copy that is written from its end: slots in the order from the last to the first, so that what is written is never moved.
-use Rattle.std.specs.Prelude.{◌≡◌, ℕ, ◌+◌, ◌≤◌, ℤ, pos, true, List, reverse, length, Option, Some}
+use Rattle.std.specs.Prelude.{◌≡◌, ℕ, ◌+◌, ◌≤◌, ◌⊎◌, ℤ, pos, true, List, reverse, length, Option, Some}
 use Rattle.std.specs.List.{filter_map, list_all}
 use Rattle.bq_insn.specs.declared.Insn.{Insn}
 use Rattle.bq_insn.specs.Slots.{slots_of, spread}
@@ -30,7 +30,7 @@ pub record GoesBack (back : List (Option Insn)) (origins : List ℕ) (place slot
   pub place_is : place ≡ behind + slots
   pub stands : Stands back origins behind next
 
--- a place of the copy has the copy of what stands at a slot of the program, and control goes on from it as it does there
+-- a place of the copy has the copy of what is at a slot of the program, and control goes on from it as it does there
 pub record IsPlaced (maps : ℕ) (old back : List (Option Insn)) (origins : List ℕ) (place from : ℕ) : Type 0 where
   pub original : Insn
   pub distance : ℤ
@@ -68,6 +68,10 @@ pub record IsLengthened (maps : ℕ) (old before : List (Option Insn)) (origins 
   pub built : IsBuilt maps old after origins'
   pub keeps : Keeps before origins after origins'
   pub front : IsFront after origins' from
+
+-- nothing stands there beside what stood, and one instruction in front
+pub record IsOneMore (before : List (Option Insn)) (origins : List ℕ) (after : List (Option Insn)) (origins' : List ℕ) (from : ℕ) : Type 0 where
+  pub only : (place slot : ℕ) → Stands after origins' place slot → Stands before origins place slot ⊎ ((length after ≡ place + 1) × (slot ≡ from))
 
 -- the instruction may be put in front with this distance
 pub record MayStand (old back : List (Option Insn)) (origins : List ℕ) (from : ℕ) (insn : Insn) (distance : ℤ) : Type 0 where

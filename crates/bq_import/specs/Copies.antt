@@ -1,6 +1,6 @@
 -- When one program is a copy of another: its instructions stand in another order, some of them several times, and each
 -- goes on to copies of where its original goes on to.
-use Rattle.std.specs.Prelude.{◌≡◌, ℕ, ◌+◌, ◌-◌, ◌<◌, ℤ, pos, Bool, true, false, ◌&&◌, nat_lt, nat_le, List, Option, Some, slice_index}
+use Rattle.std.specs.Prelude.{◌≡◌, ℕ, ◌+◌, ◌-◌, ◌<◌, ℤ, pos, Bool, true, false, ◌&&◌, nat_lt, nat_le, List, Option, Some, map, slice_index}
 use Rattle.bq_insn.specs.declared.Insn.{Insn}
 use Rattle.bq_insn.specs.declared.Insn.TheVariants.{Imm64, MapRef, Goto, Goto32, Branch}
 use Rattle.bq_insn.specs.Slots.{slots_of}
@@ -9,7 +9,7 @@ use Rattle.bq_bpf.specs.Steps.{LeadsTo, instruction_at}
 use Rattle.bq_bpf.specs.Instructions.{distance_of, goes_on}
 use Rattle.bq_verify.specs.Edges.{IsStart}
 
--- a number that is the reference of one of so many maps
+-- a number that is the reference of one of this many maps
 abbrev pub is_reference : ℕ → ℕ → Bool
 is_reference maps value = nat_le (reference 0) value && nat_lt value (reference maps)
 
@@ -18,7 +18,7 @@ abbrev pub wide_copy : Bool → ℕ → ℕ → Insn
 wide_copy true dst value = MapRef dst (pos (value - reference 0))
 wide_copy false dst value = Imm64 dst value
 
--- the same instruction, beside so many maps, with this distance if it jumps
+-- the same instruction, beside this many maps, with this distance if it jumps
 abbrev pub copied : ℕ → Insn → ℤ → Insn
 copied maps (Goto off) distance = Goto distance
 copied maps (Goto32 imm) distance = Goto32 distance
@@ -49,8 +49,12 @@ pub record IsCopyAt (maps : ℕ) (old new : List (Option Insn)) (origin : List �
   pub on : goes_on original ≡ true → Stands new origin (slot + slots_of original) (from + slots_of original)
   pub jumps : (far : ℤ) → distance_of original ≡ Some far → JumpsAlike new origin from slot far distance
 
--- the new program is a copy of the old one, beside so many maps, in which each jump goes forward; the list has the old slot of
+-- the new program is a copy of the old one, beside this many maps, in which each jump goes forward; the list has the old slot of
 -- each new one
 pub record IsCopy (maps : ℕ) (old new : List (Option Insn)) (origin : List ℕ) : Type 0 where
   pub first : Stands new origin 0 0
   pub each : (slot from : ℕ) → Stands new origin slot from → IsCopyAt maps old new origin slot from
+
+-- the slots of the first program, for those of a copy of its copy
+abbrev pub AreComposed : List ℕ → List ℕ → List ℕ → Type 0
+AreComposed first second all = all ≡ map (λ slot. slice_index first slot) second

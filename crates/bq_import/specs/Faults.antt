@@ -11,13 +11,13 @@ use Rattle.bq_import.specs.Backward.{AreGood}
 use Rattle.bq_import.specs.declared.fault.Disorder.{Disorder}
 use Rattle.bq_import.specs.declared.fault.Disorder.TheVariants.{Outside, Ends, Loop, Long, OutOfMemory}
 
--- from each instruction control goes to instructions alone
+-- from each instruction control goes only to instructions
 abbrev pub LeadsWell : List (Option Insn) → ℕ → Insn → Type 0
 LeadsWell slots slot insn =
     (goes_on insn ≡ true → IsStart slots (slot + slots_of insn))
     × ((far : ℤ) → distance_of insn ≡ Some far → (to : ℕ) × LeadsTo slot far to × IsStart slots to)
 
--- whatever instruction stands at the slot, control goes from it to instructions alone
+-- whatever instruction stands at the slot, control goes from it only to instructions
 abbrev pub WellAt : List (Option Insn) → ℕ → Type 0
 WellAt slots slot = (insn : Insn) → instruction_at slots slot ≡ Some insn → LeadsWell slots slot insn
 
@@ -25,9 +25,14 @@ WellAt slots slot = (insn : Insn) → instruction_at slots slot ≡ Some insn �
 abbrev pub WellBefore : List (Option Insn) → ℕ → Type 0
 WellBefore slots slot = (j : ℕ) → j < slot → WellAt slots j
 
--- a program whose control goes from instructions to instructions alone
+-- no instruction begins within another
+abbrev pub HasGaps : List (Option Insn) → Type 0
+HasGaps slots = (slot : ℕ) (insn : Insn) → instruction_at slots slot ≡ Some insn → (j : ℕ) → slot < j → j < slot + slots_of insn → IsStart slots j → ⊥
+
+-- a program whose control goes from instructions only to instructions
 pub record IsLinked (slots : List (Option Insn)) : Type 0 where
   pub good : AreGood slots
+  pub gaps : HasGaps slots
   pub short : length slots ≤ 4096
   pub leads : (slot : ℕ) → WellAt slots slot
 
@@ -50,14 +55,25 @@ IsWrongAt slots slot (Ends at) = (at ≡ slot) × RunsOut slots slot
 IsWrongAt slots slot (Outside at) = (at ≡ slot) × LeadsNowhere slots slot × (RunsOut slots slot → ⊥)
 IsWrongAt slots slot d = ⊥
 
+-- control goes from each instruction only to later ones
+abbrev pub AllForward : List (Option Insn) → Type 0
+AllForward slots = (from to : ℕ) → IsEdge slots from to → from < to
+
 -- what is wrong with the program: what is wrong at the first slot where something is; where nothing is, there is a loop, or
--- the copy becomes too long, of which it is said alone that the program has 64 slots or more
+-- the copy becomes too long, of a program in which some jump goes back and which has 64 slots or more
 abbrev pub IsDisorder : List (Option Insn) → Disorder → Type 0
 IsDisorder slots (Ends slot) = RunsOut slots slot × WellBefore slots slot
 IsDisorder slots (Outside slot) = LeadsNowhere slots slot × (RunsOut slots slot → ⊥) × WellBefore slots slot
 IsDisorder slots (Loop from to) = IsLinked slots × IsLoop slots from to
-IsDisorder slots Long = IsLinked slots × (64 ≤ length slots)
+IsDisorder slots Long = IsLinked slots × (AllForward slots → ⊥) × (64 ≤ length slots)
 IsDisorder slots OutOfMemory = Unit {0}
+
+-- why the search ends early: a loop, or a copy that becomes too long
+abbrev pub IsSearchFault : List (Option Insn) → Disorder → Type 0
+IsSearchFault slots (Loop from to) = IsLinked slots × IsLoop slots from to
+IsSearchFault slots Long = IsLinked slots × (64 ≤ length slots)
+IsSearchFault slots OutOfMemory = Unit {0}
+IsSearchFault slots d = ⊥
 
 -- the copy did not fit: it would have had that many slots or fewer, and over 4096
 abbrev pub IsFull : ℕ → Disorder → Type 0

@@ -6,4 +6,7 @@ pub mod Search
 pub mod Searching
 pub mod Reasons
 pub mod Importing
+pub mod Keeping
+pub mod Noted
 pub mod Text
+pub mod Running

@@ -1,7 +1,7 @@
 -- What the search keeps that puts each slot in front once all slots are in place to which control may go from it.
 use Rattle.std.specs.Prelude.{◌≡◌, ℕ, ◌+◌, ◌*◌, ◌<◌, ◌≤◌, ◌⊎◌, Bool, true, false, ℤ, pos, List, length, Option, Some, None, slice_index, slice_index_or, sum_by}
 use Rattle.bq_insn.specs.declared.Insn.{Insn}
-use Rattle.bq_bpf.specs.Steps.{LeadsTo}
+use Rattle.bq_bpf.specs.Steps.{LeadsTo, instruction_at}
 use Rattle.bq_insn.specs.Slots.{slots_of}
 use Rattle.bq_bpf.specs.Instructions.{distance_of, goes_on}
 use Rattle.bq_verify.specs.Edges.{IsEdge, IsStart}
@@ -19,6 +19,22 @@ pub record AreTargets (slots : List (Option Insn)) (slot : ℕ) (insn : Insn) (t
   pub starts : (to : ℕ) → IsOf targets to → IsStart slots to
   pub later : (to : ℕ) → targets.next ≡ Some to → slot < to
   pub behind : (to : ℕ) → targets.next ≡ Some to → to ≡ slot + slots_of insn
+  pub on : (to : ℕ) → targets.next ≡ Some to → goes_on insn ≡ true
+
+-- control goes on from the instruction at the slot to that one
+pub record IsNext (slots : List (Option Insn)) (slot next : ℕ) : Type 0 where
+  pub insn : Insn
+  pub here : instruction_at slots slot ≡ Some insn
+  pub on : goes_on insn ≡ true
+  pub is : next ≡ slot + slots_of insn
+
+abbrev pub width_of : Option Insn → ℕ
+width_of None = 0
+width_of (Some insn) = slots_of insn
+
+-- how many slots the instruction takes that begins at the slot; 0 where none does
+abbrev pub width_at : List (Option Insn) → ℕ → ℕ
+width_at slots slot = width_of (instruction_at slots slot)
 
 abbrev pub place_at : List (Option ℕ) → ℕ → Option ℕ
 place_at places slot = slice_index_or places slot None

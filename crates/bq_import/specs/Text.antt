@@ -8,6 +8,7 @@ use Rattle.bq_asm.specs.Text.{listing_text}
 use Rattle.bq_object.specs.Faults.{IsObjectFault}
 use Rattle.bq_object.specs.Objects.{IsObject, IsPolicyOf}
 use Rattle.bq_import.specs.Importing.{Imports, IsImportFault}
+use Rattle.bq_import.specs.Noted.{IsNotedListing}
 use Rattle.bq_import.specs.declared.text.ImportSettings.{ImportSettings}
 use Rattle.bq_import.specs.declared.text.ImportRefusal.{ImportRefusal}
 use Rattle.bq_import.specs.declared.text.ImportRefusal.TheVariants as refusal
@@ -55,3 +56,18 @@ pub record IsTextOf (settings : ImportSettings) (bytes text : List ℕ) : Type 0
   pub origins : List ℕ
   pub imported : Imports (length settings.form.shapes.items) bytes insns origins
   pub text_is : text ≡ settings_marks settings ++ listing_text insns
+
+-- the same, where comments may stand above instructions
+pub record IsNotedTextOf (settings : ImportSettings) (bytes text : List ℕ) : Type 0 where
+  pub insns : List Insn
+  pub origins : List ℕ
+  pub imported : Imports (length settings.form.shapes.items) bytes insns origins
+  pub listing : List ℕ
+  pub is_listing : IsNotedListing insns listing
+  pub text_is : text ≡ settings_marks settings ++ listing
+
+-- the text of an input: of an object that of its policy, with comments; else that of the bytes
+abbrev pub IsImportedAs : ImportSettings → List ℕ → List ℕ → Type 0
+IsImportedAs settings input text =
+    ((policy : List ℕ) × IsObject input × IsPolicyOf input policy × IsNotedTextOf settings policy text)
+    ⊎ ((bytes : List ℕ) × (IsObject input → ⊥) × AreRaw input bytes × IsTextOf settings bytes text)

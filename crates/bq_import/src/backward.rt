@@ -3,7 +3,7 @@ ghost use Rattle.std.specs.Prelude.{◌≡◌, ◌<◌, ◌≤◌, ◌+◌, ◌-
 ghost use Rattle.bq_insn.specs.Slots.{slots_of};
 ghost use Rattle.bq_insn.specs.declared.Insn.{Insn};
 ghost use Rattle.bq_import.specs.Copies.{copied, is_reference, wide_copy};
-ghost use Rattle.bq_import.specs.Backward.{AreGood, IsBuilt, IsFront, IsLengthened, MayStand};
+ghost use Rattle.bq_import.specs.Backward.{AreGood, IsBuilt, IsFront, IsLengthened, IsOneMore, MayStand};
 ghost use Rattle.bq_import.specs.Faults.{IsFull};
 
 use crate::fault::Disorder;
@@ -45,6 +45,7 @@ impl Backward {
         requires inside { from < 4096 }
         requires may { MayStand old.now self.old.slots.items self.old.origins.items from insn distance }
         ensures ok { OnOk result (IsLengthened maps old.now self.old.slots.items self.old.origins.items self.new.slots.items self.new.origins.items from) }
+        ensures only { OnOk result (IsOneMore self.old.slots.items self.old.origins.items self.new.slots.items self.new.origins.items from) }
         ensures grown { OnOk result (length self.new.slots.items ≡ length self.old.slots.items + slots_of insn) }
         ensures full { IfErr result (IsFull (length self.old.slots.items + slots_of insn)) }
     {
@@ -88,7 +89,7 @@ impl Backward {
     }
 }
 
-/// The same instruction, beside so many maps, with this distance if it jumps.
+/// The same instruction, beside this many maps, with this distance if it jumps.
 fn copied(insn: Insn, distance: i16, maps: usize) -> Insn
     requires { maps ≤ 8 }
     ensures { result ≡ copied maps insn distance }

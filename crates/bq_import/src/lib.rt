@@ -6,11 +6,14 @@
 
 mod backward;
 pub mod fault;
+mod kept;
 mod landings;
 pub mod laws;
 mod linked;
+mod noted;
 pub mod order;
 mod putting;
+mod reached;
 pub mod reason;
 mod search;
 pub mod section;
@@ -20,4 +23,4 @@ pub use fault::Disorder;
 pub use order::Ordered;
 pub use reason::Reason;
 pub use section::{ImportFault, import};
-pub use text::{ImportRefusal, ImportSettings, imported};
+pub use text::{ImportRefusal, ImportSettings, ImportedText, imported, imported_text};

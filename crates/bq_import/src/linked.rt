@@ -4,7 +4,7 @@ ghost use Rattle.bq_bpf.specs.Steps.{LeadsTo, instruction_at};
 ghost use Rattle.bq_bpf.specs.Instructions.{distance_of};
 ghost use Rattle.bq_verify.specs.Edges.{IsStart, IsWhole};
 ghost use Rattle.bq_import.specs.Backward.{AreGood};
-ghost use Rattle.bq_import.specs.Faults.{IsDisorder, IsLinked, IsWrongAt, LeadsWell, WellAt};
+ghost use Rattle.bq_import.specs.Faults.{HasGaps, IsDisorder, IsLinked, IsWrongAt, LeadsWell, WellAt};
 ghost use Rattle.bq_import.specs.Search.{AreTargets};
 
 use crate::fault::Disorder;
@@ -31,7 +31,7 @@ fn landing(slots: &[Option<Insn>], slot: usize, distance: i64) -> Option<usize>
     Some(to as usize)
 }
 
-/// Whether control goes on to instructions alone.
+/// Whether control goes on only to instructions.
 fn leads_well(slots: &[Option<Insn>], slot: usize, insn: Insn) -> Result<(), Disorder>
     requires here { instruction_at slots.now slot ≡ Some insn }
     requires inside { slot < length slots.now }
@@ -51,7 +51,7 @@ fn leads_well(slots: &[Option<Insn>], slot: usize, insn: Insn) -> Result<(), Dis
     Ok(())
 }
 
-/// Whether control goes on to instructions alone from the slot, if an instruction begins there.
+/// Whether control goes on only to instructions from the slot, if an instruction begins there.
 fn slot_leads_well(slots: &[Option<Insn>], slot: usize) -> Result<(), Disorder>
     requires inside { slot < length slots.now }
     requires short { length slots.now ≤ SLOTS }
@@ -66,11 +66,12 @@ fn slot_leads_well(slots: &[Option<Insn>], slot: usize) -> Result<(), Disorder>
     Ok(())
 }
 
-/// Whether control goes from each slot to instructions alone.
+/// Whether control goes from each slot only to instructions.
 pub fn check(slots: &[Option<Insn>]) -> Result<(), Disorder>
     requires short { length slots.now ≤ SLOTS }
     requires whole { IsWhole slots.now }
     requires good { AreGood slots.now }
+    requires gaps { HasGaps slots.now }
     ensures ok { OnOk result (IsLinked slots.now) }
     ensures err { IfErr result (IsDisorder slots.now) }
 {

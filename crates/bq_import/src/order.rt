@@ -1,5 +1,5 @@
 //! A program in an order in which every jump goes forward.
-ghost use Rattle.std.specs.Prelude.{◌≡◌, ◌≤◌, ◌<◌, List, Option, length, true, filter_map, reverse, OnOk, IfOk, IfErr};
+ghost use Rattle.std.specs.Prelude.{◌≡◌, ◌≤◌, ◌<◌, ℕ, List, Option, length, true, filter_map, reverse, OnOk, IfOk, IfErr};
 ghost use Rattle.bq_insn.specs.declared.Insn.{Insn};
 ghost use Rattle.bq_insn.specs.Slots.{spread};
 ghost use Rattle.bq_insn.specs.Spelling.{is_well_formed};
@@ -7,14 +7,18 @@ ghost use Rattle.bq_insn.specs.Laws.{AllFit};
 ghost use Rattle.bq_verify.specs.Edges.{IsStart};
 ghost use Rattle.bq_import.specs.Copies.{IsCopy};
 ghost use Rattle.bq_import.specs.Backward.{IsBuilt, IsFront, insns_of};
-ghost use Rattle.bq_import.specs.Faults.{IsDisorder, IsLinked};
+ghost use Rattle.bq_import.specs.Faults.{AllForward, IsDisorder, IsLinked, IsSearchFault};
+ghost use Rattle.bq_import.specs.Keeping.{AllReached};
+ghost use Rattle.bq_import.specs.declared.fault.Disorder.TheVariants.{OutOfMemory};
 ghost use Rattle.bq_import.specs.Search.{IsDone};
 ghost use Rattle.bq_import.specs.Searching.{IsDoneWith};
 
 use crate::backward::Backward;
 use crate::fault::Disorder;
+use crate::kept::{composed, kept};
 use crate::landings::landings;
 use crate::linked::check;
+use crate::reached::goes_forward;
 use crate::search::Search;
 use bq_insn::Insn;
 use bq_verify::edges::instruction;
@@ -30,10 +34,10 @@ pub struct Ordered {
     pub origins: Vec<usize>,
 }
 
-/// The program, beside so many maps, in an order in which each jump goes forward: a copy, by `IsCopy`, with the same runs,
+/// The program, beside this many maps, in an order in which each jump goes forward: a copy, by `IsCopy`, with the same runs,
 /// step for step (see `laws`).
 ///
-/// An instruction may stand several times, where control comes to it from several sides: its original is told for each slot.
+/// An instruction may stand several times, where control comes to it from several sides: its original is known for each slot.
 /// Instructions that control never comes to are left out. A wide number that is the reference of a map is that reference.
 /// Where there is no such order the answer is a loop, by its two slots.
 pub fn order(alloc: Global, insns: &[Insn], maps: usize) -> Result<Ordered, Disorder>
@@ -43,6 +47,7 @@ pub fn order(alloc: Global, insns: &[Insn], maps: usize) -> Result<Ordered, Diso
     ensures copy { IfOk result (λ ordered. IsCopy maps (spread insns.now) (spread ordered.insns.items) ordered.origins.items) }
     ensures well_formed { IfOk result (λ ordered. is_well_formed ordered.insns.items ≡ true) }
     ensures numbers { IfOk result (λ ordered. AllFit ordered.insns.items) }
+    ensures reached { IfOk result (λ ordered. AllReached (spread ordered.insns.items)) }
     ensures disorder { IfErr result (IsDisorder (spread insns.now)) }
 {
     let slots = lay_out(alloc, insns)?;
@@ -56,9 +61,45 @@ fn order_slots(alloc: Global, slots: &[Option<Insn>], maps: usize) -> Result<Ord
     ensures copy { IfOk result (λ ordered. IsCopy maps slots.now (spread ordered.insns.items) ordered.origins.items) }
     ensures well_formed { IfOk result (λ ordered. is_well_formed ordered.insns.items ≡ true) }
     ensures numbers { IfOk result (λ ordered. AllFit ordered.insns.items) }
+    ensures reached { IfOk result (λ ordered. AllReached (spread ordered.insns.items)) }
     ensures disorder { IfErr result (IsDisorder slots.now) }
 {
     check(slots)?;
+    if goes_forward(slots) {
+        return kept(alloc, slots, maps);
+    }
+    let searched = searched(alloc, slots, maps)?;
+    kept_of(alloc, &searched)
+}
+
+/// A copy of the copy with only what control comes to.
+fn kept_of(alloc: Global, searched: &Ordered) -> Result<Ordered, Disorder>
+    requires copy { (maps : ℕ) × (old : List (Option Insn)) × IsCopy maps old (spread searched.now.insns.items) searched.now.origins.items }
+    requires well_formed { is_well_formed searched.now.insns.items ≡ true }
+    requires numbers { AllFit searched.now.insns.items }
+    ensures copy { IfOk result (λ kept. (maps : ℕ) (old : List (Option Insn)) → IsCopy maps old (spread searched.now.insns.items) searched.now.origins.items → IsCopy maps old (spread kept.insns.items) kept.origins.items) }
+    ensures well_formed { IfOk result (λ kept. is_well_formed kept.insns.items ≡ true) }
+    ensures numbers { IfOk result (λ kept. AllFit kept.insns.items) }
+    ensures reached { IfOk result (λ kept. AllReached (spread kept.insns.items)) }
+    ensures memory { IfErr result (λ e. e ≡ OutOfMemory) }
+{
+    let slots = lay_out(alloc, searched.insns.as_slice())?;
+    let Ordered { insns, origins } = kept(alloc, slots.as_slice(), 0)?;
+    let origins = composed(alloc, searched.origins.as_slice(), origins.as_slice())?;
+    Ok(Ordered { insns, origins })
+}
+
+/// The program of the slots, of which some jump goes back, in order.
+fn searched(alloc: Global, slots: &[Option<Insn>], maps: usize) -> Result<Ordered, Disorder>
+    requires linked { IsLinked slots.now }
+    requires first { IsStart slots.now 0 }
+    requires few { maps ≤ 8 }
+    requires back { AllForward slots.now → ⊥ }
+    ensures copy { IfOk result (λ ordered. IsCopy maps slots.now (spread ordered.insns.items) ordered.origins.items) }
+    ensures well_formed { IfOk result (λ ordered. is_well_formed ordered.insns.items ≡ true) }
+    ensures numbers { IfOk result (λ ordered. AllFit ordered.insns.items) }
+    ensures disorder { IfErr result (IsDisorder slots.now) }
+{
     let landings = landings(alloc, slots)?;
     let mut search = Search::new(alloc, slots)?;
     search.run(slots, maps, landings.as_slice())?;
@@ -75,7 +116,7 @@ impl Search {
         requires done { IsDoneWith maps old.now self.old }
         ensures built { OnOk result (IsBuilt maps old.now self.new.copy.slots.items self.new.copy.origins.items) }
         ensures front { OnOk result (IsFront self.new.copy.slots.items self.new.copy.origins.items 0) }
-        ensures err { IfErr result (IsDisorder old.now) }
+        ensures err { IfErr result (IsSearchFault old.now) }
     {
         for slot in (0..old.len()).rev() {
             self.visit_landing(old, maps, landings, slot)?;
@@ -97,7 +138,7 @@ impl Search {
         requires few { maps ≤ 8 }
         requires done { IsDoneWith maps old.now self.old }
         ensures ok { OnOk result (IsDoneWith maps old.now self.new) }
-        ensures err { IfErr result (IsDisorder old.now) }
+        ensures err { IfErr result (IsSearchFault old.now) }
     {
         if slot >= landings.len() || !landings[slot] {
             return Ok(());
@@ -108,7 +149,7 @@ impl Search {
         self.visit(old, maps, slot)
     }
 
-    /// Puts the first instruction in front, once more if it stands elsewhere.
+    /// Puts the first instruction in front, again if it stands elsewhere.
     fn begin_with_first(&mut self, old: &[Option<Insn>], maps: usize) -> Result<(), Disorder>
         requires linked { IsLinked old.now }
         requires few { maps ≤ 8 }
@@ -117,7 +158,7 @@ impl Search {
         requires done { IsDone self.old.places.items 0 }
         ensures built { OnOk result (IsBuilt maps old.now self.new.copy.slots.items self.new.copy.origins.items) }
         ensures front { OnOk result (IsFront self.new.copy.slots.items self.new.copy.origins.items 0) }
-        ensures err { IfErr result (IsDisorder old.now) }
+        ensures err { IfErr result (IsSearchFault old.now) }
     {
         let Some(_) = self.copy.missing_front(Some(0)) else {
             return Ok(());
@@ -128,7 +169,7 @@ impl Search {
 }
 
 /// The copy from its start to its end.
-fn turned(alloc: Global, copy: &Backward) -> Result<Ordered, AllocError>
+pub(crate) fn turned(alloc: Global, copy: &Backward) -> Result<Ordered, AllocError>
     ensures insns { IfOk result (λ ordered. ordered.insns.items ≡ insns_of copy.now.slots.items) }
     ensures origins { IfOk result (λ ordered. ordered.origins.items ≡ reverse copy.now.origins.items) }
 {

@@ -4,9 +4,10 @@ ghost use Rattle.bq_insn.specs.declared.Insn.{Insn};
 ghost use Rattle.bq_insn.specs.Slots.{slots_of};
 ghost use Rattle.bq_bpf.specs.Steps.{instruction_at};
 ghost use Rattle.bq_verify.specs.Edges.{IsStart};
-ghost use Rattle.bq_import.specs.Backward.{IsBuilt, IsFront, IsLengthened};
+ghost use Rattle.bq_import.specs.Backward.{IsBuilt, IsFront, IsLengthened, IsOneMore};
 ghost use Rattle.bq_import.specs.Faults.{IsFull, IsLinked};
-ghost use Rattle.bq_import.specs.Search.{AreClosed, AreTargets, AreKnown, IsDone, IsReady, JumpsTo, place_at};
+ghost use Rattle.bq_import.specs.Running.{IsPut, IsRun};
+ghost use Rattle.bq_import.specs.Search.{AreClosed, AreTargets, AreKnown, IsDone, IsNext, IsReady, JumpsTo, place_at, width_at};
 
 use crate::backward::Backward;
 use crate::fault::Disorder;
@@ -45,7 +46,7 @@ impl Backward {
     }
 
     /// Puts a copy of the instruction in front, where what it goes on to stands there.
-    fn put(
+    pub(crate) fn put(
         &mut self,
         old: &[Option<Insn>],
         maps: usize,
@@ -63,6 +64,7 @@ impl Backward {
         requires ready { IsReady old.now places.now slot }
         requires front { (n : ℕ) → targets.next ≡ Some n → IsFront self.old.slots.items self.old.origins.items n }
         ensures ok { OnOk result (IsLengthened maps old.now self.old.slots.items self.old.origins.items self.new.slots.items self.new.origins.items slot) }
+        ensures only { OnOk result (IsOneMore self.old.slots.items self.old.origins.items self.new.slots.items self.new.origins.items slot) }
         ensures grown { OnOk result (length self.new.slots.items ≡ length self.old.slots.items + slots_of insn) }
         ensures full { IfErr result (IsFull (length self.old.slots.items + slots_of insn)) }
     {
@@ -90,16 +92,69 @@ impl Backward {
         ensures grown { OnOk result (length self.new.slots.items + slot ≤ length self.old.slots.items + length old.now) }
         ensures full { IfErr result (IsFull (length self.old.slots.items + (length old.now - slot))) }
     {
+        let last = self.run_end(old, places, slot);
+        self.put_at(old, maps, places, last)?;
+        for done in 0..last - slot {
+            self.put_at(old, maps, places, last - 1 - done)?;
+        }
+        Ok(())
+    }
+
+    /// The last slot of the run that is put in front: from there control goes on to nothing, or to what stands in front.
+    fn run_end(&self, old: &[Option<Insn>], places: &[Option<usize>], slot: usize) -> usize
+        requires built { (maps : ℕ) × IsBuilt maps old.now self.now.slots.items self.now.origins.items }
+        requires linked { IsLinked old.now }
+        requires closed { AreClosed old.now places.now }
+        requires start { IsStart old.now slot }
+        requires ready { IsReady old.now places.now slot }
+        ensures run { IsRun old.now places.now slot result }
+        ensures ends { (next : ℕ) → IsNext old.now result next → IsFront self.now.slots.items self.now.origins.items next }
+    {
+        let mut last = slot;
+        while let Some(next) = self.next_missing(old, last) {
+            last = next;
+        }
+        last
+    }
+
+    /// What control goes on to from the slot, where that does not stand in front.
+    fn next_missing(&self, old: &[Option<Insn>], slot: usize) -> Option<usize>
+        requires built { (maps : ℕ) × IsBuilt maps old.now self.now.slots.items self.now.origins.items }
+        requires linked { IsLinked old.now }
+        requires start { IsStart old.now slot }
+        ensures some { IfSome result (IsNext old.now slot) }
+        ensures none { IfNone result ((next : ℕ) → IsNext old.now slot next → IsFront self.now.slots.items self.now.origins.items next) }
+    {
         let Some(insn) = instruction(old, slot) else {
             unreachable!()
         };
         let targets = targets(old, slot, insn);
-        let Some(next) = self.missing_front(targets.next) else {
-            return self.put(old, maps, places, slot, insn, targets);
+        self.missing_front(targets.next)
+    }
+
+    /// Puts a copy of the instruction that begins at the slot in front, if one does.
+    fn put_at(
+        &mut self,
+        old: &[Option<Insn>],
+        maps: usize,
+        places: &[Option<usize>],
+        slot: usize,
+    ) -> Result<(), Disorder>
+        requires built { IsBuilt maps old.now self.old.slots.items self.old.origins.items }
+        requires linked { IsLinked old.now }
+        requires known { AreKnown self.old.slots.items self.old.origins.items places.now }
+        requires few { maps ≤ 8 }
+        requires inside { slot < length old.now }
+        requires ready { IsStart old.now slot → IsReady old.now places.now slot }
+        requires front { (next : ℕ) → IsNext old.now slot next → IsFront self.old.slots.items self.old.origins.items next }
+        ensures ok { OnOk result (IsPut maps old.now self.old.slots.items self.old.origins.items self.new.slots.items self.new.origins.items slot) }
+        ensures full { IfErr result (IsFull (length self.old.slots.items + width_at old.now slot)) }
+    {
+        let Some(insn) = instruction(old, slot) else {
+            return Ok(());
         };
-        self.place(old, maps, places, next)?;
-        self.put(old, maps, places, slot, insn, targets)?;
-        Ok(())
+        let targets = targets(old, slot, insn);
+        self.put(old, maps, places, slot, insn, targets)
     }
 }
 

@@ -6,7 +6,7 @@ use bq_bpf::with_program_bytes;
 use bq_insn::fault::Cause;
 use std::fmt;
 
-/// What stands at a slot that is no instruction here, or needs what only a linker has.
+/// What is at a slot that is no instruction here, or needs what only a linker has.
 #[derive(Clone, Copy, Debug)]
 pub enum Reason {
     /// The length is 0, no multiple of 8, or too great.
@@ -23,7 +23,7 @@ pub enum Reason {
     Address,
     /// A number of 64 bits that the loader is to fill in.
     Filled,
-    /// Another opcode that there is not.
+    /// Another opcode that does not exist.
     Opcode,
     /// A field that is out of range.
     Field,

@@ -3,7 +3,7 @@ ghost use Rattle.std.specs.Prelude.{◌≡◌, ◌<◌, ◌≤◌, ℕ, true, fa
 ghost use Rattle.bq_insn.specs.declared.Insn.{Insn};
 ghost use Rattle.bq_verify.specs.Edges.{IsEdge, IsStart};
 ghost use Rattle.bq_verify.specs.Passes.{IsOf};
-ghost use Rattle.bq_import.specs.Faults.{IsDisorder, IsLinked};
+ghost use Rattle.bq_import.specs.Faults.{IsSearchFault, IsLinked};
 ghost use Rattle.bq_import.specs.Search.{IsDone, IsReady, IsTop, place_at, is_open};
 ghost use Rattle.bq_import.specs.Searching.{IsAt, WentOn, IsDoneWith};
 
@@ -48,7 +48,7 @@ impl Search {
         requires done { IsDoneWith maps old.now self.old }
         ensures ok { OnOk result (IsDoneWith maps old.now self.new) }
         ensures root { OnOk result (IsDone self.new.places.items root) }
-        ensures err { IfErr result (IsDisorder old.now) }
+        ensures err { IfErr result (IsSearchFault old.now) }
     {
         if self.is_open(root) {
             return Ok(());
@@ -67,7 +67,7 @@ impl Search {
         requires at { IsAt maps old.now self.old }
         requires top { IsTop self.old.stack.items slot }
         ensures ok { OnOk result (WentOn maps old.now self.old self.new) }
-        ensures err { IfErr result (IsDisorder old.now) }
+        ensures err { IfErr result (IsSearchFault old.now) }
     {
         let Some(insn) = instruction(old, slot) else {
             unreachable!()
@@ -116,7 +116,7 @@ impl Search {
         requires edge { IsEdge old.now from to }
         requires new { place_at self.old.places.items to ≡ None }
         ensures ok { OnOk result (WentOn maps old.now self.old self.new) }
-        ensures err { IfErr result (IsDisorder old.now) }
+        ensures err { IfErr result (IsSearchFault old.now) }
     {
         if self.is_open(to) {
             return Err(Disorder::Loop { from, to });
@@ -132,7 +132,7 @@ impl Search {
         requires edge { (top : ℕ) → IsTop self.old.stack.items top → IsEdge old.now top slot }
         ensures ok { OnOk result (WentOn maps old.now self.old self.new) }
         ensures opened { OnOk result (is_open self.new.opens.items slot ≡ true) }
-        ensures err { IfErr result (IsDisorder old.now) }
+        ensures err { IfErr result (IsSearchFault old.now) }
     {
         self.opens[slot] = true;
         self.stack.push(slot)?;
@@ -147,7 +147,7 @@ impl Search {
         requires top { IsTop self.old.stack.items slot }
         requires ready { IsReady old.now self.old.places.items slot }
         ensures ok { OnOk result (WentOn maps old.now self.old self.new) }
-        ensures err { IfErr result (IsDisorder old.now) }
+        ensures err { IfErr result (IsSearchFault old.now) }
     {
         self.copy.place(old, maps, self.places.as_slice(), slot)?;
         self.places[slot] = Some(self.copy.slots.len() - 1);
@@ -165,14 +165,14 @@ impl Search {
     }
 }
 
-fn no_places(alloc: Global, count: usize) -> Result<Vec<Option<usize>>, AllocError>
+pub(crate) fn no_places(alloc: Global, count: usize) -> Result<Vec<Option<usize>>, AllocError>
     ensures blank { IfOk result (λ list. (k : ℕ) → slice_index_or list.items k None ≡ None) }
     ensures room { IfOk result (λ list. length list.items ≡ count) }
 {
     vec![in alloc; None; count]
 }
 
-fn none_open(alloc: Global, count: usize) -> Result<Vec<bool>, AllocError>
+pub(crate) fn none_open(alloc: Global, count: usize) -> Result<Vec<bool>, AllocError>
     ensures blank { IfOk result (λ list. (k : ℕ) → slice_index_or list.items k false ≡ false) }
     ensures room { IfOk result (λ list. length list.items ≡ count) }
 {

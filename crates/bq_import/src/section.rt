@@ -17,12 +17,26 @@ use thiserror::Error;
 /// Why the bytes of a compiled program are not imported.
 #[derive(Clone, Copy, Debug, Error)]
 pub enum ImportFault {
-    /// What stands at the slot is no instruction here, or needs a linker.
+    /// What is at the slot is no instruction here, or needs a linker.
     #[error("slot {slot}: {reason}")]
     At { slot: usize, reason: Reason },
     /// The program cannot be brought into order.
     #[error("{0}")]
     Order(Disorder),
+}
+
+impl ImportFault {
+    /// The slot at fault, if it is one.
+    pub fn slot(&self) -> Option<u64> {
+        match self {
+            ImportFault::At { slot, .. } => Some(*slot as u64),
+            ImportFault::Order(Disorder::Outside { slot } | Disorder::Ends { slot }) => Some(
+                *slot as u64,
+            ),
+            ImportFault::Order(Disorder::Loop { from, .. }) => Some(*from as u64),
+            ImportFault::Order(Disorder::Long | Disorder::OutOfMemory) => None,
+        }
+    }
 }
 
 impl From<Disorder> for ImportFault {
@@ -36,10 +50,10 @@ impl From<Disorder> for ImportFault {
     }
 }
 
-/// The program that the bytes of a text section spell, beside so many maps, in an order in which every jump goes forward.
+/// The program that the bytes of a text section spell, beside this many maps, in an order in which every jump goes forward.
 ///
 /// It is a copy (see `order`) of what the bytes spell. An `lddw` of a number that a move could load is refused as an
-/// address: a compiler writes it for what a linker fills in alone. What is refused has the fault that is named.
+/// address: a compiler writes it only for what a linker fills in. What is refused has the fault that is named.
 pub fn import(alloc: Global, bytes: &[u8], maps: usize) -> Result<Ordered, ImportFault>
     requires few { maps ≤ 8 }
     ensures imports { IfOk result (λ ordered. Imports maps bytes.now ordered.insns.items ordered.origins.items) }

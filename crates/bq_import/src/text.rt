@@ -1,17 +1,21 @@
 //! The text of a compiled program.
-ghost use Rattle.std.specs.Prelude.{◌≡◌, ℕ, IfErr, IfOk, List};
+ghost use Rattle.std.specs.Prelude.{◌≡◌, IfErr, IfOk, length};
 ghost use Rattle.std.specs.List.{list_all};
 ghost use Rattle.std.specs.String.{string_bytes};
 ghost use Rattle.bq_import.specs.declared.text.ImportRefusal.TheVariants.{OutOfMemory};
 ghost use Rattle.bq_object.specs.Objects.{IsObject};
 ghost use Rattle.bq_object.specs.Faults.{IsObjectFault};
-ghost use Rattle.bq_import.specs.Text.{IsRefused, IsSection, IsTextOf, IsUnimported, is_hex_byte, maps_line, settings_marks};
+ghost use Rattle.bq_import.specs.Importing.{Imports};
+ghost use Rattle.bq_import.specs.Text.{IsImportedAs, IsNotedTextOf, IsRefused, IsTextOf, IsUnimported, is_hex_byte, maps_line, settings_marks};
 
 use crate::fault::Disorder;
+use crate::noted::{noted_listing, source_at};
+use crate::order::Ordered;
 use crate::section::{ImportFault, import};
 use bq_asm::listing;
-use bq_object::{ObjectFault, is_object, policy_of};
-use bq_policy_file::{ImageForm, bytes_of, is_blank, marks_text};
+use bq_object::{ObjectFault, SourceLine, is_object, policy_of, source_lines};
+use bq_policy_file::{bytes_of, is_blank, marks_text};
+use bq_verify::PolicyForm;
 use std::alloc::{AllocError, AllocFailed, Global};
 use thiserror::Error;
 
@@ -19,7 +23,7 @@ use thiserror::Error;
 #[derive(Drop)]
 pub struct ImportSettings {
     /// Its hook, maps and version.
-    pub form: ImageForm,
+    pub form: PolicyForm,
     /// The text that names the maps, if there are some.
     pub maps: Option<String>,
 }
@@ -40,6 +44,17 @@ pub enum ImportRefusal {
     OutOfMemory,
 }
 
+impl ImportRefusal {
+    /// The slot of the compiled program that is at fault, if it is one.
+    pub fn slot(&self) -> Option<u64> {
+        match self {
+            ImportRefusal::Object(ObjectFault::Relocation { slot, .. }) => Some(*slot),
+            ImportRefusal::Import(fault) => fault.slot(),
+            _ => None,
+        }
+    }
+}
+
 impl From<AllocError> for ImportRefusal {
     ghost from_gives = { λ _ e. e ≡ OutOfMemory };
 
@@ -56,16 +71,40 @@ impl<T: Drop> From<AllocFailed<T>> for ImportRefusal {
     }
 }
 
+/// A compiled program as an assembler text.
+#[derive(Drop)]
+pub struct ImportedText<'a> {
+    pub text: String,
+    /// For each of its instructions the line of C that it comes from, where an object says it.
+    pub sources: Vec<Option<SourceLine<'a>>>,
+}
+
 /// The assembler text of a compiled program: the marks of the settings, and the listing of a copy of the program in which every jump
 /// goes forward. The input is an object file, whose function `policy` is the program, or the bytes of a text section. If it is
-/// nothing but digits of hex and blanks, these spell the bytes.
-#[tactic(auto, using(crate::proofs::RefusalLemmas::refused_by, crate::proofs::RefusalLemmas::refused_for_memory))]
+/// nothing but digits of hex and blanks, these spell the bytes. Above the instructions of an object stand the lines of C that they
+/// come from, where it says them.
 pub fn imported(
     alloc: Global,
     settings: &ImportSettings,
     input: &[u8],
 ) -> Result<String, ImportRefusal>
-    ensures text { IfOk result (λ text. (bytes : List ℕ) × IsSection input.now bytes × IsTextOf settings.now bytes (string_bytes text)) }
+    ensures text { IfOk result (λ text. IsImportedAs settings.now input.now (string_bytes text)) }
+    ensures refused { IfErr result (IsRefused input.now) }
+{
+    match imported_text(alloc, settings, input) {
+        Ok(ImportedText { text, .. }) => Ok(text),
+        Err(refusal) => Err(refusal),
+    }
+}
+
+/// The same, with the lines of C.
+#[tactic(auto, using(crate::proofs::RefusalLemmas::refused_by, crate::proofs::RefusalLemmas::refused_for_memory))]
+pub fn imported_text<'a>(
+    alloc: Global,
+    settings: &ImportSettings,
+    input: &'a [u8],
+) -> Result<ImportedText<'a>, ImportRefusal>
+    ensures text { IfOk result (λ made. IsImportedAs settings.now input.now (string_bytes made.text)) }
     ensures refused { IfErr result (IsRefused input.now) }
 {
     if is_object(input) {
@@ -81,40 +120,103 @@ pub fn imported(
 }
 
 /// The text of the policy of an object file.
-#[tactic(auto, using(crate::proofs::RefusalLemmas::refused_by))]
-fn imported_object(
+#[tactic(auto, using(crate::proofs::RefusalLemmas::refused_by, crate::proofs::RefusalLemmas::refused_for_memory))]
+fn imported_object<'a>(
     alloc: Global,
     settings: &ImportSettings,
-    file: &[u8],
-) -> Result<String, ImportRefusal>
+    file: &'a [u8],
+) -> Result<ImportedText<'a>, ImportRefusal>
     requires { IsObject file.now }
-    ensures text { IfOk result (λ text. (bytes : List ℕ) × IsSection file.now bytes × IsTextOf settings.now bytes (string_bytes text)) }
+    ensures text { IfOk result (λ made. IsImportedAs settings.now file.now (string_bytes made.text)) }
     ensures refused { IfErr result (IsRefused file.now) }
 {
     match policy_of(file) {
-        Ok(policy) => imported_bytes(alloc, settings, policy),
+        Ok(policy) => {
+            let lines = source_lines(alloc, file)?;
+            imported_policy(alloc, settings, policy, lines.as_slice())
+        }
         Err(fault) => Err(ImportRefusal::Object(fault)),
     }
 }
 
-/// The text of the program that the bytes spell: the marks, and the listing of a copy of it in which every jump goes forward.
-fn imported_bytes(
+/// The text of the program that the bytes spell, with the lines that its slots come from as comments.
+fn imported_policy<'a>(
     alloc: Global,
     settings: &ImportSettings,
     bytes: &[u8],
-) -> Result<String, ImportRefusal>
-    ensures text { IfOk result (λ text. IsTextOf settings.now bytes.now (string_bytes text)) }
+    lines: &[Option<SourceLine<'a>>],
+) -> Result<ImportedText<'a>, ImportRefusal>
+    ensures text { IfOk result (λ made. IsNotedTextOf settings.now bytes.now (string_bytes made.text)) }
     ensures refused { IfErr result (IsUnimported bytes.now) }
 {
-    let ordered = match import(alloc, bytes, settings.form.shapes.len()) {
-        Ok(ordered) => ordered,
-        Err(ImportFault::Order(Disorder::OutOfMemory)) => return Err(ImportRefusal::OutOfMemory),
-        Err(fault) => return Err(ImportRefusal::Import(fault)),
-    };
+    let ordered = ordered_for(alloc, settings, bytes)?;
+    let sources = sources_of(alloc, &ordered, lines)?;
     let marks = marks(alloc, settings)?;
-    let listing = listing(alloc, ordered.insns.as_slice())?;
+    let listing = noted_listing(alloc, ordered.insns.as_slice(), sources.as_slice())?;
     let text = format!(in alloc; "{marks}{listing}")?;
-    Ok(text)
+    Ok(ImportedText { text, sources })
+}
+
+/// For each instruction of a copy the line that its original comes from.
+fn sources_of<'a>(
+    alloc: Global,
+    ordered: &Ordered,
+    lines: &[Option<SourceLine<'a>>],
+) -> Result<Vec<Option<SourceLine<'a>>>, AllocError> {
+    let mut sources = Vec::new(alloc);
+    let mut slot: usize = 0;
+    for insn in &ordered.insns {
+        sources.push(source_of(ordered, lines, slot))?;
+        slot = slot.saturating_add(insn.slots());
+    }
+    Ok(sources)
+}
+
+/// The line that the original of what stands at the slot of a copy comes from.
+fn source_of<'a>(
+    ordered: &Ordered,
+    lines: &[Option<SourceLine<'a>>],
+    slot: usize,
+) -> Option<SourceLine<'a>> {
+    if slot >= ordered.origins.len() {
+        return None;
+    }
+    source_at(lines, ordered.origins[slot])
+}
+
+/// The text of the program that the bytes spell: the marks, and the listing of a copy of it in which every jump goes forward.
+fn imported_bytes<'a>(
+    alloc: Global,
+    settings: &ImportSettings,
+    bytes: &[u8],
+) -> Result<ImportedText<'a>, ImportRefusal>
+    ensures text { IfOk result (λ made. IsTextOf settings.now bytes.now (string_bytes made.text)) }
+    ensures refused { IfErr result (IsUnimported bytes.now) }
+{
+    let ordered = ordered_for(alloc, settings, bytes)?;
+    let marks = marks(alloc, settings)?;
+    let program = listing(alloc, ordered.insns.as_slice())?;
+    let text = format!(in alloc; "{marks}{program}")?;
+    Ok(ImportedText {
+        text,
+        sources: Vec::new(alloc),
+    })
+}
+
+/// The program that the bytes spell, in order.
+fn ordered_for(
+    alloc: Global,
+    settings: &ImportSettings,
+    bytes: &[u8],
+) -> Result<Ordered, ImportRefusal>
+    ensures imported { IfOk result (λ ordered. Imports (length settings.now.form.shapes.items) bytes.now ordered.insns.items ordered.origins.items) }
+    ensures refused { IfErr result (IsUnimported bytes.now) }
+{
+    match import(alloc, bytes, settings.form.shapes.len()) {
+        Ok(ordered) => Ok(ordered),
+        Err(ImportFault::Order(Disorder::OutOfMemory)) => Err(ImportRefusal::OutOfMemory),
+        Err(fault) => Err(ImportRefusal::Import(fault)),
+    }
 }
 
 /// The lines that say what the program is for: comments to the assembler.

@@ -24,7 +24,7 @@ slots_of-spelled i = refl
 pub slot_count-cons : (i : Insn) (insns : List Insn) → slot_count (i ∷ insns) ≡ slots_of i + slot_count insns
 slot_count-cons i insns = length-append (spelled i) (flat_map spelled insns) ∙ ap (λ n. n + slot_count insns) (slots_of-spelled i)
 
--- so many of the instructions take so many slots, and one more
+-- this many of the instructions take this many slots, and one more
 pub count_more : (insns : List Insn) (k : ℕ) (d : Insn) → k < length insns → slot_count (take (suc k) insns) ≡ slot_count (take k insns) + slots_of (get_or insns k d)
 count_more [] k d h = absurd (omega arith)
 count_more (i ∷ insns) zero d h = slot_count-cons i [] ∙ (let e : slots_of i + 0 ≡ 0 + slots_of i = omega arith in e)

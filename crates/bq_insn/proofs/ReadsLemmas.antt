@@ -13,7 +13,7 @@ use Rattle.bq_insn.specs.Spelling.{slot, spelled, is_insn, is_register, word16, 
 use Rattle.bq_insn.specs.Reading.{signed16, signed32}
 use Rattle.bq_insn.proofs.FaultLemmas.{IsClean, kept, no_strays_is_kept, same_slot, register_of}
 
--- the slots at hand spell the instruction: the first, or both
+-- the slots available spell the instruction: the first, or both
 abbrev pub IsSpelledBy : Slot → Option Slot → Insn → Type 0
 IsSpelledBy s None i = spelled i ≡ s ∷ []
 IsSpelledBy s (Some t) i = (spelled i ≡ s ∷ []) ⊎ (spelled i ≡ s ∷ t ∷ [])

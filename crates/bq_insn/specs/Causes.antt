@@ -20,7 +20,7 @@ cause_number WideCut = 7
 abbrev pub cause_and_place : List ℕ → ℕ → ℕ → List ℕ
 cause_and_place letter number place = letter ++ (decimal number ++ (codes " " ++ decimal place))
 
--- a fault by its cause and the slot; want of memory is none of the bytes
+-- a fault by its cause and the slot; lack of memory is no fault of the bytes
 abbrev pub fault_text : DecodeFault → List ℕ
 fault_text (At slot cause) = cause_and_place (codes "I") (cause_number cause) slot
 fault_text OutOfMemory = codes "out of memory"

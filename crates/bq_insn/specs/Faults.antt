@@ -43,7 +43,7 @@ has_bad_register u s = is_no_register u.dst s.dst || is_no_register u.src s.src
 abbrev pub has_stray_field : Uses → Slot → Bool
 has_stray_field u s = is_stray u.dst s.dst || (is_stray u.src s.src || (is_stray u.offset s.offset || is_stray u.imm s.imm))
 
--- Field, too: the second slot of a wide instruction has its immediate alone, and with a map reference not even that
+-- Field, too: the second slot of a wide instruction has only its immediate, and with a map reference not even that
 abbrev pub has_stray_second : Form → Slot → Option Slot → Bool
 has_stray_second form.Wide s (Some t) =
     nat_lt 0 t.opcode || (nat_lt 0 t.dst || (nat_lt 0 t.src || (nat_lt 0 t.offset || ((s.src == 5) && nat_lt 0 t.imm))))
@@ -147,7 +147,7 @@ pub record HasFront (bytes : List ℕ) (insn : Insn) : Type 0 where
 abbrev pub NoProgramIsFaulty : Type 0
 NoProgramIsFaulty = (insns : List Insn) (slot : ℕ) (c : Cause) → list_all is_insn insns ≡ true → AllFit insns → Faulty (spelling insns) slot c → ⊥
 
--- a program's bytes have no fault at all: they are refused for want of memory alone
+-- a program's bytes have no fault at all: they are refused only if memory runs out
 abbrev pub NoProgramIsRefused : Type 0
 NoProgramIsRefused = (insns : List Insn) (slot : ℕ) (c : Cause) → is_well_formed insns ≡ true → AllFit insns → IsFault (spelling insns) (At slot c) → ⊥
 

@@ -24,7 +24,7 @@ abbrev pub jump_class : Width → ℕ
 jump_class W64 = 5
 jump_class W32 = 6
 
--- the codes of arithmetic (section 4.1): the signed division and remainder have those of the unsigned, and are told by the
+-- the codes of arithmetic (section 4.1): the signed division and remainder have those of the unsigned, and are distinguished by the
 -- offset
 abbrev pub code_of : Operation → ℕ
 code_of op.Add = 0

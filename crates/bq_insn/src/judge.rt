@@ -38,7 +38,7 @@ fn has_bad_register(uses: Uses, slot: Slot) -> bool
     is_no_register(uses.dst, slot.dst) || is_no_register(uses.src, slot.src)
 }
 
-/// The field names a register that there is not.
+/// The field names a register that does not exist.
 fn is_no_register(used: Use, register: u8) -> bool
     ensures { result ≡ is_no_register used register }
 {

@@ -17,7 +17,7 @@ pub fn no_program_is_faulty()
     ensures { NoProgramIsFaulty }
 {}
 
-/// The bytes of a program have no fault at all, so they are refused for want of memory alone.
+/// The bytes of a program have no fault at all, so they are refused only if memory runs out.
 pub fn no_program_is_refused()
     ensures { NoProgramIsRefused }
 {}

@@ -55,7 +55,7 @@ pub enum Operation {
     Rem,
     /// The remainder of `Sdiv`, with the destination's sign; the destination where the divisor is 0.
     Srem,
-    /// The bits of one alone.
+    /// The bits of exactly one.
     Xor,
     /// The second operand.
     Mov,
@@ -197,7 +197,7 @@ pub enum Insn {
         dst: u8,
         index: i32,
     },
-    /// Goes on so many slots after the next one (section 4.3, JA of class JMP).
+    /// Goes on this many slots after the next one (section 4.3, JA of class JMP).
     Goto {
         off: i16,
     },
@@ -205,7 +205,7 @@ pub enum Insn {
     Goto32 {
         imm: i32,
     },
-    /// Goes on so many slots after the next one where the condition holds of `dst` and `src` (section 4.3).
+    /// Goes on this many slots after the next one where the condition holds of `dst` and `src` (section 4.3).
     Branch {
         width: Width,
         cond: Condition,

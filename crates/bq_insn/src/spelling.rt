@@ -155,7 +155,7 @@ fn number_slots(dst: u8, value: u64) -> (Slot, Option<Slot>)
     two(dst, 0, low, high)
 }
 
-/// A slot of that form, alone.
+/// A single slot of that form.
 fn one(form: Form, dst: u8, src: u8, offset: u16, imm: u32) -> (Slot, Option<Slot>)
     ensures { AreSlots result (slot (opcode_of form) dst src offset imm ∷ []) }
 {

@@ -1,7 +1,8 @@
 -- What an accepted policy answers, by what is known of its program.
 use Rattle.std.proofs.Common.{◌<◌, ◌^◌, length, refl, arith}
 use Rattle.bq_bpf.specs.Runs.{start}
-use Rattle.bq_interp.proofs.ProgressLemmas.{context_small, safe_run}
+use Rattle.bq_interp.proofs.ProgressLemmas.{safe_run}
+use Rattle.bq_verify.proofs.VerdictLemmas.{context_small}
 use Rattle.bq_interp.proofs.OneRunLemmas.{one_run}
 use Rattle.bq_interp.specs.Progress.{setting_of}
 use Rattle.bq_installed.specs.Laws.{AnswersOnce, AnswersWithin}

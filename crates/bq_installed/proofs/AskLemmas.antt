@@ -43,7 +43,7 @@ remembered generation equipped e left a context now processor calls done view so
       within = within;
     })
 
--- so it stays what is attached, but for the maps that it leaves, and what it answered is the answer of what is attached
+-- so it stays what is attached, except for the maps that it leaves, and what it answered is the answer of what is attached
 pub asked : (generation : ℕ) (equipped : Option (Accepted × List (List ℕ))) (e left : Accepted × List (List ℕ)) (a : Attached) (context : List ℕ) (now processor : ℕ) (calls : List Asked) (done : Done) →
     attached_of generation equipped ≡ a → equipped ≡ Some e → Answers e.0 context e.1 now processor done.r0 left.1 done.steps calls → IsWithin e.0 done.steps calls →
     HaveShapes left.0.shapes left.1 → left.0 ≡ e.0 →

@@ -39,7 +39,7 @@ bare_decides D bare a b = (same_true D bare a b, true_same D a b)
 pub no_field : (x y : Unit {0}) → Decides true (x ≡ y)
 no_field x y = (λ e. refl, λ e. refl)
 
--- a variant's last field alone
+-- only a variant's last field
 pub last_field : {A : Type 0} {E : A → A → Bool} → ((a b : A) → Decides (E a b) (a ≡ b)) → (x y : A × Unit {0}) → Decides (E x.0 y.0) (x ≡ y)
 last_field h x y =
     let field = h x.0 y.0 in

@@ -17,10 +17,10 @@ fresh_maps None = []
 fresh_maps (Some policy) = map zeros_of policy.shapes
 
 -- On a context, on maps, at a clock reading and at a processor of that number the policy answers r0, leaves these maps,
--- takes so many steps, and makes these calls of counters: so a run of its program goes.
+-- takes this many steps, and makes these calls of counters: so a run of its program goes.
 abbrev pub Answers : Accepted → List ℕ → List (List ℕ) → ℕ → ℕ → ℕ → List (List ℕ) → ℕ → List Asked → Type 0
 Answers policy context maps now processor r0 maps' steps calls = RunFrom (setting_of policy context now processor) (start maps) steps calls r0 maps'
 
--- it is within the policy's budget to take so many steps, with these calls of counters: there are no more than a run may make
+-- it is within the policy's budget to take this many steps, with these calls of counters: there are no more than a run may make
 abbrev pub IsWithin : Accepted → ℕ → List Asked → Type 0
 IsWithin policy steps calls = (steps ≤ policy.budget) × (length calls ≤ most_calls)

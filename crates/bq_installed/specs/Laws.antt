@@ -1,4 +1,4 @@
--- Laws of policies: what an accepted one answers rests on what it is shown alone, and comes within its budget.
+-- Laws of policies: what an accepted one answers rests only on what it is shown, and comes within its budget.
 use Rattle.std.specs.Prelude.{◌≡◌, ℕ, List}
 use Rattle.bq_bpf.specs.declared.board.Call.{Call as Asked}
 use Rattle.bq_interp.specs.Laws.{AnswerAlike}

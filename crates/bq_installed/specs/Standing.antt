@@ -35,7 +35,7 @@ pub record IsAsked (policy : Accepted) (context : List ℕ) (maps : List (List �
   pub now_fits : now < 2 ^ 64
   pub processor_fits : processor < 2 ^ 32
 
--- a run of the policy on what it is shown gives that answer, in so many steps
+-- a run of the policy on what it is shown gives that answer, in this many steps
 pub record HasAnswered (policy : Accepted) (done : Done) : Type 0 where
   pub context : List ℕ
   pub maps : List (List ℕ)

@@ -1,4 +1,4 @@
-//! What stands at the hooks of a processor.
+//! What is installed at the hooks of a processor.
 ghost use Rattle.std.specs.Prelude.{◌≡◌, true, length, IfSome, is_some};
 ghost use Rattle.std.specs.Option.{option_map};
 ghost use Rattle.bq_bpf.specs.Counters.{Through};
@@ -14,7 +14,7 @@ use bq_hooks::{Hook, Version};
 use bq_interp::{Done, Env};
 use std::marker::Model;
 
-/// What stands at each hook of a processor: nothing that was verified for another hook.
+/// What is installed at each hook of a processor: nothing that was verified for another hook.
 #[derive(Drop)]
 pub struct Hooks {
     place: Installed,

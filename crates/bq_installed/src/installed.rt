@@ -1,4 +1,4 @@
-//! What stands at one hook.
+//! What is installed at one hook.
 ghost use Rattle.std.specs.Prelude.{◌≡◌, true, length, Some, None, IfErr, IfOk, IfSome, is_some};
 ghost use Rattle.std.specs.Option.{option_map};
 ghost use Rattle.bq_bpf.specs.Counters.{Through};
@@ -48,7 +48,7 @@ impl Installed {
         }
     }
 
-    /// A policy or none, as this generation, with maps of zeros. Want of memory for the maps is the only error, so nothing that
+    /// A policy or none, as this generation, with maps of zeros. Lack of memory for the maps is the only error, so nothing that
     /// is no policy is refused.
     pub fn new(
         alloc: Global,
@@ -112,7 +112,7 @@ impl Installed {
         }
     }
 
-    /// What the policy answered when it was asked last: a run of it on some context gives so, in so many steps. `None` where it
+    /// What the policy answered when it was asked last: a run of it on some context gives so, in this many steps. `None` where it
     /// was not asked since it was installed.
     pub fn answered(&self) -> Option<Done>
         ensures { WasAnswered self.now.policy result }

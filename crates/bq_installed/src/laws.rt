@@ -7,7 +7,7 @@ pub fn answers_within()
 {}
 
 /// What an accepted policy answers rests on its context, its maps, the clock reading, the processor and the answers of
-/// its counters alone: where these are the same, so are the answer, the maps that it leaves, its steps and its calls.
+/// its counters and nothing else: where these are the same, so are the answer, the maps that it leaves, its steps and its calls.
 pub fn answers_once()
     ensures { AnswersOnce }
 {}

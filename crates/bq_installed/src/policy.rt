@@ -30,7 +30,7 @@ impl Model for Policy {
 }
 
 impl Policy {
-    /// The policy of a verified program. Want of memory is the only error.
+    /// The policy of a verified program. Lack of memory is the only error.
     pub fn new(alloc: Global, program: Verified) -> Result<Policy, AllocError>
         ensures { IfOk result (λ p. p ≡ program) }
     {
@@ -87,7 +87,7 @@ impl Clone for Policy {
 
     ghost is_clone = { λ p q. q ≡ p };
 
-    /// The same policy once more, to be installed elsewhere. It takes no memory; there is an error where a policy would
+    /// A copy of the policy, to be installed elsewhere. It takes no memory; there is an error where a policy would
     /// stand in more places than can be counted.
     fn clone(&self) -> Result<Policy, AllocError> {
         let program = Arc::try_clone(&self.program)?;

@@ -8,7 +8,7 @@ use bq_interp::Stack;
 use std::marker::Model;
 
 /// A stack for policies to run on, and the calls of counters of the run that was the last. One serves any number of runs
-/// one after another: what an earlier run left on the stack no policy can read. Contracts see the calls alone.
+/// one after another: what an earlier run left on the stack no policy can read. Contracts see only the calls.
 #[derive(Drop)]
 pub struct Scratch {
     pub(crate) stack: Stack,

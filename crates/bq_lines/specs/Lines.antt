@@ -19,7 +19,7 @@ use Rattle.bq_lines.specs.declared.command.Command.TheVariants.{Machine, Does, W
 use Rattle.bq_lines.specs.declared.command.LineReading.{LineReading}
 use Rattle.bq_lines.specs.declared.command.LineReading.TheVariants.{Skipped, Bad, Says}
 
--- the words of a line that has just so many
+-- the words of a line that has exactly this many
 
 abbrev pub one_of : List (List ℕ) → Option (List ℕ)
 one_of (word ∷ []) = Some word

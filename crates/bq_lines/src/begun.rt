@@ -22,10 +22,11 @@ pub struct Begun {
 
 impl Model for Begun {
     ghost use Rattle.std.specs.Prelude.{ℕ, List, Option, Some, None, if◌then◌else◌, ◌≤◌, length};
+    ghost use Rattle.bq_lines.specs.declared.begun.TheConstants.{KEPT};
 
     ghost Value = { Option (List ℕ) };
 
-    ghost invariant = { λ b. length b.bytes.items ≤ 131073 };
+    ghost invariant = { λ b. length b.bytes.items ≤ KEPT };
 
     ghost view = { λ b. if b.is_too_long then None else Some b.bytes.items };
 }

@@ -367,7 +367,7 @@ shape_err bytes f fits e =
       ]
     ]
 
--- where so many shapes were read, the bytes of as many stand there, and what was left stands after them
+-- where this many shapes were read, the bytes of as many are there, and what was left stands after them
 pub shapes_ok : (n : ℕ) (bytes rest : List ℕ) → AreBytes bytes → shapes_at n bytes ≡ Ok rest → (shapes : List MapShape) × (length shapes ≡ n) × (bytes ≡ shapes_bytes shapes ++ rest)
 unfolding shapes_at
 shapes_ok zero bytes rest fits e = ([], refl, ok_is bytes rest e)
@@ -387,7 +387,7 @@ pub record HasRefusedShape (n : ℕ) (bytes : List ℕ) (f : LoadFault) : Type 0
   pub bytes_are : bytes ≡ shapes_bytes shapes ++ rest
   pub refused : IsRefusedShape rest f
 
--- where reading so many shapes failed, fewer of them stand there, and the next one is cut or bad
+-- where reading this many shapes failed, fewer of them stand there, and the next one is cut or bad
 pub shapes_err : (n : ℕ) (bytes : List ℕ) (f : LoadFault) → AreBytes bytes → shapes_at n bytes ≡ Err f → HasRefusedShape n bytes f
 unfolding shapes_at
 shapes_err zero bytes f fits e = absurd cc

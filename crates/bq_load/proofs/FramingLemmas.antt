@@ -73,7 +73,7 @@ frame_err bytes f fits e =
 
 -- ---- faults that are answered
 
--- no bad field is named as want of memory
+-- no bad field is named as lack of memory
 pub no_memory : (front : Front) (field : List ℕ) → IsBadNext front field fault.OutOfMemory → ⊥
 no_memory Nothing field h = h
 no_memory Marked field h = h

@@ -18,8 +18,9 @@ use Rattle.bq_verify.specs.Faults.{IsFaultless}
 use Rattle.bq_verify.specs.Paths.{IsGreatest, PathOut}
 use Rattle.bq_bpf.specs.Safe.{Safe}
 use Rattle.bq_verify.proofs.SlotLemmas.{few_slots}
-use Rattle.bq_verify.specs.Refusals.{IsRefusal}
+use Rattle.bq_verify.specs.Refusals.{IsVerdictOn}
 use Rattle.bq_verify.specs.Straight.{IsStraightProgram}
+use Rattle.bq_verify.specs.Subjects.{subject_of}
 use Rattle.bq_verify.specs.declared.refused.Refused.{Refused}
 use Rattle.bq_verify.specs.declared.refused.Refused.TheVariants as refused
 use Rattle.bq_insn.proofs.LengthLemmas.{well_formed_in_range}
@@ -29,7 +30,7 @@ use Rattle.bq_load.specs.Layout.{shapes_bytes, Header, IsImage}
 use Rattle.bq_load.specs.Fields.{Front, Nothing, Marked, Versioned, Hooked, Mapped, Headed, IsBadNext}
 use Rattle.bq_load.specs.Faults.{IsFault}
 use Rattle.bq_load.specs.Headers.{with_shapes, HasParts}
-use Rattle.bq_load.specs.Answers.{HasProgram, Loads, IsUnloaded}
+use Rattle.bq_load.specs.Answers.{Loads, IsUnloaded}
 use Rattle.bq_load.specs.Laws.{AreBytes}
 use Rattle.bq_load.specs.Naming.{of_program, of_refusal}
 use Rattle.bq_load.specs.Reading.{Spelled}
@@ -76,24 +77,28 @@ unloaded_program bytes s code (program.At slot cause) parts b = record {
   faulty = b;
 }
 
--- the instructions that were decoded are those of the image
-pub has_program : (bytes : List ℕ) (s : Spelled) (code : List ℕ) (insns : List Insn) → HasParts bytes s code → code ≡ spelling insns → is_well_formed insns ≡ true → AllFit insns → HasProgram bytes insns
-has_program bytes s code insns parts is well_formed numbers = record {
-  version = s.version;
-  hook = s.hook;
-  shapes = parts.frames.shapes;
-  image = subst (λ (p : List ℕ). IsImage bytes s.version s.hook parts.frames.shapes p) is (is_image bytes s code parts.frames.shapes parts parts.frames.shapes_are);
-  well_formed = well_formed;
-  numbers = numbers;
-}
-
 not_memory : (slot : ℕ) (cause : Reason) → refused.At slot cause ≡ refused.OutOfMemory → ⊥
 not_memory slot cause e = cc
 
--- and a refusal of the verifier, where the program is not straight
-pub unloaded_refusal : (bytes : List ℕ) (s : Spelled) (code : List ℕ) (insns : List Insn) (r : Refused) → HasParts bytes s code → HasProgram bytes insns → IsRefusal (spread insns) r → (HasStraightProgram bytes → r ≡ refused.OutOfMemory) → IsUnloaded bytes (of_refusal r)
-unloaded_refusal bytes s code insns refused.OutOfMemory parts p b memory = has_image bytes s code parts
-unloaded_refusal bytes s code insns (refused.At slot cause) parts p b memory = (record { insns = insns; program = p; refused = b }, λ straight. not_memory slot cause (memory straight))
+-- and the verifier's verdict on the program of the image, where that is not straight
+pub unloaded_refusal : (bytes : List ℕ) (s : Spelled) (code : List ℕ) (insns : List Insn) (shapes : List MapShape) (r : Refused) → HasParts bytes s code → code ≡ spelling insns → is_well_formed insns ≡ true
+    → AllFit insns → s.shapes ≡ shapes_bytes shapes → IsVerdictOn (subject_of insns s.hook s.version shapes) r → (HasStraightProgram bytes → r ≡ refused.OutOfMemory) → IsUnloaded bytes (of_refusal r)
+unloaded_refusal bytes s code insns shapes refused.OutOfMemory parts is well_formed numbers shapes-are verdict memory = has_image bytes s code parts
+unloaded_refusal bytes s code insns shapes (refused.At slot cause) parts is well_formed numbers shapes-are verdict memory = (
+  record {
+    insns = insns;
+    program = record {
+      version = s.version;
+      hook = s.hook;
+      shapes = shapes;
+      image = subst (λ (p : List ℕ). IsImage bytes s.version s.hook shapes p) is (is_image bytes s code shapes parts shapes-are);
+      well_formed = well_formed;
+      numbers = numbers;
+    };
+    refused = verdict;
+  },
+  λ straight. not_memory slot cause (memory straight),
+)
 
 -- what was accepted is loaded
 pub accepted_is_loaded : (bytes : List ℕ) (s : Spelled) (code : List ℕ) (insns : List Insn) (shapes : List MapShape) (v : Accepted) → HasParts bytes s code → code ≡ spelling insns → is_well_formed insns ≡ true → AllFit insns
@@ -138,7 +143,7 @@ is_of bytes s code st parts =
       shapes = parts.frames.shapes_are ∙ ap (λ (h : Header). shapes_bytes h.shapes) same.0;
     }
 
--- the program of a straight image is refused for nothing but want of memory
+-- the program of a straight image is refused only if memory runs out
 pub straight_code : (bytes : List ℕ) (s : Spelled) (code : List ℕ) (f : DecodeFault) → HasParts bytes s code → HasStraightProgram bytes → IsProgramFault code f → of_program f ≡ fault.OutOfMemory
 straight_code bytes s code program.OutOfMemory parts st b = refl
 straight_code bytes s code (program.At slot cause) parts st b =
@@ -147,7 +152,7 @@ straight_code bytes s code (program.At slot cause) parts st b =
 
 -- instructions and shapes that were read of a straight image are a straight program for its hook and version
 pub straight_program : (bytes : List ℕ) (s : Spelled) (code : List ℕ) (insns : List Insn) (shapes : List MapShape) → HasParts bytes s code → HasStraightProgram bytes
-    → code ≡ spelling insns → is_well_formed insns ≡ true → AllFit insns → s.shapes ≡ shapes_bytes shapes → IsStraightProgram (spread insns) shapes (context_length_of s.hook s.version)
+    → code ≡ spelling insns → is_well_formed insns ≡ true → AllFit insns → s.shapes ≡ shapes_bytes shapes → IsStraightProgram (subject_of insns s.hook s.version shapes)
 straight_program bytes s code insns shapes parts st is well_formed numbers shapes-are =
     let of = is_of bytes s code st parts in
     let same_insns : insns ≡ st.insns =

@@ -16,7 +16,8 @@ use Rattle.bq_verify.specs.declared.cause.Cause.TheVariants.{Graph, State}
 use Rattle.bq_verify.specs.Faults.{IsFaultless, IsFirstFault}
 use Rattle.bq_verify.specs.Paths.{IsGreatest, PathOut}
 use Rattle.bq_verify.specs.Accepted.{Accepted}
-use Rattle.bq_verify.specs.Refusals.{IsRefusal}
+use Rattle.bq_verify.specs.Refusals.{IsVerdictOn}
+use Rattle.bq_verify.specs.Subjects.{Subject, subject_of}
 use Rattle.bq_verify.specs.declared.refused.Refused.TheVariants as refused
 use Rattle.bq_verify.proofs.FirstLemmas.{faultless_has_none, one_first_fault}
 use Rattle.bq_load.specs.declared.fault.LoadFault.{LoadFault}
@@ -69,7 +70,7 @@ one_faulty bytes s t c d a b =
 same_stop : (bytes : List ℕ) (f g : LoadFault) → frame_at bytes ≡ Err f → frame_at bytes ≡ Err g → g ≡ f
 same_stop bytes f g e d = cc
 
--- the answer is that fault, or want of memory
+-- the answer is that fault, or lack of memory
 abbrev IsOnly : LoadFault → Result Accepted LoadFault → Type 0
 IsOnly f answer = (answer ≡ Err f) ⊎ (answer ≡ Err fault.OutOfMemory)
 
@@ -108,19 +109,19 @@ one_list bytes a b p q =
     let images = one_image bytes p.version q.version p.hook q.hook p.shapes q.shapes (spelling a) (spelling b) p.image q.image in
     one_program a b (well_formed_in_range a p.well_formed) (well_formed_in_range b q.well_formed) p.numbers q.numbers images.3
 
-one_refusal : (slots : List (Option Insn)) (s t : ℕ) (c : GraphCause) (d : Named) → IsFirstFault slots c s → IsRefusal slots (refused.At t d) → fault.Refused t d ≡ fault.Refused s (Graph c)
-one_refusal slots s t c (Graph d) first other =
-    let one = one_first_fault slots d c t s other first in
+one_refusal : (p : Subject) (s t : ℕ) (c : GraphCause) (d : Named) → IsFirstFault p.slots c s → IsVerdictOn p (refused.At t d) → fault.Refused t d ≡ fault.Refused s (Graph c)
+one_refusal p s t c (Graph d) first other =
+    let one = one_first_fault p.slots d c t s other first in
     ap (λ (n : ℕ). fault.Refused n (Graph d)) one.1 ∙ ap (λ (k : GraphCause). fault.Refused s (Graph k)) one.0
-one_refusal slots s t c (State d) first other = absurd (faultless_has_none slots c s other.0 first)
+one_refusal p s t c (State d) first other = absurd (faultless_has_none p.slots c s other.0 first)
 
--- the verifier's refusal of one list of instructions, said of the other
-moved : (a b : List Insn) (s : ℕ) (c : Named) → a ≡ b → IsRefusal (spread a) (refused.At s c) → IsRefusal (spread b) (refused.At s c)
-moved a b s c same r = subst (λ (x : List Insn). IsRefusal (spread x) (refused.At s c)) same r
+-- the verdict on one list of instructions, said of the other
+moved : (hook : Hook) (version : Version) (shapes : List MapShape) (a b : List Insn) (s : ℕ) (c : Named) → a ≡ b → IsVerdictOn (subject_of a hook version shapes) (refused.At s c) → IsVerdictOn (subject_of b hook version shapes) (refused.At s c)
+moved hook version shapes a b s c same r = subst (λ (x : List Insn). IsVerdictOn (subject_of x hook version shapes) (refused.At s c)) same r
 
 not_faultless : (bytes : List ℕ) (slot : ℕ) (cause : GraphCause) (v : Accepted) → HasRefusedProgram bytes (refused.At slot (Graph cause)) → Loads bytes v → ⊥
 not_faultless bytes slot cause v b l =
-    let first : IsFirstFault (spread l.insns) cause slot = moved b.insns l.insns slot (Graph cause) (one_list bytes b.insns l.insns b.program (as_program bytes v l)) b.refused in
+    let first : IsFirstFault (spread l.insns) cause slot = moved b.program.hook b.program.version b.program.shapes b.insns l.insns slot (Graph cause) (one_list bytes b.insns l.insns b.program (as_program bytes v l)) b.refused in
     faultless_has_none (spread l.insns) cause slot (subst (λ (x : List (Option Insn)). IsFaultless x) l.slots l.faultless) first
 
 -- a fault of the control graph is the answer
@@ -129,7 +130,8 @@ graph_fault bytes slot cause (Ok v) fits b a = absurd (not_faultless bytes slot 
 graph_fault bytes slot cause (Err (fault.Decode t d)) fits b a = absurd (no_faulty bytes b.insns t d a b.program)
 graph_fault bytes slot cause (Err (fault.Refused t d)) fits b a =
     let same = one_list bytes a.0.insns b.insns a.0.program b.program in
-    inl (ap (λ (x : LoadFault). Err x) (one_refusal (spread b.insns) slot t cause d b.refused (moved a.0.insns b.insns t d same a.0.refused)))
+    inl (ap (λ (x : LoadFault). Err x) (one_refusal (subject_of b.insns a.0.program.hook a.0.program.version a.0.program.shapes) slot t cause d b.refused
+    (moved a.0.program.hook a.0.program.version a.0.program.shapes a.0.insns b.insns t d same a.0.refused)))
 graph_fault bytes slot cause (Err fault.OutOfMemory) fits b a = inr refl
 graph_fault bytes slot cause (Err fault.Magic) fits b a = absurd (framed bytes fault.Magic _ _ b.program.image.framed (record { at = fault_again bytes fault.Magic fits a }))
 graph_fault bytes slot cause (Err fault.Version) fits b a = absurd (framed bytes fault.Version _ _ b.program.image.framed (record { at = fault_again bytes fault.Version fits a }))
@@ -138,7 +140,7 @@ graph_fault bytes slot cause (Err fault.Shape) fits b a = absurd (framed bytes f
 graph_fault bytes slot cause (Err fault.Cut) fits b a = absurd (framed bytes fault.Cut _ _ b.program.image.framed (record { at = fault_again bytes fault.Cut fits a }))
 graph_fault bytes slot cause (Err fault.Rest) fits b a = absurd (framed bytes fault.Rest _ _ b.program.image.framed (record { at = fault_again bytes fault.Rest fits a }))
 
--- bytes with a fault of their own, of their program or its graph are answered by it, or by want of memory
+-- bytes with a fault of their own, of their program or its graph are answered by it, or by lack of memory
 pub one_answer : OneAnswer
 one_answer bytes fault.Magic answer fits of b a = at_stop bytes fault.Magic answer fits (record { at = fault_again bytes fault.Magic fits b }) a
 one_answer bytes fault.Version answer fits of b a = at_stop bytes fault.Version answer fits (record { at = fault_again bytes fault.Version fits b }) a

@@ -77,7 +77,7 @@ shape_again s rest =
     ∙ ap (λ (r : Result (ℕ × List ℕ) LoadFault). r >>= λ entries. cond (is_shape s.value_size entries.0) (Ok entries.1) (Err fault.Shape)) entries
     ∙ ap (λ (b : Bool). cond b (Ok rest) (Err fault.Shape)) met
 
--- the bytes of some shapes are read again as so many, and the rest is left
+-- the bytes of some shapes are read again as this many, and the rest is left
 pub shapes_again : (shapes : List MapShape) (rest : List ℕ) → shapes_at (length shapes) (shapes_bytes shapes ++ rest) ≡ Ok rest
 unfolding shapes_at
 shapes_again [] rest = refl

@@ -49,7 +49,7 @@ one_shapes (s ∷ ss) (t ∷ ts) e =
     let first : s ≡ t = same_shape s t (one_half s.value_size t.value_size (small_size s) (small_size t) sizes) (one_half s.entries t.entries (small_entries s) (small_entries t) counts) in
     ap (λ (x : MapShape). x ∷ ss) first ∙ ap (λ (x : List MapShape). t ∷ x) (one_shapes ss ts rest)
 
--- a header is told by what is spelled
+-- a header is determined by what is spelled
 pub one_spelled : (h k : Header) → spelled h ≡ spelled k → h ≡ k
 one_spelled h k e =
     let version : h.version ≡ k.version = ap (λ (s : Spelled). s.version) e in

@@ -18,18 +18,18 @@ at_least_one n h = grind (arith, nat_tests)
 at_most : (n : ℕ) → ((n % 8 == 0) && (nat_le 1 n && nat_le n 32768)) ≡ true → n / 8 ≤ 4096
 at_most n h = grind (arith, nat_tests)
 
--- what is written for an image of at most 8 maps, and of a program of good length, is that image
-pub is_written : (image : Image) → length image.shapes.items ≤ 8 → is_length image.program.items ≡ true → Spells (written image) image
-is_written image few whole =
+-- what is written for an image of a program of good length is that image
+pub is_written : (image : Image) → is_length image.program.items ≡ true → Spells (written image) image
+is_written image whole =
     let slots = length image.program.items / 8 in
-    let header : Header = record { version = image.version; hook = image.hook; shapes = image.shapes.items; slots = slots } in
+    let header : Header = record { version = image.form.version; hook = image.form.hook; shapes = image.form.shapes.items; slots = slots } in
     let most : slots ≤ 4096 = at_most (length image.program.items) whole in
     record {
       slots = slots;
       some = at_least_one (length image.program.items) whole;
       most = most;
       framed = record {
-        header = record { few = few; slots = omega arith };
+        header = record { few = image.form.few; slots = omega arith };
         whole = eights (length image.program.items) whole;
         bytes_are = regroup_header header image.program.items;
       };

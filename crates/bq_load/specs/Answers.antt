@@ -9,7 +9,8 @@ use Rattle.bq_insn.specs.Laws.{AllFit}
 use Rattle.bq_bpf.specs.declared.shape.MapShape.{MapShape}
 use Rattle.bq_verify.specs.Accepted.{Accepted, IsAccepted}
 use Rattle.bq_hooks.specs.Hooks.{context_length_of}
-use Rattle.bq_verify.specs.Refusals.{IsRefusal}
+use Rattle.bq_verify.specs.Refusals.{IsVerdictOn}
+use Rattle.bq_verify.specs.Subjects.{subject_of}
 use Rattle.bq_hooks.specs.declared.hook.Hook.{Hook}
 use Rattle.bq_hooks.specs.declared.hook.Version.{Version}
 use Rattle.bq_verify.specs.declared.refused.Refused.{Refused}
@@ -23,7 +24,7 @@ use Rattle.bq_load.specs.Straight.{HasStraightProgram}
 
 -- the bytes are this image
 abbrev pub Spells : List ℕ → Image → Type 0
-Spells bytes image = IsImage bytes image.version image.hook image.shapes.items image.program.items
+Spells bytes image = IsImage bytes image.form.version image.form.hook image.form.shapes.items image.program.items
 
 -- the bytes are some image
 pub record HasImage (bytes : List ℕ) : Type 0 where
@@ -58,11 +59,11 @@ pub record Loads (bytes : List ℕ) (v : Accepted) : Type 0 where
   pub accepted : IsAccepted v.slots v.shapes (context_length_of v.hook v.version) v.budget
   pub longest : IsGreatest (PathOut v.slots 0) v.budget
 
--- the bytes are an image of a program that the verifier refuses so
+-- the bytes are an image of a program, and this is the verifier's verdict on that very program
 pub record HasRefusedProgram (bytes : List ℕ) (answer : Refused) : Type 0 where
   pub insns : List Insn
   pub program : HasProgram bytes insns
-  pub refused : IsRefusal (spread insns) answer
+  pub refused : IsVerdictOn (subject_of insns program.hook program.version program.shapes) answer
 
 -- no program is loaded from the bytes: they or their program have that fault, or the verifier refuses it, which it does to no
 -- straight program; or they are an image and memory was refused

@@ -42,7 +42,7 @@ pub record HasFaultyProgram (bytes : List ℕ) (slot : ℕ) (cause : Cause) : Ty
   pub framed : IsFramed bytes header program
   pub faulty : IsProgramFault program (At slot cause)
 
--- the first fault; of the program its length alone
+-- the first fault; of the program only its length
 abbrev pub IsFault : List ℕ → LoadFault → Type 0
 IsFault bytes fault.Cut = IsCut bytes
 IsFault bytes fault.Rest = HasMore bytes

@@ -27,7 +27,7 @@ IsFinal _ = ⊥
 abbrev pub HasFailed : List ℕ → LoadFault → Type 0
 HasFailed bytes named = IsFinal named × IsFault bytes named
 
--- a header stands there whose program has too many slots, so that of the program the length alone matters
+-- a header stands there whose program has too many slots, so that of the program only the length matters
 pub record IsTooLong (held : List ℕ) : Type 0 where
   pub header : Header
   pub part : List ℕ

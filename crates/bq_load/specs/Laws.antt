@@ -48,7 +48,7 @@ IsOfBytes (fault.Refused slot (State obligation)) = ⊥
 IsOfBytes fault.OutOfMemory = ⊥
 IsOfBytes named = Unit {0}
 
--- bytes with such a fault have no other answer, want of memory aside
+-- bytes with such a fault have no other answer, unless memory runs out
 abbrev pub OneAnswer : Type 0
 OneAnswer =
     (bytes : List ℕ) (f : LoadFault) (answer : Result Accepted LoadFault) → AreBytes bytes → IsOfBytes f → IsUnloaded bytes f → IsAnswer bytes answer

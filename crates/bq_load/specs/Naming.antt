@@ -18,7 +18,7 @@ of_refusal (refused.At slot cause) = fault.Refused slot cause
 of_refusal refused.OutOfMemory = fault.OutOfMemory
 
 -- why an image doesn't load: its number after the letter L, and where the fault is the program's, that and its slot.
--- Want of memory is none of the image
+-- Lack of memory is no fault of the image
 abbrev pub fault_text : LoadFault → List ℕ
 fault_text fault.Magic = codes "L1"
 fault_text fault.Version = codes "L2"

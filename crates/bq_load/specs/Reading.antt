@@ -57,7 +57,7 @@ shape_at bytes = do
   entries ← number_at 2 size.1
   if is_shape size.0 entries.0 then Ok entries.1 else Err fault.Shape
 
--- what stands after so many shapes
+-- what stands after this many shapes
 unfoldable pub shapes_at : ℕ → List ℕ → Result (List ℕ) LoadFault
 shapes_at zero bytes = Ok bytes
 shapes_at (suc n) bytes = do

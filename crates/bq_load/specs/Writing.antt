@@ -7,5 +7,5 @@ use Rattle.bq_load.specs.Layout.{opening, shapes_bytes}
 -- part after part
 abbrev pub written : Image → List ℕ
 written image =
-    opening image.version image.hook (length image.shapes.items)
-    ++ (shapes_bytes image.shapes.items ++ (to_le_bytes w32 (length image.program.items / 8) ++ image.program.items))
+    opening image.form.version image.form.hook (length image.form.shapes.items)
+    ++ (shapes_bytes image.form.shapes.items ++ (to_le_bytes w32 (length image.program.items / 8) ++ image.program.items))

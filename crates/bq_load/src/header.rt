@@ -113,7 +113,7 @@ pub fn shape(bytes: &[u8]) -> Result<(MapShape, &[u8]), LoadFault>
     }
 }
 
-/// What stands after so many shapes.
+/// What stands after this many shapes.
 fn after_shapes(count: u16, bytes: &[u8]) -> Result<&[u8], LoadFault>
     ensures read { Gives (λ rest. rest.now) result (shapes_at count bytes.now) }
     ensures length { IfOk result (λ rest. length rest.now + 4 * count ≡ length bytes.now) }

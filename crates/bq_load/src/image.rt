@@ -4,26 +4,34 @@ ghost use Rattle.bq_load.specs.Answers.{Spells, IsUnread};
 
 use crate::fault::LoadFault;
 use crate::framing::{parts, shapes_in};
-use bq_bpf::MapShape;
-use bq_hooks::{Hook, Version};
+use bq_verify::PolicyForm;
 use std::alloc::Global;
 
-/// An image: a program's bytes, the choice that it makes, and the shapes of its maps.
+/// An image: the bytes of a program, with its hook, version and maps.
 #[derive(Drop)]
 pub struct Image {
-    /// The version, on which the length of the program's context rests.
-    pub version: Version,
-    /// The choice that the program makes.
-    pub hook: Hook,
-    /// The shapes of its maps, by their numbers; at most 8.
-    pub shapes: Vec<MapShape>,
+    /// The program's hook, version and maps.
+    pub form: PolicyForm,
     /// The program, eight bytes a slot; 1 to 4096 slots.
     pub program: Vec<u8>,
 }
 
-/// The image that the bytes are, else their first fault from left to right. The program is not looked at: of it the
-/// length alone is judged, after all else, and named as the fault of slot 0. Faults are decided before any memory is
-/// asked for, so `OutOfMemory` is answered to an image alone.
+/// Reads the image that the bytes are, or answers their first fault from left to right. Of the program only the length is
+/// judged, after all else, as a fault of slot 0. Faults are decided before any memory is asked for, so only an image is
+/// answered by `OutOfMemory`.
+///
+/// # Example
+///
+/// ```
+/// let bytes = [
+///     0x42, 0x51, 0x50, 0x49, 1, 1, 0, 0, 2, 0, 0, 0, // BQPI, version 1, preempt, no maps, 2 slots
+///     0xb7, 0, 0, 0, 1, 0, 0, 0, // mov64 r0, 1
+///     0x95, 0, 0, 0, 0, 0, 0, 0, // exit
+/// ];
+/// let image = read_image(alloc, &bytes)?;
+/// assert_eq!(rt; image.form.hook, Hook::Preempt);
+/// assert_eq!(rt; image.program.len(), 16);
+/// ```
 pub fn read_image(alloc: Global, bytes: &[u8]) -> Result<Image, LoadFault>
     ensures image { IfOk result (Spells bytes.now) }
     ensures unread { IfErr result (IsUnread bytes.now) }
@@ -31,10 +39,10 @@ pub fn read_image(alloc: Global, bytes: &[u8]) -> Result<Image, LoadFault>
     let (header, program) = parts(bytes)?;
     let shapes = shapes_in(alloc, header.shapes)?;
     let program = Vec::from_slice(alloc, program)?;
-    Ok(Image {
-        version: header.version,
+    let form = PolicyForm {
         hook: header.hook,
+        version: header.version,
         shapes,
-        program,
-    })
+    };
+    Ok(Image { form, program })
 }

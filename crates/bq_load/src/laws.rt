@@ -22,7 +22,7 @@ pub fn each_is_answered()
 {}
 
 /// Bytes with a fault of their own, of their program or of its control graph have no other answer: no other fault is
-/// named, and no program is loaded from them, want of memory aside.
+/// named, and no program is loaded from them, unless memory runs out.
 pub fn one_answer()
     ensures { OneAnswer }
 {}

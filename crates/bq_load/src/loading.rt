@@ -7,14 +7,14 @@ ghost use Rattle.bq_load.specs.declared.fault.LoadFault.TheVariants.{OutOfMemory
 use crate::fault::LoadFault;
 use crate::framing::{parts, shapes_in};
 use bq_insn::decode::decode;
-use bq_verify::{Program, Verified, verify};
+use bq_verify::{PolicyForm, Program, Verified, verify};
 use std::alloc::Global;
 
-/// The program of an image, if it is shown to be safe.
+/// Loads the program of an image, if it is shown to be safe.
 ///
-/// Else, in this order: the first fault of the bytes from left to right, the first fault of the program (its length, or
-/// the least slot and there the least cause), or what the verifier refuses. Faults of the bytes are decided before any
-/// memory is asked for; after that `OutOfMemory` may be answered in place of any other fault.
+/// Otherwise answers, in this order: the first fault of the bytes from left to right; the first fault of the program (its
+/// length, or the least slot and there the least cause); or what the verifier refuses. Faults of the bytes are decided before
+/// any memory is asked for; after that `OutOfMemory` may come in place of any other fault.
 ///
 /// # Example
 ///
@@ -35,14 +35,11 @@ pub fn load(alloc: Global, bytes: &[u8]) -> Result<Verified, LoadFault>
     let (header, program) = parts(bytes)?;
     let insns = decode(alloc, program)?;
     let shapes = shapes_in(alloc, header.shapes)?;
-    let verified = verify(
-        alloc,
-        Program {
-            insns,
-            shapes,
-            hook: header.hook,
-            version: header.version,
-        },
-    )?;
+    let form = PolicyForm {
+        hook: header.hook,
+        version: header.version,
+        shapes,
+    };
+    let verified = verify(alloc, Program { insns, form })?;
     Ok(verified)
 }

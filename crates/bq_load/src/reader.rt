@@ -18,9 +18,20 @@ use bq_verify::Verified;
 use std::alloc::Global;
 use std::marker::Model;
 
-/// An image of which pieces have come. Contracts see the bytes that it holds, how many came after those, and the fault
-/// that it has answered; it stands for the bytes fed. It never holds more than 32,812 bytes: of a program of more than
-/// 4096 slots the bytes are counted and not kept.
+/// Reads an image that comes in pieces. Contracts see the bytes that it holds, how many came after those, and the fault
+/// that it has answered. It never holds more than 32,812 bytes: the bytes of a program of more than 4096 slots are counted
+/// and not kept.
+///
+/// # Example
+///
+/// ```
+/// let mut reader = ImageReader::new(alloc);
+/// reader.feed(&[0x42, 0x51, 0x50, 0x49, 1, 1, 0, 0])?; // BQPI, version 1, preempt, no maps
+/// reader.feed(&[2, 0, 0, 0, 0xb7, 0, 0, 0, 1, 0, 0, 0])?; // 2 slots, mov64 r0, 1
+/// reader.feed(&[0x95, 0, 0, 0, 0, 0, 0, 0])?; // exit
+/// let verified = reader.finish_load()?;
+/// assert_eq!(rt; verified.budget(), 2);
+/// ```
 #[derive(Drop)]
 pub struct ImageReader {
     alloc: Global,
@@ -53,9 +64,9 @@ impl ImageReader {
         }
     }
 
-    /// Takes the next piece. A bad field is answered in the call that makes it whole, and a byte past the end in the
-    /// call that brings it; every later call answers the same. These faults are decided before any memory is asked
-    /// for. After `OutOfMemory` the reader is as before the piece, which may be fed again.
+    /// Takes the next piece. The call that completes a bad field answers its fault, and so does the one that brings a byte
+    /// past the end; every later call answers the same. These faults are decided before any memory is asked for. After
+    /// `OutOfMemory` the reader is as before the piece, which you may feed again.
     pub fn feed(&mut self, piece: &[u8]) -> Result<(), LoadFault>
         ensures ok { OnOk result ((self.new.failed ≡ None) × GoesOn self.old piece.now self.new) }
         ensures failed { IfErr result (λ fault. fault ≢ OutOfMemory → (self.new.failed ≡ Some fault) × GoesOn self.old piece.now self.new) }
@@ -119,7 +130,7 @@ impl ImageReader {
     }
 }
 
-/// The fault of a program that is too long, of which so many bytes were counted.
+/// The fault of a program that is too long, of which this many bytes were counted.
 fn fault_past(held: &[u8], past: usize) -> LoadFault
     requires { 0 < past }
     ensures { (bytes : List ℕ) → Holds held.now past bytes → IsFault bytes result }

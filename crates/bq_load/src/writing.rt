@@ -13,11 +13,30 @@ use bq_hooks::{Hook, Version};
 use byteorder::{ByteOrder, LittleEndian};
 use std::alloc::AllocError;
 
-/// Appends the bytes of an image of at most 8 maps and 1 to 4096 whole slots. Where memory is refused, nothing is
+/// Appends the bytes of an image of 1 to 4096 whole slots. Where memory is refused, nothing is
 /// appended.
+///
+/// # Example
+///
+/// ```
+/// let image = Image {
+///     form: PolicyForm {
+///         hook: Hook::Preempt,
+///         version: Version::First,
+///         shapes: Vec::new(alloc),
+///     },
+///     program: Vec::from_slice(alloc, &[0x95, 0, 0, 0, 0, 0, 0, 0])?, // exit
+/// };
+/// let mut bytes = Vec::new(alloc);
+/// write_image(&image, &mut bytes)?;
+/// let expected = [
+///     0x42, 0x51, 0x50, 0x49, 1, 1, 0, 0, 1, 0, 0, 0, // BQPI, version 1, preempt, no maps, 1 slot
+///     0x95, 0, 0, 0, 0, 0, 0, 0, // exit
+/// ];
+/// assert_eq!(rt; bytes.as_slice(), expected.as_slice());
+/// ```
 pub fn write_image(image: &Image, out: &mut Vec<u8>) -> Result<(), AllocError>
-    requires few { length image.now.shapes.items ≤ 8 }
-    requires whole { is_length image.now.program.items ≡ true }
+    requires { is_length image.now.program.items ≡ true }
     ensures ok { OnOk result (AppendsImage out.old.items out.new.items image.now) }
     ensures err { OnErr result (out.new.items ≡ out.old.items) }
 {
@@ -31,14 +50,14 @@ pub fn write_image(image: &Image, out: &mut Vec<u8>) -> Result<(), AllocError>
 
 /// The same. Where memory is refused, a part of the bytes may stand there.
 fn append(image: &Image, out: &mut Vec<u8>) -> Result<(), AllocError>
-    requires few { length image.now.shapes.items ≤ 8 }
-    requires whole { is_length image.now.program.items ≡ true }
+    requires { is_length image.now.program.items ≡ true }
     ensures ok { OnOk result (out.new.items ≡ out.old.items ++ written image.now) }
     ensures err { OnErr result (StartsWith out.old.items out.new.items) }
 {
-    let count = image.shapes.len() as u16;
-    out.extend_from_slice(&opening(image.version, image.hook, count))?;
-    append_shapes(image.shapes.as_slice(), out)?;
+    let form = &image.form;
+    let count = form.shapes.len() as u16;
+    out.extend_from_slice(&opening(form.version, form.hook, count))?;
+    append_shapes(form.shapes.as_slice(), out)?;
     let slots = (image.program.len() / 8) as u32;
     out.extend_from_slice(&slots.to_le_bytes())?;
     out.extend_from_slice(image.program.as_slice())?;

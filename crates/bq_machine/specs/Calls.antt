@@ -10,7 +10,7 @@ use Rattle.bq_parts.specs.declared.refusal.Refusal.TheVariants as no
 use Rattle.bq_parts.specs.Refusals.{argument_refusal}
 use Rattle.bq_shared.specs.declared.record.Record.{Record}
 
--- A call on a machine of so many processors is refused as the arguments of its event are; or, where they are not, for want
+-- A call on a machine of this many processors is refused as the arguments of its event are; or, where they are not, for want
 -- of memory
 abbrev pub IsCallRefused : ℕ → Event → Refusal → Type 0
 IsCallRefused count event e = (argument_refusal count event ≡ Some e) ⊎ ((argument_refusal count event ≡ None) × (e ≡ no.OutOfMemory))

@@ -21,7 +21,7 @@ IsFaultOf None f = ⊥
 IsFaultOf (Some bytes) f = IsUnloaded bytes f
 
 -- An image that does not load is answered by its fault. One that loads is refused where it is for another hook, and else for
--- want of memory
+-- lack of memory
 abbrev pub IsLoadRefused : Hook → Option (List ℕ) → LoadRefused → Type 0
 IsLoadRefused hook image (why.Fault f) = IsFaultOf image f
 IsLoadRefused hook image (why.Refusal e) =

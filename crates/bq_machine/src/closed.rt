@@ -26,10 +26,10 @@ impl<Q: RunQueue + Drop, K: Clock + Drop, N: Naming + Counting, const P: usize> 
         bq_history::owns(self.seats, seats)
     }
 
-    /// The end of the machine, whose seats all stand there, each once. The history is a chain of steps of the world, from
-    /// the opening world to that of the core; it has no event whose arguments were refused or for which memory was wanting.
-    /// Each receipt of each seat stands at its place, the places of each seat rise, and each place is that of just one
-    /// receipt of just one seat. Each counter is the sum, modulo 2^64, of the adds that the history tells. No memory is taken.
+    /// Ends the machine and takes all its seats, each once. The history is a chain of steps of the world, from the opening
+    /// world to that of the core; no event in it has refused arguments or ran out of memory. Each receipt is at its place, the
+    /// places of each seat rise, and each place is that of exactly one receipt. Each counter is the sum, modulo 2^64, of the
+    /// adds in the history. Allocates nothing.
     pub fn close(self, seats: Vec<Seat<N>>) -> Closed<Q, P>
         requires { EachOnce self.recorder.history.callers seats.items }
         ensures history { IsHistory (RecordStep Q.R.discipline) (opening_world P) result.history result.core }

@@ -74,7 +74,7 @@ fn policy_of(alloc: Global, hook: Hook, image: Option<&[u8]>) -> Result<Option<P
     }
 }
 
-/// What so many installs hand over.
+/// What this many installs hand over.
 fn spares(alloc: Global, policy: &Option<Policy>, count: usize) -> Result<Vec<Spare>, AllocError>
     ensures many { IfOk result (λ v. vec_len v ≡ count) }
     ensures policy { IfOk result (λ v. All (λ s. s.installed.policy ≡ policy.now) v.items) }
@@ -108,8 +108,8 @@ impl<Q: RunQueue + Drop, K: Clock + Drop, N: Naming + Counting, const P: usize> 
     /// takes the policies away. A processor at which a newer one stands answers that, and the load goes on. It takes memory
     /// for the policy, its maps and all records.
     ///
-    /// An image that does not load is answered by its fault, before all else; then one for another hook is refused, and
-    /// want of memory is. Then nothing is recorded.
+    /// If the image does not load, is for another hook, or memory runs out, nothing is recorded; the fault of the image comes
+    /// first.
     pub fn load_all<R: Wait>(
         &self,
         rt: &R,

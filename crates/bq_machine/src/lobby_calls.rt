@@ -1,4 +1,4 @@
-//! The calls of the lobby alone: tasks come to the machine, and leave it.
+//! The calls that need only the lobby: tasks come to the machine, and leave it.
 ghost use Rattle.std.specs.Prelude.{◌≡◌, ◌≤◌, ◌∷◌, ◌++◌, [], None, IfOk, IfErr, OnErr, true};
 ghost use Rattle.bq_parts.specs.Refusals.{argument_refusal};
 ghost use Rattle.bq_parts.specs.Moves.{admitted};
@@ -15,7 +15,7 @@ use bq_shared::{Counting, Record, record_room};
 use std::alloc::Global;
 use std::sync::Wait;
 
-/// A new task of a machine of so many processors; and there is room for the record of its admission.
+/// A new task of a machine of this many processors, with room for the record of its admission.
 fn new_task_with_room(
     alloc: Global,
     room: &mut Room<Record>,
@@ -48,11 +48,11 @@ impl<Q: RunQueue + Drop, K: Clock + Drop, N: Naming + Counting, const P: usize> 
     N,
     P,
 > {
-    /// A new task stands in the lobby, to run at a nice value from -20 to 19, on the processors of the mask, by a slice
-    /// from 100,000 to 100,000,000 nanoseconds. It takes memory for the task and for the record.
+    /// Puts a new task into the lobby: its nice value is -20 to 19, its mask names the processors that it may use, and its
+    /// slice is 100,000 to 100,000,000 nanoseconds. Allocates the task and the record.
     ///
-    /// An argument out of range is refused, and want of memory is; then nothing is recorded. That there is such a task
-    /// already is a recorded answer.
+    /// Records nothing if an argument is out of range or memory runs out. That the task exists already is a recorded
+    /// answer.
     pub fn admit<R: Wait>(
         &self,
         rt: &R,
@@ -82,10 +82,10 @@ impl<Q: RunQueue + Drop, K: Clock + Drop, N: Naming + Counting, const P: usize> 
         )
     }
 
-    /// A task of the lobby leaves the machine for good. It takes memory for the record.
+    /// Removes a task of the lobby from the machine for good. Allocates the record.
     ///
-    /// An id over 1023 is refused, and want of memory is; then nothing is recorded. That there is no such task, or that it
-    /// does not sleep, is a recorded answer.
+    /// Records nothing if the id is over 1023 or memory runs out. That the task does not exist, or does not sleep, is a
+    /// recorded answer.
     pub fn retire<R: Wait>(
         &self,
         rt: &R,

@@ -3,6 +3,7 @@ ghost use Rattle.std.specs.Prelude.{◌≡◌, ◌≤◌, ◌<◌, vec_len};
 ghost use Rattle.std.specs.Sync.Mutex.{mutex_guard_value};
 
 use crate::clock::Clock;
+use bq_bpf::board::COUNTERS;
 use bq_disc::RunQueue;
 use bq_history::Naming;
 use bq_recording::{ClosingRoom, Recorder, Seat, lock, need_own};
@@ -13,6 +14,37 @@ use std::sync::{Mutex, MutexGuard, Wait};
 pub(crate) type LockedProcessor<'a, Q, N> = MutexGuard<'a, UnderLock<NumberedCpu<Q>, N>>;
 
 /// The machine that `N` names, of `P` processors.
+///
+/// To open one, call `bq_recording::prepare::<Q>(alloc, P, seats)`, and pass what it answers to a function over `N` at `std::marker::Brand`.
+/// The contract of that function says that these two are the ones that `N` names (`prepared.0 ≡ N.table`, `unnamed.0 ≡ N.counters`).
+/// The example is the body of such a function, with one processor under CFS, one seat, and a clock `Steady`.
+///
+/// # Example
+///
+/// ```
+/// let (machine, mut seats) = Machine::<CfsQueue, Steady, N, 1>::new(
+///     alloc, Steady, prepared, unnamed, 1,
+/// )?;
+/// let Some(mut seat) = seats.pop() else {
+///     return Err(Fail::from("no seat"));
+/// };
+/// let admission = Admission {
+///     task: 1,
+///     nice: 0,
+///     mask: 1,
+///     slice: 3_000_000,
+/// };
+/// machine.admit(rt, alloc, &mut seat, admission)?;
+/// machine.wake(rt, alloc, &mut seat, 0, 1)?;
+/// machine.drain(rt, alloc, &mut seat, 0)?;
+/// let ticked = machine.tick(rt, alloc, &mut seat, 0)?;
+/// seats.push(seat)?;
+/// if !machine.owns(&seats) {
+///     return Err(Fail::from("a seat is missing"));
+/// }
+/// let closed = machine.close(seats);
+/// Ok((closed.len(), closed.confirms(&ticked)))
+/// ```
 #[derive(Drop)]
 pub struct Machine<Q: RunQueue + Drop, K: Clock + Drop, N: Naming + Counting, const P: usize> {
     pub(crate) clock: K,
@@ -35,9 +67,9 @@ impl<Q: RunQueue + Drop, K: Clock + Drop, N: Naming + Counting, const P: usize> 
     N,
     P,
 > {
-    /// What a counter is. It takes no lock and no memory, and no record tells it.
+    /// The value of a counter. It takes no lock and no memory, and is not recorded.
     pub fn counter(&self, seat: &mut Seat<N>, counter: u8) -> u64
-        requires { counter < 64 }
+        requires { counter < COUNTERS }
         ensures { seat.new ≡ seat.old }
     {
         seat.counter(&self.recorder.counters, counter)

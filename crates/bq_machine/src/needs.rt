@@ -33,7 +33,7 @@ impl<Q: RunQueue + Drop, K: Clock + Drop, N: Naming + Counting, const P: usize> 
     N,
     P,
 > {
-    /// Refuses a number that is none of a processor.
+    /// Refuses a number that names no processor.
     #[inline(always)]
     pub(crate) fn need_processor(&self, processor: u8) -> Result<(), Refusal>
         ensures inside { OnOk result (processor < P) }

@@ -17,7 +17,7 @@ impl<Q: RunQueue + Drop, K: Clock + Drop, N: Naming + Counting, const P: usize> 
     N,
     P,
 > {
-    /// The machine that `N` names, with its seats, numbered from 0. It takes memory for all locks and seats.
+    /// The machine that `N` names, with its seats, numbered from 0. Allocates all locks and seats.
     pub fn new(
         alloc: Global,
         clock: K,
@@ -36,7 +36,7 @@ impl<Q: RunQueue + Drop, K: Clock + Drop, N: Naming + Counting, const P: usize> 
         Machine::with_queues(alloc, clock, queues, prepared, unnamed, seat_count)
     }
 
-    /// The same over queues that are handed in, one for each processor, without tasks and at the first mark.
+    /// The same over queues that you hand in, one for each processor, without tasks and at the first mark.
     pub fn with_queues(
         alloc: Global,
         clock: K,

@@ -21,10 +21,9 @@ impl<Q: RunQueue + Drop, K: Clock + Drop, N: Naming + Counting, const P: usize> 
     N,
     P,
 > {
-    /// A processor takes a task from the queue of another, if it is chosen so. It takes memory for the record.
+    /// Takes a task from the queue of another processor, if the policy or the rule chooses one. Allocates the record.
     ///
-    /// A number that is none of a processor is refused, and so are two equal numbers and want of memory; then nothing is
-    /// recorded.
+    /// Records nothing if one of the processors does not exist, both are the same, or memory runs out.
     pub fn pull<R: Wait>(
         &self,
         rt: &R,
@@ -55,7 +54,7 @@ impl<Q: RunQueue + Drop, K: Clock + Drop, N: Naming + Counting, const P: usize> 
         )
     }
 
-    /// Refuses numbers that are none of a processor, and two equal ones.
+    /// Refuses numbers that name no processor, and two equal ones.
     fn need_both(&self, processor: u8, from: u8) -> Result<(), Refusal>
         ensures inside { OnOk result ((processor < P) × (from < P)) }
         ensures apart { OnOk result (processor ≢ from) }

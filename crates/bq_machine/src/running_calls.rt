@@ -18,9 +18,9 @@ impl<Q: RunQueue + Drop, K: Clock + Drop, N: Naming + Counting, const P: usize> 
     N,
     P,
 > {
-    /// The clock of a processor ticks, and it is decided who runs. It takes memory for the record.
+    /// Reads the clock of a processor, charges its running task, and decides who runs. Allocates the record.
     ///
-    /// A number that is none of a processor is refused, and want of memory is; then nothing is recorded.
+    /// Records nothing if there is no such processor or memory runs out.
     #[inline(always)]
     pub fn tick<R: Wait>(
         &self,
@@ -46,9 +46,9 @@ impl<Q: RunQueue + Drop, K: Clock + Drop, N: Naming + Counting, const P: usize> 
         Ok(self.recorder.tick(rt, &mut seat.working, cpu, now, rooms))
     }
 
-    /// All tasks of a processor's inbox enter, and it is decided who runs. It takes memory for the record.
+    /// Moves all tasks of a processor's inbox to its queue, and decides who runs. Allocates the record.
     ///
-    /// A number that is none of a processor is refused, and want of memory is; then nothing is recorded.
+    /// Records nothing if there is no such processor or memory runs out.
     pub fn drain<R: Wait>(
         &self,
         rt: &R,
@@ -78,10 +78,9 @@ impl<Q: RunQueue + Drop, K: Clock + Drop, N: Naming + Counting, const P: usize> 
         )
     }
 
-    /// The running task of a processor goes to the lobby, and the queue's choice runs. It takes memory for the record.
+    /// Puts the running task of a processor to sleep, and runs the queue's choice. Allocates the record.
     ///
-    /// A number that is none of a processor is refused, and want of memory is; then nothing is recorded. That nothing runs
-    /// is a recorded answer.
+    /// Records nothing if there is no such processor or memory runs out. That nothing runs there is a recorded answer.
     pub fn block<R: Wait>(
         &self,
         rt: &R,

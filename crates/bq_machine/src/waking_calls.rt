@@ -54,11 +54,11 @@ impl<Q: RunQueue + Drop, K: Clock + Drop, N: Naming + Counting, const P: usize> 
     N,
     P,
 > {
-    /// Wakes a task of the lobby at a processor, whose lock is held throughout: two events, or the first alone where it is
-    /// refused. It takes memory for both records.
+    /// Wakes a task of the lobby at a processor, whose lock is held throughout. There are two events, or only the first if it is
+    /// refused. Allocates both records.
     ///
-    /// A number that is none of a processor and an id over 1023 are refused, and want of memory is; then nothing is
-    /// recorded. That there is no such task, or that it does not sleep, is a recorded answer.
+    /// Records nothing if there is no such processor, the id is over 1023, or memory runs out. That the task does not exist, or
+    /// does not sleep, is a recorded answer.
     pub fn wake<R: Wait>(
         &self,
         rt: &R,
@@ -133,7 +133,7 @@ impl<Q: RunQueue + Drop, K: Clock + Drop, N: Naming + Counting, const P: usize> 
         }
     }
 
-    /// The first half of a wake: the lobby is locked, and let go.
+    /// The first half of a wake. It locks the lobby, and unlocks it.
     fn begin_in_lobby<R: Wait>(
         &self,
         rt: &R,

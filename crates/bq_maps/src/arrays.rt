@@ -31,7 +31,7 @@ impl Maps {
     ghost use Rattle.bq_maps.specs.Arrays.{HasEntry, value_size_of, first_of, bytes_of, entry_of, with_bytes};
     ghost use Rattle.bq_bpf.specs.Memory.{HaveShapes};
 
-    /// Maps of these shapes, all bytes 0. Want of memory is the only error.
+    /// Maps of these shapes, all bytes 0. Lack of memory is the only error.
     pub fn new(alloc: Global, shapes: &[MapShape]) -> Result<Maps, AllocError>
         ensures shapes { IfOk result (λ m. m.shapes ≡ shapes.now) }
         ensures zero { IfOk result (λ m. (n i : ℕ) → slice_index (bytes_of m n) i ≡ 0) }

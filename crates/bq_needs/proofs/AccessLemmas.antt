@@ -12,7 +12,8 @@ use Rattle.bq_states.specs.declared.abstract_state.ValueKind.TheVariants as kind
 use Rattle.bq_states.specs.declared.abstract_state.AbstractValue.{AbstractValue}
 use Rattle.bq_states.specs.declared.abstract_state.AbstractState.{AbstractState}
 use Rattle.bq_policy_file.specs.declared.policy_source.PolicySource.{PolicySource}
-use Rattle.bq_needs.specs.Accesses.{AreSet, Follows, GoesBeyond, IsMoved, IsShown, ReachesLast, Stays, TellsBegin, Wraps, across, across_text, begin_of, context_of, counted, by_register, register_text}
+use Rattle.bq_verify.specs.Subjects.{context_of}
+use Rattle.bq_needs.specs.Accesses.{AreSet, Follows, GoesBeyond, IsMoved, IsShown, ReachesLast, Stays, TellsBegin, Wraps, across, across_text, begin_of, counted, by_register, register_text}
 use Rattle.bq_needs.specs.Texts.{kind_text}
 use Rattle.bq_needs.specs.declared.operands.Access.{Access}
 
@@ -59,7 +60,7 @@ pub range_of_followed : (off : ℤ) (offsets : Range) (F : Type 0) → F → (v 
 range_of_followed off offsets F follows None range wraps = inr wraps
 range_of_followed off offsets F follows (Some at) range wraps = (follows, range)
 
--- where the access begins is told by the range
+-- the range says where the access begins
 pub tells_counted : (a : Access) (k : AbstractValue) (at : Range) (text : List ℕ) → Follows k.kind × IsMoved a.off k.offset at → text ≡ kind_text k.kind at → TellsBegin a k text
 tells_counted a k at text (follows, moved) is = subst (λ (t : List ℕ). TellsBegin a k t) (sym is) (counted at follows moved)
 
@@ -73,10 +74,10 @@ pub tells_register : (a : Access) (k : AbstractValue) (text : List ℕ) → (Fol
 tells_register a k text not is = subst (λ (t : List ℕ). TellsBegin a k t) (sym is) (by_register not)
 
 -- a read of the context within its length
-pub shown_in_context : (p : PolicySource) (state : AbstractState) (a : Access) (k : AbstractValue) → k.kind ≡ kind.Context → a.writes ≡ false → Stays a k.offset (context_of p) → IsShown p state a k
+pub shown_in_context : (p : PolicySource) (state : AbstractState) (a : Access) (k : AbstractValue) → k.kind ≡ kind.Context → a.writes ≡ false → Stays a k.offset (context_of p.form) → IsShown p state a k
 shown_in_context p state a k of read stays =
     record {
-      bound = context_of p;
+      bound = context_of p.form;
       bound_is = rw of refl;
       stays = stays;
       writable = λ writes. cc;
@@ -106,7 +107,7 @@ read_from_stack p state a k of read stays set =
     }
 
 -- an access within a value of the map
-pub shown_in_value : (p : PolicySource) (state : AbstractState) (a : Access) (k : AbstractValue) (map size : ℕ) → k.kind ≡ kind.Entry map → size_of_shape (slice_get p.shapes.items map) ≡ Some size → Stays a k.offset size → IsShown p state a k
+pub shown_in_value : (p : PolicySource) (state : AbstractState) (a : Access) (k : AbstractValue) (map size : ℕ) → k.kind ≡ kind.Entry map → size_of_shape (slice_get p.form.shapes.items map) ≡ Some size → Stays a k.offset size → IsShown p state a k
 shown_in_value p state a k map size of is stays =
     record {
       bound = size;

@@ -1,4 +1,4 @@
--- What is told of a need is lacking, and where nothing is told nothing is.
+-- What is said of a need is lacking, and where nothing is said nothing is lacking.
 use Rattle.std.proofs.lemmas.Bool.{cases_lt}
 use Rattle.std.proofs.Common.{◌≡◌, ℕ, pos, ◌+◌, ◌<◌, ◌&&◌, Bool, true, false, is_none, List, Option, Some, None, inl, inr, slice_get, slice_index_or, sym, ◌∙◌, ap, subst, refl, arith}
 use Rattle.std.proofs.lemmas.Option.{same_Some}
@@ -8,7 +8,8 @@ use Rattle.bq_states.specs.declared.abstract_state.ValueKind.TheVariants as kind
 use Rattle.bq_states.specs.declared.abstract_state.AbstractValue.{AbstractValue}
 use Rattle.bq_states.specs.declared.abstract_state.AbstractState.{AbstractState}
 use Rattle.bq_policy_file.specs.declared.policy_source.PolicySource.{PolicySource}
-use Rattle.bq_needs.specs.Accesses.{IsShown, Lacks, context_of}
+use Rattle.bq_verify.specs.Subjects.{context_of}
+use Rattle.bq_needs.specs.Accesses.{IsShown, Lacks}
 use Rattle.bq_needs.specs.Arguments.{PointsTo, PointsToValue}
 use Rattle.bq_needs.specs.Needs.{AreKnown, AreNumbers, AreUnknown, IsFirstPointer, IsGoodAccess, is_unknown}
 use Rattle.bq_bpf.specs.declared.shape.MapShape.{MapShape}
@@ -24,7 +25,7 @@ lacks_not_shown p state a k lack.Answer (map, of) shown = let e = rw of at shown
 lacks_not_shown p state a k lack.Reference (map, of) shown = let e = rw of at shown.bound_is in cc
 lacks_not_shown p state a k lack.WritesContext (of, writes) shown = shown.writable writes of
 lacks_not_shown p state a k lack.BeyondContext (of, read, (o, within, beyond)) shown =
-    let bound : context_of p ≡ shown.bound = same_Some _ _ (rw of at shown.bound_is) in
+    let bound : context_of p.form ≡ shown.bound = same_Some _ _ (rw of at shown.bound_is) in
     let below = shown.stays o within in
     omega arith
 lacks_not_shown p state a k lack.BeyondStack (of, (o, within, beyond)) shown =
@@ -92,12 +93,12 @@ pub one_map : (state : AbstractState) (m n : ℕ) → StandsAt (Pointer (kind.Ma
 one_map state m n first second = same_standing state m n (slice_index_or state.registers 1 None) first second
 
 -- register 3 points to a value of the map that register 1 names
-pub value_pointed : (p : PolicySource) (state : AbstractState) (map : ℕ) (shape : MapShape) (bytes : ℕ) → StandsAt (Pointer (kind.Map map) 0) state 1 → slice_get p.shapes.items map ≡ Some shape → bytes ≡ shape.value_size → PointsTo p state 3 bytes → PointsToValue p state
+pub value_pointed : (p : PolicySource) (state : AbstractState) (map : ℕ) (shape : MapShape) (bytes : ℕ) → StandsAt (Pointer (kind.Map map) 0) state 1 → slice_get p.form.shapes.items map ≡ Some shape → bytes ≡ shape.value_size → PointsTo p state 3 bytes → PointsToValue p state
 value_pointed p state map shape bytes names is size points = (map, shape, names, is, subst (λ (n : ℕ). PointsTo p state 3 n) size points)
 
--- and where it points to one, it points to so many bytes
-pub value_points : (p : PolicySource) (state : AbstractState) (map : ℕ) (shape : MapShape) (bytes : ℕ) → StandsAt (Pointer (kind.Map map) 0) state 1 → slice_get p.shapes.items map ≡ Some shape → bytes ≡ shape.value_size → PointsToValue p state → PointsTo p state 3 bytes
+-- and where it points to one, it points to this many bytes
+pub value_points : (p : PolicySource) (state : AbstractState) (map : ℕ) (shape : MapShape) (bytes : ℕ) → StandsAt (Pointer (kind.Map map) 0) state 1 → slice_get p.form.shapes.items map ≡ Some shape → bytes ≡ shape.value_size → PointsToValue p state → PointsTo p state 3 bytes
 value_points p state map shape bytes names is size (m, given, named, there, points) =
     let same : m ≡ map = one_map state m map named names in
-    let one : given ≡ shape = same_Some given shape (sym there ∙ ap (λ (n : ℕ). slice_get p.shapes.items n) same ∙ is) in
+    let one : given ≡ shape = same_Some given shape (sym there ∙ ap (λ (n : ℕ). slice_get p.form.shapes.items n) same ∙ is) in
     subst (λ (n : ℕ). PointsTo p state 3 n) (ap (λ (s : MapShape). s.value_size) one ∙ sym size) points

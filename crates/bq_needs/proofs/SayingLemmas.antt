@@ -19,7 +19,7 @@ wrap_taken_away place o n whole =
     let joined : (place + o) + n ≡ place + 2 ^ 64 = omega (arith, whole) in
     mod-add-mod (place + o) (2 ^ 64) n ∙ ap (λ (m : ℕ). m % 2 ^ 64) joined ∙ add-mod_right place (2 ^ 64)
 
--- an offset of the range is told
+-- an offset of the range is said
 pub tells_offset : (r : Range) (o place word : ℕ) → Within r o → word ≡ (place + o) % 2 ^ 64 → TellsPlace (offset_text r) place word
 tells_offset r o place word within is =
     let fits = r.fits in
@@ -41,7 +41,7 @@ tells_offset r o place word within is =
           ] refl
     ] refl
 
--- a pointer into the stack is told
+-- a pointer into the stack is said
 pub tells_stack : (shapes : List MapShape) (r : Range) (o word : ℕ) → Within r o → word ≡ (stack_base + o) % 2 ^ 64 → Says shapes (stack_text r) word
 tells_stack shapes r o word within is =
     elim (nat_lt 512 r.hi) as (λ b. nat_lt 512 r.hi ≡ b → Says shapes (if b then codes "stack begin" ++ offset_text r else if r.lo == 512 then codes "stack end" else codes "stack end" ++ below_text (512 - r.lo) (512 - r.hi)) word) [
@@ -63,7 +63,7 @@ tells_stack shapes r o word within is =
           ] refl
     ] refl
 
--- a number of the range is told
+-- a number of the range is said
 pub tells_number : (shapes : List MapShape) (r : Range) (word : ℕ) → Within r word → Says shapes (number_text r) word
 tells_number shapes r word within =
     let fits = r.fits in
@@ -80,7 +80,7 @@ tells_number shapes r word within =
           ]
     ]
 
--- a word of each kind is told
+-- a word of each kind is said
 pub tells_kind : (shapes : List MapShape) (kind : ValueKind) (r : Range) (base o word : ℕ) → IsBase shapes kind base → Within r o → word ≡ (base + o) % 2 ^ 64 → Says shapes (kind_text kind r) word
 tells_kind shapes Number r base o word from within is =
     let fits = r.fits in

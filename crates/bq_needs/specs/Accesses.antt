@@ -4,7 +4,8 @@ use Rattle.std.specs.Fmt.{decimal}
 use Rattle.bq_bpf.specs.Steps.{address_of}
 use Rattle.bq_ranges.specs.Within.{Within}
 use Rattle.bq_ranges.specs.declared.range.Range.{Range}
-use Rattle.bq_hooks.specs.Hooks.{context_length_of, hook_word, version_number}
+use Rattle.bq_hooks.specs.Hooks.{hook_word, version_number}
+use Rattle.bq_verify.specs.Subjects.{context_of}
 use Rattle.bq_bpf.specs.Memory.{stack_size}
 use Rattle.bq_states.specs.AbstractStates.{bound_of, size_of_shape}
 use Rattle.bq_states.specs.declared.abstract_state.ValueKind.{ValueKind}
@@ -47,7 +48,7 @@ pub record IsMoved (off : ℤ) (old new : Range) : Type 0 where
 abbrev pub ReachesLast : ℤ → Range → Type 0
 ReachesLast off offsets = (o : ℕ) × Within offsets o × (address_of o off ≡ 2 ^ 64 - 1)
 
--- no range is so far on from the range: on the way its words begin anew from 0
+-- no range is so far on from the range: on the way its words begin again from 0
 abbrev pub Wraps : ℤ → Range → Type 0
 Wraps off old = (new : Range) → IsMoved off old new → ⊥
 
@@ -58,13 +59,10 @@ Follows kind.Stack = Unit {0}
 Follows (kind.Entry map) = Unit {0}
 Follows _ = ⊥
 
-abbrev pub context_of : PolicySource → ℕ
-context_of p = context_length_of p.hook p.version
-
 -- by what is known of its pointer the access is good: it stays in what the pointer points to, it does not write the context, and what it reads of the stack is set
 pub record IsShown (p : PolicySource) (state : AbstractState) (a : Access) (k : AbstractValue) : Type 0 where
   pub bound : ℕ
-  pub bound_is : bound_of p.shapes.items (context_of p) k.kind ≡ Some bound
+  pub bound_is : bound_of p.form.shapes.items (context_of p.form) k.kind ≡ Some bound
   pub stays : Stays a k.offset bound
   pub writable : a.writes ≡ true → k.kind ≢ kind.Context
   pub set : a.writes ≡ false → k.kind ≡ kind.Stack → AreSet state.set (begin_of a k.offset.lo) (begin_of a k.offset.hi + a.bytes)
@@ -75,18 +73,18 @@ Lacks p state a k lack.Number = k.kind ≡ kind.Number
 Lacks p state a k lack.Answer = (map : ℕ) × (k.kind ≡ kind.EntryOrNull map)
 Lacks p state a k lack.Reference = (map : ℕ) × (k.kind ≡ kind.Map map)
 Lacks p state a k lack.WritesContext = (k.kind ≡ kind.Context) × (a.writes ≡ true)
-Lacks p state a k lack.BeyondContext = (k.kind ≡ kind.Context) × (a.writes ≡ false) × GoesBeyond a k.offset (context_of p)
+Lacks p state a k lack.BeyondContext = (k.kind ≡ kind.Context) × (a.writes ≡ false) × GoesBeyond a k.offset (context_of p.form)
 Lacks p state a k lack.BeyondStack = (k.kind ≡ kind.Stack) × GoesBeyond a k.offset stack_size
 Lacks p state a k lack.ReadsUnset = (k.kind ≡ kind.Stack) × (a.writes ≡ false) × Stays a k.offset stack_size × TouchesUnset state a k.offset
-Lacks p state a k (lack.BeyondValue map size) = (k.kind ≡ kind.Entry map) × (size_of_shape (slice_get p.shapes.items map) ≡ Some size) × GoesBeyond a k.offset size
-Lacks p state a k lack.InNoMap = (map : ℕ) × (k.kind ≡ kind.Entry map) × (size_of_shape (slice_get p.shapes.items map) ≡ None)
+Lacks p state a k (lack.BeyondValue map size) = (k.kind ≡ kind.Entry map) × (size_of_shape (slice_get p.form.shapes.items map) ≡ Some size) × GoesBeyond a k.offset size
+Lacks p state a k lack.InNoMap = (map : ℕ) × (k.kind ≡ kind.Entry map) × (size_of_shape (slice_get p.form.shapes.items map) ≡ None)
 
 abbrev pub lack_text : PolicySource → Lack → List ℕ
 lack_text p lack.Number = codes "a number is no address"
 lack_text p lack.Answer = codes "test it first"
 lack_text p lack.Reference = codes "the reference of a map is no address of its values"
 lack_text p lack.WritesContext = codes "the context is only read"
-lack_text p lack.BeyondContext = codes "the context of " ++ (hook_word p.hook ++ (codes ", version " ++ (decimal (version_number p.version) ++ (codes ", has " ++ (decimal (context_of p) ++ codes " bytes")))))
+lack_text p lack.BeyondContext = codes "the context of " ++ (hook_word p.form.hook ++ (codes ", version " ++ (decimal (version_number p.form.version) ++ (codes ", has " ++ (decimal (context_of p.form) ++ codes " bytes")))))
 lack_text p lack.BeyondStack = codes "the stack has the 512 bytes below r10"
 lack_text p lack.ReadsUnset = codes "not all of these bytes were written before, on each way that leads here"
 lack_text p (lack.BeyondValue map size) = codes "a value of map " ++ (decimal map ++ (codes " has " ++ (decimal size ++ codes " bytes, and an access stays in one")))
@@ -112,7 +110,7 @@ abbrev pub across_text : Access → AbstractValue → List ℕ
 across_text a k =
     place_text k.kind ++ (codes " -" ++ (decimal ((2 ^ 64 - address_of k.offset.lo a.off) % 2 ^ 64) ++ (codes ".." ++ decimal (address_of k.offset.hi a.off))))
 
--- the text tells where it begins: of a pointer that may be followed, how far from what that counts from, as a range of words, or, where its words begin anew
+-- the text tells where it begins: of a pointer that may be followed, how far from what that counts from, as a range of words, or, where its words begin again
 -- from 0 on the way, from so far below to so far above; of one that may not, by which register and what is known of that
 pub data TellsBegin (a : Access) (k : AbstractValue) : List ℕ → Type 0 where
   counted : (at : Range) → Follows k.kind → IsMoved a.off k.offset at → TellsBegin a k (kind_text k.kind at)

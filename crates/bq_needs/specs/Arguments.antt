@@ -23,14 +23,14 @@ Wants helper argument.Zero = helper ≡ number_of_helper Update
 Wants helper argument.Counter = (helper ≡ number_of_helper AddCounter) ⊎ (helper ≡ number_of_helper ReadCounter)
 Wants helper argument.Amount = helper ≡ number_of_helper AddCounter
 
--- the register points to so many bytes that may be read
+-- the register points to this many bytes that may be read
 abbrev pub PointsTo : PolicySource → AbstractState → ℕ → ℕ → Type 0
 PointsTo p state r bytes = (k : AbstractValue) × (known_in state r ≡ Some k) × IsShown p state (record { writes = false; bytes = bytes; register = r; off = pos 0 }) k
 
 -- register 1 is the reference of a map, and register 3 points to as many as a value of it has
 abbrev pub PointsToValue : PolicySource → AbstractState → Type 0
 PointsToValue p state =
-    (m : ℕ) × (shape : MapShape) × StandsAt (Pointer (Map m) 0) state 1 × (slice_get p.shapes.items m ≡ Some shape) × PointsTo p state 3 shape.value_size
+    (m : ℕ) × (shape : MapShape) × StandsAt (Pointer (Map m) 0) state 1 × (slice_get p.form.shapes.items m ≡ Some shape) × PointsTo p state 3 shape.value_size
 
 -- a number of a counter
 abbrev pub IsCounter : Option AbstractValue → Type 0

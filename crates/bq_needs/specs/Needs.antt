@@ -37,7 +37,7 @@ IsGoodAccess p state insn = (a : Accessed) → access_of insn ≡ Some a → (k 
 
 -- there is a map of that number
 abbrev pub IsMap : PolicySource → ℤ → Type 0
-IsMap p index = (m : ℕ) × (index ≡ pos m) × (m < length p.shapes.items)
+IsMap p index = (m : ℕ) × (index ≡ pos m) × (m < length p.form.shapes.items)
 
 -- there is a map of that number; of a call, the arguments are what its helper wants
 abbrev pub AreGoodArguments : PolicySource → AbstractState → Insn → Type 0

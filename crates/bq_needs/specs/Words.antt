@@ -16,7 +16,7 @@ use Rattle.bq_needs.specs.Arguments.{register_of, wanted_text}
 use Rattle.bq_needs.specs.Operands.{known_in}
 use Rattle.bq_needs.specs.Texts.{known_text}
 
--- the names of those of the first registers, so many, that are marked
+-- the names of those of the first registers, this many, that are marked
 abbrev pub name_text : ℕ → Bool → List ℕ
 name_text r named = if named then codes " r" ++ decimal r else []
 
@@ -76,7 +76,7 @@ TellsNeed p state insn (Unknown registers) text = text ≡ unknown_text register
 TellsNeed p state insn (Address a) text = text ≡ address_text a
 TellsNeed p state insn (Access a k lack) text = (told : List ℕ) × TellsAccess a k told × (text ≡ told ++ (codes "; " ++ lack_text p lack))
 TellsNeed p state insn (Number pointer) text = text ≡ pointer_text pointer insn
-TellsNeed p state insn (Map index) text = text ≡ map_text index (length p.shapes.items)
+TellsNeed p state insn (Map index) text = text ≡ map_text index (length p.form.shapes.items)
 TellsNeed p state insn (Argument helper a) text = text ≡ argument_text state helper a
 TellsNeed p state insn (Answer known) text = text ≡ answer_text known
 TellsNeed p state insn Unshown text = text ≡ codes "is not shown to be safe"

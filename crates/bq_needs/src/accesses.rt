@@ -7,7 +7,6 @@ use crate::operands::Access;
 use bq_bpf::addresses::STACK_SIZE;
 use bq_bpf::with_stack_size;
 use bq_bpf::words::address;
-use bq_hooks::context_length;
 use bq_policy_file::PolicySource;
 use bq_ranges::Range;
 use bq_states::abstract_state::{AbstractState, AbstractValue, ValueKind};
@@ -31,9 +30,9 @@ pub enum Lack {
     BeyondStack,
     /// It reads bytes of the stack that may be unset.
     ReadsUnset,
-    /// It goes beyond a value of that map, which has so many bytes.
+    /// It goes beyond a value of that map, which has this many bytes.
     BeyondValue(u8, u16),
-    /// It goes into a map that there is not.
+    /// It goes into a map that does not exist.
     InNoMap,
 }
 
@@ -72,7 +71,7 @@ fn context_lack(
     if access.writes {
         return Some(Lack::WritesContext);
     }
-    let length = context_length(policy.hook, policy.version);
+    let length = policy.form.context_length();
     if stays(access, pointer.offset, length) {
         None
     } else {
@@ -118,7 +117,7 @@ fn value_lack(
     requires kind { pointer.kind ≡ ValueKind.Entry map }
     ensures { MatchOption result (IsShown policy.now state.now access pointer) (Lacks policy.now state.now access pointer) }
 {
-    let Some(shape) = shape_of(policy.shapes.as_slice(), map) else {
+    let Some(shape) = shape_of(policy.form.shapes.as_slice(), map) else {
         return Some(Lack::InNoMap);
     };
     if stays(access, pointer.offset, usize::from(shape.value_size)) {
@@ -295,8 +294,8 @@ pub(crate) fn lack_text(
 fn context_text(alloc: Global, policy: &PolicySource) -> Result<String, AllocError>
     ensures { IfOk result (λ text. string_bytes text ≡ lack_text policy.now Lack.BeyondContext) }
 {
-    let hook = policy.hook.word();
-    let version = policy.version.number();
-    let length = context_length(policy.hook, policy.version);
+    let hook = policy.form.hook.word();
+    let version = policy.form.version.number();
+    let length = policy.form.context_length();
     format!(in alloc; "the context of {hook}, version {version}, has {length} bytes")
 }

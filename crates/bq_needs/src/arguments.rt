@@ -156,13 +156,13 @@ fn points_to_value(policy: &PolicySource, state: &AbstractState) -> bool
     let Some(map) = named_map(state) else {
         return false;
     };
-    let Some(shape) = shape_of(policy.shapes.as_slice(), map) else {
+    let Some(shape) = shape_of(policy.form.shapes.as_slice(), map) else {
         return false;
     };
     points_to(policy, state, 3, usize::from(shape.value_size))
 }
 
-/// Whether the register points to so many bytes that may be read.
+/// Whether the register points to this many bytes that may be read.
 #[tactic(auto, using(crate::proofs::NeedLemmas::lacking_not_pointing))]
 fn points_to(policy: &PolicySource, state: &AbstractState, register: u8, bytes: usize) -> bool
     requires { bytes ≤ 256 }

@@ -33,7 +33,7 @@ pub enum Need {
     },
     /// It works on a register that is known to be no number.
     Number(Pointer),
-    /// It names a map that there is not.
+    /// It names a map that does not exist.
     Map(i32),
     /// It calls a helper, and this argument is not shown to be what the helper wants.
     Argument {
@@ -42,7 +42,7 @@ pub enum Need {
     },
     /// It ends, and the answer, of which that is known, is not shown to be a number.
     Answer(Option<AbstractValue>),
-    /// The abstract state gives what the cause says: the verifier wants more than is told here.
+    /// The abstract state gives what the cause says: the verifier wants more than is said here.
     Unshown,
 }
 
@@ -187,7 +187,7 @@ fn is_number(kind: ValueKind) -> bool
     matches!(kind, ValueKind::Number)
 }
 
-/// The map that there is not, or the argument of a helper that is not shown to be what it wants.
+/// The map that does not exist, or the argument of a helper that is not shown to be what it wants.
 fn argument_need(policy: &PolicySource, state: &AbstractState, insn: Insn) -> Option<Need>
     ensures { MatchOption result (AreGoodArguments policy.now state.now insn) (Lacking policy.now state.now insn (Cause.State Obligation.Argument)) }
 {
@@ -213,7 +213,7 @@ fn map_need(policy: &PolicySource, index: i32) -> Option<Need>
 fn is_map(policy: &PolicySource, index: i32) -> bool
     ensures { IsTrue result ↔ IsMap policy.now index }
 {
-    index >= 0 && (index as usize) < policy.shapes.len()
+    index >= 0 && (index as usize) < policy.form.shapes.len()
 }
 
 /// The argument of the helper that is not shown to be what it wants, if there is one.

@@ -38,7 +38,7 @@ pub fn need_text(
             format!(in alloc; "{told}; {why}")
         }
         Need::Number(pointer) => pointer_text(alloc, pointer, insn),
-        Need::Map(index) => map_text(alloc, index, policy.shapes.len()),
+        Need::Map(index) => map_text(alloc, index, policy.form.shapes.len()),
         Need::Argument { helper, argument } => argument_text(alloc, state, helper, argument),
         Need::Answer(known) => answer_text(alloc, known),
         Need::Unshown => String::from_str(alloc, "is not shown to be safe"),

@@ -2,7 +2,7 @@
 use Rattle.std.specs.Prelude.{◌≡◌, ℕ, ◌+◌, ◌≤◌, List, length, drop, slice_range}
 use Rattle.byteorder.specs.Endian.{little_number}
 
--- the number in so many bytes at the offset
+-- the number in this many bytes at the offset
 abbrev pub number_at : ℕ → List ℕ → ℕ → ℕ
 number_at long bytes at = little_number long (drop at bytes)
 

@@ -25,7 +25,7 @@ pub record IsRelocation (entries : List ℕ) (size index at kind : ℕ) : Type 0
   pub at_is : at ≡ number_at 8 entry 0
   pub kind_is : kind ≡ number_at 4 entry 8
 
--- what stands at that offset of its section belongs to the function
+-- what is at that offset of its section belongs to the function
 abbrev pub IsWithin : Symbol → ℕ → Type 0
 IsWithin symbol at = (symbol.at ≤ at) × (at < symbol.at + symbol.long)
 

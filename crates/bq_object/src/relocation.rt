@@ -93,7 +93,7 @@ fn filled(kind: u32) -> Filled
     }
 }
 
-/// Whether what stands at the offset belongs to the function.
+/// Whether what is at the offset belongs to the function.
 fn is_within(policy: Symbol, at: u64) -> bool
     ensures { IsTrue result ↔ IsWithin policy at }
 {

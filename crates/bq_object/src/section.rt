@@ -52,7 +52,7 @@ impl Section {
     }
 }
 
-/// The section of that number, if there are so many.
+/// The section of that number, if there are that many.
 pub fn section_at(headers: &[u8], index: u64) -> Option<Section>
     ensures some { IfSome result (IsSection headers.now index) }
     ensures none { IfNone result (length headers.now < index * 64 + 64) }

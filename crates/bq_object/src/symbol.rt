@@ -51,7 +51,7 @@ impl Symbol {
     }
 }
 
-/// The symbol of that number, if there are so many.
+/// The symbol of that number, if there are that many.
 pub fn symbol_at(entries: &[u8], index: u64) -> Option<Symbol>
     ensures some { IfSome result (IsSymbol entries.now index) }
     ensures none { IfNone result (length entries.now < index * 24 + 24) }

@@ -63,7 +63,7 @@ module _ {A B X : Type 0} (f : A → List X) (g : B → List X) where
           let here = ap (λ l. length l) head in
           omega (arith, here, rest)
 
--- so many seats
+-- this many seats
 pub fresh_many : (R : Type 0) (s n : ℕ) → let l : List (ℕ × List (Receipt R)) = fresh s n in length l ≡ n
 fresh_many R s zero = refl
 fresh_many R s (suc n) = ap suc (fresh_many R (s + 1) n)

@@ -10,7 +10,7 @@ use Rattle.bq_shared.specs.declared.record.Record.{Record}
 abbrev pub IsTickAt : ℕ → Receipt Record → Type 0
 IsTickAt p r = (now : ℕ) × (r.entry.event ≡ Tick p now)
 
--- the processor's task, whose id is the processor's number, is admitted for all processors, then woken there, and then drained there; the wake ends just where its beginning was not refused
+-- the processor's task, whose id is the processor's number, is admitted for all processors, then woken there, and then drained there; the wake ends exactly when its beginning was not refused
 pub record IsStart (p : ℕ) (l : List (Receipt Record)) : Type 0 where
   pub admit : Receipt Record
   pub begin : Receipt Record
@@ -23,7 +23,7 @@ pub record IsStart (p : ℕ) (l : List (Receipt Record)) : Type 0 where
   pub ended : IsSome end ↔ IsOk begin.entry.reply
   pub drained : (now : ℕ) × (drain.entry.event ≡ Drain p now)
 
--- so many ticks of the processor stand behind the receipts before
+-- this many ticks of the processor stand behind the receipts before
 pub record TicksMore (p ticks : ℕ) (before after : List (Receipt Record)) : Type 0 where
   pub beats : List (Receipt Record)
   pub behind : after ≡ before ++ beats

@@ -12,25 +12,24 @@ use Rattle.bq_par.specs.Shifts.{IsShift}
 use Rattle.bq_par.specs.Ticks.{ticks_in}
 use Rattle.bq_par.specs.declared.summary.HistorySummary.{HistorySummary}
 
--- Some history of so many processors under the discipline, each asked for so many ticks, has these numbers
+-- The summary has the history of a machine of so many processors under the discipline, each asked for so many ticks, and its numbers
 pub record IsSummary (d : Discipline) (processors ticks : ℕ) (s : HistorySummary) : Type 0 where
-  pub log : List Record
   pub world : World
   pub callers : List (ℕ × List (Receipt Record))
   -- each record is a step of the scheduler
-  pub is_history : IsHistory (RecordStep d) (opening_world processors) log world
+  pub is_history : IsHistory (RecordStep d) (opening_world processors) s.history world
   -- the receipts of the callers share the records out, each at its place
-  pub receipts : AreReceiptsOf log callers
-  -- there is just one caller for each processor, whose number it has, and its receipts are those of that processor's shift: its task comes, is woken and is drained there, and then it ticks just as often as was asked for
+  pub receipts : AreReceiptsOf s.history callers
+  -- there is just one caller for each processor, whose number it has, and its receipts are those of that processor's shift: its task comes, is woken and is drained there, and then it ticks exactly as often as was asked for
   pub many : length callers ≡ processors
   pub numbers : EachOnce processors callers
   pub shifts : Each (λ (c : ℕ × List (Receipt Record)). IsShift c.0 ticks c.1) callers
-  -- the line says how long the history is, how many of its records are ticks, and how many receipts stand in it: all
-  pub events : s.events ≡ length log
-  pub ticked : s.ticks ≡ ticks_in log
+  -- it says how many records there are, how many of them are ticks, and how many receipts stand among them: all
+  pub events : s.events ≡ length s.history
+  pub ticked : s.ticks ≡ ticks_in s.history
   pub asked : s.ticks ≡ processors * ticks
   pub confirmed : s.confirmed ≡ total (λ (c : ℕ × List (Receipt Record)). length c.1) callers
 
--- the line that says so
+-- the line that says these numbers
 abbrev pub summary_line : HistorySummary → List ℕ
 summary_line s = codes "events " ++ (decimal s.events ++ (codes " ticks " ++ (decimal s.ticks ++ (codes " confirmed " ++ (decimal s.confirmed ++ codes "\n")))))

@@ -14,7 +14,7 @@ pub struct Metronome {
 }
 
 impl Metronome {
-    /// Clocks for so many processors.
+    /// Clocks for this many processors.
     pub fn new(alloc: Global, processors: u8) -> Result<Metronome, AllocError> {
         let mut readings = Vec::new(alloc);
         for _ in 0..processors {

@@ -21,9 +21,9 @@ use std::marker::Brand;
 use std::sync::Wait;
 use std::thread::{Threads, map_vec};
 
-/// Runs so many processors under the rule of a kind of queue, each by a thread of its own (where none can be made, in turn): its
+/// Runs this many processors under the rule of a kind of queue, each by a thread of its own (where none can be made, in turn): its
 /// task, whose id is its number, is admitted, woken and drained there, and then it ticks so often. Answers how long their one
-/// history is, how many of its events are ticks, and how many receipts stand in it, which is all. Want of memory is the only error.
+/// history is, how many of its events are ticks, and how many receipts stand in it, which is all. Lack of memory is the only error.
 pub fn run<Q: RunQueue + Drop + Send, T: Threads + Wait + Sync>(
     rt: &T,
     alloc: Global,

@@ -29,7 +29,7 @@ struct Duty {
 }
 
 /// Drives the processor of a seat's number: its task, whose id is that number too, is admitted, woken and drained there, and
-/// then the processor ticks so often. The only error is want of memory.
+/// then the processor ticks so often. The only error is that memory ran out.
 pub fn drive<Q: RunQueue + Drop, K: Clock + Drop, N: Naming + Counting, R: Wait, const P: usize>(
     rt: &R,
     alloc: Global,

@@ -6,31 +6,34 @@ ghost use Rattle.bq_history.specs.Whole.{Each};
 ghost use Rattle.bq_history.specs.History.{IsConfirmed, Stands};
 ghost use Rattle.bq_par.specs.Shifts.{IsShift};
 ghost use Rattle.bq_par.specs.Summaries.{IsSummary, summary_line};
-ghost use Rattle.bq_par.specs.Ticks.{one_tick};
+ghost use Rattle.bq_par.specs.Ticks.{one_tick, ticks_in};
 
 use crate::shift::ReturnedSeat;
 use bq_disc::RunQueue;
-use bq_history::{Compared, Naming, Receipt};
+use bq_history::{ClosedRecords, Compared, Naming, Receipt};
 use bq_machine::{Clock, Machine};
 use bq_parts::{Event, Refusal};
-use bq_recording::Seat;
+use bq_recording::{Closed, Seat};
 use bq_shared::{Counting, Record};
 use std::alloc::{AllocError, Global};
 
-/// How many events the history has, how many of them are ticks, and how many of the receipts stand in it.
-#[derive(Clone, Copy)]
+/// The history of a machine that was closed, how many events it has, how many of them are ticks, and how many of the receipts
+/// stand in it. Only the end of a history makes a `ClosedRecords`, so no summary is made without one.
+#[derive(Drop)]
 pub struct HistorySummary {
+    pub history: ClosedRecords<Record>,
     pub events: u64,
     pub ticks: u64,
     pub confirmed: u64,
 }
 
 impl HistorySummary {
-    /// The line that says so.
+    /// The line that says these numbers.
     pub fn line(&self, alloc: Global) -> Result<String, AllocError>
         ensures { IfOk result (λ t. string_bytes t ≡ summary_line self.now) }
     {
         let HistorySummary {
+            history: _,
             events,
             ticks,
             confirmed,
@@ -48,7 +51,7 @@ struct ReturnedSeats<N: Naming + Counting> {
 }
 
 /// Ends a machine whose seats have come back, each with the receipts of its processor's shift, and says what its history is.
-/// Want of memory is the only error.
+/// Lack of memory is the only error.
 pub fn finish<Q: RunQueue + Drop, K: Clock + Drop, N: Naming + Counting, const P: usize>(
     alloc: Global,
     machine: Machine<Q, K, N, P>,
@@ -65,13 +68,30 @@ pub fn finish<Q: RunQueue + Drop, K: Clock + Drop, N: Naming + Counting, const P
     if !machine.owns(&seats) {
         return Err(AllocError);
     }
-    let closed = machine.close(seats);
-    let records = closed.history.in_order(alloc)?;
+    let Closed { history, .. } = machine.close(seats);
+    let events = history.len();
+    let (ticks, confirmed) = counted(alloc, &history, &lists)?;
     Ok(HistorySummary {
-        events: closed.len(),
-        ticks: ticks_among(&records),
-        confirmed: confirmed_among(&records, &lists),
+        history,
+        events,
+        ticks,
+        confirmed,
     })
+}
+
+/// How many events of the history are ticks, and how many of the receipts stand in it.
+fn counted(
+    alloc: Global,
+    history: &ClosedRecords<Record>,
+    lists: &[Vec<Receipt<Record>>],
+) -> Result<(u64, u64), AllocError>
+    requires stand { All (λ l. All (Stands history.now) l.items) lists.now }
+    requires few { sum_by (λ l. length l.items) lists.now < 2 ^ 64 }
+    ensures ticks { IfOk result (λ r. r.0 ≡ ticks_in history.now) }
+    ensures confirmed { IfOk result (λ r. r.1 ≡ sum_by (λ l. length l.items) lists.now) }
+{
+    let records = history.in_order(alloc)?;
+    Ok((ticks_among(&records), confirmed_among(&records, lists)))
 }
 
 /// The seats and the receipts of all threads, each those of its processor's shift. A thread that wanted memory is an error.

@@ -1,4 +1,4 @@
--- Sums over some tasks of a number that each task's id and mask alone decide: what they keep while tasks come, go and run.
+-- Sums over some tasks of a number that only each task's id and mask decide: what they keep while tasks come, go and run.
 use Rattle.std.proofs.Common.{◌≡◌, ℕ, ◌+◌, ◌-◌, Bool, true, false, cond, eqb, List, [], ◌∷◌, ◌++◌, Option, Some, None, refl, sym, ap, ◌∙◌, arith}
 use Rattle.std.specs.Option.{option_map}
 use Rattle.bq_disc.specs.Tasks.{Task, with_id, without, place, present, runs_before, id_of}
@@ -83,7 +83,7 @@ tally-exchanged g j p old (Some new) e h =
     let was : tally g (present_at p) ≡ worth g old + tally g p.queue = rw e refl in
     omega (arith, placed, was, tally-without g j p.queue new h)
 
--- whoever is next
+-- the next task
 pub tally-switched : (g : ℕ → ℕ → ℕ) (d : Discipline) (p : Running) (o : Option Task) → p.current ≡ o → tally g (present_at (switched d p o)) ≡ tally g (present_at p)
 tally-switched g d p None e = refl
 tally-switched g d p (Some t) e = tally-exchanged g (next_of d t p.queue) p t (with_id (next_of d t p.queue) p.queue) e refl

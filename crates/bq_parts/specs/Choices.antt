@@ -31,7 +31,7 @@ pub record PolicySemantics : Type 1 where
 abbrev pub policies : Discipline → PolicySemantics
 policies d = record { discipline = d; Answers = Answers }
 
--- a choice, whose it was, how many steps it took, what was asked of the counters, and what stands at the hook afterwards
+-- a choice, whose it was, how many steps it took, what was asked of the counters, and what is installed at the hook afterwards
 pub record Decision : Type 0 where
   pub choice : ℕ
   pub by : By
@@ -61,7 +61,7 @@ abbrev pub place_bytes : PlaceFacts → Version → List ℕ
 place_bytes facts First = place_bytes_first facts
 place_bytes facts Second = place_bytes_second facts
 
--- a placement is settled, of the task in a hand, among so many processors
+-- a placement is settled, of the task in a hand, among this many processors
 abbrev pub SettlesPlace : PolicySemantics → ℕ → ℕ → Processor → Carried → Decision → Type 0
 SettlesPlace s count processor p carried settled =
     let own = unwrap_or (own_place count carried.loads carried.task) 0 in
@@ -89,7 +89,7 @@ SettlesPull s processor from p other settled =
     let context = pull_bytes (record { puller = processor; source = from; puller_size = size_of p; source_size = size_of other; movable = movable_to processor queue; own = own }) in
     Settles s (λ version. context) p.hooks.pull p.running.last processor (may_pull processor queue) (or_nobody own) settled
 
--- Decide: who runs after a preemption was settled, and what stands at the hook
+-- Decide: who runs after a preemption was settled, and what is installed at the hook
 abbrev pub decided_by : PolicySemantics → Processor → Decision → Processor
 decided_by s p settled =
     record p {

@@ -1,4 +1,4 @@
--- A processor as the world sees it: who runs and waits there, the task in its hand, and what stands at its hooks.
+-- A processor as the world sees it: who runs and waits there, the task in its hand, and what is installed at its hooks.
 use Rattle.std.specs.Prelude.{◌≡◌, ℕ, ◌+◌, ◌≤◌, List, [], ◌∷◌, ◌++◌, length, Option, None, if◌then◌else◌}
 use Rattle.std.specs.Option.{option_map, option_to_list}
 use Rattle.bq_disc.specs.Tasks.{Task, has_id}
@@ -6,7 +6,7 @@ use Rattle.bq_disc.specs.OneProcessor.{Running, at_rest, present_at}
 use Rattle.bq_installed.specs.Attachments.{Attachments, none_attached}
 use Rattle.bq_parts.specs.declared.carried.Carried.{Carried}
 
--- a processor: its tasks, the woken task that it is to place, and what stands at its hooks
+-- a processor: its tasks, the woken task that it is to place, and what is installed at its hooks
 pub record Processor : Type 0 where
   pub running : Running
   pub hand : Option Carried

@@ -43,7 +43,7 @@ is_for h (Some p) = same_hook h p.hook
 abbrev pub no_processor : ℕ → ℕ → Bool × Refusal
 no_processor count processor = (nat_le count processor, no.NoProcessor)
 
--- an argument that no world of so many processors takes
+-- an argument that no world of this many processors takes
 abbrev pub argument_refusal : ℕ → Event → Option Refusal
 argument_refusal count (Admit id nice mask slice) =
     first_refusal ((nat_le 1024 id, no.NoTask) ∷ (mask % 2 ^ count == 0, no.EmptyMask) ∷ (not (is_nice nice), no.Nice) ∷ (nat_lt slice LEAST_SLICE || nat_lt GREATEST_SLICE slice, no.Slice) ∷ [])
@@ -65,7 +65,7 @@ retire_refusal s = first_refusal ((is_absent s, no.NoTask) ∷ (is_away s, no.No
 abbrev pub begin_refusal : LobbyEntry → Option Carried → Option Refusal
 begin_refusal s hand = first_refusal ((is_absent s, no.NoTask) ∷ (is_away s, no.NotBlocked) ∷ (is_some hand, no.InHand) ∷ [])
 
--- what is refused of a generation, where another stands at the hook and so many numbers were drawn
+-- what is refused of a generation, where another stands at the hook and this many numbers were drawn
 abbrev pub install_refusal : ℕ → ℕ → ℕ → Option Refusal
 install_refusal newest drawn g = first_refusal ((nat_lt 0 newest && nat_le g newest, no.Older newest) ∷ (g == 0 || nat_lt drawn g, no.NotDrawn) ∷ [])
 

@@ -25,7 +25,7 @@ use Rattle.bq_parts.specs.Moves.{after_leaving, as_it_leaves, taken_from, withou
 abbrev pub after_time : Discipline → ℕ → Processor → Processor
 after_time d now p = record p { running = charge d p.running now }
 
--- a processor whose mark is computed anew
+-- a processor whose mark is computed again
 abbrev pub remarked : Discipline → Processor → Processor
 remarked d p = record p { running = marked d p.running }
 
@@ -73,7 +73,7 @@ Begins id loads p lobby (Ok r) q lobby' =
     × (q ≡ record p { hand = Some (record { task = t; loads = loads }) }) × (lobby' ≡ slice_set lobby id Away)
 Begins id loads p lobby (Err e) q lobby' = (begin_refusal (slice_index_or lobby id Absent) p.hand ≡ Some e) × (q ≡ p) × (lobby' ≡ lobby)
 
--- the task in the hand is given for the processor that is chosen among so many
+-- the task in the hand is given for the processor that is chosen among this many
 abbrev pub Places : PolicySemantics → ℕ → ℕ → ℕ → Processor → List Asked → Option Placement → Processor → Type 0
 Places s count processor now p calls None q = (calls ≡ []) × (p.hand ≡ None) × (q ≡ p)
 Places s count processor now p calls (Some x) q =
@@ -83,7 +83,7 @@ Places s count processor now p calls (Some x) q =
     × (x.to ≡ settled.choice) × (x.by ≡ settled.by) × (x.steps ≡ settled.steps) × (calls ≡ settled.calls)
     × (q ≡ record c { hand = None; hooks = record c.hooks { place = settled.attached } }))
 
--- something else that may stand there stands at a hook, where so many numbers were drawn
+-- something else that may stand there stands at a hook, where this many numbers were drawn
 abbrev pub Installs : Hook → ℕ → Processor → Attached → Result Reply Refusal → Processor → Type 0
 Installs h drawn p new (Ok r) q =
     (install_refusal (at_hook h p.hooks).generation drawn new.generation ≡ None) × (r ≡ Installed) × (q ≡ record p { hooks = with_attached h p.hooks new }) × MayStand h new

@@ -59,7 +59,7 @@ TakesMemory (Admit id nice mask slice) = Unit {0}
 TakesMemory (Install processor h g policy) = is_some policy ≡ true
 TakesMemory e = ⊥
 
--- What an event does. A refusal leaves the world as it was, and so does want of memory, which Admit and Install alone may
+-- What an event does. A refusal leaves the world as it was, and so does lack of memory, which only Admit and Install may
 -- meet: after a refusal of their arguments, and before one of the world's.
 abbrev pub WorldStep : PolicySemantics → World → Event → List Asked → Result Reply Refusal → World → Type 0
 WorldStep s w e calls (Ok r) w' = (refusal w e ≡ None) × Performs s w e calls r w'

@@ -1,4 +1,4 @@
-//! Refusals that an event's arguments have in any world of so many processors.
+//! Refusals that an event's arguments have in any world of this many processors.
 ghost use Rattle.std.specs.Prelude.{◌≡◌, ◌<◌, ◌≤◌, Some, None};
 ghost use Rattle.bq_parts.specs.Refusals.{argument_refusal};
 
@@ -8,7 +8,7 @@ use bq_hooks::{Hook, low_bits};
 use bq_installed::Policy;
 use bq_weights::is_nice;
 
-/// The refusal that an event's arguments have in any world of so many processors; the first by number, where there are
+/// The refusal that an event's arguments have in any world of this many processors; the first by number, where there are
 /// several.
 pub fn argument_refusal(count: usize, event: &Event) -> Option<Refusal>
     requires { count ≤ PROCESSORS }

@@ -15,7 +15,7 @@ ghost use Rattle.bq_parts.specs.Choices.{policies, place_bytes, SettlesPlace, Se
 use crate::{Carried, Cpu, Decision};
 use bq_bpf::Board;
 use bq_disc::RunQueue;
-use bq_disc::limits::PROCESSORS;
+use bq_disc::limits::{PROCESSORS, TASKS};
 use bq_hooks::place::{PLACE_LENGTH, Place, WIDE_PLACE_LENGTH, place_ctx, wide_place_ctx};
 use bq_hooks::preempt::{PREEMPT_LENGTH, Preempt, preempt_ctx};
 use bq_hooks::pull::{PULL_LENGTH, Pull, pull_ctx};
@@ -36,7 +36,7 @@ impl<T> Decision<T> {
         }
     }
 
-    /// What was chosen after a policy took so many steps.
+    /// What was chosen after a policy took this many steps.
     #[inline(always)]
     pub(crate) fn after(chosen: Choice<T>, steps: u32) -> Decision<T>
         ensures { result ≡ record { choice = chosen.value; by = chosen.by; steps = steps } }
@@ -191,8 +191,8 @@ impl<Q: RunQueue> Cpu<Q> {
         board: &mut B,
     ) -> Decision<Option<u16>>
         requires inside { processor < PROCESSORS }
-        requires few { size_of self.old ≤ 1024 }
-        requires few_from { size_of source.now ≤ 1024 }
+        requires few { size_of self.old ≤ TASKS }
+        requires few_from { size_of source.now ≤ TASKS }
         requires distinct { HasDistinctIds source.now.running.queue }
         requires unasked { scratch.old ≡ [] }
         ensures settled { (choice : ℕ) × SettlesPull (policies Q.R.discipline) processor from self.old source.now (record { choice = choice; by = result.by; steps = result.steps; calls = scratch.new; attached = self.new.hooks.pull }) × (result.choice ≡ task_numbered choice) }

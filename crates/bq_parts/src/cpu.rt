@@ -1,4 +1,4 @@
-//! One processor: its queue, the task that runs, the clock, the task in its hand, and what stands at its hooks.
+//! One processor: its queue, the task that runs, the clock, the task in its hand, and what is installed at its hooks.
 ghost use Rattle.std.specs.Prelude.{◌≡◌, ◌<◌, ◌≤◌, ◌^◌, ◌+◌, ℕ, [], Option, Some, None, IfSome, find, is_some};
 ghost use Rattle.std.specs.Option.{option_map};
 ghost use Rattle.bq_disc.specs.Tasks.{id_of, with_id};
@@ -117,7 +117,7 @@ impl<Q: RunQueue> Cpu<Q> {
         self.hooks.generation(hook)
     }
 
-    /// What the policy at a hook answered when it was asked last: a run of it gives so, in so many steps. `None` where it was
+    /// What the policy at a hook answered when it was asked last: a run of it gives so, in this many steps. `None` where it was
     /// not asked since it was installed.
     pub fn answered(&self, hook: Hook) -> Option<Done>
         ensures { WasAnswered (at_hook hook self.now.hooks).policy result }
@@ -158,7 +158,7 @@ impl<Q: RunQueue> Cpu<Q> {
         self.remark();
     }
 
-    /// The mark is computed anew.
+    /// The mark is computed again.
     pub fn remark(&mut self)
         ensures { self.new ≡ record self.old { running = marked Q.R.discipline self.old.running } }
     {

@@ -64,7 +64,7 @@ pub enum Event {
 }
 
 impl Event {
-    /// The event once more, with this policy or none in place of the one that it brings, if it brings one.
+    /// A copy of the event, with this policy or none in place of the one that it brings, if it brings one.
     #[inline(always)]
     pub fn with_policy(&self, policy: Option<Policy>) -> Event
         ensures { result ≡ with_policy self.now policy }
@@ -85,7 +85,7 @@ impl Event {
         }
     }
 
-    /// The event once more, with no policy.
+    /// A copy of the event, with no policy.
     #[inline(always)]
     fn with_none(&self) -> Event
         ensures { result ≡ with_policy self.now None }

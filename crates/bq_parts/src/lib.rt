@@ -1,8 +1,8 @@
 //! The parts of the world: a processor, an inbox, the lobby of the tasks that sleep, and what each event does to the parts
 //! that it touches.
 //! Promises that each call on the parts is its event's share of the world's step, with each choice the policy's where
-//! permitted and else the discipline's own. So whoever holds those parts alone, as a world does or a lock, makes the step.
-//! Stands on the queues of bq_disc by their contract alone, on bq_hooks for what is chosen, and on bq_installed for answers.
+//! permitted and else the discipline's own. So a caller that owns only those parts, as a world or a lock does, makes the step.
+//! Stands on the queues of bq_disc only by their contract, on bq_hooks for what is chosen, and on bq_installed for answers.
 #![tactic(auto)]
 
 pub mod arguments;

@@ -16,19 +16,20 @@ pub struct Lobby {
 
 impl Model for Lobby {
     ghost use Rattle.std.specs.Prelude.{◌≡◌, List, length};
+    ghost use Rattle.bq_disc.specs.declared.limits.TheConstants.{TASKS};
     ghost use Rattle.bq_parts.specs.declared.lobby_entry.LobbyEntry.{LobbyEntry};
 
     ghost Value = { List LobbyEntry };
 
     ghost view = { λ l. l.entries.items };
 
-    ghost invariant = { λ l. length l.entries.items ≡ 1024 };
+    ghost invariant = { λ l. length l.entries.items ≡ TASKS };
 }
 
 impl Lobby {
     /// Takes the memory for all entries.
     pub fn new(alloc: Global) -> Result<Lobby, AllocError>
-        ensures { IfOk result (λ l. l ≡ replicate 1024 Absent) }
+        ensures { IfOk result (λ l. l ≡ replicate TASKS Absent) }
     {
         let mut entries = Vec::with_capacity(alloc, usize::from(TASKS))?;
         'entries: for _ in 0..usize::from(TASKS) {

@@ -16,7 +16,7 @@ use bq_hooks::low_bits;
 use bq_installed::Scratch;
 use std::alloc::{AllocError, Global};
 
-/// A task as it is admitted among so many processors. It takes memory for the task.
+/// A task as it is admitted among this many processors. It takes memory for the task.
 pub fn new_task(
     alloc: Global,
     count: usize,

@@ -5,7 +5,7 @@ ghost use Rattle.bq_disc.specs.Chains.{task_of, IsLone};
 use bq_disc::Node;
 use std::marker::Model;
 
-/// A task whose node is linked to none. Contracts see the task alone.
+/// A task whose node is linked to none. Contracts see only the task.
 #[derive(Drop)]
 pub struct Unlinked {
     node: Box<Node>,

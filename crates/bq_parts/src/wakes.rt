@@ -14,7 +14,7 @@ use bq_disc::limits::{PROCESSORS, TASKS};
 use bq_hooks::{By, Hook, Loads};
 use bq_installed::{Installed, Scratch};
 
-/// A task that left a hand, and where it goes: to a processor that a policy chose in so many steps, or the discipline.
+/// A task that left a hand, and where it goes: to a processor that a policy chose in this many steps, or the discipline.
 #[derive(Drop)]
 pub struct Placement {
     pub task: Unlinked,
@@ -37,7 +37,7 @@ impl<Q: RunQueue> Cpu<Q> {
         self.begin_with(lobby, task, loads.copy())
     }
 
-    /// The same with loads that were counted for this wake alone.
+    /// The same with loads that were counted only for this wake.
     pub fn begin_with(
         &mut self,
         lobby: &mut Lobby,
@@ -114,7 +114,7 @@ impl<Q: RunQueue> Cpu<Q> {
     }
 }
 
-/// Why a generation may not stand where `newest` stands and so many numbers were drawn, if it may not.
+/// Why a generation may not stand where `newest` stands and this many numbers were drawn, if it may not.
 fn generation_refusal(newest: u64, drawn: u64, generation: u64) -> Option<Refusal>
     ensures { result ≡ install_refusal newest drawn generation }
 {

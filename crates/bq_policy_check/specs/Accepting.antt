@@ -20,7 +20,7 @@ pub record IsImageUnder (bytes : List ℕ) (h : Head) (l : Limits) (image : List
   pub verdict : Verdict
   pub is_verdict : IsVerdict policy l verdict
   pub accepted : is_accepted verdict ≡ true
-  pub spells : IsImage image policy.version policy.hook policy.shapes.items (spelling policy.insns.items)
+  pub spells : IsImage image policy.form.version policy.form.hook policy.form.shapes.items (spelling policy.insns.items)
 
 -- the file is a policy that is not accepted
 pub record IsNotAccepted (bytes : List ℕ) (h : Head) (l : Limits) : Type 0 where

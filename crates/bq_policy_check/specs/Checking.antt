@@ -19,7 +19,7 @@ use Rattle.bq_policy_check.specs.Limiting.{HasLimits}
 use Rattle.bq_policy_check.specs.Refusing.{fault_line}
 use Rattle.bq_policy_check.specs.Saying.{IsWordsFault, SaysHead}
 
--- neither explained nor as JSON the answer is this line alone
+-- neither explained nor as JSON the answer is only this line
 abbrev pub IsTold : CheckWords → List ℕ → List ℕ → Type 0
 IsTold w line text = w.is_explained ≡ false → w.is_json ≡ false → text ≡ line
 
@@ -45,7 +45,7 @@ pub record TellsVerdict (w : CheckWords) (p : PolicySource) (l : Limits) (answer
   pub is_verdict : IsVerdict p l verdict
   pub text : String Global
   pub is : answer ≡ answered (is_accepted verdict) text
-  pub told : IsTold w (verdict_line p.hook verdict) (string_bytes text)
+  pub told : IsTold w (verdict_line p.form.hook verdict) (string_bytes text)
   pub shown : IsShown w (is_accepted verdict) (string_bytes text)
 
 -- the file is no policy, for this fault, by the line that names it
@@ -58,7 +58,7 @@ pub record TellsFault (w : CheckWords) (bytes : List ℕ) (h : Head) (answer : A
   pub told : IsTold w (fault_line named) (string_bytes text)
   pub shown : IsShown w false (string_bytes text)
 
--- the file is this policy, and its verdict is told
+-- the file is this policy, and its verdict is reported
 pub record TellsPolicy (w : CheckWords) (bytes : List ℕ) (h : Head) (l : Limits) (answer : Answered) : Type 0 where
   pub policy : PolicySource
   pub is_policy : IsPolicy bytes h policy

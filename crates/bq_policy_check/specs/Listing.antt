@@ -12,7 +12,7 @@ use Rattle.bq_policy_check.specs.declared.words.ListWords.{ListWords}
 use Rattle.bq_policy_check.specs.Refusing.{IsRefusedFile}
 use Rattle.bq_policy_check.specs.Saying.{IsWordsFault, SaysHead}
 
--- the file is this policy, and its listing is told, which is read as that policy again and as no other
+-- the file is this policy, and its listing is written, which is read as that policy again and as no other
 pub record IsListing (w : ListWords) (bytes : List ℕ) (h : Head) (answer : Answered) : Type 0 where
   pub policy : PolicySource
   pub is_policy : IsPolicy bytes h policy

@@ -13,7 +13,7 @@ use Rattle.bq_policy_check.specs.Disagreeing.{SaysImage}
 
 -- the text says maps, and the options none
 abbrev pub leaves_maps : Head → PolicySource → Bool
-leaves_maps h p = not (is_some h.maps) && nat_lt 0 (length p.shapes.items)
+leaves_maps h p = not (is_some h.maps) && nat_lt 0 (length p.form.shapes.items)
 
 abbrev pub is_second : Version → Bool
 is_second First = false
@@ -21,7 +21,7 @@ is_second Second = true
 
 -- the text says the second version, and the options none
 abbrev pub leaves_format : Head → PolicySource → Bool
-leaves_format h p = not (is_some h.format) && is_second p.version
+leaves_format h p = not (is_some h.format) && is_second p.form.version
 
 -- the lines on the maps and on the version that the options leave out
 abbrev pub left_text : Head → PolicySource → List ℕ

@@ -80,12 +80,12 @@ fn left_text(alloc: Global, given: &Head, policy: &PolicySource) -> Result<Strin
 fn leaves_maps(given: &Head, policy: &PolicySource) -> bool
     ensures { result ≡ leaves_maps given.now policy.now }
 {
-    given.maps.is_none() && !policy.shapes.is_empty()
+    given.maps.is_none() && !policy.form.shapes.is_empty()
 }
 
 /// Whether the text says the second version, and the options none.
 fn leaves_format(given: &Head, policy: &PolicySource) -> bool
     ensures { result ≡ leaves_format given.now policy.now }
 {
-    given.format.is_none() && policy.version == Version::Second
+    given.format.is_none() && policy.form.version == Version::Second
 }

@@ -14,6 +14,7 @@ use crate::json_text::{explanation_json, name_text, reason_json};
 use crate::limits::limits_of;
 use crate::listing::reasoned;
 use crate::reasons::{fault_line, reason_of};
+use crate::source_lines::source_text;
 use crate::words::CheckWords;
 use bq_console::WordsFault;
 use bq_explain::{Explanation, Limits, explain, explanation_text, judge, verdict_line};
@@ -83,7 +84,7 @@ fn check_policy(
 {
     if words.is_explained || words.is_json {
         let explanation = explain(alloc, policy, bytes, limits)?;
-        let text = shown(alloc, words, name, policy, &explanation)?;
+        let text = shown(alloc, words, name, bytes, policy, &explanation)?;
         return Ok(answered(explanation.verdict.is_accepted(), text));
     }
     judge_policy(alloc, words, policy, limits)
@@ -100,7 +101,7 @@ fn judge_policy(
     ensures { IfOk result (TellsVerdict words.now policy.now limits.now) }
 {
     let verdict = judge(alloc, policy, limits)?;
-    let line = verdict_line(alloc, policy.hook, verdict)?;
+    let line = verdict_line(alloc, policy.form.hook, verdict)?;
     Ok(answered(verdict.is_accepted(), line))
 }
 
@@ -153,11 +154,12 @@ fn reasoned_refusal(
     Ok(text)
 }
 
-/// An explanation, in words or as JSON.
+/// An explanation, in words or as JSON. In words it ends with the line of C, where the text names it.
 fn shown(
     alloc: Global,
     words: &CheckWords,
     name: Option<&str>,
+    bytes: &[u8],
     policy: &PolicySource,
     explanation: &Explanation,
 ) -> Result<String, AllocError>
@@ -167,5 +169,7 @@ fn shown(
         return explanation_json(alloc, name, policy, explanation);
     }
     let shown = name_text(alloc, name)?;
-    explanation_text(alloc, policy, shown.as_deref(), explanation)
+    let text = explanation_text(alloc, policy, shown.as_deref(), explanation)?;
+    let source = source_text(alloc, bytes, explanation)?;
+    format!(in alloc; "{text}{source}")
 }

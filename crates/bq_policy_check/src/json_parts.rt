@@ -20,12 +20,12 @@ pub(crate) fn fields_of_summary(
     summary: &Summary,
 ) -> Result<Map<String, Value>, AllocError> {
     let mut fields = Map::new(alloc);
-    let hook = Value::try_from_str(alloc, policy.hook.word())?;
+    let hook = Value::try_from_str(alloc, policy.form.hook.word())?;
     put(&mut fields, alloc, "hook", hook)?;
-    let version = Value::from(u64::from(policy.version.number()));
+    let version = Value::from(u64::from(policy.form.version.number()));
     put(&mut fields, alloc, "version", version)?;
     put(&mut fields, alloc, "budget", Value::from(u64::from(budget)))?;
-    let maps = maps_value(alloc, policy.shapes.as_slice())?;
+    let maps = maps_value(alloc, policy.form.shapes.as_slice())?;
     put(&mut fields, alloc, "maps", maps)?;
     let helpers = helpers_value(alloc, summary.helpers.as_slice())?;
     put(&mut fields, alloc, "helpers", helpers)?;

@@ -75,7 +75,7 @@ pub(crate) fn name_text(alloc: Global, name: Option<&str>) -> Result<Option<Stri
     }
 }
 
-/// What is told of an explanation beside its prose.
+/// What is said of an explanation beside its prose.
 fn fields_of(
     alloc: Global,
     policy: &PolicySource,

@@ -1,5 +1,5 @@
-//! What `check` and `dis` answer to a policy's file, the words of these and of `run`, why a file is none, and what is wrong with the
-//! options of `asm`, by themselves and beside the marks of its text, and what these leave of the marks.
+//! What `check` and `dis` answer to a policy's file, the words of these and of `run`, why a file is no policy, and what is wrong
+//! with the options of `asm`, by themselves and beside the marks of its text.
 //!
 //! A command's words come as text, its file as bytes, and its answer goes back as text. So what a command does is a function of
 //! both, with a contract: the verdict, the listing. `run` is in bq_policy_run.
@@ -20,6 +20,7 @@ mod listing;
 mod maps_words;
 mod numbers;
 mod reasons;
+mod source_lines;
 mod words;
 
 pub use accepting::accepted_image;

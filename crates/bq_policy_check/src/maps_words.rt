@@ -19,7 +19,7 @@ pub(crate) fn maps_words(alloc: Global, text: &str) -> Result<String, AllocError
     many_words(alloc, number)
 }
 
-/// What is wrong with so many maps, each of which is one.
+/// What is wrong with this many maps, each of which is one.
 fn many_words(alloc: Global, number: usize) -> Result<String, AllocError> {
     format!(in alloc; "{number} maps; a program has {MAPS} at most")
 }

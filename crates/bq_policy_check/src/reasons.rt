@@ -138,7 +138,7 @@ fn place_text(alloc: Global, reason: &Reason) -> Result<String, AllocError> {
     }
 }
 
-/// What is told of it as JSON, beside the prose.
+/// What is said of it as JSON, beside the prose.
 pub(crate) fn fields_of_reason(
     alloc: Global,
     fault: PolicyFault,

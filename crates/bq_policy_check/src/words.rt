@@ -49,12 +49,12 @@ pub struct LimitWords {
     pub counters: Option<String>,
 }
 
-/// Which run is told, and how.
+/// Which run is shown, and how.
 #[derive(Drop)]
 pub struct TellingWords {
-    /// Whether each instruction is told.
+    /// Whether each instruction is shown.
     pub is_traced: bool,
-    /// How many runs there are, of which the last is told.
+    /// How many runs there are, of which the last is shown.
     pub repeat: Option<String>,
 }
 

@@ -29,6 +29,6 @@ program_lines true insns h k =
 pub listing_is_read_back : ListingIsReadBack
 listing_is_read_back p has_slots text fit listed =
     let ls = program_lines has_slots p.insns.items p.whole fit in
-    let marks = mark_lines p.hook p.shapes.items p.version in
+    let marks = mark_lines p.form.hook p.form.shapes.items p.form.version in
     let same : text ≡ text_of p ls.0 = listed.text_is ∙ (λ i. marks_ended p listed.marks listed.are_marks i ++ ls.1 i) ∙ sym (ended_append marks ls.0) in
     subst (IsFileOf p) (sym same) (file_of p ls.0 fit ls.2)

@@ -67,12 +67,12 @@ format_ended First = refl
 format_ended Second = refl
 
 -- the marks are these lines
-pub marks_ended : (p : PolicySource) (marks : List ℕ) → AreMarks p marks → marks ≡ ended (mark_lines p.hook p.shapes.items p.version)
+pub marks_ended : (p : PolicySource) (marks : List ℕ) → AreMarks p marks → marks ≡ ended (mark_lines p.form.hook p.form.shapes.items p.form.version)
 marks_ended p marks are =
-    let others : maps_mark p.shapes.items ++ format_mark p.version ≡ ended (maps_lines p.shapes.items ++ format_lines p.version) =
-    (λ i. maps_ended p.shapes.items i ++ format_ended p.version i) ∙ sym (flat_map-append (λ l. l ++ 10 ∷ []) (maps_lines p.shapes.items) (format_lines p.version)) in
-    are ∙ ap (λ t. codes ";@ hook " ++ (hook_word p.hook ++ (10 ∷ t))) others
-    ∙ ap (λ t. codes ";@ hook " ++ t) (sym (append_assoc (hook_word p.hook) (10 ∷ []) (ended (maps_lines p.shapes.items ++ format_lines p.version))))
+    let others : maps_mark p.form.shapes.items ++ format_mark p.form.version ≡ ended (maps_lines p.form.shapes.items ++ format_lines p.form.version) =
+    (λ i. maps_ended p.form.shapes.items i ++ format_ended p.form.version i) ∙ sym (flat_map-append (λ l. l ++ 10 ∷ []) (maps_lines p.form.shapes.items) (format_lines p.form.version)) in
+    are ∙ ap (λ t. codes ";@ hook " ++ (hook_word p.form.hook ++ (10 ∷ t))) others
+    ∙ ap (λ t. codes ";@ hook " ++ t) (sym (append_assoc (hook_word p.form.hook) (10 ∷ []) (ended (maps_lines p.form.shapes.items ++ format_lines p.form.version))))
 
 -- a byte of a word of a line
 abbrev is_plain : ℕ → Bool
@@ -182,7 +182,7 @@ AreFew-said shapes (first ∷ rest) h = AreFew-some shapes h
 
 -- the head that the marks say
 abbrev pub said_of : PolicySource → Head
-said_of p = head_of (Some p.hook) (maps_said p.shapes p.shapes.items) (format_said p.version) (AreFew-said p.shapes p.shapes.items p.few)
+said_of p = head_of (Some p.form.hook) (maps_said p.form.shapes p.form.shapes.items) (format_said p.form.version) (AreFew-said p.form.shapes p.form.shapes.items p.form.few)
 
 begun : Head
 begun = head_of None None None AreFew-none
@@ -215,8 +215,8 @@ says_others head before (l ∷ others) h s =
     subst (λ ls. SaysHead ls head) (append_assoc before (l ∷ []) others) (says_others head (before ++ l ∷ []) others h.1 (says_no_mark head before l h.0 s))
 
 -- the marks of a policy, and lines that are none
-pub says_policy : (p : PolicySource) (others : List (List ℕ)) → AreNoMarks others → SaysHead (mark_lines p.hook p.shapes.items p.version ++ others) (said_of p)
+pub says_policy : (p : PolicySource) (others : List (List ℕ)) → AreNoMarks others → SaysHead (mark_lines p.form.hook p.form.shapes.items p.form.version ++ others) (said_of p)
 says_policy p others h =
-    says_others (said_of p) (mark_lines p.hook p.shapes.items p.version) others h
-    (says_format p.hook (maps_said p.shapes p.shapes.items) p.version (AreFew-said p.shapes p.shapes.items p.few) (hook_line p.hook ∷ maps_lines p.shapes.items)
-    (says_maps p.hook p.shapes p.shapes.items (AreFew-said p.shapes p.shapes.items p.few) p.few refl))
+    says_others (said_of p) (mark_lines p.form.hook p.form.shapes.items p.form.version) others h
+    (says_format p.form.hook (maps_said p.form.shapes p.form.shapes.items) p.form.version (AreFew-said p.form.shapes p.form.shapes.items p.form.few) (hook_line p.form.hook ∷ maps_lines p.form.shapes.items)
+    (says_maps p.form.hook p.form.shapes p.form.shapes.items (AreFew-said p.form.shapes p.form.shapes.items p.form.few) p.form.few refl))

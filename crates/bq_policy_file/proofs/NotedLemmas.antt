@@ -42,7 +42,7 @@ fine_at (i ∷ insns) (suc k) d l h fit = fine_at insns k d (omega arith) (and_p
 pub body_ascii : (i : Insn) → (is_insn i ≡ true) × Fits i → list_all is_ascii (line_body i) ≡ true
 body_ascii i h = list_all-weaker is_inner is_ascii (λ b k. (and_parts (is_ascii b) (not (b == 10) && not (b == 13)) (and_parts (not (b == 59)) (is_clean b) k).1).0) (line_body i) (body_inner i h.0 h.1)
 
--- what is told after one instruction more
+-- what is reported after one instruction more
 pub told_more : (insns : List Insn) (k : ℕ) (d : Insn) (told line new : List ℕ) (slot : ℕ) → k < length insns → told ≡ noted_text 0 (take k insns) → slot ≡ slot_count (take k insns)
     → line ≡ noted_line slot (get_or insns k d) → new ≡ told ++ line → new ≡ noted_text 0 (take (k + 1) insns)
 told_more insns k d told line new slot l so_far count is_line is_new =

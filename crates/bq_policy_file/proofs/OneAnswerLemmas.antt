@@ -32,7 +32,7 @@ assembled_or_refused : (form : ProgramForm) (text x y : List ℕ) → IsAssemble
 assembled_or_refused form text x y p (inl q) = q.0 p.is_text
 assembled_or_refused form text x y p (inr q) = asm.no_program_is_faulty text p.insns q.1 q.2 p.assembles q.3
 
--- the bytes of an image are told by its parts
+-- the bytes of an image are determined by its parts
 one_image : (a b : List ℕ) (version : Version) (hook : Hook) (shapes : List MapShape) (program : List ℕ)
     → IsImage a version hook shapes program → IsImage b version hook shapes program → a ≡ b
 one_image a b version hook shapes program p q =

@@ -147,7 +147,7 @@ no_text_fault bytes given p (fault.Assembly n c) x h f = asm.no_program_is_fault
 no_text_fault bytes given p (fault.Disagrees k) x h f =
     agreed given h.said.hook (maps_in h.said) h.said.format k h.combined.agrees (of_other (DiffersIn k given) (lines bytes) f.0 h.said f.1.head.says h.head f.2)
 no_text_fault bytes given p fault.NoHook x h f =
-    no_hook given.hook h.said.hook p.hook h.combined.hook_is f.2.1 (sym (one_hook (lines bytes) f.0 h.said f.1.head.says h.head) ∙ f.2.2)
+    no_hook given.hook h.said.hook p.form.hook h.combined.hook_is f.2.1 (sym (one_hook (lines bytes) f.0 h.said f.1.head.says h.head) ∙ f.2.2)
 no_text_fault bytes given p a x h f = absurd f
 
 -- an image of a program has no fault of an image
@@ -197,19 +197,19 @@ one_image_fault bytes given (fault.Disagrees k) b fits x y f g = absurd g
 one_image_fault bytes given a b fits x y f g = absurd f
 
 -- the image of a policy is one of its program
-own_program : (bytes : List ℕ) (p : PolicySource) → AllFit p.insns.items → IsImage bytes p.version p.hook p.shapes.items (spelling p.insns.items) → HasProgram bytes p.insns.items
-own_program bytes p fit is = record { version = p.version; hook = p.hook; shapes = p.shapes.items; image = is; well_formed = p.whole; numbers = fit }
+own_program : (bytes : List ℕ) (p : PolicySource) → AllFit p.insns.items → IsImage bytes p.form.version p.form.hook p.form.shapes.items (spelling p.insns.items) → HasProgram bytes p.insns.items
+own_program bytes p fit is = record { version = p.form.version; hook = p.form.hook; shapes = p.form.shapes.items; image = is; well_formed = p.whole; numbers = fit }
 
 -- an image that is a policy has no fault
 no_image_fault : (bytes : List ℕ) (given : Head) (p : PolicySource) (a : PolicyFault) → AreBytes bytes → AllFit p.insns.items → a ≢ fault.OutOfMemory → IsOfImage bytes given p → IsImageFault bytes given a → ⊥
 no_image_fault bytes given p fault.OutOfMemory fits fit x h f = x refl
-no_image_fault bytes given p (fault.Image n) fits fit x h f = load.no_image_is_faulty bytes p.version p.hook p.shapes.items (spelling p.insns.items) n fits h.image f
+no_image_fault bytes given p (fault.Image n) fits fit x h f = load.no_image_is_faulty bytes p.form.version p.form.hook p.form.shapes.items (spelling p.insns.items) n fits h.image f
 no_image_fault bytes given p (fault.Program s c) fits fit x h f = no_bad_program bytes f.0 f.1 f.2 f.3 p.insns.items s c f.4 (own_program bytes p fit h.image) f.5
 no_image_fault bytes given p (fault.Disagrees k) fits fit x h f =
-    let same = load.one_image bytes f.1.version p.version f.1.hook p.hook f.1.shapes p.shapes.items (spelling f.0) (spelling p.insns.items) f.1.image h.image in
-    let moved = subst (λ v. DiffersIn k given (Some p.hook) (Some p.shapes.items) (Some v)) same.0
-    (subst (λ s. DiffersIn k given (Some p.hook) (Some s) (Some f.1.version)) same.2 (subst (λ h. DiffersIn k given (Some h) (Some f.1.shapes) (Some f.1.version)) same.1 f.2)) in
-    agreed given (Some p.hook) (Some p.shapes.items) (Some p.version) k h.agrees moved
+    let same = load.one_image bytes f.1.version p.form.version f.1.hook p.form.hook f.1.shapes p.form.shapes.items (spelling f.0) (spelling p.insns.items) f.1.image h.image in
+    let moved = subst (λ v. DiffersIn k given (Some p.form.hook) (Some p.form.shapes.items) (Some v)) same.0
+    (subst (λ s. DiffersIn k given (Some p.form.hook) (Some s) (Some f.1.version)) same.2 (subst (λ h. DiffersIn k given (Some h) (Some f.1.shapes) (Some f.1.version)) same.1 f.2)) in
+    agreed given (Some p.form.hook) (Some p.form.shapes.items) (Some p.form.version) k h.agrees moved
 no_image_fault bytes given p a fits fit x h f = absurd f
 
 -- what a fault of hex says

@@ -30,7 +30,7 @@ same_pair x y xs ys h = cc
 later_same : (x y : Option (ℕ × ℕ)) (xs ys : List (Option (ℕ × ℕ))) → x ∷ xs ≡ y ∷ ys → xs ≡ ys
 later_same x y xs ys h = cc
 
--- shapes are told by their numbers
+-- shapes are determined by their numbers
 same_shapes : (a b : List MapShape) → map numbers_of a ≡ map numbers_of b → a ≡ b
 same_shapes [] [] h = refl
 same_shapes [] (t ∷ b) h = cc

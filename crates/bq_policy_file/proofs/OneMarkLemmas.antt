@@ -15,7 +15,7 @@ use Rattle.bq_policy_file.specs.Marks.{are_known, key_word, mark_words}
 use Rattle.bq_policy_file.proofs.NoFaultLemmas.{no_bad_line}
 use Rattle.bq_policy_file.proofs.OneHeadLemmas.{one_format, one_hook, one_maps}
 
--- a key is told by its word
+-- a key is determined by its word
 other_word : (a b : Key) → bytes_eq (key_word a) (key_word b) ≡ false → bytes_eq (key_word b) (key_word b) ≡ true → key_word a ≡ key_word b → ⊥
 other_word a b apart own e = let same = ap (λ w. bytes_eq w (key_word b)) e in cc
 

@@ -57,18 +57,18 @@ assembles_after text other n insns e a =
 
 -- the text of a policy, by its lines
 abbrev pub text_of : PolicySource → List (List ℕ) → List ℕ
-text_of p ls = ended (mark_lines p.hook p.shapes.items p.version ++ ls)
+text_of p ls = ended (mark_lines p.form.hook p.form.shapes.items p.form.version ++ ls)
 
-text_lines : (p : PolicySource) (ls : List (List ℕ)) → AreClean ls → lines (text_of p ls) ≡ mark_lines p.hook p.shapes.items p.version ++ ls
+text_lines : (p : PolicySource) (ls : List (List ℕ)) → AreClean ls → lines (text_of p ls) ≡ mark_lines p.form.hook p.form.shapes.items p.form.version ++ ls
 text_lines p ls h =
-    let marks = mark_lines p.hook p.shapes.items p.version in
-    lines_ended (marks ++ ls) (clean_append marks ls (marks_clean p.hook p.shapes.items p.version) h)
+    let marks = mark_lines p.form.hook p.form.shapes.items p.form.version in
+    lines_ended (marks ++ ls) (clean_append marks ls (marks_clean p.form.hook p.form.shapes.items p.form.version) h)
 
 -- it stands for the policy's program
 assembles_again : (p : PolicySource) (ls : List (List ℕ)) → AllFit p.insns.items → AreLines p.insns.items ls → Assembles (text_of p ls) p.insns.items
 assembles_again p ls fit h =
-    let marks = mark_lines p.hook p.shapes.items p.version in
-    let blank = marks_blank p.hook p.shapes.items p.version in
+    let marks = mark_lines p.form.hook p.form.shapes.items p.form.version in
+    let blank = marks_blank p.form.hook p.form.shapes.items p.form.version in
     let same : lines_of (text_of p ls) ≡ replicate blank.0 Blank ++ lines_of (listing_text p.insns.items) =
     ap (map line_said) (text_lines p ls h.clean) ∙ map-append line_said marks ls ∙ (λ i. blank.1 i ++ h.said i) in
     assembles_after (text_of p ls) (listing_text p.insns.items) blank.0 p.insns.items same (listing_assembles p.insns.items p.whole fit)
@@ -78,7 +78,7 @@ says_again : (p : PolicySource) (ls : List (List ℕ)) → AreLines p.insns.item
 says_again p ls h = subst (λ l. SaysHead l (said_of p)) (sym (text_lines p ls h.clean)) (says_policy p ls h.no_marks)
 
 -- what the head decides, where nothing is asked for
-shapes_said : (p : PolicySource) (items : List MapShape) → p.shapes.items ≡ items → p.shapes.items ≡ unwrap_or (option_map (λ s. s.items) (maps_said p.shapes items)) []
+shapes_said : (p : PolicySource) (items : List MapShape) → p.form.shapes.items ≡ items → p.form.shapes.items ≡ unwrap_or (option_map (λ s. s.items) (maps_said p.form.shapes items)) []
 shapes_said p [] e = e
 shapes_said p (first ∷ rest) e = refl
 
@@ -94,12 +94,12 @@ agrees_nothing h hook maps format a = record {
   formats = rw a.format tt;
 }
 
-combine_to_policy : (p : PolicySource) (h : Head) → AsksNothing h → CombineTo h (said_of p) p.hook p.shapes.items p.version
+combine_to_policy : (p : PolicySource) (h : Head) → AsksNothing h → CombineTo h (said_of p) p.form.hook p.form.shapes.items p.form.version
 combine_to_policy p h a = record {
-  agrees = agrees_nothing h (Some p.hook) (maps_in (said_of p)) (format_said p.version) a;
+  agrees = agrees_nothing h (Some p.form.hook) (maps_in (said_of p)) (format_said p.form.version) a;
   hook_is = rw a.hook refl;
-  shapes_are = rw a.maps (shapes_said p p.shapes.items refl);
-  version_is = rw a.format (version_said p.version);
+  shapes_are = rw a.maps (shapes_said p p.form.shapes.items refl);
+  version_is = rw a.format (version_said p.form.version);
 }
 
 -- a text that begins with a mark is no image and no hex
@@ -111,28 +111,28 @@ same_read : (p q : PolicySource) (ls : List (List ℕ)) (h : Head) → AllFit p.
 same_read p q ls h fit are a o =
     let says = says_again p ls are in
     let all = lines (text_of p ls) in
-    let hook : o.said.hook ≡ Some q.hook = subst (λ x. either x o.said.hook ≡ Some q.hook) a.hook o.combined.hook_is in
-    let same_hook : Some q.hook ≡ Some p.hook = sym hook ∙ one_hook all o.said (said_of p) o.head says in
-    let shapes : q.shapes.items ≡ unwrap_or (maps_in o.said) [] = subst (λ x. q.shapes.items ≡ unwrap_or (either (option_map (λ s. s.items) x) (maps_in o.said)) []) a.maps o.combined.shapes_are in
-    let version : q.version ≡ unwrap_or o.said.format First = subst (λ x. q.version ≡ unwrap_or (either x o.said.format) First) a.format o.combined.version_is in
+    let hook : o.said.hook ≡ Some q.form.hook = subst (λ x. either x o.said.hook ≡ Some q.form.hook) a.hook o.combined.hook_is in
+    let same_hook : Some q.form.hook ≡ Some p.form.hook = sym hook ∙ one_hook all o.said (said_of p) o.head says in
+    let shapes : q.form.shapes.items ≡ unwrap_or (maps_in o.said) [] = subst (λ x. q.form.shapes.items ≡ unwrap_or (either (option_map (λ s. s.items) x) (maps_in o.said)) []) a.maps o.combined.shapes_are in
+    let version : q.form.version ≡ unwrap_or o.said.format First = subst (λ x. q.form.version ≡ unwrap_or (either x o.said.format) First) a.format o.combined.version_is in
     record {
       hook = cc;
-      version = version ∙ ap (λ x. unwrap_or x First) (one_format all o.said (said_of p) o.head says) ∙ sym (version_said p.version);
-      shapes = shapes ∙ ap (λ x. unwrap_or x []) (one_maps all o.said (said_of p) o.head says) ∙ sym (shapes_said p p.shapes.items refl);
+      version = version ∙ ap (λ x. unwrap_or x First) (one_format all o.said (said_of p) o.head says) ∙ sym (version_said p.form.version);
+      shapes = shapes ∙ ap (λ x. unwrap_or x []) (one_maps all o.said (said_of p) o.head says) ∙ sym (shapes_said p p.form.shapes.items refl);
       insns = one_program (text_of p ls) q.insns.items p.insns.items o.assembles (assembles_again p ls fit are);
     }
 
 -- and each policy that is the same, with the text's lines, is read of it
 is_read : (p q : PolicySource) (ls : List (List ℕ)) (h : Head) → AllFit p.insns.items → AreLines p.insns.items ls → AsksNothing h → IsFrom (text_of p ls) p q → IsOfText (text_of p ls) h q
 is_read p q ls h fit are a f =
-    let marks = mark_lines p.hook p.shapes.items p.version in
-    let first : CombineTo h (said_of p) q.hook p.shapes.items p.version = subst (λ x. CombineTo h (said_of p) x p.shapes.items p.version) (sym f.same.hook) (combine_to_policy p h a) in
-    let second : CombineTo h (said_of p) q.hook q.shapes.items p.version = subst (λ x. CombineTo h (said_of p) q.hook x p.version) (sym f.same.shapes) first in
+    let marks = mark_lines p.form.hook p.form.shapes.items p.form.version in
+    let first : CombineTo h (said_of p) q.form.hook p.form.shapes.items p.form.version = subst (λ x. CombineTo h (said_of p) x p.form.shapes.items p.form.version) (sym f.same.hook) (combine_to_policy p h a) in
+    let second : CombineTo h (said_of p) q.form.hook q.form.shapes.items p.form.version = subst (λ x. CombineTo h (said_of p) q.form.hook x p.form.version) (sym f.same.shapes) first in
     record {
-      text = text_ended (marks ++ ls) (clean_append marks ls (marks_clean p.hook p.shapes.items p.version) are.clean);
+      text = text_ended (marks ++ ls) (clean_append marks ls (marks_clean p.form.hook p.form.shapes.items p.form.version) are.clean);
       said = said_of p;
       head = says_again p ls are;
-      combined = subst (λ x. CombineTo h (said_of p) q.hook q.shapes.items x) (sym f.same.version) second;
+      combined = subst (λ x. CombineTo h (said_of p) q.form.hook q.form.shapes.items x) (sym f.same.version) second;
       assembles = subst (Assembles (text_of p ls)) (sym f.same.insns) (assembles_again p ls fit are);
       lines = f.lines;
     }
@@ -141,12 +141,12 @@ is_read p q ls h fit are a f =
 no_text_fault : (p : PolicySource) (ls : List (List ℕ)) (h : Head) (named : PolicyFault) → AllFit p.insns.items → AreLines p.insns.items ls → AsksNothing h → IsTextFault (text_of p ls) h named → named ≡ fault.OutOfMemory
 no_text_fault p ls h fault.OutOfMemory fit are a f = refl
 no_text_fault p ls h fault.Text fit are a f =
-    absurd (f (text_ended (mark_lines p.hook p.shapes.items p.version ++ ls) (clean_append (mark_lines p.hook p.shapes.items p.version) ls (marks_clean p.hook p.shapes.items p.version) are.clean)))
+    absurd (f (text_ended (mark_lines p.form.hook p.form.shapes.items p.form.version ++ ls) (clean_append (mark_lines p.form.hook p.form.shapes.items p.form.version) ls (marks_clean p.form.hook p.form.shapes.items p.form.version) are.clean)))
 no_text_fault p ls h (fault.Head line cause) fit are a f = absurd (no_bad_line (lines (text_of p ls)) (said_of p) line cause (says_again p ls are) f.1)
 no_text_fault p ls h (fault.Assembly line cause) fit are a f = absurd (no_program_is_faulty (text_of p ls) p.insns.items line cause (assembles_again p ls fit are) f.2)
 no_text_fault p ls h (fault.Disagrees key) fit are a f = absurd (nothing_differs h key f.0.hook (maps_in f.0) f.0.format a f.2)
 no_text_fault p ls h fault.NoHook fit are a f =
-    let same : f.0.hook ≡ Some p.hook = one_hook (lines (text_of p ls)) f.0 (said_of p) f.1.head.says (says_again p ls are) in
+    let same : f.0.hook ≡ Some p.form.hook = one_hook (lines (text_of p ls)) f.0 (said_of p) f.1.head.says (says_again p ls are) in
     let none : f.0.hook ≡ None = f.2.2 in
     absurd cc
 no_text_fault p ls h fault.Hex fit are a f = absurd f

@@ -96,8 +96,8 @@ instruction_lines number (line ∷ rest) =
 
 -- an image, and what was asked for agrees with it
 pub record IsOfImage (bytes : List ℕ) (given : Head) (p : PolicySource) : Type 0 where
-  pub image : IsImage bytes p.version p.hook p.shapes.items (spelling p.insns.items)
-  pub agrees : Agrees given (Some p.hook) (Some p.shapes.items) (Some p.version)
+  pub image : IsImage bytes p.form.version p.form.hook p.form.shapes.items (spelling p.insns.items)
+  pub agrees : Agrees given (Some p.form.hook) (Some p.form.shapes.items) (Some p.form.version)
   pub lines : p.lines.items ≡ []
 
 -- a text: the program that it stands for, and what its marks and what was asked for say together
@@ -105,7 +105,7 @@ pub record IsOfText (bytes : List ℕ) (given : Head) (p : PolicySource) : Type 
   pub text : IsUtf8 bytes
   pub said : Head
   pub head : SaysHead (lines bytes) said
-  pub combined : CombineTo given said p.hook p.shapes.items p.version
+  pub combined : CombineTo given said p.form.hook p.form.shapes.items p.form.version
   pub assembles : Assembles bytes p.insns.items
   pub lines : p.lines.items ≡ instruction_lines 1 (lines bytes)
 
@@ -118,7 +118,7 @@ IsOfKind kind.Text bytes given p = IsOfText bytes given p
 abbrev pub IsPolicy : List ℕ → Head → PolicySource → Type 0
 IsPolicy bytes given p = IsOfKind (kind_of bytes) bytes given p
 
--- what is wrong with an image: the first fault of its bytes, or of its program, or what differs; want of memory says nothing of it
+-- what is wrong with an image: the first fault of its bytes, or of its program, or what differs; lack of memory says nothing of it
 abbrev pub IsImageFault : List ℕ → Head → PolicyFault → Type 0
 IsImageFault bytes given (fault.Image named) = HasFault bytes named
 IsImageFault bytes given (fault.Program slot cause) =

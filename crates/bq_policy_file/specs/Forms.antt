@@ -23,7 +23,7 @@ abbrev pub HasShapes : Option (List ℕ) → List MapShape → Type 0
 HasShapes None shapes = shapes ≡ []
 HasShapes (Some text) shapes = NamesShapes text shapes
 
--- without a hook the program alone, and then no other option is there; with one an image, of version 1 if none is named
+-- without a hook only the program, and then no other option is there; with one an image, of version 1 if none is named
 abbrev pub AsksFor : Options → ProgramForm → Type 0
 AsksFor o Program = (o.hook ≡ None) × (maps_text o ≡ None) × (o.format ≡ None)
 AsksFor o (Image i) = (o.hook ≡ Some i.hook) × HasShapes (maps_text o) i.shapes.items × (i.version ≡ unwrap_or o.format First)
@@ -36,13 +36,13 @@ HasBadMaps o = (text : List ℕ) × (maps_text o ≡ Some text) × ((o.hook ≡ 
 abbrev pub HasBadFormat : Options → Type 0
 HasBadFormat o = (o.hook ≡ None) × (maps_text o ≡ None) × IsSome o.format
 
--- want of memory says nothing of the options
+-- lack of memory says nothing of the options
 abbrev pub HasOptionsFault : Options → OptionsFault → Type 0
 HasOptionsFault o Maps = HasBadMaps o
 HasOptionsFault o Format = HasBadFormat o
 HasOptionsFault o OutOfMemory = Unit {0}
 
--- the line that refuses the options; of two faults the maps alone
+-- the line that refuses the options; of two faults only the maps
 abbrev pub RefusesOptions : Options → List ℕ → Type 0
 RefusesOptions o written = (HasBadMaps o × (written ≡ refused_line (codes "maps"))) ⊎ (HasBadFormat o × (written ≡ refused_line (codes "format")))
 

@@ -68,7 +68,7 @@ pub record IsBadAt (lines : List (List ℕ)) (number : ℕ) (named : HeadCause) 
   pub said : SaysHead before head
   pub bad : IsBadLine head line named
 
--- want of memory says nothing of the lines
+-- lack of memory says nothing of the lines
 abbrev pub IsHeadFault : List (List ℕ) → HeadFault → Type 0
 IsHeadFault lines (At number named) = IsBadAt lines number named
 IsHeadFault lines OutOfMemory = Unit {0}

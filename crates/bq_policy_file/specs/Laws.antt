@@ -19,7 +19,7 @@ OneAssembly = (form : ProgramForm) (text : List ℕ) (a b : Bool) (x y : List �
 abbrev pub OneListing : Type 0
 OneListing = (text : List ℕ) (a b : Bool) (x y : List ℕ) → DisWrites text a x → DisWrites text b y → (a ≡ b) × (x ≡ y)
 
--- a file with a fault is no policy, and has no other fault; want of memory is none of the file
+-- a file with a fault is no policy, and has no other fault; lack of memory is no fault of the file
 abbrev pub OnePolicyAnswer : Type 0
 OnePolicyAnswer =
     (bytes : List ℕ) (given : Head) (named : PolicyFault) → AreBytes bytes → named ≢ OutOfMemory → IsPolicyFault bytes given named

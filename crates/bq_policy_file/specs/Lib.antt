@@ -1,3 +1,4 @@
+pub mod Subjects
 pub mod Asm
 pub mod Check
 pub mod Dis

@@ -9,7 +9,7 @@ use Rattle.bq_asm.specs.Text.{listing_text, line_body}
 use Rattle.bq_policy_file.specs.declared.policy_source.PolicySource.{PolicySource}
 use Rattle.bq_policy_file.specs.MarkLines.{AreMarks}
 
--- so many blanks as the text is short of the width
+-- as many blanks as the text is short of the width
 abbrev pub blanks_to : ℕ → List ℕ → List ℕ
 blanks_to width text = replicate (width - length text) 32
 

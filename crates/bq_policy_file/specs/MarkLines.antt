@@ -32,4 +32,4 @@ marks_text hook maps version = codes ";@ hook " ++ (hook_word hook ++ (codes "\n
 
 -- the lines that say what a policy is: its hook, its maps if there are some, and its version if it is not the first
 abbrev pub AreMarks : PolicySource → List ℕ → Type 0
-AreMarks p text = text ≡ marks_text p.hook (maps_mark p.shapes.items) p.version
+AreMarks p text = text ≡ marks_text p.form.hook (maps_mark p.form.shapes.items) p.form.version

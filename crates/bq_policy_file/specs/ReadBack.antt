@@ -17,9 +17,9 @@ pub record AsksNothing (h : Head) : Type 0 where
 
 -- the same choice, version, maps and program
 pub record IsSame (p q : PolicySource) : Type 0 where
-  pub hook : q.hook ≡ p.hook
-  pub version : q.version ≡ p.version
-  pub shapes : q.shapes.items ≡ p.shapes.items
+  pub hook : q.form.hook ≡ p.form.hook
+  pub version : q.form.version ≡ p.form.version
+  pub shapes : q.form.shapes.items ≡ p.form.shapes.items
   pub insns : q.insns.items ≡ p.insns.items
 
 -- the policy, whose lines are those of the text that say an instruction
@@ -27,7 +27,7 @@ pub record IsFrom (text : List ℕ) (p q : PolicySource) : Type 0 where
   pub same : IsSame p q
   pub lines : q.lines.items ≡ instruction_lines 1 (lines text)
 
--- the text is the file of this policy and of no other, and has no fault; want of memory says nothing of it
+-- the text is the file of this policy and of no other, and has no fault; lack of memory says nothing of it
 pub record IsFileOf (p : PolicySource) (text : List ℕ) : Type 0 where
   pub read : (h : Head) → AsksNothing h → (q : PolicySource) → IsPolicy text h q ↔ IsFrom text p q
   pub no_fault : (h : Head) → AsksNothing h → (named : PolicyFault) → IsPolicyFault text h named → named ≡ OutOfMemory

@@ -7,7 +7,7 @@ use Rattle.std.specs.Str.Parse.{digits_value}
 use Rattle.bq_bpf.specs.declared.shape.MapShape.{MapShape}
 use Rattle.bq_words.specs.Words.{parts}
 
--- so many bytes are none such, and then comes one or the end
+-- this many bytes are none such, and then comes one or the end
 pub record IsPartLen (mark : ℕ) (text : List ℕ) (len : ℕ) : Type 0 where
   pub within : len ≤ length text
   pub others : All (λ b. (b == mark) ≡ false) (take len text)

@@ -1,5 +1,5 @@
 //! What was asked for and what a file says, together.
-ghost use Rattle.std.specs.Prelude.{◌≤◌, length, IfOk, IfErr, MatchBool, MatchOption};
+ghost use Rattle.std.specs.Prelude.{◌≡◌, option_map, IfOk, IfErr, MatchBool, MatchOption};
 ghost use Rattle.bq_policy_file.specs.Files.{Agree, Agrees, Differ, DiffersIn, CombineTo, shapes_in};
 ghost use Rattle.bq_policy_file.specs.Combining.{IsUncombinable};
 
@@ -8,23 +8,15 @@ use crate::head::Head;
 use crate::mark::Key;
 use bq_bpf::{MapShape, same_shapes};
 use bq_hooks::{Hook, Version};
+use bq_verify::PolicyForm;
 use std::alloc::Global;
 
-/// The hook, the shapes of the maps and the version.
-#[derive(Drop)]
-pub(crate) struct Combined {
-    pub hook: Hook,
-    pub shapes: Vec<MapShape>,
-    pub version: Version,
-    ghost few: { length shapes.items ≤ 8 },
-}
-
 /// What both say together, if they do not differ and one of them names the hook.
-pub(crate) fn combine(alloc: Global, given: &Head, said: &Head) -> Result<Combined, PolicyFault>
+pub(crate) fn combine(alloc: Global, given: &Head, said: &Head) -> Result<PolicyForm, PolicyFault>
     ensures ok { IfOk result (λ s. CombineTo given.now said.now s.hook s.shapes.items s.version) }
     ensures err { IfErr result (IsUncombinable given.now said.now) }
 {
-    if let Some(key) = difference(given, said.hook, &said.maps, said.format) {
+    if let Some(key) = difference(given, said.hook, shapes_said(&said.maps), said.format) {
         return Err(PolicyFault::Disagrees(key));
     }
     let Some(hook) = given.hook.or(said.hook) else {
@@ -36,10 +28,10 @@ pub(crate) fn combine(alloc: Global, given: &Head, said: &Head) -> Result<Combin
         (None, Some(shapes)) => Vec::from_slice(alloc, shapes.as_slice())?,
         (None, None) => Vec::new(alloc),
     };
-    Ok(Combined {
+    Ok(PolicyForm {
         hook,
-        shapes,
         version,
+        shapes,
     })
 }
 
@@ -47,16 +39,16 @@ pub(crate) fn combine(alloc: Global, given: &Head, said: &Head) -> Result<Combin
 pub(crate) fn difference(
     given: &Head,
     hook: Option<Hook>,
-    maps: &Option<Vec<MapShape>>,
+    maps: Option<&[MapShape]>,
     format: Option<Version>,
 ) -> Option<Key>
-    ensures { MatchOption result (Agrees given.now hook (shapes_in maps.now) format)
-        (λ key. DiffersIn key given.now hook (shapes_in maps.now) format) }
+    ensures { MatchOption result (Agrees given.now hook (option_map (λ b. b.now) maps.entry) format)
+        (λ key. DiffersIn key given.now hook (option_map (λ b. b.now) maps.entry) format) }
 {
     if hooks_differ(given.hook, hook) {
         return Some(Key::Hook);
     }
-    if maps_differ(&given.maps, maps) {
+    if maps_differ(shapes_said(&given.maps), maps) {
         return Some(Key::Maps);
     }
     if formats_differ(given.format, format) {
@@ -83,11 +75,21 @@ fn formats_differ(given: Option<Version>, said: Option<Version>) -> bool
     }
 }
 
-fn maps_differ(given: &Option<Vec<MapShape>>, said: &Option<Vec<MapShape>>) -> bool
-    ensures { MatchBool result (Differ (shapes_in given.now) (shapes_in said.now)) (Agree (shapes_in given.now) (shapes_in said.now)) }
+fn maps_differ(given: Option<&[MapShape]>, said: Option<&[MapShape]>) -> bool
+    ensures { MatchBool result (Differ (option_map (λ b. b.now) given.entry) (option_map (λ b. b.now) said.entry)) (Agree (option_map (λ b. b.now) given.entry) (option_map (λ b. b.now) said.entry)) }
 {
     match (given, said) {
-        (Some(asked), Some(shapes)) => !same_shapes(asked.as_slice(), shapes.as_slice()),
+        (Some(asked), Some(shapes)) => !same_shapes(asked, shapes),
         _ => false,
+    }
+}
+
+/// The shapes that are said, if some are.
+fn shapes_said(maps: &Option<Vec<MapShape>>) -> Option<&[MapShape]>
+    ensures { option_map (λ b. b.now) result ≡ shapes_in maps.now }
+{
+    match maps {
+        None => None,
+        Some(shapes) => Some(shapes.as_slice()),
     }
 }

@@ -3,18 +3,19 @@ ghost use Rattle.std.specs.Prelude.{◌≡◌, true, IfOk};
 ghost use Rattle.bq_insn.specs.Spelling.{is_well_formed};
 ghost use Rattle.bq_policy_file.specs.Forms.{SpellsForm};
 
-use crate::image_form::ImageForm;
+use crate::image_of::image_of;
 use bq_insn::Insn;
 use bq_insn::encode::encode;
+use bq_verify::PolicyForm;
 use std::alloc::{AllocError, Global};
 
 /// In what form a program is written.
 #[derive(Drop)]
 pub enum ProgramForm {
-    /// The bytes of its instructions alone.
+    /// Only the bytes of its instructions.
     Program,
     /// An image with it.
-    Image(ImageForm),
+    Image(PolicyForm),
 }
 
 impl ProgramForm {
@@ -27,7 +28,7 @@ impl ProgramForm {
         encode(insns, &mut program)?;
         match self {
             ProgramForm::Program => Ok(program),
-            ProgramForm::Image(form) => form.image_of(alloc, program),
+            ProgramForm::Image(form) => image_of(alloc, form, program),
         }
     }
 }

@@ -12,7 +12,7 @@ pub fn one_listing()
     ensures { OneListing }
 {}
 
-/// A file with a fault is no policy and has no other fault, want of memory aside.
+/// A file with a fault is no policy and has no other fault, unless memory runs out.
 pub fn one_policy_answer()
     ensures { OnePolicyAnswer }
 {}

@@ -5,10 +5,10 @@ ghost use Rattle.bq_policy_file.specs.Forms.{AsksFor, HasOptionsFault, RefusesOp
 
 use crate::Answer;
 use crate::form::ProgramForm;
-use crate::image_form::ImageForm;
 use crate::mark::Key;
 use crate::shapes_text::shapes_of;
 use bq_hooks::{Hook, Version};
+use bq_verify::PolicyForm;
 use std::alloc::{AllocError, Global};
 use std::fmt;
 use thiserror::Error;
@@ -16,7 +16,7 @@ use thiserror::Error;
 /// The options of `asm`.
 #[derive(Drop)]
 pub struct Options {
-    /// The choice that the program makes. With it the image of the program is written, without it the program alone.
+    /// The choice that the program makes. With it the image of the program is written, without it only the program.
     pub hook: Option<Hook>,
     /// The shapes of the program's maps, as in `8:2,16:4`; without it there are none.
     pub maps: Option<String>,
@@ -71,10 +71,10 @@ impl Options {
                 Some(shapes) => shapes,
             },
         };
-        Ok(ProgramForm::Image(ImageForm {
+        Ok(ProgramForm::Image(PolicyForm {
             hook,
-            shapes,
             version: self.format.unwrap_or(Version::First),
+            shapes,
         }))
     }
 
@@ -94,7 +94,7 @@ impl Options {
     }
 }
 
-/// The line that refuses options, for their fault. Want of memory is handed on as such.
+/// The line that refuses options, for their fault. Lack of memory is handed on as such.
 pub fn refused_options(alloc: Global, fault: OptionsFault) -> Result<Answer, AllocError>
     ensures line { IfOk result (λ a. (o : Options) → HasOptionsFault o fault → RefusesOptions o (string_bytes a.text)) }
     ensures refused { IfOk result (λ a. a.accepted ≡ false) }

@@ -11,8 +11,9 @@ use std::alloc::{AllocError, Global};
 pub fn marks(alloc: Global, policy: &PolicySource) -> Result<String, AllocError>
     ensures { IfOk result (λ text. AreMarks policy.now (string_bytes text)) }
 {
-    let maps = maps_mark(alloc, policy.shapes.as_slice())?;
-    marks_text(alloc, policy.hook, maps.as_str(), policy.version)
+    let form = &policy.form;
+    let maps = maps_mark(alloc, form.shapes.as_slice())?;
+    marks_text(alloc, form.hook, maps.as_str(), form.version)
 }
 
 /// The lines that say a hook, and a version if it is not the first, with a line of maps between, or none.

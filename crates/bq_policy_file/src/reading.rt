@@ -39,21 +39,14 @@ fn from_image(alloc: Global, bytes: &[u8], given: &Head) -> Result<PolicySource,
     ensures numbers { IfOk result (λ p. AllFit p.insns.items) }
     ensures fault { IfErr result (IsImageFault bytes.now given.now) }
 {
-    let Image {
-        version,
-        hook,
-        shapes,
-        program,
-    } = read_image(alloc, bytes)?;
+    let Image { form, program } = read_image(alloc, bytes)?;
     let insns = decode(alloc, program.as_slice())?;
-    let maps = Some(shapes);
-    if let Some(key) = difference(given, Some(hook), &maps, Some(version)) {
+    let maps = Some(form.shapes.as_slice());
+    if let Some(key) = difference(given, Some(form.hook), maps, Some(form.version)) {
         return Err(PolicyFault::Disagrees(key));
     }
     Ok(PolicySource {
-        hook,
-        version,
-        shapes: maps.unwrap(),
+        form,
         insns,
         lines: Vec::new(alloc),
     })
@@ -81,13 +74,7 @@ fn from_str(alloc: Global, text: &str, given: &Head) -> Result<PolicySource, Pol
     let insns = assemble(alloc, text)?;
     let lines = lines_of(alloc, text)?;
     match combine(alloc, given, &said) {
-        Ok(combined) => Ok(PolicySource {
-            hook: combined.hook,
-            version: combined.version,
-            shapes: combined.shapes,
-            insns,
-            lines,
-        }),
+        Ok(form) => Ok(PolicySource { form, insns, lines }),
         Err(fault) => Err(fault),
     }
 }

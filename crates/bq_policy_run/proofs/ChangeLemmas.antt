@@ -1,4 +1,4 @@
--- What is told of the numbers of a range, for one number more.
+-- What is shown of the numbers of a range, for one number more.
 use Rattle.std.proofs.Common.{◌≡◌, ℕ, suc, zero, ◌+◌, Bool, cond, List, [], ◌++◌, filter, arith}
 use Rattle.std.specs.List.{flat_map, range_with_len}
 use Rattle.std.proofs.lemmas.Grind.{common_steps}
@@ -9,7 +9,7 @@ flat_map-range_more : {X : Type 0} (f : ℕ → List X) (first count : ℕ)
 flat_map-range_more f first zero = grind (arith, common_steps)
 flat_map-range_more f first (suc count) = grind (arith, common_steps, flat_map-range_more f (first + 1) count)
 
--- the same of those numbers alone that pass a test
+-- the same of only those numbers that pass a test
 flat_map-filter-range_more : {X : Type 0} (f : ℕ → List X) (test : ℕ → Bool) (first count : ℕ)
     → flat_map f (filter test (range_with_len first (count + 1)))
     ≡ flat_map f (filter test (range_with_len first count)) ++ cond (test (first + count)) (f (first + count)) []
@@ -21,7 +21,7 @@ pub told_more : (f : ℕ → List ℕ) (count : ℕ) (begun before after : List 
     → after ≡ begun ++ flat_map f (range_with_len 0 (count + 1))
 told_more f count begun before after told grown = grind (arith, common_steps, flat_map-range_more f 0 count)
 
--- the same where only those numbers are told that pass a test
+-- the same where only those numbers are shown that pass a test
 pub told_more_passing : (f : ℕ → List ℕ) (test : ℕ → Bool) (count : ℕ) (begun before after : List ℕ)
     → before ≡ begun ++ flat_map f (filter test (range_with_len 0 count)) → after ≡ before ++ cond (test count) (f count) []
     → after ≡ begun ++ flat_map f (filter test (range_with_len 0 (count + 1)))

@@ -47,7 +47,7 @@ any_kept processor r0 (x ∷ xs) d = go (eqb x.id r0) (can_use processor x) refl
     go false true e k rest = rw e rest
     go false false e k rest = rest
 
--- an id is among those of the tasks that may go to a processor just where the task of that id may go there
+-- an id is among those of the tasks that may go to a processor exactly when the task of that id may go there
 pub any_movable : (processor r0 : ℕ) (queue : List Task) → HasDistinctIds queue → list_any (names r0) (ids (movable_to processor queue)) ≡ is_movable_to processor r0 queue
 any_movable processor r0 queue d = any_reverse r0 (filter (can_use processor) queue) ∙ any_kept processor r0 queue d
 

@@ -22,7 +22,7 @@ piece_at g size a (suc n) (suc k) h l =
     let there : a + 1 + k ≡ a + suc k = omega arith in
     (later.0, ap (λ m. drop m (g a ++ flat_map g (range_with_len (a + 1) n))) further ∙ drop-append-add (g a) (flat_map g (range_with_len (a + 1) n)) (size * k) ∙ later.1 ∙ ap (λ i. g i ++ later.0) there)
 
--- so many bytes of a piece, from one of its bytes on
+-- this many bytes of a piece, from one of its bytes on
 inside_piece : (head : List ℕ) (g : ℕ → List ℕ) (size n k from count at : ℕ) → ((i : ℕ) → length (g i) ≡ size) → k < n → at ≡ length head + (size * k + from) →
     (rest : List ℕ) × (slice_range (head ++ flat_map g (range_with_len 0 n)) at (at + count) ≡ take count (drop from (g k ++ rest)))
 inside_piece head g size n k from count at h l is =

@@ -186,7 +186,7 @@ no_counter_named text before none after sets =
     let below = sets.below in
     none sets.counter sets.word (omega (arith, below)) sets.fits sets.names
 
--- a counter that there is not is not set
+-- a counter that does not exist is not set
 pub no_counter_there : (text before : List ℕ) (counter word : ℕ) → NamesCounter text counter word → 64 ≤ counter → (after : List ℕ) → ¬ SetsCounter text before after
 no_counter_there text before counter word names past after sets =
     let once = cut_once 61 text sets.names.number sets.names.value names.number names.value sets.names.splits names.splits in

@@ -21,7 +21,7 @@ one_more program snapshots rest after m told place step new split all steps news
     ap (λ (n : List ℕ). n ++ more) news ∙ append_assoc told (place ++ step) more ∙ ap (λ (t : List ℕ). told ++ t) (append_assoc place step more) in
     subst (λ (t : List ℕ). AreSteps program snapshots t) (sym joined) (all (place ++ (step ++ more)) whole)
 
--- where nothing is left, what is told is all
+-- where nothing is left, what is shown is all
 pub told_all : (program : Accepted) (snapshots rest : List Snapshot) (told : List ℕ) → length rest < 1 → ((more : List ℕ) → AreSteps program rest more → AreSteps program snapshots (told ++ more)) → AreSteps program snapshots told
 told_all program snapshots [] told none all = subst (λ (t : List ℕ). AreSteps program snapshots t) (append-nil told) (all [] refl)
 told_all program snapshots (m ∷ rest) told none all = absurd (omega (arith, none))

@@ -1,4 +1,4 @@
--- What is told of an answer: the rule's word on it.
+-- What is shown of an answer: the rule's word on it.
 use Rattle.std.specs.Prelude.{◌≡◌, ℕ, List, ◌++◌, codes}
 use Rattle.bq_policy_run.specs.declared.permitted.Word.{Word}
 use Rattle.bq_policy_run.specs.declared.permitted.Word.TheVariants.{Permitted, NotPermitted, NotShown}

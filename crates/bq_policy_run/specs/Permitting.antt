@@ -38,7 +38,7 @@ hides_tasks context = nat_lt (number_at context 20) (number_at context 16)
 abbrev pub place_word : List ℕ → ℕ → Word
 place_word context r0 = if place_permits context r0 then Permitted else NotPermitted
 
--- the answer alone tells
+-- the answer decides
 abbrev pub preempt_word : ℕ → Word
 preempt_word r0 = if may_preempt r0 then Permitted else NotPermitted
 

@@ -40,7 +40,7 @@ abbrev pub IsNumberOrZero : ℕ → Option (List ℕ) → ℕ → Type 0
 IsNumberOrZero limit None n = n ≡ 0
 IsNumberOrZero limit (Some word) n = IsNumberBelow limit word n
 
--- the word writes so many nanoseconds: a number, or one with a unit, and it is below 2^64
+-- the word writes this many nanoseconds: a number, or one with a unit, and it is below 2^64
 abbrev pub WritesTime : List ℕ → ℕ → Type 0
 WritesTime word n = IsNumberBelow (2 ^ 64) word n ⊎ (duration_of word ≡ Some n)
 
@@ -89,20 +89,20 @@ answer_line answer judged steps budget =
 abbrev pub changed_text : Arrays → List (List ℕ) → List Asked → List ℕ
 changed_text maps now calls = changes_text maps (with_all maps now) ++ calls_text calls
 
--- the first line tells the answer of a run on that context, with the rule's word on it; then the steps are told, and what changed; how
+-- the first line tells the answer of a run on that context, with the rule's word on it; then the steps are shown, and what changed; how
 -- long runs take stands last
 pub record TellsRun (program : Accepted) (context : List ℕ) (answer steps : ℕ) (executed changed timing text : List ℕ) : Type 0 where
   pub judged : List ℕ
   pub word : TellsWord (word_of program.hook context answer) judged
   pub text_is : text ≡ answer_line answer judged steps program.budget ++ (executed ++ (changed ++ timing))
 
--- of so many runs as the word says, all but the last
+-- of as many runs as the word says, all but the last
 abbrev pub IsBefore : Option (List ℕ) → ℕ → Type 0
 IsBefore None n = n ≡ 0
 IsBefore (Some word) n = IsNumberBelow (2 ^ 32) word (n + 1)
 
--- so many runs of the program on those inputs, one after another, lead to maps and counters from which there is a run more, whose steps, with its
--- own calls of counters, begin from these snapshots of the machine: its answer is told, its steps where that is asked for, each entry of
+-- this many runs of the program on those inputs, one after another, lead to maps and counters from which there is a run more, whose steps, with its
+-- own calls of counters, begin from these snapshots of the machine: its answer is shown, its steps where that is asked for, each entry of
 -- the maps that all these runs changed, and its calls; and nothing of how long runs take where no number of them is asked for
 pub record HasRun (traced timed : Bool) (others : ℕ) (program : Accepted) (inputs : Inputs) (told_as : Answered) : Type 0 where
   pub steps : ℕ
@@ -136,9 +136,9 @@ RunsProgram w program told_as =
 -- the program is that of the policy
 pub record IsProgramOf (p : PolicySource) (program : Accepted) : Type 0 where
   pub slots : program.slots ≡ spread p.insns.items
-  pub shapes : program.shapes ≡ p.shapes.items
-  pub hook : program.hook ≡ p.hook
-  pub version : program.version ≡ p.version
+  pub shapes : program.shapes ≡ p.form.shapes.items
+  pub hook : program.hook ≡ p.form.hook
+  pub version : program.version ≡ p.form.version
 
 -- the text begins with the line that tells the verdict
 abbrev pub TellsVerdict : Hook → Verdict → List ℕ → Type 0
@@ -151,7 +151,7 @@ pub record IsUnaccepted (p : PolicySource) (told_as : Answered) : Type 0 where
   pub refusal : IsRefusedPolicy p slot cause
   pub text : String Global
   pub is : told_as ≡ Refused text
-  pub told : TellsVerdict p.hook (verdict.Refused slot cause) (string_bytes text)
+  pub told : TellsVerdict p.form.hook (verdict.Refused slot cause) (string_bytes text)
 
 -- the policy's program is safe within its budget, which is the longest path, and runs
 pub record RunsAccepted (w : RunWords) (p : PolicySource) (told_as : Answered) : Type 0 where

@@ -21,7 +21,7 @@ pub record Fits (program : Accepted) (inputs : Inputs) : Type 0 where
   pub context : length inputs.context.items ≡ context_length_of program.hook program.version
   pub shapes : inputs.maps.shapes ≡ program.shapes
 
--- the machine's run from these maps, on that context, at that time and on that processor, gives this answer after so many instructions,
+-- the machine's run from these maps, on that context, at that time and on that processor, gives this answer after this many instructions,
 -- within the budget, and leaves these maps; its calls of counters are these, and lead from those counters to these
 pub record IsRun (program : Accepted) (context : List ℕ) (now processor : ℕ) (before : PersistentState) (steps : ℕ) (calls : List Asked) (answer : ℕ) (after : PersistentState) : Type 0 where
   pub runs : RunFrom (setting_of program context now processor) (start before.maps) steps calls answer after.maps
@@ -32,7 +32,7 @@ pub record IsRun (program : Accepted) (context : List ℕ) (now processor : ℕ)
 abbrev pub LeadsFrom : Accepted → List ℕ → ℕ → ℕ → PersistentState → PersistentState → Type 0
 LeadsFrom program context now processor before after = (steps : ℕ) × (calls : List Asked) × (answer : ℕ) × IsRun program context now processor before steps calls answer after
 
--- so many runs, one after another, lead there
+-- this many runs, one after another, lead there
 abbrev pub AreRuns : Accepted → List ℕ → ℕ → ℕ → ℕ → PersistentState → PersistentState → Type 0
 AreRuns program context now processor zero before after = after ≡ before
 AreRuns program context now processor (suc n) before after = (between : PersistentState) × AreRuns program context now processor n before between × LeadsFrom program context now processor between after

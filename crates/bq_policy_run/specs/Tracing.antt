@@ -11,7 +11,7 @@ use Rattle.bq_interp.specs.declared.traced.Snapshot.{Snapshot}
 abbrev pub register_text : ℕ → ℕ → List ℕ
 register_text register word = codes "    r" ++ (decimal register ++ (codes " = " ++ (decimal word ++ (codes " (0x" ++ (digits 16 false word ++ codes ")\n")))))
 
--- a line for each of the first registers, so many of them, whose words differ
+-- a line for each of the first registers, this many of them, whose words differ
 abbrev pub changes_below : ℕ → List ℕ → List ℕ → List ℕ
 changes_below zero before now = []
 changes_below (suc n) before now =
@@ -37,7 +37,7 @@ AreSteps program [] text = text ≡ []
 AreSteps program (m ∷ after) text =
     (place rest : List ℕ) × (text ≡ place ++ (step_text program m after ++ rest)) × AreSteps program after rest
 
--- the steps are told where that is asked for, and nothing is told of them where it is not
+-- the steps are shown where that is asked for, and nothing is shown of them where it is not
 abbrev pub TellsSteps : Bool → Accepted → List Snapshot → List ℕ → Type 0
 TellsSteps false program snapshots text = text ≡ []
 TellsSteps true program snapshots text = AreSteps program snapshots text

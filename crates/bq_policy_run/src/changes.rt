@@ -106,7 +106,7 @@ fn write_entry(
     write!(text, "map {number} entry {entry}: {told}\n")
 }
 
-/// So many bytes from there on, as far as there are.
+/// This many bytes from there on, as far as there are.
 fn part(bytes: &[u8], at: usize, count: usize) -> &[u8]
     ensures { result.now ≡ slice_range bytes.now at (at + count) }
 {

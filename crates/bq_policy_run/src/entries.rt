@@ -84,7 +84,7 @@ fn entry_named(place: &str) -> Option<(usize, u32)>
     }
 }
 
-/// Puts zeros behind the bytes until there are so many.
+/// Puts zeros behind the bytes until there are this many.
 fn pad(alloc: Global, bytes: &mut Vec<u8>, size: usize) -> Result<(), AllocError>
     ensures { OnOk result (bytes.new.items ≡ padded size bytes.old.items) }
 {

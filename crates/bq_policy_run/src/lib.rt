@@ -1,6 +1,6 @@
-//! Runs of an accepted policy by hand, and what `run` answers to a policy's file.
+//! Single runs of an accepted policy, and what `run` answers to a policy's file.
 //!
-//! Inputs go by the names of their fields; what came of a run is told in words. The words come as they were given, the file as
+//! Inputs have the names of their fields, and the outcome of a run is shown as text. Words come as they were given, the file as
 //! bytes, and the answer goes back as text. So what the command does is a function of both, with a contract.
 #![tactic(auto)]
 

@@ -49,7 +49,7 @@ pub fn run_once(verified: &Verified, inputs: &mut Inputs) -> Option<RunOutcome>
     ))
 }
 
-/// So many runs, one after another: each begins with the maps and counters that the one before it left. None where there is none,
+/// This many runs, one after another: each begins with the maps and counters that the one before it left. Nothing if there are none,
 /// which is for the same causes: then all is left as it was.
 pub fn run_often(verified: &Verified, inputs: &mut Inputs, count: u32) -> Option<()>
     ensures runs { IfSome result (λ _. AreRuns verified.now inputs.old.context.items inputs.old.env.now inputs.old.env.processor count (kept_in inputs.old) (kept_in inputs.new)) }

@@ -1,4 +1,4 @@
-//! How many runs go before the one that is told.
+//! How many runs go before the one that is shown.
 ghost use Rattle.std.specs.Prelude.{IfErr, IfOk};
 ghost use Rattle.bq_policy_run.specs.Running.{IsBefore};
 ghost use Rattle.bq_console.specs.Words.{SaysNone};
@@ -11,7 +11,7 @@ use std::alloc::Global;
 /// How many runs there may be.
 const MOST: u32 = u32::MAX;
 
-/// Of so many runs as a word says, all but the last; none without a word.
+/// Of as many runs as a word says, all but the last; none without a word.
 pub(crate) fn runs_before(alloc: Global, word: &Option<String>) -> Result<u32, WordsFault>
     ensures before { IfOk result (IsBefore (option_bytes word.now)) }
     ensures none { IfErr result (SaysNone (IsBefore (option_bytes word.now))) }

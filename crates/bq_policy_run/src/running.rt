@@ -15,7 +15,7 @@ use bq_console::WordsFault;
 use bq_explain::{Verdict, verdict_line};
 use bq_policy_check::{Answered, RunWords, refused_file, said_by};
 use bq_policy_file::{Head, PolicySource, read_policy};
-use bq_verify::{Program, Refused, Verified, verify};
+use bq_verify::{Refused, Verified, verify};
 use std::alloc::{AllocError, Global};
 use std::time::Clock;
 
@@ -62,12 +62,7 @@ fn run_policy<C: Clock>(
 ) -> Result<Answered, AllocError>
     ensures { IfOk result (RunsPolicy words.now policy.now) }
 {
-    let program = Program {
-        insns: Vec::from_slice(alloc, policy.insns.as_slice())?,
-        shapes: Vec::from_slice(alloc, policy.shapes.as_slice())?,
-        hook: policy.hook,
-        version: policy.version,
-    };
+    let program = policy.program(alloc)?;
     match verify(alloc, program) {
         Ok(verified) => run_verified(alloc, clock, words, policy, &verified),
         Err(Refused::OutOfMemory) => Err(AllocError),
@@ -84,9 +79,9 @@ fn unaccepted_text(
     policy: &PolicySource,
     verdict: Verdict,
 ) -> Result<String, AllocError>
-    ensures { IfOk result (λ text. TellsVerdict policy.now.hook verdict (string_bytes text)) }
+    ensures { IfOk result (λ text. TellsVerdict policy.now.form.hook verdict (string_bytes text)) }
 {
-    let line = verdict_line(alloc, policy.hook, verdict)?;
+    let line = verdict_line(alloc, policy.form.hook, verdict)?;
     format!(in alloc; "{line}the program is not accepted; check --explain says why\n")
 }
 
@@ -121,7 +116,7 @@ fn run_verified<C: Clock>(
 struct Series {
     /// The inputs of the first.
     inputs: Inputs,
-    /// How many go before the one that is told.
+    /// How many go before the one that is shown.
     before: u32,
 }
 
@@ -176,7 +171,7 @@ fn changed_text(
     Ok(changes)
 }
 
-/// What is told behind the answer of a run.
+/// What is shown after the answer of a run.
 #[derive(Clone, Copy)]
 struct Behind<'a> {
     /// Which instructions it took, where that is asked for.
@@ -187,7 +182,7 @@ struct Behind<'a> {
     line: &'a String,
 }
 
-/// What the run answered, what the rule says of that, and how many instructions it took; and what is told behind that.
+/// What the run answered, what the rule says of that, and how many instructions it took; and what is shown after that.
 fn told(
     alloc: Global,
     verified: &Verified,

@@ -35,7 +35,7 @@ pub(crate) fn time_line<C: Clock>(
     }
 }
 
-/// How long so many runs take on inputs of their own, which are those that the words name. None where the clock fails or goes back.
+/// How long this many runs take on inputs of their own, which are those that the words name. None where the clock fails or goes back.
 fn nanoseconds<C: Clock>(
     alloc: Global,
     clock: &C,
@@ -49,7 +49,7 @@ fn nanoseconds<C: Clock>(
     }
 }
 
-/// How long so many runs take on these inputs. None where the clock fails or goes back.
+/// How long this many runs take on these inputs. None where the clock fails or goes back.
 fn time_on<C: Clock>(
     clock: &C,
     verified: &Verified,

@@ -6,7 +6,7 @@ use Rattle.bq_bpf.specs.Meaning.{compares}
 use Rattle.bq_ranges.specs.declared.range.Range.{Range}
 use Rattle.bq_ranges.specs.Within.{Within}
 
--- the one has the sign and the other has not, or they are of one half, or neither has it alone, and go by their order
+-- the one has the sign and the other has not, or they are of one half, or neither is the only one with it, and go by their order
 abbrev pub IsSignedAtMost : ℕ → ℕ → ℕ → Type 0
 IsSignedAtMost half a b = ((half ≤ a) × (b < half)) ⊎ (((half ≤ a) ⊎ (b < half)) × (a ≤ b))
 

@@ -1,6 +1,6 @@
-//! How an event of the world comes into the history that many callers share: under the locks of the parts that it touches,
-//! its share is done, and its record and its receipt are made.
-//! Promises that each call records the event that it is asked for, and that the seat's receipts grow by just its own.
+//! How an event of the world enters the history that many callers share: under the locks of the parts that it touches, its
+//! share is done, and its record and its receipt are made.
+//! Promises that each call records the event that it is asked for, and that the seat's receipts grow by exactly its own.
 //! Stands on bq_shared for the law, the cells, the seats and the counters.
 #![tactic(auto)]
 

@@ -17,7 +17,7 @@ use bq_shared::{Counting, NumberedCpu, Record, UnderLock, policy_again};
 use std::alloc::{AllocError, Global};
 use std::sync::Wait;
 
-/// What an install hands over, made before any lock is taken: the policy with its maps, and the policy once more for the
+/// What an install hands over, made before any lock is taken: the policy with its maps, and a copy of the policy for the
 /// record and for the receipt.
 #[derive(Drop)]
 pub struct Spare {

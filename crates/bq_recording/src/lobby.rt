@@ -1,4 +1,4 @@
-//! Events of the lobby alone: tasks come to the machine, and leave it.
+//! Events that need only the lobby: tasks come to the machine, and leave it.
 ghost use Rattle.std.specs.Prelude.{◌≡◌, ◌∷◌, ◌++◌, [], true, None};
 ghost use Rattle.bq_shared.specs.Calls.{account_of};
 ghost use Rattle.bq_parts.specs.Refusals.{argument_refusal};

@@ -83,7 +83,7 @@ impl<Q: RunQueue + Drop, N: Naming + Counting, const P: usize> Opening<Q, N, P> 
     }
 }
 
-/// What records the events of a machine of so many processors, with one holder of all its parts and seats, and the account of
+/// What records the events of a machine of this many processors, with one holder of all its parts and seats, and the account of
 /// all seats.
 fn recorder_at_start<Q: RunQueue + Drop, N: Naming + Counting>(
     prepared: Prepared<Q>,

@@ -1,4 +1,4 @@
-//! What is told of an event: a record for the history, and one for the receipt.
+//! What is recorded of an event: a record for the history, and one for the receipt.
 ghost use Rattle.std.specs.Prelude.{◌≡◌, [], false};
 ghost use Rattle.bq_shared.specs.Brief.{has_loads};
 ghost use Rattle.bq_shared.specs.Events.{CarriesPolicy};

@@ -155,7 +155,7 @@ impl<Q: RunQueue + Drop, N: Naming + Counting> Recorder<Q, N> {
         )
     }
 
-    /// The task in the hand is given, and it is chosen where it goes among so many processors.
+    /// The task in the hand is given, and it is chosen where it goes among this many processors.
     fn place_task(
         &self,
         working: &mut WorkingSeat<N>,

@@ -11,7 +11,7 @@ use Rattle.bq_report.specs.declared.extent.Extent.{Extent}
 use Rattle.bq_report.specs.Windows.{ShowsProcessor}
 use Rattle.bq_report.specs.Extents.{IsFirst, IsLast, Spans}
 
--- these are the earliest first and the latest last reading of the first so many processors, or the ends of time where none was read
+-- these are the earliest first and the latest last reading of the first processors, this many,, or the ends of time where none was read
 pub record Read (w : Window) (s : Figures) (count first last : ℕ) : Type 0 where
   pub is_first : (first ≡ 2 ^ 64 - 1) ⊎ IsFirst w s first
   pub is_last : (last ≡ 0) ⊎ IsLast w s last
@@ -104,7 +104,7 @@ spans_none w s first last r short e h =
     let late : h.latest ≤ last = subst (λ n. n ≤ last) b.last (r.most b.processor b.shown.is_number b.shown b.was_read) in
     omega (arith, h.begins, h.ends, early, late)
 
--- an extent is shown just where it lasts, and then it is this
+-- an extent is shown exactly when it lasts, and then it is this
 pub spans_if : (w : Window) (s : Figures) (first last : ℕ) (e : Extent) → e.to < 2 ^ 64 → Read w s 64 first last
     → e.from ≡ max first w.from → e.to ≡ min last w.to → (b : Bool) → nat_lt e.from e.to ≡ b
     → IfSome (then_some b e) (Spans w s) × IfNone (then_some b e) ((other : Extent) → Spans w s other → other.to ≤ other.from)

@@ -11,7 +11,7 @@ use Rattle.bq_schedule.specs.Passing.{idle_of}
 use Rattle.bq_schedule.specs.declared.percentiles.Percentiles.{Percentiles}
 use Rattle.bq_report.specs.Amounts.{millis_text, three_decimals}
 
--- a number at the right end of so many columns
+-- a number at the right end of this many columns
 abbrev pub right : ℕ → ℕ → List ℕ
 right width n = styled_decimal (format_spec 32 3 0 width (2 ^ 64 - 1)) n
 
@@ -22,11 +22,11 @@ right_signed width z = styled_signed_decimal (format_spec 32 3 0 width (2 ^ 64 -
 abbrev pub zeros : ℕ → ℕ → List ℕ
 zeros width n = styled_decimal (format_spec 32 0 4 width (2 ^ 64 - 1)) n
 
--- a text at the left end of so many columns, and cut where it has more characters
+-- a text at the left end of this many columns, and cut where it has more characters
 abbrev pub left : ℕ → List ℕ → List ℕ
 left width text = styled_text (format_spec 32 1 0 width width) text
 
--- thousandths, as a number with three decimals, its whole part at the right end of so many columns
+-- thousandths, as a number with three decimals, its whole part at the right end of this many columns
 abbrev pub thousandths_in : ℕ → ℕ → List ℕ
 thousandths_in width n = right width (n / 1000) ++ (codes "." ++ three_decimals n)
 

@@ -1,6 +1,6 @@
 -- Round steps of time.
 use Rattle.std.specs.Prelude.{ℕ, ◌*◌, Bool, nat_le}
 
--- so many steps of this length cover the span
+-- this many steps of this length cover the span
 abbrev pub covers : ℕ → ℕ → ℕ → Bool
 covers span count step = nat_le span (step * count)

@@ -5,7 +5,7 @@ use bq_schedule::{Change, Schedule};
 use std::alloc::AllocError;
 
 /// A form in which a schedule is shown. It adds to a text what is ripe, and the caller may write that out and clear it
-/// whenever it likes. Its only error is want of memory.
+/// whenever it likes. Its only error is that memory ran out.
 ///
 /// ```text
 /// form.begin(&schedule, &names, &mut text)?;

@@ -67,7 +67,7 @@ struct Legend {
 }
 
 impl Map {
-    /// A map of the window, so many columns wide.
+    /// A map of the window, this many columns wide.
     pub fn new(alloc: Global, window: Window, width: usize) -> Map {
         Map {
             alloc,

@@ -32,7 +32,7 @@ impl Report {
         }
     }
 
-    /// So many wakes did nothing, since their task did not wait. A simulation counts them; no trace tells them.
+    /// This many wakes did nothing, since their task did not wait. A simulation counts them; no trace tells them.
     pub fn count_missed(&mut self, wakes: u64)
         ensures { self.new ≡ record self.old { missed = wakes } }
     {

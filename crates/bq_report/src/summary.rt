@@ -39,7 +39,7 @@ impl Json {
         }
     }
 
-    /// So many wakes did nothing, since their task did not wait. A simulation counts them; no trace tells them.
+    /// This many wakes did nothing, since their task did not wait. A simulation counts them; no trace tells them.
     pub fn count_missed(&mut self, wakes: u64)
         ensures { self.new ≡ record self.old { missed = wakes } }
     {

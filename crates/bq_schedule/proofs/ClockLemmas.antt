@@ -123,7 +123,7 @@ count-shown s s' (Some x) h = h.0.count ∙ count-read_at x.processor x.now s
 pub count-after : (s : Figures) (e : Event) (a : Result Reply Refusal) → IsWithin (length s.processors) (sight_of e a) → length (after s e a).processors ≡ length s.processors
 count-after s e a h = count-shown s (after s e a) (sight_of e a) (shows-after s e a h)
 
--- what is shown of one of so many processors is so for the same number
+-- what is shown of one of this many processors is so for the same number
 pub within_same : (n k : ℕ) (o : Option Sight) → n ≡ k → IsWithin k o → IsWithin n o
 within_same n k o e h = rw e h
 

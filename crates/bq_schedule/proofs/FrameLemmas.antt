@@ -201,17 +201,17 @@ works-switched_if false left processor now run s =
 pub works-switched : (left : Left) (processor now : ℕ) (run : Option ℕ) (s : Figures) → KeepsWorks s (switched left processor now run s)
 works-switched left processor now run s = works-switched_if (is_run_by (processor_of s processor).running run) left processor now run s
 
--- what is told of who runs at a processor holds afterwards, and at the others it is as it was
+-- what is reported of who runs at a processor holds afterwards, and at the others it is as it was
 abbrev pub RunsAs : Option (Option ℕ) → ℕ → Figures → Figures → Type 0
 RunsAs None processor s s' = KeepsRunning s s'
 RunsAs (Some run) processor s s' = (running_task (processor_of s' processor) ≡ run) × ((j : ℕ) → j ≢ processor → (processor_of s' j).running ≡ (processor_of s j).running)
 
--- what is told of who runs holds too where a step stands before it that keeps who runs
+-- what is reported of who runs holds too where a step stands before it that keeps who runs
 pub runs-after : (o : Option (Option ℕ)) (processor : ℕ) (s t u : Figures) → KeepsRunning s t → RunsAs o processor t u → RunsAs o processor s u
 runs-after None processor s t u a b = running-then s t u a b
 runs-after (Some run) processor s t u a b = (b.0, λ j ne. b.1 j ne ∙ a.at j)
 
--- what is told of who runs holds too where a step follows it that keeps who runs
+-- what is reported of who runs holds too where a step follows it that keeps who runs
 pub runs-before : (o : Option (Option ℕ)) (processor : ℕ) (s t u : Figures) → RunsAs o processor s t → KeepsRunning t u → RunsAs o processor s u
 runs-before None processor s t u a b = running-then s t u a b
 runs-before (Some run) processor s t u a b = (ap (option_map (λ (x : Start). x.task)) (b.at processor) ∙ a.0, λ j ne. b.at j ∙ a.1 j ne)

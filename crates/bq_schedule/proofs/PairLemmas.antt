@@ -1,4 +1,4 @@
--- Each start that is told ends with one stop, but for that of the task which runs.
+-- Each start that is reported ends with one stop, except for that of the task which runs.
 use Rattle.std.proofs.Common.{◌≡◌, ◌≢◌, ℕ, ◌<◌, Bool, true, false, List, [], ◌∷◌, ◌++◌, Option, Some, None, refl, sym, ap, ◌∙◌, ◌⊎◌, inl, inr, eqb, cond, subst, append-nil, append_assoc, arith, ne_eqb, eq-eqb}
 use Rattle.std.specs.Prelude.{option_to_list, filter, map}
 use Rattle.std.proofs.lemmas.Bool.Decides.{eqb_tells}
@@ -100,7 +100,7 @@ grown-pairs a r f r' b g before now =
     ∙ sym (append_assoc (map (λ (sp : Stop). sp.start) b) (map (λ (sp : Stop). sp.start) g) r')
     ∙ ap (λ l. l ++ r') (sym (map-append (λ (sp : Stop). sp.start) b g))
 
--- each start ends with one stop, but for that of the task which runs
+-- each start ends with one stop, except for that of the task which runs
 pub ends_starts : EndsStarts
 ends_starts count [] processor h inside = sym (ap (λ (p : ProcessorFigures). option_to_list p.running) (get_or-replicate count processor unread unread inside))
 ends_starts count (m ∷ past) processor h inside =

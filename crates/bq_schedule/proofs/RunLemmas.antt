@@ -1,4 +1,4 @@
--- The runs that are told are those that the slices make.
+-- The runs that are reported are those that the slices make.
 use Rattle.std.proofs.Common.{◌≡◌, ◌≢◌, ℕ, ◌<◌, Bool, true, false, List, [], ◌∷◌, ◌++◌, length, Option, Some, None, Result, Ok, Err, refl, sym, ap, ◌∙◌, ◌⊎◌, inl, inr, eqb, ltb, cond, append-nil, append_assoc, arith, eqb-true}
 use Rattle.std.specs.Prelude.{option_to_list, ◌&&◌}
 use Rattle.std.proofs.lemmas.Bool.Decides.{eqb_tells}
@@ -54,7 +54,7 @@ runs-push : (xs : List Slice) (y : Slice) → runs (xs ++ y ∷ []) ≡ last_joi
 runs-push [] y = refl
 runs-push (x ∷ xs) y = ap (joined x) (runs-push xs y) ∙ joined-last x y (runs xs)
 
--- what is told, and what may go on
+-- what is reported, and what may go on
 last-front : (front : List Slice) (r y : Slice) → last_joined (front ++ r ∷ []) y ≡ front ++ last_joined (r ∷ []) y
 last-front [] r y = refl
 last-front (f ∷ []) r y = refl
@@ -65,7 +65,7 @@ told-one : (front : List Slice) (r y : Slice) (b : Bool) → goes_on r y ≡ b �
 told-one front r y true e = ap (λ zs. zs ++ record r { to = y.to } ∷ []) (sym (append-nil front))
 told-one front r y false e = sym (append_assoc front (r ∷ []) (y ∷ []))
 
--- what was told and what goes on are some runs, and nothing was told where nothing goes on
+-- what was reported and what goes on are some runs, and nothing was reported where nothing goes on
 pub record AreRuns (told : List Slice) (run : Option Slice) (xs : List Slice) : Type 0 where
   pub all : told ++ option_to_list run ≡ runs xs
   pub first : run ≡ None → told ≡ []
@@ -89,7 +89,7 @@ more told (Some r) (Some y) xs h = record {
   first = λ e. absurd (some_run r y (goes_on r y) e);
 }
 
--- the run that is told with a slice
+-- the run that is reported with a slice
 abbrev pub run_seen : Figures → Option Sight → Option Slice
 run_seen s None = None
 run_seen s (Some x) = ended_run (processor_of s x.processor).run (slice_at x.processor (processor_of s x.processor) x.now)

@@ -1,4 +1,4 @@
--- What is told of each moment is its slice, and the times add up.
+-- What is reported of each moment is its slice, and the times add up.
 use Rattle.std.proofs.Common.{◌≡◌, ℕ, Bool, true, false, ◌∷◌, ◌++◌, length, Option, Some, None, Result, Ok, Err, refl, sym, ap, ◌∙◌, cond}
 use Rattle.std.specs.Prelude.{option_to_list}
 use Rattle.std.specs.Option.{option_map}
@@ -63,10 +63,10 @@ shown-seen count past (Some x) h w =
     ∙ ap (λ n. stretch x.processor (running_task p) n (reading n x.now)) c.0
     ∙ ap (λ y. stretch x.processor y (clock x.processor past) (reading (clock x.processor past) x.now)) c.1
 
--- the slice that is told of a moment is the one that it ends
+-- the slice that is reported of a moment is the one that it ends
 pub slice-told : (count : ℕ) (past : History) (m : Moment) → IsOf count (m ∷ past) → (change (figures count past) m.event m.answer).slice ≡ slice_shown past (sight_of m.event m.answer)
 slice-told count past m h = seen-change (figures count past) m.event m.answer (within-figures count past m h) ∙ shown-seen count past (sight_of m.event m.answer) h.1 h.0
 
--- the slices up to a moment are those before it, and then the one that is told of it
+-- the slices up to a moment are those before it, and then the one that is reported of it
 pub slices-told : (count : ℕ) (past : History) (m : Moment) → IsOf count (m ∷ past) → slices (m ∷ past) ≡ slices past ++ option_to_list (change (figures count past) m.event m.answer).slice
 slices-told count past m h = ap (λ o. slices past ++ option_to_list o) (sym (slice-told count past m h))

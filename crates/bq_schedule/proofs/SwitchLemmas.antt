@@ -1,4 +1,4 @@
--- The starts and stops that are told are those of the tasks that begin to run, and cease.
+-- The starts and stops that are reported are those of the tasks that begin to run, and cease.
 use Rattle.std.proofs.Common.{◌≡◌, ◌≢◌, ℕ, ◌<◌, Bool, true, false, [], ◌∷◌, length, get_or, Option, Some, None, Result, Ok, Err, refl, sym, ap, ◌∙◌, ◌⊎◌, inl, inr, eqb, cond, subst, get_or-set_same, arith, ltb-true, eq-eqb}
 use Rattle.std.specs.Prelude.{IfSome, IsSomeAnd, unwrap_or, slice_set}
 use Rattle.std.specs.Option.{option_map}
@@ -29,7 +29,7 @@ use Rattle.bq_schedule.specs.Laws.{IsWithin, IsOf, TellsStarts, TellsStops}
 use Rattle.bq_schedule.proofs.FrameLemmas.{KeepsRunning, works-asked, works-leaves, works-taken, works-stopped, processors-begun_if, running-then, running-id, running-with_processor, running-asked, running-leaves, running-taken, running-read_at, runs-switched, who_is, count-read_at}
 use Rattle.bq_schedule.proofs.ClockLemmas.{figures-clocks, shows-performed, within-figures, not_below}
 
--- a switch at a processor: what is told of it, and what runs afterwards
+-- a switch at a processor: what is reported of it, and what runs afterwards
 pub record Switches (s s' : Figures) (left : Left) (processor at : ℕ) (run : Option ℕ) (stop : Option Stop) (start : Option Start) : Type 0 where
   pub before : Figures
   pub stops : stop ≡ cond (is_run_by (processor_of s processor).running run) None (stop_of left at (processor_of s processor).running)
@@ -160,7 +160,7 @@ pub record IsStart (running : Option Start) (processor at : ℕ) (run : Option �
   pub time : start.at ≡ at
   pub new : option_map (λ (x : Start). x.task) running ≢ run
 
--- what is told to start, where another runs than did, is such a start
+-- what is reported to start, where another runs than did, is such a start
 pub start_if : (b : Bool) (running : Option Start) (processor at : ℕ) (run : Option ℕ) (u : Figures) (start : Start) → is_run_by running run ≡ b → cond b None (starts_as processor at run u) ≡ Some start → IsStart running processor at run start
 start_if true running processor at run u start is e = cc
 start_if false running processor at None u start is e = cc
@@ -176,7 +176,7 @@ pub record IsStop (running : Option Start) (left : Left) (at : ℕ) (run : Optio
   pub why : stop.left ≡ left
   pub new : option_map (λ (x : Start). x.task) running ≢ run
 
--- what is told to stop, where another runs than did, is such a stop
+-- what is reported to stop, where another runs than did, is such a stop
 pub stop_if : (b : Bool) (running : Option Start) (left : Left) (at : ℕ) (run : Option ℕ) (stop : Stop) → is_run_by running run ≡ b → cond b None (stop_of left at running) ≡ Some stop → IsStop running left at run stop
 stop_if true running left at run stop is e = cc
 stop_if false None left at run stop is e = cc
@@ -216,7 +216,7 @@ BeginsWith j task past o = (runner_after j (runner j past) o ≡ Some task) × (
 abbrev pub CeasesWith : ℕ → ℕ → History → Option Sight → Type 0
 CeasesWith j task past o = (runner j past ≡ Some task) × (runner_after j (runner j past) o ≢ Some task)
 
--- a start that is told is of a task that begins to run
+-- a start that is reported is of a task that begins to run
 abbrev pub IsStartOf : ℕ → History → Option Sight → Start → Type 0
 IsStartOf count past o st = (st.processor < count) × BeginsWith st.processor st.task past o × (st.at ≡ clock_after st.processor (clock st.processor past) o)
 
@@ -246,7 +246,7 @@ start-shown count past None s' e stop start st h w t is =
     cc
 start-shown count past (Some x) s' e stop start st h w t is = start-run count past x.processor x.now x.run s' (why_left e) stop start st h w t is
 
--- and each that begins is told
+-- and each that begins is reported
 begun-there : (count : ℕ) (past : History) (processor now j task : ℕ) (run : Option ℕ) (s' : Figures) (left : Left) (stop : Option Stop) (start : Option Start) (b : Bool) → IsOf count past → processor < count →
     Switches (figures count past) s' left processor (time_at processor now (figures count past)) run stop start → ((b ≡ true) × (processor ≡ j)) ⊎ ((b ≡ false) × (processor ≢ j)) →
     cond b run (runner j past) ≡ Some task → runner j past ≢ Some task → IsSomeAnd start (λ st. (st.processor ≡ j) × (st.task ≡ task))
@@ -279,7 +279,7 @@ pub moment_tells : (count : ℕ) (past : History) (m : Moment) → IsOf count (m
     TellsSwitch (figures count past) (figures count (m ∷ past)) m.event (sight_of m.event m.answer) (change (figures count past) m.event m.answer).stop (change (figures count past) m.event m.answer).start
 moment_tells count past m h = tells (figures count past) m.event m.answer (within-figures count past m h)
 
--- a start is told just where a task begins to run
+-- a start is reported exactly when a task begins to run
 pub tells_starts : TellsStarts
 tells_starts count past m h =
     let o = sight_of m.event m.answer in
@@ -328,7 +328,7 @@ runs_here count (m ∷ past) h j st inside e =
     let c = change (figures count past) m.event m.answer in
     here-shown (figures count past) (figures count (m ∷ past)) m.event (sight_of m.event m.answer) c.stop c.start j st (moment_tells count past m h) (runs_here count past h.1 j st inside) e
 
--- a stop that is told is of a task that ceases to run
+-- a stop that is reported is of a task that ceases to run
 abbrev pub IsStopOf : ℕ → History → Event → Option Sight → Stop → Type 0
 IsStopOf count past e o sp =
     (sp.start.processor < count) × CeasesWith sp.start.processor sp.start.task past o × (sp.at ≡ clock_after sp.start.processor (clock sp.start.processor past) o) × (sp.left ≡ why_left e)
@@ -361,7 +361,7 @@ stop-shown count past None s' e stop start sp h w t is =
     cc
 stop-shown count past (Some x) s' e stop start sp h w t is = stop-run count past e x.processor x.now x.run s' stop start sp h w t is
 
--- of what ran something is told where it is another than runs now
+-- of what ran something is reported where it is another than runs now
 ceased-told : (running : Option Start) (left : Left) (at j task : ℕ) (stop : Option Stop) → stop ≡ stop_of left at running → option_map (λ (x : Start). x.task) running ≡ Some task →
     ((st : Start) → running ≡ Some st → st.processor ≡ j) → IsSomeAnd stop (λ sp. (sp.start.processor ≡ j) × (sp.start.task ≡ task))
 ceased-told None left at j task stop is e here = cc
@@ -397,7 +397,7 @@ ceased-shown : (count : ℕ) (past : History) (o : Option Sight) (s' : Figures) 
 ceased-shown count past None s' e stop start j task h w t ceases = absurd (ceases.1 ceases.0)
 ceased-shown count past (Some x) s' e stop start j task h w t ceases = ceased-run count past x.processor x.now j task x.run s' (why_left e) stop start h w t ceases
 
--- a stop is told just where a task ceases to run
+-- a stop is reported exactly when a task ceases to run
 pub tells_stops : TellsStops
 tells_stops count past m h =
     let o = sight_of m.event m.answer in

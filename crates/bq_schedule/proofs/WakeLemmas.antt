@@ -227,7 +227,7 @@ awaits-if : (b : Bool) (s : Figures) (e : Event) (r : Reply) (j : ℕ) → is_th
 awaits-if true s e r j there inside h = performed-awaits s e r j inside
 awaits-if false s e r j there inside h = nothing-awaits s e r j there h
 
--- which wake is awaited after an event is what it was, but for what the answer shows
+-- which wake is awaited after an event is what it was, except for what the answer shows
 awaits-after : (s : Figures) (e : Event) (a : Result Reply Refusal) (j : ℕ) → j < length s.tasks → IsWithin (length s.processors) (sight_of e a) → AwaitsAfter j s (after s e a) e a
 awaits-after s e (Ok r) j inside h = awaits-if (is_there s e) s e r j refl inside h
 awaits-after s (EndWake processor now) (Err r) j inside h = refl
@@ -284,7 +284,7 @@ starts : (left : Left) (s t : Figures) (processor now : ℕ) (run : Option ℕ) 
     Starts s processor now run start
 starts left s t processor now run start k r e = starts_if (is_run_by (processor_of t processor).running run) left s t processor now run start k r refl e
 
--- what is told of a start, by what the answer shows
+-- what is reported of a start, by what the answer shows
 abbrev pub StartsAs : Figures → Option Sight → Start → Type 0
 StartsAs s None start = ⊥
 StartsAs s (Some x) start = (run : Option ℕ) × (x.run ≡ Some run) × Starts s x.processor x.now run start
@@ -326,7 +326,7 @@ latency-shown count past (Some x) start h w inside t =
       t.2.late ∙ ap (option_map (λ (woken : ℕ). start.at - woken)) (awaits count past start.task h inside),
     )
 
--- where a start is told its task begins to run, and its latency is the distance from the wake that still waits
+-- where a start is reported its task begins to run, and its latency is the distance from the wake that still waits
 pub tells_latencies : TellsLatencies
 tells_latencies count past m start h inside e =
     latency-shown count past (sight_of m.event m.answer) start h.1 h.0 inside (starts-told (figures count past) m.event m.answer start e)

@@ -25,7 +25,7 @@ IsFilled (Some first) last busy running = first + busy ≤ last
 abbrev pub Filled : ProcessorFigures → Type 0
 Filled p = IsFilled p.first p.last p.busy p.running
 
--- once the clock was read that is true whoever runs
+-- once the clock was read that is true, whichever task runs
 abbrev pub HasBegun : Works → Type 0
 HasBegun w = (first : ℕ) × (w.first ≡ Some first) × (first + w.busy ≤ w.last)
 

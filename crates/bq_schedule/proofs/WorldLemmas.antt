@@ -53,7 +53,7 @@ kept w i p l c = record {
   who = λ j inside. get_or-set_like (λ (q : Processor). id_of q.running.current) w.processors i j p opening c;
 }
 
--- the processors alone count
+-- only the processors count
 like : (w u w' : World) (o : Option Sight) → u.processors ≡ w'.processors → Shown w u o → Shown w w' o
 like w u w' o e h = record {
   count = ap (λ (l : List Processor). length l) (sym e) ∙ h.count;
@@ -82,7 +82,7 @@ who_there w i j run p false inside l (inl e) = absurd (cc)
 who_there w i j run p true inside l (inr e) = absurd (cc)
 who_there w i j run p false inside l (inr e) = ap (λ (q : Processor). id_of q.running.current) (get_or-set_other w.processors i j p opening (λ h. e.1 (sym h)))
 
--- a processor's clock is read, and who runs there is told or stays
+-- a processor's clock is read, and who runs there is reported or stays
 read_there : (w : World) (x : Sight) (p : Processor) → p.running.last ≡ reading (last_at w x.processor) x.now → id_of p.running.current ≡ unwrap_or x.run (who_at w x.processor) →
     Shown w (with_processor w x.processor p) (Some x)
 read_there w x p l c = record {

@@ -1,7 +1,7 @@
 -- Counts of 128 bits, which stop at the greatest, and the parts of a nanosecond.
 use Rattle.std.specs.Prelude.{ℕ, ◌+◌, ◌-◌, ◌^◌, min}
 
--- a count, so many further
+-- a count, this many further
 abbrev pub counted_wide : ℕ → ℕ → ℕ
 counted_wide n more = min (n + more) (2 ^ 128 - 1)
 

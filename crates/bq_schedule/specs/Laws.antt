@@ -31,7 +31,7 @@ abbrev pub IsWithin : ℕ → Option Sight → Type 0
 IsWithin count None = Unit {0}
 IsWithin count (Some s) = s.processor < count
 
--- a history of so many processors
+-- a history of this many processors
 abbrev pub IsOf : ℕ → History → Type 0
 IsOf count [] = Unit {0}
 IsOf count (m ∷ past) = IsWithin count (sight_of m.event m.answer) × IsOf count past
@@ -41,7 +41,7 @@ abbrev pub grown : History → List Event → List (Result Reply Refusal) → Hi
 grown past (e ∷ es) (a ∷ answers) = grown (record { event = e; answer = a } ∷ past) es answers
 grown past es answers = past
 
--- What the world charges is what the slices say. In every history of a world of so many processors, under every discipline and
+-- What the world charges is what the slices say. In every history of a world of this many processors, under every discipline and
 -- whatever policies answer, each processor's last reading is the clock of the history, and its current task is who runs: so at
 -- each reading the world charges the task of the slice with the rise that is the slice's length.
 abbrev pub IsCharged : Type 0
@@ -57,7 +57,7 @@ ShowsClocks = (count : ℕ) (past : History) (processor : ℕ) → IsOf count pa
     ((processor_of (figures count past) processor).last ≡ clock processor past)
     × (running_task (processor_of (figures count past) processor) ≡ runner processor past)
 
--- what is told of each moment is the slice that it ends
+-- what is reported of each moment is the slice that it ends
 abbrev pub TellsSlices : Type 0
 TellsSlices = (count : ℕ) (past : History) (m : Moment) → IsOf count (m ∷ past) →
     slices (m ∷ past) ≡ slices past ++ option_to_list (change (figures count past) m.event m.answer).slice
@@ -83,7 +83,7 @@ FillsWindow = (count : ℕ) (past : History) (processor : ℕ) → count ≤ 255
     let p = processor_of (figures count past) processor in
     time_in (is_at processor) (slices past) + idle_of p ≡ window_since p.first p.last
 
--- A start is told where its task begins to run, and with it the distance from the end of its last wake, where it has not run
+-- A start is reported where its task begins to run, and with it the distance from the end of its last wake, where it has not run
 -- since that: so a wake has at most one latency, the distance to its task's first run
 abbrev pub TellsLatencies : Type 0
 TellsLatencies = (count : ℕ) (past : History) (m : Moment) (start : Start) → IsOf count (m ∷ past) → start.task < 1024 →
@@ -107,7 +107,7 @@ AddsUpFairTimes = (count : ℕ) (past : History) → count ≤ 255 → IsOf coun
 abbrev pub LeavesLittle : Type 0
 LeavesLittle = (time weight : ℕ) → 0 < weight → time * parts - weight * part_of time weight < weight
 
--- the runs that were told of a processor, in their order
+-- the runs that were reported of a processor, in their order
 abbrev pub told_if : ℕ → Option Sight → Option Slice → List Slice
 told_if processor None run = []
 told_if processor (Some s) run = if s.processor == processor then option_to_list run else []
@@ -122,7 +122,7 @@ abbrev pub TellsRuns : Type 0
 TellsRuns = (count : ℕ) (past : History) (processor : ℕ) → IsOf count past → processor < count →
     told_runs count processor past ++ option_to_list (processor_of (figures count past) processor).run ≡ runs (slices_at processor past)
 
--- a start is told just where a task begins to run: each that begins is told, and what is told is of one that begins there, at
+-- a start is reported exactly when a task begins to run: each that begins is reported, and what is reported is of one that begins there, at
 -- that processor's clock
 abbrev pub TellsStarts : Type 0
 TellsStarts = (count : ℕ) (past : History) (m : Moment) → IsOf count (m ∷ past) →
@@ -130,7 +130,7 @@ TellsStarts = (count : ℕ) (past : History) (m : Moment) → IsOf count (m ∷ 
     ((processor task : ℕ) → processor < count → BeginsAt processor task m past → IsSomeAnd told (λ s. (s.processor ≡ processor) × (s.task ≡ task)))
     × IfSome told (λ s. (s.processor < count) × BeginsAt s.processor s.task m past × (s.at ≡ clock s.processor (m ∷ past)))
 
--- and a stop just where one ceases to, with the reason
+-- and a stop exactly when one ceases to, with the reason
 abbrev pub TellsStops : Type 0
 TellsStops = (count : ℕ) (past : History) (m : Moment) → IsOf count (m ∷ past) →
     let told = (change (figures count past) m.event m.answer).stop in

@@ -43,7 +43,7 @@ ended_run run None = None
 ended_run None (Some s) = None
 ended_run (Some run) (Some s) = if goes_on run s then None else Some run
 
--- what each unit of weight is given of so many nanoseconds, in whole parts: none where nothing is runnable
+-- what each unit of weight is given of this many nanoseconds, in whole parts: none where nothing is runnable
 abbrev pub part_of : ℕ → ℕ → ℕ
 part_of time weight = time * parts / weight
 

@@ -85,7 +85,7 @@ switched left processor now run s =
     let p = processor_of s processor in
     if is_run_by p.running run then s else started processor now run (stopped left now p.running s)
 
--- what is told of that
+-- what is reported of that
 abbrev pub stop_of : Left → ℕ → Option Start → Option Stop
 stop_of left now running = option_map (λ (old : Start). record { start = old; at = now; left = left }) running
 

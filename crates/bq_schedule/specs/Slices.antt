@@ -1,4 +1,4 @@
--- The slices of a history, from its events and answers alone: who ran at a processor between two readings of its clock.
+-- The slices of a history, from only its events and answers: who ran at a processor between two readings of its clock.
 use Rattle.std.specs.Prelude.{ℕ, ◌-◌, ◌<◌, ◌≤◌, All, filter, ◌==◌, nat_lt, Bool, false, List, [], ◌∷◌, ◌++◌, Option, Some, None, Result, Ok, Err, if◌then◌else◌, unwrap_or, option_to_list}
 use Rattle.std.specs.List.{sum_by}
 use Rattle.bq_disc.specs.OneProcessor.{reading}
@@ -16,7 +16,7 @@ abbrev pub is_this : ℕ → Option ℕ → Bool
 is_this number None = false
 is_this number (Some k) = k == number
 
--- what an answer shows of a processor: what was read of its clock, and who runs there from then on, where that is told
+-- what an answer shows of a processor: what was read of its clock, and who runs there from then on, where that is reported
 pub record Sight : Type 0 where
   pub processor : ℕ
   pub now : ℕ

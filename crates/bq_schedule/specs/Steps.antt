@@ -1,4 +1,4 @@
--- What each moment changes: in the figures, and as it is told.
+-- What each moment changes: in the figures, and as it is reported.
 use Rattle.std.specs.Prelude.{ℕ, ◌-◌, ℤ, true, false, Bool, ◌||◌, ◌&&◌, not, nat_lt, [], ◌∷◌, length, Option, Some, None, Result, Ok, Err, if◌then◌else◌}
 use Rattle.std.specs.Option.{option_map}
 use Rattle.bq_weights.specs.VirtualTime.{is_nice, weight_of}
@@ -25,7 +25,7 @@ use Rattle.bq_schedule.specs.Passing.{reading_at, slice_at, ended_run, read_at}
 use Rattle.bq_schedule.specs.Runnable.{leaves, comes}
 use Rattle.bq_schedule.specs.Running.{switched, stop_at, start_at}
 
--- nothing is told
+-- nothing is reported
 abbrev pub nothing : Change
 nothing = record { reading = None; slice = None; run = None; decision = None; wake = None; pull = None; stop = None; start = None }
 
@@ -85,7 +85,7 @@ abbrev pub taken : ℕ → ℕ → Option ℕ → Figures → Figures
 taken processor now None s = s
 taken processor now (Some id) s = comes id processor now (waited_there id now s)
 
--- what is told of a task that is pulled
+-- what is reported of a task that is pulled
 abbrev pub move_of : ℕ → ℕ → ℕ → ℕ → Figures → PulledTask
 move_of from to at id s = record { task = id; from = from; to = to; at = at; waited = at - (task_of s id).since }
 
@@ -96,7 +96,7 @@ moves_as from to at task s = option_map (λ (id : ℕ). move_of from to at id s)
 abbrev pub time_at : ℕ → ℕ → Figures → ℕ
 time_at processor now s = reading (processor_of s processor).last now
 
--- where nothing but a reading is told
+-- where nothing but a reading is reported
 abbrev pub read_told : ℕ → ℕ → Figures → Change
 read_told processor now s =
     let p = processor_of s processor in
@@ -159,7 +159,7 @@ performed s (Block processor now) (Went task run) = blocked processor now task r
 performed s (Pull processor from now) (Pulled task run by steps) = pulled processor now (record { hook = OnPull; by = by; steps = steps }) task run s
 performed s e r = s
 
--- and what is told of it
+-- and what is reported of it
 abbrev pub performed_told : Figures → Event → Reply → Change
 performed_told s (EndWake processor now) (Placed task to by steps) = placed_told processor now (record { hook = Place; by = by; steps = steps }) task to s
 performed_told s (Drain processor now) (Drained count run by steps) = decided_told processor now (record { hook = Preempt; by = by; steps = steps }) run s
@@ -182,7 +182,7 @@ abbrev pub after : Figures → Event → Result Reply Refusal → Figures
 after s e (Ok r) = if is_there s e then performed s e r else s
 after s e (Err r) = record s { refused = counted s.refused 1 }
 
--- what is told of it
+-- what is reported of it
 abbrev pub change : Figures → Event → Result Reply Refusal → Change
 change s e (Ok r) = if is_there s e then performed_told s e r else nothing
 change s e (Err r) = nothing

@@ -1,4 +1,4 @@
--- Who begins to run with a moment, and who ceases; and the starts and stops that are told.
+-- Who begins to run with a moment, and who ceases; and the starts and stops that are reported.
 use Rattle.std.specs.Prelude.{◌≡◌, ◌≢◌, ℕ, Bool, List, [], ◌∷◌, ◌++◌, ◌==◌, filter, Some, option_to_list}
 use Rattle.bq_parts.specs.declared.event.Event.{Event}
 use Rattle.bq_parts.specs.declared.event.Event.TheVariants.{Block}
@@ -23,7 +23,7 @@ abbrev pub why_left : Event → Left
 why_left (Block processor now) = Blocked
 why_left e = Preempted
 
--- the starts that were told of all processors, and the stops, in their order
+-- the starts that were reported of all processors, and the stops, in their order
 abbrev pub told_starts : ℕ → History → List Start
 told_starts count [] = []
 told_starts count (m ∷ past) = told_starts count past ++ option_to_list (change (figures count past) m.event m.answer).start

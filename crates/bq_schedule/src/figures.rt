@@ -5,7 +5,7 @@ ghost use Rattle.std.specs.Prelude.{◌≡◌, ◌-◌};
 use crate::change::Start;
 use crate::slice::Slice;
 
-/// The figures of a task. A count stops at its type's greatest number. An id that is admitted anew is counted on.
+/// The figures of a task. A count stops at its type's greatest number. An id that is admitted again is counted on.
 #[derive(Clone, Copy)]
 pub struct TaskFigures {
     /// Whether the id was ever admitted.

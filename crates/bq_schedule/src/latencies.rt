@@ -7,7 +7,7 @@ use std::alloc::{AllocError, Global};
 use std::marker::Model;
 
 /// Latencies, in nanoseconds, each kept: the memory grows with them. A schedule itself keeps their number, sum and greatest
-/// alone; whoever wants percentiles pushes the latency of each start that has one.
+/// only; a caller that wants percentiles pushes the latency of each start that has one.
 #[derive(Drop)]
 pub struct Latencies {
     values: Vec<u64>,
@@ -40,7 +40,7 @@ impl Latencies {
         Ok(())
     }
 
-    /// The least of them that at least so many percent of them are not above, by nearest rank; the greatest beyond 100
+    /// The least of them that at least this many percent of them are not above, by nearest rank; the greatest beyond 100
     /// percent; none where there is none. It sorts them.
     pub fn percentile(&mut self, percent: u8) -> Option<u64>
         ensures none { IsNone result ↔ (self.old ≡ []) }
@@ -72,7 +72,7 @@ impl Latencies {
     }
 }
 
-/// The place of a percentile among so many sorted numbers, of which there is one at least.
+/// The place of a percentile among this many sorted numbers, of which there is one at least.
 fn rank(percent: u8, count: usize) -> usize
     requires { 0 < count }
     ensures place { result ≡ rank percent count }

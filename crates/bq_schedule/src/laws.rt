@@ -6,7 +6,7 @@ pub fn shows_clocks()
     ensures { ShowsClocks }
 {}
 
-/// Each answer is told the slice that it ends: together they are the slices of the history, in their order.
+/// Each answer reports the slice that it ends: together they are the slices of the history, in their order.
 pub fn tells_slices()
     ensures { TellsSlices }
 {}
@@ -32,7 +32,7 @@ pub fn fills_window()
     ensures { FillsWindow }
 {}
 
-/// A start is told where its task begins to run, with the distance from the end of its last wake, where it has not run since
+/// A start is reported where its task begins to run, with the distance from the end of its last wake, where it has not run since
 /// that. So a wake has at most one latency: the distance to its task's first run.
 pub fn tells_latencies()
     ensures { TellsLatencies }
@@ -54,24 +54,24 @@ pub fn leaves_little()
     ensures { LeavesLittle }
 {}
 
-/// The runs that are told of a processor, with the last one, which may go on, are what its slices make where each is joined to
+/// The runs that are reported of a processor, with the last one, which may go on, are what its slices make where each is joined to
 /// the one that goes on from it.
 pub fn tells_runs()
     ensures { TellsRuns }
 {}
 
-/// A start is told just where a task begins to run: of that task, at that processor, at its clock.
+/// A start is reported exactly when a task begins to run: of that task, at that processor, at its clock.
 pub fn tells_starts()
     ensures { TellsStarts }
 {}
 
-/// A stop is told just where a task ceases to run, at the processor's clock: it went to sleep with a block, and with any other
+/// A stop is reported exactly when a task ceases to run, at the processor's clock: it went to sleep with a block, and with any other
 /// event another runs in its place.
 pub fn tells_stops()
     ensures { TellsStops }
 {}
 
-/// The starts that are told of a processor are, in their order, those that its stops ended, and the one of the task that runs
+/// The starts that are reported of a processor are, in their order, those that its stops ended, and the one of the task that runs
 /// there. So each start ends with one stop, and starts and stops alternate.
 pub fn ends_starts()
     ensures { EndsStarts }

@@ -1,6 +1,6 @@
-//! A schedule, as events and their answers tell it: who ran where and when, who waited, what each task's fair share was.
-//! Promises that each answer changes exactly what it tells, and that the figures are those of the slices (laws).
-//! Stands on bq_parts for events and answers alone: it holds no world, and asks none.
+//! A schedule, from events and their answers: who ran where and when, who waited, what each task's fair share was.
+//! Promises that each answer changes exactly what it reports, and that the figures are those of the slices (laws).
+//! Stands on bq_parts only for events and answers: it holds no world, and asks none.
 #![tactic(auto)]
 
 mod asking;

@@ -24,7 +24,7 @@ impl Model for WakeLatencies {
     ghost view = { λ l. l.tasks.entries };
 }
 
-/// What so many percent of a task's latencies do not exceed, by nearest rank, and the greatest, in nanoseconds. `None` where it
+/// What this many percent of a task's latencies do not exceed, by nearest rank, and the greatest, in nanoseconds. `None` where it
 /// has none.
 #[derive(Clone, Copy)]
 pub struct Percentiles {

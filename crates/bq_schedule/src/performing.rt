@@ -201,7 +201,7 @@ impl Schedule {
         }
     }
 
-    /// A task is pulled, if any: what it waited where it was counts, and it waits anew.
+    /// A task is pulled, if any: what it waited where it was counts, and it waits again.
     fn take_over(&mut self, task: Option<u16>, from: u8, to: u8, at: u64) -> Option<PulledTask>
         ensures figures { self.new ≡ taken to at task self.old }
         ensures told { result ≡ moves_as from to at task self.old }

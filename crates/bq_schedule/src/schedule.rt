@@ -34,7 +34,7 @@ impl Model for Schedule {
 }
 
 impl Schedule {
-    /// The schedule of so many processors, at which nothing has happened. It takes all the memory that it needs.
+    /// The schedule of this many processors, at which nothing has happened. It takes all the memory that it needs.
     pub fn new(alloc: Global, processors: u8) -> Result<Schedule, AllocError>
         ensures { IfOk result (λ s. s ≡ opening processors) }
     {

@@ -20,7 +20,7 @@ use Rattle.bq_history.proofs.ReachingLemmas.{reached_keeps}
 use Rattle.bq_shared.specs.Parts.{RecordStep}
 use Rattle.bq_shared.specs.declared.record.Record.{Record}
 
--- it has so many processors, each with an inbox; an entry for each id; and it is in order
+-- it has this many processors, each with an inbox; an entry for each id; and it is in order
 pub record IsSound (n : ℕ) (w : World) : Type 0 where
   pub many : count_in w ≡ n
   pub boxes : length w.inboxes ≡ n

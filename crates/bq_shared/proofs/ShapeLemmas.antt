@@ -49,7 +49,7 @@ module _ (d : Discipline) (n : ℕ) where
       others w (part.Inbox b j) none f = f
       others w (part.Lobby o) none f = f
 
-  -- the lobby alone
+  -- only the lobby
   pub moves_lobby : (l m : List LobbyEntry) (k : JournalState) (e : Record) → ((w : World) → IsSound n w → w.lobby ≡ l → RecordStep d w e (record w { lobby = m })) → MayCommitHere k (lobby_part l ∷ []) e k (lobby_part m ∷ [])
   moves_lobby l m k e steps = record {
     itself = same_self;

@@ -19,7 +19,7 @@ use Rattle.bq_shared.specs.declared.law.WorldPart.{WorldPart}
 use Rattle.bq_shared.specs.declared.law.WorldPart.TheVariants as part
 use Rattle.bq_shared.specs.declared.record.Record.{Record}
 
--- A record tells a step of the world. No argument of its event is refused, and its answer is not want of memory
+-- A record tells a step of the world. No argument of its event is refused, and its answer is not lack of memory
 abbrev pub RecordStep : Discipline → World → Record → World → Type 0
 RecordStep d w x u =
     WorldStep (policies d) w x.event x.calls x.reply u

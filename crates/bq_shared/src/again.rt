@@ -1,4 +1,4 @@
-//! The same once more: events and their policies, neither of which takes memory.
+//! Copies of events and their policies, neither of which takes memory.
 ghost use Rattle.std.specs.Prelude.{◌≡◌, IfOk, OnErr, IsTrue, is_some};
 ghost use Rattle.bq_shared.specs.Events.{CarriesPolicy};
 
@@ -6,7 +6,7 @@ use bq_installed::Policy;
 use bq_parts::Event;
 use std::alloc::AllocError;
 
-/// The same event once more. There is an error only where its policy would then stand in more places than can be
+/// A copy of the event. There is an error only where its policy would then stand in more places than can be
 /// counted.
 #[inline(always)]
 pub fn event_again(event: &Event) -> Result<Event, AllocError>
@@ -20,7 +20,7 @@ pub fn event_again(event: &Event) -> Result<Event, AllocError>
     Ok(event.with_policy(policy))
 }
 
-/// None, or the same policy once more. There is an error only where it would then stand in more places than can be
+/// None, or a copy of the policy. There is an error only where it would then stand in more places than can be
 /// counted.
 #[inline(always)]
 pub fn policy_again(policy: &Option<Policy>) -> Result<Option<Policy>, AllocError>

@@ -47,7 +47,7 @@ pub struct JournalState {
 }
 
 impl JournalState {
-    /// The same once more.
+    /// A copy of it.
     pub fn again(&self) -> JournalState
         ensures { result ≡ self.now }
     {

@@ -1,6 +1,6 @@
 //! What threads share: the processors, inboxes and sleeping tasks under their locks, 64 counters without one, and a seat a caller.
-//! Promises that each event's share over the parts that it touches is a move of the history, that an answer kept in little
-//! room is the answer, and that at the end each counter is the sum of the adds that the history tells.
+//! Promises that each event's share over the parts that it touches is a move of the history, that a packed answer is the
+//! answer, and that at the end each counter is the sum of the adds in the history.
 //! Stands on bq_parts for the shares, on bq_core for the laws of worlds, and on bq_history for what a move is.
 #![tactic(auto)]
 

@@ -59,7 +59,7 @@ pub fn call_rooms(alloc: Global, rooms: &mut Option<CallRooms>) -> Result<(), Re
     Ok(())
 }
 
-/// Room for the loads that a wake is told as it begins.
+/// Room for the loads that a wake gets as it begins.
 pub fn loads_room(alloc: Global) -> Result<Box<Loads>, Refusal>
     ensures memory { IfErr result (λ refusal. refusal ≡ no.OutOfMemory) }
 {

@@ -99,7 +99,7 @@ Lived-weaker takes kinds A B weaker x y s t goes drawn had firsts = Goes-weaker 
 pub Befell-weaker : {S : Type 0} (takes : S → ℕ → News → S → Type 0) (A B : List Deed → Type 0) → ((xs : List Deed) → A xs → B xs) → (x y : S) (s t : Simulation) → Befell takes A x s y t → Befell takes B x s y t
 Befell-weaker takes A B weaker x y s t befell kinds = Lived-weaker takes kinds A B weaker x y s t (befell kinds)
 
--- of deeds of which nothing is told a sink is told nothing
+-- of deeds of which nothing is reported a sink gets nothing
 pub Lived-silent : {S : Type 0} (takes : S → ℕ → News → S → Type 0) (kinds : List TaskKind) (A : List Deed → Type 0) (x : S) (s t : Simulation) → Silent kinds A s t → Lived takes kinds A x s x t
 Lived-silent takes kinds A x s t silent drawn had firsts =
     let h = silent drawn had firsts in
@@ -217,7 +217,7 @@ Silent-begins kinds s t number long roster seed streams driver pushed drawn had 
   are = refl;
 }
 
--- one deed of which nothing is told and for which no length is drawn, and then what befalls
+-- one deed of which nothing is reported and for which no length is drawn, and then what befalls
 pub Befell-first : {S : Type 0} (takes : S → ℕ → News → S → Type 0) (A B : List Deed → Type 0) (x y : S) (s t u : Simulation) (deed : Deed) → Stays s t
     → ((kinds : List TaskKind) (drawn : List ℕ) → Lives kinds s.seed s.roster.periods s.driver (book_of s drawn) (deed ∷ []) [] t.driver (book_of t drawn))
     → ((xs : List Deed) → A xs → B (deed ∷ xs)) → Befell takes A x t y u → Befell takes B x s y u

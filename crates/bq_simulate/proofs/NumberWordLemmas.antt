@@ -53,7 +53,7 @@ processor_of-decimal n h = below-Some (2 ^ 8) n _ (decimal_of-decimal n (omega a
 pub task_of-decimal : (n : ℕ) → n < 2 ^ 16 → task_of (decimal n) ≡ Some n
 task_of-decimal n h = below-Some (2 ^ 16) n _ (decimal_of-decimal n (omega arith)) h
 
--- digits alone do not begin with 0x
+-- a text of digits does not begin with 0x
 no_hex_mark : (ds : List ℕ) → AllDigits 10 ds → starts_with nat_eq ds (codes "0x") ≡ false
 no_hex_mark [] h = refl
 no_hex_mark (c ∷ []) h = one (eqb 48 c)

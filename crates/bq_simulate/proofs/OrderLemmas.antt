@@ -1,4 +1,4 @@
--- What is kept by the deeds alone, and what comes next by it.
+-- What is kept by only the deeds, and what comes next by it.
 use Rattle.std.proofs.Common.{◌≡◌, ℕ, ◌+◌, ◌≤◌, List, [], ◌∷◌, Option, sym, ap, ◌∙◌, subst}
 use Rattle.std.specs.Option.{option_map_or}
 use Rattle.bq_trace.specs.News.{News, Told}

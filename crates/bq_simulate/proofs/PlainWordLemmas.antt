@@ -15,7 +15,7 @@ use Rattle.bq_simulate.specs.Spelling.{spaced_words}
 abbrev pub is_plain : ℕ → Bool
 is_plain b = nat_le 33 b && nat_le b 126
 
--- not empty, and of such bytes alone
+-- not empty, and of only such bytes
 pub record IsPlain (w : List ℕ) : Type 0 where
   pub some : 0 < length w
   pub each : list_all is_plain w ≡ true
@@ -48,7 +48,7 @@ kept_word w ws some = let e : ltb 0 (length w) ≡ true = grind (arith, nat_test
 words-plain : (w rest : List ℕ) → IsPlain w → words (w ++ 32 ∷ rest) ≡ w ∷ words rest
 words-plain w rest h = ap (filter (λ x. ltb 0 (length x))) (slice_split_at is_space w 32 rest (no_space w h) refl) ∙ kept_word w (words rest) h.some
 
--- a plain word alone
+-- a plain word by itself
 words-last : (w : List ℕ) → IsPlain w → words w ≡ w ∷ []
 words-last w h = ap (filter (λ x. ltb 0 (length x))) (slice_split_none is_space w (no_space w h)) ∙ kept_word w [] h.some
 

@@ -42,7 +42,7 @@ use Rattle.bq_simulate.specs.declared.driver.Driver.{Driver}
 use Rattle.bq_simulate.specs.Texts.{AreFitting, ByHook, brought, news_lines, told_lines}
 use Rattle.bq_simulate.specs.Retelling.{IsComment, IsFromImages, IsOfImage, TextsAreReplayed}
 
--- after so many lines, none of which was bad
+-- after this many lines, none of which was bad
 abbrev pub after : Phase → ℕ → Progress
 after phase n = record { phase = phase; line = n; clean = true }
 

@@ -54,7 +54,7 @@ AreMet-more kinds seed periods b due most last now ds es later met next meet =
       order = order-more kinds seed periods b met.steps step met.order (subst (λ (l : List Deed). IsNext periods.end (after_deeds kinds seed periods b l).accounts due now) met.whole next);
     }
 
--- no more than so many, until no later than this
+-- no more than this many, until no later than this
 pub AreMet-within : (kinds : List TaskKind) (seed : ℕ) (periods : Periods) (few most last end : ℕ) (b : Book) (ds : List Deed) → few ≤ most → last ≤ end → AreMet kinds seed periods few last b ds → AreMet kinds seed periods most end b ds
 AreMet-within kinds seed periods few most last end b ds low later met = record {
   steps = met.steps;

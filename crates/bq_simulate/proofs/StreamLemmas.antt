@@ -29,7 +29,7 @@ streams-push seed first (n ∷ ns) =
     let place : first + 1 + length rest ≡ first + length (after_draws n (stream_of_task seed first) ∷ rest) = omega arith in
     ap (λ l. after_draws n (stream_of_task seed first) ∷ l) (streams-push seed (first + 1) ns ∙ ap (λ k. rest ++ stream_of_task seed k ∷ []) place)
 
--- a stream that is there has given so many lengths
+-- a stream that is there has given this many lengths
 pub record IsAt (seed first task : ℕ) (drawn : List ℕ) (g : Lcg) : Type 0 where
   pub draws : ℕ
   pub there : slice_get drawn task ≡ Some draws

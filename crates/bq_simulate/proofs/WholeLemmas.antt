@@ -42,7 +42,7 @@ Proceeds-join takes policies processors kinds most end x y z s t u opened met dr
 firsts-none : (kinds : List TaskKind) (s : Simulation) → s.firsts.items ≡ [] → HasFirsts kinds s
 firsts-none kinds s none number first there = absurd (true≢false (sym (ap is_some (sym (ap (λ (l : List ℕ). slice_get l number) none) ∙ there))))
 
--- what is told of the opening machine, and then of some deeds
+-- what is reported of the opening machine, and then of some deeds
 pub simulation-of : {S : Type 0} (takes : S → ℕ → News → S → Type 0) (a b c : S) (policies : List Accepted) (w : Workload) (d : Driver) (s t : Simulation)
     → Gets takes a b (λ told. Starts w.machine.rule w.machine.size told d) → s.driver ≡ d → accounts_of s.roster ≡ (opening_book w.machine).accounts
     → s.roster.periods ≡ periods_of w.machine → IsAgreed s.roster → s.seed ≡ w.machine.seed → s.streams.items ≡ [] → s.firsts.items ≡ []

@@ -40,7 +40,7 @@ asked_by action = None
 abbrev pub next_length : Length → Lcg → ℕ
 next_length asked g = length_drawn asked (first_word g) (second_word g)
 
--- the length of a task, after so many others, for what is asked for
+-- the length of a task, after this many others, for what is asked for
 abbrev pub length_of : ℕ → ℕ → ℕ → Length → ℕ
 length_of seed task others asked = next_length asked (after_draws others (stream_of_task seed task))
 

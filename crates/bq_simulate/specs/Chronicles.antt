@@ -56,7 +56,7 @@ pub record IsWoken (a : Accounts) (from task : ℕ) : Type 0 where
   pub there : slice_get a.by_task task ≡ Some progress
   pub place : IsFrom a progress.task_state progress.home from
 
--- whoever is woken sleeps, and is woken from the right processor; a tick comes only where something runs
+-- each task that is woken sleeps, and is woken from the right processor; a tick comes only where something runs
 abbrev pub IsDue : Event → Accounts → Type 0
 IsDue (BeginWake from task) a = IsWoken a from task
 IsDue (Tick c now) a = is_busy a c ≡ true
@@ -128,10 +128,10 @@ abbrev pub after_deeds : List TaskKind → ℕ → Periods → Book → List Dee
 after_deeds kinds seed periods b [] = b
 after_deeds kinds seed periods b (deed ∷ deeds) = after_deeds kinds seed periods (after_deed kinds seed periods deed b) deeds
 
--- deeds one after another: what the sink is told of them, and what becomes of the machine and of what is kept, where tasks do what
+-- deeds one after another: what the sink gets of them, and what becomes of the machine and of what is kept, where tasks do what
 -- their kinds say, lengths are drawn from this seed, and times between ticks and between looks, and what a change of processor costs,
 -- are of this periods. A wake comes to the tasks of its kind one after another, by number. The timer that rings is of a task that is asleep
--- until just then; a clock beats, and a processor looks, just when it is to, and it finds the processor with the most tasks.
+-- until just then; a clock beats, and a processor looks, exactly when it is to, and it finds the processor with the most tasks.
 abbrev pub Lives : List TaskKind → ℕ → Periods → Driver → Book → List Deed → Told → Driver → Book → Type 0
 Lives kinds seed periods d b [] told e f = (told ≡ []) × (e ≡ d) × (f ≡ b)
 Lives kinds seed periods d b (Happens event reply ∷ deeds) told e f =

@@ -1,4 +1,4 @@
--- A machine driven event by event, and what is told of it.
+-- A machine driven event by event, and what is reported of it.
 use Rattle.std.specs.Prelude.{◌≡◌, ℕ, ◌<◌, ◌≤◌, ◌^◌, List, [], ◌∷◌, ◌++◌, Option, Some, None, Ok, ◌⊎◌}
 use Rattle.bq_parts.specs.declared.event.Event.{Event}
 use Rattle.bq_parts.specs.declared.event.Event.TheVariants.{BeginWake, EndWake, Drain, Tick, Block, Pull}
@@ -55,12 +55,12 @@ IsDriveFault d event (Refused why) = refusal d.machine.world event ≡ Some why
 IsDriveFault d event OutOfMemory = Unit {0}
 IsDriveFault d event Answer = ⊥
 
--- a reading that falls leaves the machine as it was, and the sink is told nothing
+-- a reading that falls leaves the machine as it was, and the sink gets nothing
 abbrev pub IsUntouched : {S : Type 0} → DriveFault → Driver → Driver → S → S → Type 0
 IsUntouched Reading d e old new = (e ≡ d) × (new ≡ old)
 IsUntouched fault d e old new = Unit {0}
 
--- a sink is told of it
+-- a sink gets what comes of it
 abbrev pub Did : {S : Type 0} → (S → ℕ → News → S → Type 0) → S → Driver → Event → Reply → S → Driver → Type 0
 Did takes old d event reply new e = Gets takes old new (λ told. Does d event reply told e)
 
@@ -106,10 +106,10 @@ Drives d (event ∷ events) told e =
     (reply : Reply) × (mid : Driver) × (first : Told) × (more : Told)
     × Does d event reply first mid × Drives mid events more e × (told ≡ first ++ more)
 
--- a sink is told of them
+-- a sink gets what comes of them
 abbrev pub Drove : {S : Type 0} → (S → ℕ → News → S → Type 0) → S → Driver → List Event → S → Driver → Type 0
 Drove takes old d events new e = Gets takes old new (λ told. Drives d events told e)
 
--- a sink is told of some events
+-- a sink gets what comes of some events
 abbrev pub Went : {S : Type 0} → (S → ℕ → News → S → Type 0) → S → Driver → S → Driver → Type 0
 Went takes old d new e = (events : List Event) × Drove takes old d events new e

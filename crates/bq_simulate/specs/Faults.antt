@@ -11,6 +11,6 @@ abbrev pub flaw_told : SimulateFault → Option Unsound
 flaw_told (fault.Unsound flaw) = Some flaw
 flaw_told why = None
 
--- no other flaw is told than the first of the workload; a fault may tell none
+-- no other flaw is reported than the first of the workload; a fault may tell none
 abbrev pub TellsNoOther : Workload → SimulateFault → Type 0
 TellsNoOther w why = IfSome (flaw_told why) (λ flaw. first_flaw w ≡ Some flaw)

@@ -32,7 +32,7 @@ opening_book machine = record { accounts = opening (processors_in machine.size) 
 abbrev pub periods_of : Setup → Periods
 periods_of machine = record { end = machine.duration; tick = machine.tick; balance = machine.balance; migration_cost = machine.migration_cost }
 
--- first these policies are installed and all tasks admitted; then so many things at most come due until the end, each the next by the
+-- first these policies are installed and all tasks admitted; then this many things at most come due until the end, each the next by the
 -- accounts, and are met
 pub record Proceeds (policies : List Accepted) (processors : ℕ) (kinds : List TaskKind) (seed : ℕ) (periods : Periods) (most end : ℕ) (b : Book) (deeds : List Deed) : Type 0 where
   pub opening : List Deed
@@ -59,11 +59,11 @@ pub record Ends (policies : List Accepted) (w : Workload) (d : Driver) (deeds : 
 -- It makes the machine that the workload asks for, with these policies at all processors, and then some events are done one after
 -- another, of which none is refused, with readings that never fall: so it is the trace of those events, with their answers. Who has run
 -- and how long is what the answers say. Each task goes through the actions of its kind in their order, and over again; it goes on only
--- when it has got just the length of its run phase, and the costs of its changes of processor; its timer wakes it just when its sleep has
+-- when it has got just the length of its run phase, and the costs of its changes of processor; its timer wakes it exactly when its sleep has
 -- lasted its length, and first at the start of its kind; and each length is the next of its task. A processor that runs something ticks just at
 -- multiples of the time between two ticks; where there are others each looks for a task just at multiples of the time between two looks,
 -- and when it falls idle, and pulls one from the processor with the most tasks.
--- All is done when something comes due, but for what opens it and for the ticks at its end; and what is met is, by the accounts just
+-- All is done when something comes due, except for what opens it and for the ticks at its end; and what is met is, by the accounts just
 -- before, the first that comes: by time, at one instant by kind, and of one kind by number. Then no timer, no end of a phase, no tick
 -- and no look is left that comes until the end.
 pub record IsSimulation (policies : List Accepted) (w : Workload) (told : Told) : Type 0 where
@@ -79,7 +79,7 @@ pub record IsSimulation (policies : List Accepted) (w : Workload) (told : Told) 
   pub whole : told ≡ first ++ more
   pub ends : Ends policies w opening deeds
 
--- the streams of the tasks from this number on, each after so many draws
+-- the streams of the tasks from this number on, each after this many draws
 abbrev pub streams_after : ℕ → ℕ → List ℕ → List Lcg
 streams_after seed task [] = []
 streams_after seed task (draws ∷ more) = after_draws draws (stream_of_task seed task) ∷ streams_after seed (task + 1) more
@@ -94,7 +94,7 @@ HasFirsts kinds s = (number first : ℕ) → slice_get s.firsts.items number ≡
 abbrev pub book_of : Simulation → List ℕ → Book
 book_of s drawn = record { accounts = accounts_of s.roster; drawn = drawn }
 
--- a simulation, whose streams have given so many lengths, goes on by some deeds of which this holds, and of which a sink is told
+-- a simulation, whose streams have given this many lengths, goes on by some deeds of which this holds, and which are reported to a sink
 pub record Goes {S : Type 0} (takes : S → ℕ → News → S → Type 0) (kinds : List TaskKind) (Are : List Deed → Type 0) (old : S) (s : Simulation) (drawn : List ℕ) (new : S) (t : Simulation) : Type 0 where
   pub deeds : List Deed
   pub after : List ℕ
@@ -113,11 +113,11 @@ Lived takes kinds Are old s new t = (drawn : List ℕ) → HasDrawn s drawn → 
 abbrev pub LivedFrom : {S : Type 0} → (S → ℕ → News → S → Type 0) → List TaskKind → (Book → List Deed → Type 0) → S → Simulation → S → Simulation → Type 0
 LivedFrom takes kinds Are old s new t = (drawn : List ℕ) → HasDrawn s drawn → HasFirsts kinds s → IsAgreed s.roster → Goes takes kinds (Are (book_of s drawn)) old s drawn new t
 
--- events alone: what tasks do has no part in it
+-- only events: what tasks do has no part in it
 abbrev pub Befell : {S : Type 0} → (S → ℕ → News → S → Type 0) → (List Deed → Type 0) → S → Simulation → S → Simulation → Type 0
 Befell takes Are old s new t = (kinds : List TaskKind) → Lived takes kinds Are old s new t
 
--- it goes on by deeds of which nothing is told
+-- it goes on by deeds of which nothing is reported
 pub record GoesUntold (kinds : List TaskKind) (Are : List Deed → Type 0) (s : Simulation) (drawn : List ℕ) (t : Simulation) : Type 0 where
   pub deeds : List Deed
   pub after : List ℕ

@@ -51,7 +51,7 @@ IsAdmission processors number kind task deeds =
     (reply : Reply) × (home : ℕ) × IsFirstAllowed processors kind.mask home
     × (deeds ≡ Happens (Admit task kind.nice kind.mask kind.slice) reply ∷ Joins number home ∷ [])
 
--- so many tasks of a kind are admitted, from this task on
+-- this many tasks of a kind are admitted, from this task on
 abbrev pub AreAdmitted : ℕ → ℕ → TaskKind → ℕ → ℕ → List Deed → Type 0
 AreAdmitted processors number kind task zero deeds = deeds ≡ []
 AreAdmitted processors number kind task (suc count) deeds =
@@ -130,7 +130,7 @@ abbrev pub AreInOrder : List TaskKind → ℕ → Periods → Book → List Step
 AreInOrder kinds seed periods b [] = Unit {0}
 AreInOrder kinds seed periods b (step ∷ steps) = IsNext periods.end b.accounts step.due step.at × AreInOrder kinds seed periods (after_deeds kinds seed periods b step.deeds) steps
 
--- from what is kept so many things at most come due until an instant, one after another in their order, and each is met
+-- from what is kept this many things at most come due until an instant, one after another in their order, and each is met
 pub record AreMet (kinds : List TaskKind) (seed : ℕ) (periods : Periods) (most last : ℕ) (b : Book) (deeds : List Deed) : Type 0 where
   pub steps : List Step
   pub whole : deeds ≡ deeds_of steps

@@ -12,7 +12,7 @@ use Rattle.bq_hooks.specs.declared.hook.Hook.{Hook}
 use Rattle.bq_hooks.specs.declared.hook.Hook.TheVariants as hooks
 use Rattle.bq_simulate.specs.declared.images.Images.{Images}
 
--- what stands at each hook of all processors: the bytes of an image, or nothing
+-- what is installed at each hook of all processors: the bytes of an image, or nothing
 abbrev pub ByHook : Type 0
 ByHook = Hook → Option (List ℕ)
 

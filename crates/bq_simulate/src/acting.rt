@@ -234,7 +234,7 @@ impl Simulation {
         Ok(())
     }
 
-    /// The wake of the task that runs at a processor has come to so many tasks of a kind: the next is woken from there, if it
+    /// The wake of the task that runs at a processor has come to this many tasks of a kind: the next is woken from there, if it
     /// waits.
     fn wake_next<S: Sink>(
         &mut self,

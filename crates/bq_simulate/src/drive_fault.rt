@@ -6,14 +6,14 @@ use bq_parts::Refusal;
 use std::alloc::AllocError;
 use thiserror::Error;
 
-/// Why a drive ends before its time. What the sink was told by then is to be the beginning of a trace; that is only
+/// Why a drive ends before its time. What the sink got by then is to be the beginning of a trace; that is only
 /// tested.
 #[derive(Debug, Drop, Error)]
 pub enum DriveFault {
     /// A growth was refused.
     #[error("out of memory")]
     OutOfMemory,
-    /// The machine refused an event: whoever drives it lost count of its tasks.
+    /// The machine refused an event: its driver lost count of its tasks.
     #[error("an event was refused: {0}")]
     Refused(Refusal),
     /// The reading of a clock fell, or passed 2^48 - 1.

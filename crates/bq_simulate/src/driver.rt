@@ -21,7 +21,7 @@ pub struct Driver {
 }
 
 impl Driver {
-    /// A machine to which nothing has happened: the first line of its trace. The sink is told that it is made.
+    /// A machine to which nothing has happened: the first line of its trace. The sink gets its making.
     pub fn new<S: Sink>(
         alloc: Global,
         rule: Rule,

@@ -8,7 +8,7 @@ use bq_workload::{BrokenInvariant, Unsound};
 use std::alloc::AllocError;
 use thiserror::Error;
 
-/// Why a simulation does not come to its end. What the sink was told by then is to be the beginning of a trace; that is only
+/// Why a simulation does not come to its end. What the sink got by then is to be the beginning of a trace; that is only
 /// tested.
 #[derive(Debug, Drop, Error)]
 pub enum SimulateFault {

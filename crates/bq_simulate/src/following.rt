@@ -22,11 +22,11 @@ use std::alloc::Global;
 
 /// Follows a workload to its end, with these policies at all processors, and tells a sink of its events: line 1 of their
 /// trace makes the machine, and each event is a line. What was counted besides. Each sleep lasts just its length, each tick and
-/// each look for a task to pull comes just when it is to, what is done next is what comes first, and no timer, no end of a
+/// each look for a task to pull comes exactly when it is to, what is done next is what comes first, and no timer, no end of a
 /// phase, no tick and no look that comes until the end is left out.
 ///
-/// A workload with a flaw is refused for the first of its flaws, as `Unsound`, and nothing is told. One without is never
-/// `Unsound`: after any other fault what was told is to be the beginning of a trace, which is only tested.
+/// A workload with a flaw is refused for the first of its flaws, as `Unsound`, and nothing is reported. One without is never
+/// `Unsound`: after any other fault what was reported is to be the beginning of a trace, which is only tested.
 pub fn simulate<S: Sink>(
     alloc: Global,
     workload: &Workload,

@@ -13,7 +13,7 @@ use bq_words::{ProcessorCount, Rule};
 use std::alloc::{AllocError, Global};
 use std::fmt::Write;
 
-/// The text of a trace that asks for what was told, as far as it has come. Installs are written with their images.
+/// The text of a trace that asks for what was reported so far. Installs are written with their images.
 #[derive(Drop)]
 pub struct TraceWriter<'a> {
     alloc: Global,

@@ -22,7 +22,7 @@ use Rattle.bq_insn.proofs.OptionLemmas.{some_same}
 pub has_written : (stack : ℕ → Option ℕ) (at count : ℕ) (bytes : List ℕ) → length bytes ≡ count → HasBytes (stack_with stack at bytes) at count bytes
 has_written stack at count bytes long = (long, λ i lt. byte_inside_write stack at bytes i (omega (arith, long)) (stack_cases stack at bytes (at + i)))
 
--- a place has one list of so many bytes
+-- a place has one list of this many bytes
 pub same_bytes : (stack : ℕ → Option ℕ) (first count : ℕ) (a b : List ℕ) → HasBytes stack first count a → HasBytes stack first count b → a ≡ b
 same_bytes stack first count [] [] p q = refl
 same_bytes stack first count [] (b ∷ bs) p q = absurd (let no : ⊥ = omega (arith, p.0, q.0) in no)

@@ -13,7 +13,7 @@ use Rattle.bq_states.specs.Copies.{PartsSlots}
 use Rattle.bq_states.specs.Parts.{Outlives}
 use Rattle.bq_states.proofs.CopyLemmas.{copies_written, parts_less}
 
--- bytes that were set anew in a range were set anew in a wider one
+-- bytes that were newly set in a range were newly set in a wider one
 pub marks_wider : (old new : List Bool) (from to o e : ℕ) → o ≤ from → to ≤ e → Marks old new from to → Marks old new o e
 marks_wider old new from to o e low high marks i is = at (marks i is)
   where

@@ -96,12 +96,12 @@ pub record Clears (old new : List (Option AbstractValue)) : Type 0 where
   pub first : slice_index_or new 0 None ≡ slice_index_or old 0 None
   pub others : (r : ℕ) → 6 ≤ r → slice_index_or new r None ≡ slice_index_or old r None
 
--- in every state of the abstract state the register points to so many bytes that may be read
+-- in every state of the abstract state the register points to this many bytes that may be read
 abbrev pub FindsBytes : List MapShape → ℕ → AbstractState → ℕ → ℕ → Type 0
 FindsBytes shapes context_length state r count =
     (f : Setting) (s : State) → Suits shapes context_length f → Contains f state s → (word : ℕ) × (bytes : List ℕ) × (s.register r ≡ Some word) × (length bytes ≡ count) × Reads f s word bytes × ((i : ℕ) → slice_index bytes i < 256)
 
--- only bytes from there to there were set anew
+-- only bytes from there to there were newly set
 abbrev pub Marks : List Bool → List Bool → ℕ → ℕ → Type 0
 Marks old new from to = (i : ℕ) → slice_index_or new i false ≡ true → ((from ≤ i) × (i < to)) ⊎ (slice_index_or old i false ≡ true)
 

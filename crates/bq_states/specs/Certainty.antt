@@ -40,7 +40,7 @@ Has (AtRegister s r) state = Stands s (slice_index_or state.registers r None)
 Has (IsSetAt i) state = slice_index_or state.set i false ≡ true
 Has (IsPlainAt j) state = Stands NoPointer (slice_index_or state.kept j None)
 
--- the fact stays true where a number in the register is known anew as a number
+-- the fact stays true where a number in the register is known as a number again
 abbrev pub Outlasts : Fact → ℕ → Type 0
 Outlasts (AtRegister (Exact n) r) dst = r ≢ dst
 Outlasts x dst = Unit {0}
@@ -74,7 +74,7 @@ pub record IsCalled (s : Certainty) (old new : AbstractState) : Type 0 where
 abbrev pub IsAnswered : AbstractState → AbstractState → Type 0
 IsAnswered old new = IsCalled Scalar old new
 
--- these bytes of the stack are set now, no other was lost, no pointer is kept anew, and no register has changed
+-- these bytes of the stack are set now, no other was lost, no pointer is newly kept, and no register has changed
 pub record IsStoredAt (old new : AbstractState) (from to : ℕ) : Type 0 where
   pub registers_same : new.registers ≡ old.registers
   pub stored : (i : ℕ) → from ≤ i → i < to → Has (IsSetAt i) new

@@ -5,7 +5,7 @@ use Rattle.bq_bpf.specs.Memory.{number_of, stack_with}
 use Rattle.bq_ranges.specs.Within.{Within}
 use Rattle.bq_states.specs.declared.abstract_state.StackPart.{StackPart}
 
--- so many bytes of the stack from there on are these
+-- this many bytes of the stack from there on are these
 abbrev pub HasBytes : (ℕ → Option ℕ) → ℕ → ℕ → List ℕ → Type 0
 HasBytes stack first count bytes = (length bytes ≡ count) × ((i : ℕ) → i < count → stack (first + i) ≡ Some (slice_index bytes i))
 

@@ -16,7 +16,7 @@ abbrev pub IsCertain : ValueKind → Type 0
 IsCertain (EntryOrNull m) = ⊥
 IsCertain kind = Unit {0}
 
--- what stays sure of a word of which more is told: all but an answer of a look-up, which becomes an entry or 0
+-- what stays sure of a word of which more is learnt: all but an answer of a look-up, which becomes an entry or 0
 abbrev pub IsLastingWord : Certainty → Type 0
 IsLastingWord (Pointer kind o) = IsCertain kind
 IsLastingWord s = Unit {0}

@@ -27,7 +27,7 @@ pub fn join(a: Option<AbstractValue>, b: Option<AbstractValue>) -> Option<Abstra
     })
 }
 
-/// An entry and an untested answer of a look-up in the same map are an untested answer.
+/// Two of these are an untested answer: an entry, an untested answer of a look-up in the same map, and 0, the answer where nothing is found.
 fn join_answers(a: AbstractValue, b: AbstractValue) -> Option<AbstractValue>
     requires { a.kind ≢ b.kind }
     ensures left { Allows (Some a) result }
@@ -37,6 +37,10 @@ fn join_answers(a: AbstractValue, b: AbstractValue) -> Option<AbstractValue>
     let map = match (a.kind, b.kind) {
         (ValueKind::Entry(map), ValueKind::EntryOrNull(other)) if map == other => map,
         (ValueKind::EntryOrNull(map), ValueKind::Entry(other)) if map == other => map,
+        (ValueKind::Entry(map) | ValueKind::EntryOrNull(map), ValueKind::Number)
+            if b.offset.hi == 0 => map,
+        (ValueKind::Number, ValueKind::Entry(map) | ValueKind::EntryOrNull(map))
+            if a.offset.hi == 0 => map,
         _ => return None,
     };
     Some(AbstractValue {

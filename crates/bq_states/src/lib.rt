@@ -1,8 +1,8 @@
 //! What is known of registers and stack before an instruction: the verifier's abstract state.
 //!
-//! An `AbstractState` speaks of machine states (`specs/AbstractStates.antt`, `Contains`). Here it is read, written and
-//! forgotten in part, told more of by a branch, and joined with another: each function says of which states the abstract state that it
-//! leaves is right. What an instruction does to an abstract state stands above this layer, in `bq_transfer`.
+//! An `AbstractState` speaks of machine states (`specs/AbstractStates.antt`, `Contains`). This layer reads and writes it, forgets
+//! parts of it, narrows it by a branch, and joins it with another: each function says which machine states the result contains.
+//! What an instruction does to an abstract state is in `bq_transfer`, above this layer.
 #![tactic(auto)]
 
 pub mod abstract_state;

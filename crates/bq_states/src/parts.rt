@@ -32,7 +32,7 @@ pub fn store_part(parts: &mut [Option<StackPart>], at: Range, size: Size, word: 
     }
 }
 
-/// The numbers that a read of so many bytes at an offset of the range gives.
+/// The numbers that a read of this many bytes at an offset of the range gives.
 pub fn numbers_at(parts: &[Option<StackPart>], at: Range, size: Size) -> Range
     requires { length parts.now ≡ 4 }
     ensures { (stack : ℕ → Option ℕ) (o : ℕ) (bytes : List ℕ) → HaveParts stack parts.now → Within at o → HasBytes stack o (byte_count size) bytes → number_of bytes < 256 ^ byte_count size → Within result (number_of bytes) }
@@ -117,7 +117,7 @@ fn low_of(size: Size, word: Range) -> Range
     if word.hi <= all.hi { word } else { all }
 }
 
-/// The numbers of so many bytes.
+/// The numbers of this many bytes.
 pub fn numbers(size: Size) -> Range
     ensures all { (x : ℕ) → x < 256 ^ byte_count size → Within result x }
     ensures below { result.hi < 256 ^ byte_count size }

@@ -95,7 +95,7 @@ fn all_set(set: &[bool], from: usize, to: usize) -> bool
     true
 }
 
-/// Whether a register points to so many bytes that may be read.
+/// Whether a register points to this many bytes that may be read.
 pub fn reads(
     state: &AbstractState,
     shapes: &[MapShape],
@@ -122,7 +122,7 @@ pub fn reads(
     is_readable(state, base.kind, base.offset, size)
 }
 
-/// Whether a register points to so many bytes that may be read.
+/// Whether a register points to this many bytes that may be read.
 pub fn reads_value(
     state: &AbstractState,
     shapes: &[MapShape],
@@ -150,7 +150,7 @@ pub fn reads_value(
     }
 }
 
-/// Whether so many stack bytes from each offset of the range on are set.
+/// Whether this many stack bytes from each offset of the range on are set.
 fn stack_is_set(state: &AbstractState, at: Range, count: usize) -> bool
     requires { count ≤ 256 }
     ensures all { IsTrue result → (o i : ℕ) → Within at o → i < count → slice_index_or state.now.set (o + i) false ≡ true }

@@ -1,4 +1,4 @@
-//! What a branch tells of its operands is told of all places that hold the same words.
+//! What a branch shows of its operands holds of all places that hold the same words.
 
 ghost use Rattle.std.specs.Prelude.{◌≡◌, ◌≢◌, ◌+◌, ◌<◌, ◌≤◌, ℕ, Some, None, length, slice_index, slice_index_or};
 ghost use Rattle.bq_bpf.specs.Memory.{Setting, State};

@@ -8,7 +8,7 @@ use Rattle.bq_streams.specs.Writing.{Leaves}
 pub Leaves-none : (a : Option (List ℕ)) (text : List ℕ) → Leaves a a text text
 Leaves-none a text = record { done = []; whole = refl; added = Appends-nil a }
 
--- what is written of the rest leaves so many bytes less of the text
+-- what is written of the rest leaves this many bytes less of the text
 pub Leaves-more : (a b c : Option (List ℕ)) (text rest new : List ℕ) (n : ℕ) → Leaves a b text rest → Appends b c (take n rest) → new ≡ drop n rest → Leaves a c text new
 Leaves-more a b c text rest new n h more is = record {
   done = h.done ++ take n rest;

@@ -22,6 +22,6 @@ one_more n = min (n + 1) (2 ^ 64 - 1)
 abbrev pub HasRisen : ℕ → ℕ → Type 0
 HasRisen old new = (old < new) ⊎ (new ≡ 2 ^ 64 - 1)
 
--- the count went up by so many, or to the greatest
+-- the count went up by this many, or to the greatest
 abbrev pub HasCounted : ℕ → ℕ → ℕ → Type 0
 HasCounted n old new = min (old + n) (2 ^ 64 - 1) ≤ new

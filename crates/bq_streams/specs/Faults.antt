@@ -4,14 +4,14 @@ use Rattle.bq_streams.specs.Counts.{HasRisen, HasCounted}
 use Rattle.bq_streams.specs.declared.fault.StreamFault.{StreamFault}
 use Rattle.bq_streams.specs.declared.fault.StreamFault.TheVariants.{Read, Write, TooLong, OutOfMemory}
 
--- Of a writer alone: its own fault comes only where its failures have risen from old to new, and want of memory only where they have not.
+-- Of a writer: its own fault comes only if its failures have risen from old to new, and lack of memory only if they have not.
 abbrev pub IsWriteFault : StreamFault → ℕ → ℕ → Type 0
 IsWriteFault Write old new = HasRisen old new
 IsWriteFault OutOfMemory old new = new ≡ old
 IsWriteFault Read old new = ⊥
 IsWriteFault TooLong old new = ⊥
 
--- Of a reader alone, and how often it was called: the length's comes only after 2^32 reads, of which none has failed.
+-- Of a reader, and how often it was called: the length's comes only after 2^32 reads, of which none has failed.
 abbrev pub IsReadFault : StreamFault → ℕ → ℕ → ℕ → ℕ → Type 0
 IsReadFault Read old new calls after = HasRisen old new
 IsReadFault TooLong old new calls after = HasCounted (2 ^ 32) calls after × (new ≡ old)

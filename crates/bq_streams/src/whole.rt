@@ -15,7 +15,7 @@ pub const PIECE: usize = 4096;
 /// The most reads of one input.
 pub const READS: u64 = 1 << 32;
 
-/// Reads to the end of the input. Its errors are a failed read, an input that does not end, and want of memory.
+/// Reads to the end of the input. Its errors are a failed read, an input that does not end, and lack of memory.
 pub fn read_whole<R: Read>(alloc: Global, input: &mut Counted<R>) -> Result<Vec<u8>, StreamFault>
     ensures all { IfOk result (λ whole. GivesAll (R.remaining (inner_of input.old)) (R.remaining (inner_of input.new)) whole.items) }
     ensures kept { OnOk result (failures_of input.new ≡ failures_of input.old) }

@@ -48,7 +48,7 @@ pub troubles_after-append : (k : ℕ) (xs ys : Told) → troubles_after k (xs ++
 troubles_after-append k [] ys = refl
 troubles_after-append k ((n, x) ∷ xs) ys = troubles_after-append (troubled k x) xs ys
 
--- The reader gave input, whose whole lines the viewer was told, and the rest has begun.
+-- The reader gave input, whose whole lines the viewer got, and the rest has begun.
 pub record Underway (from to : Option (List ℕ)) (showing : Showing) : Type 0 where
   pub input : List ℕ
   pub told : Told
@@ -99,7 +99,7 @@ Underway-more from mid to s t piece h consumed w =
       troubles = w.troubles ∙ ap (λ k. troubles_after k w.told) h.troubles ∙ sym (troubles_after-append 0 h.told w.told);
     }
 
--- a timeline whose reader has no more and whose last line is told is done
+-- a timeline whose reader has no more and whose last line is reported is done
 pub Underway-ends : (from mid to : Option (List ℕ)) (showing : Showing) (outcome : Outcome) → (h : Underway from mid showing) → Consumes mid to [] → IsAtEnd to → Closes showing h.rest outcome
     → IsTimeline from to outcome
 Underway-ends from mid to showing outcome h consumed at_end f =

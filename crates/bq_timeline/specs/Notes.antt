@@ -20,7 +20,7 @@ waiting_notes s (suc task) = waiting_notes s task ++ waiting_note task (undraine
 abbrev pub lacks_tasks : Figures → List ℕ → Bool
 lacks_tasks s tasks = nat_lt 0 (length tasks) && not (list_any (λ id. (task_of s id).is_admitted) tasks)
 
--- none of the processors that are named by bits is one of so many
+-- none of the processors that are named by bits is one of this many
 abbrev pub lacks_processors : ℕ → ℕ → Bool
 lacks_processors count processors = nat_lt count 64 && (processors % 2 ^ count == 0)
 

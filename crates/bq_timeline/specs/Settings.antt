@@ -56,7 +56,7 @@ tasks_in (part ∷ parts) = option_and_then (λ some. option_map (λ more. some 
 abbrev pub tasks_of : List ℕ → Option (List ℕ)
 tasks_of word = tasks_in (slice_split is_comma word)
 
--- so many columns, if they are from 20 to 10,000, the least and the greatest width
+-- this many columns, if they are from 20 to 10,000, the least and the greatest width
 abbrev pub as_width : ℕ → Option ℕ
 as_width columns = if nat_le LEAST_WIDTH columns && nat_le columns GREATEST_WIDTH then Some columns else None
 

@@ -12,11 +12,11 @@ use Rattle.bq_timeline.specs.declared.showing.Outcome.{Outcome}
 use Rattle.bq_timeline.specs.declared.showing.Showing.{Showing}
 use Rattle.bq_timeline.specs.declared.viewer.Viewer.{Viewer}
 
--- A viewer was told a piece of news: it has the schedule that goes on by it, and has counted it where it is trouble.
+-- A viewer got a trace event: it has the schedule that goes on by it, and has counted it where it is trouble.
 abbrev pub Keeps : Viewer → News → Viewer → Type 0
 Keeps old news new = (new.schedule ≡ watched old.schedule news) × (new.troubles ≡ troubled old.troubles news)
 
--- The viewer was told news of which this holds: it has the schedule that they tell, and the count of those that are trouble.
+-- The viewer got trace events of which this holds: it has the schedule that they tell, and the count of those that are trouble.
 pub record Watches (old new : Viewer) (Holds : Told → Type 0) : Type 0 where
   pub told : Told
   pub schedule : new.schedule ≡ schedule_after old.schedule told

@@ -26,7 +26,7 @@ pub struct BoundsTable {
 }
 
 impl BoundsTable {
-    /// Nothing has happened at so many processors.
+    /// Nothing has happened at this many processors.
     pub fn new(alloc: Global, rule: Rule, processors: usize) -> Result<BoundsTable, AllocError> {
         Ok(BoundsTable {
             alloc,

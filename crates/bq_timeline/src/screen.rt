@@ -196,7 +196,7 @@ impl Screen {
         write!(self.notes(), "line {number}: {fault}; {NOT_READ_ON}\n")
     }
 
-    /// So many wakes did nothing, since their task did not wait. No trace tells them.
+    /// This many wakes did nothing, since their task did not wait. No trace tells them.
     pub fn count_missed(&mut self, wakes: u64)
         ensures notes { self.new.notes ≡ self.old.notes }
         ensures named { (self.new.tasks ≡ self.old.tasks) × (self.new.processors ≡ self.old.processors) }
@@ -204,7 +204,7 @@ impl Screen {
         self.shown.count_missed(wakes);
     }
 
-    /// The trace is over. So many lines were bad or refused.
+    /// The trace is over. This many lines were bad or refused.
     pub fn end(&mut self, schedule: &Schedule, troubles: u64) -> Result<(), AllocError>
         ensures { OnOk result (string_bytes self.new.notes ≡ (string_bytes self.old.notes ++ absent_notes (Some schedule.now) self.old.tasks.items self.old.processors)
             ++ last_notes (Some schedule.now) troubles) }
@@ -223,7 +223,7 @@ impl Screen {
         note_troubles(&mut self.notes, troubles)
     }
 
-    /// The trace is over, and made no machine. So many lines were bad.
+    /// The trace is over, and made no machine. This many lines were bad.
     pub fn end_unmade(&mut self, troubles: u64) -> Result<(), AllocError>
         ensures { OnOk result (string_bytes self.new.notes ≡ string_bytes self.old.notes ++ last_notes None troubles) }
     {
@@ -276,7 +276,7 @@ fn is_admitted(schedule: &Schedule, id: u16) -> bool
     schedule.task(id).is_admitted
 }
 
-/// Notes that none of the processors that are named by bits is one of so many, where that is so.
+/// Notes that none of the processors that are named by bits is one of this many, where that is so.
 fn note_processors(notes: &mut String, count: usize, processors: u64) -> Result<(), AllocError>
     ensures { OnOk result (string_bytes notes.new ≡ string_bytes notes.old ++ processors_note count processors) }
 {
@@ -289,7 +289,7 @@ fn note_processors(notes: &mut String, count: usize, processors: u64) -> Result<
     )
 }
 
-/// Whether none of the processors that are named by bits is one of so many.
+/// Whether none of the processors that are named by bits is one of this many.
 fn lacks_processors(count: usize, processors: u64) -> bool
     ensures { result ≡ lacks_processors count processors }
 {

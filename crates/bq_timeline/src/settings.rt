@@ -47,7 +47,7 @@ pub struct Settings {
     pub form: FormName,
     /// Which stretch of time, processors and tasks.
     pub window: Window,
-    /// The tasks of the window once more, for a note where a trace has none of them.
+    /// A copy of the tasks of the window, for a note where a trace has none of them.
     pub named: Vec<u16>,
     /// The columns of a map, from 20 to 10,000.
     pub width: usize,
@@ -235,7 +235,7 @@ fn theme_or(word: &Option<String>, default: Theme) -> Option<Theme>
     }
 }
 
-/// A word once more, where there is one.
+/// A copy of a word, if there is one.
 fn copied(alloc: Global, word: &Option<String>) -> Result<Option<String>, AllocError>
     ensures { IfOk result (λ copy. text_of copy ≡ text_of word.now) }
 {

@@ -72,7 +72,7 @@ impl Shown {
         }
     }
 
-    /// So many wakes did nothing, since their task did not wait.
+    /// This many wakes did nothing, since their task did not wait.
     pub fn count_missed(&mut self, wakes: u64) {
         match self {
             Shown::Report(form) => form.count_missed(wakes),

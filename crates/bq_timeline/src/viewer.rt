@@ -37,7 +37,7 @@ impl Viewer {
         }
     }
 
-    /// So many wakes of a simulation did nothing, since their task did not wait. No trace tells them; the report and the JSON
+    /// This many wakes of a simulation did nothing, since their task did not wait. No trace tells them; the report and the JSON
     /// show them.
     pub fn count_missed(&mut self, wakes: u64)
         ensures schedule { self.new.schedule ≡ self.old.schedule }

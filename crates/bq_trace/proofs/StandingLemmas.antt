@@ -20,11 +20,11 @@ Story-append p m q [] ys t u h k =
 Story-append p m q (x ∷ xs) ys t u h k =
     (h.0, h.1, h.2 ++ u, h.3, Story-append h.0 m q xs ys h.2 u h.4 k, ap (λ l. l ++ u) h.5 ∙ append_assoc h.1 h.2 u)
 
--- what comes of a line is the story of it alone
+-- what comes of a line is the story of only that line
 pub Story-one : (p q : Progress) (line : List ℕ) (told : Told) → TellsLine p line told q → Story p (line ∷ []) told q
 Story-one p q line told h = (q, told, [], h, (refl, refl), sym (append-nil told))
 
--- The lines so far are told, current is the line that has begun, and rest is still to come.
+-- The lines so far are reported, current is the line that has begun, and rest is still to come.
 pub record SoFar {S : Type 0} (takes : S → ℕ → News → S → Type 0) (s : TracePosition) (whole : List ℕ) (t : TracePosition) (rest : List ℕ) (old new : S) : Type 0 where
   pub ended : List (List ℕ)
   pub current : List ℕ
@@ -35,7 +35,7 @@ pub record SoFar {S : Type 0} (takes : S → ℕ → News → S → Type 0) (s :
   pub stands : StandsFor t.begun current
   pub taken : TakesAll takes old told new
 
--- before the first byte of a piece no line is told, and the line that had begun stands
+-- before the first byte of a piece no line is reported, and the line that had begun stands
 pub SoFar-none : {S : Type 0} (takes : S → ℕ → News → S → Type 0) (s : TracePosition) (begun piece : List ℕ) (old : S) → StandsFor s.begun begun
     → SoFar takes s (begun ++ piece) s piece old old
 SoFar-none takes s begun piece old h = record {
@@ -82,7 +82,7 @@ SoFar-more takes s t u whole rest tail more old mid new h cut one a cleared = re
   taken = TakesAll-append takes old mid new h.told a.told h.taken a.taken;
 }
 
--- the last line is told
+-- the last line is reported
 pub ends_with : {S : Type 0} (takes : S → ℕ → News → S → Type 0) (p q : Progress) (begun : List ℕ) (old new : S) → IsOneLine begun → eqb (length begun) 0 ≡ false
     → Gets takes old new (λ told. TellsLine p begun told q) → Gets takes old new (λ told. Story p (lines begun) told q)
 ends_with takes p q begun old new one e a =

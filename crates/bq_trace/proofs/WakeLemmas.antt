@@ -13,7 +13,7 @@ ends : (begun answer : Result Reply Refusal) (mid k : Driven) (n c now : ℕ) (t
 ends (Ok reply) answer mid k n c now told ok h = (answer, h)
 ends (Err refusal) answer mid k n c now told ok h = cc
 
--- both are told
+-- both are reported
 pub wakes_both : {S : Type 0} (takes : S → ℕ → News → S → Type 0) (m mid k : Driven) (n c task now : ℕ) (begun answer : Result Reply Refusal) (old middle new : S) → is_ok begun ≡ true
     → Gets takes old middle (λ told. Happens m n (BeginWake c task) begun told mid) → Gets takes middle new (λ told. Happens mid n (EndWake c now) answer told k)
     → Gets takes old new (λ told. WakeHappens m n c task now told k)

@@ -43,7 +43,7 @@ pub record Advances (s : PolicySemantics) (w : World) (old : List ℕ) (event : 
   pub through : Through Counts old calls new
 
 -- One event is a step of a world, what it asked of the counters leads from the ones to the others, and it has an answer that
--- is not want of memory.
+-- is not lack of memory.
 pub record Steps (s : PolicySemantics) (w : World) (old : List ℕ) (event : Event) (answer : Result Reply Refusal) (v : World) (new : List ℕ) : Type 0 where
   pub calls : List Asked
   pub step : WorldStep s w event calls answer v

@@ -1,4 +1,4 @@
--- What comes of the lines of a trace, whoever takes it, and the text that answers it.
+-- What comes of the lines of a trace, for any receiver, and the text that answers it.
 use Rattle.std.specs.Prelude.{◌≡◌, ℕ, List, [], ◌∷◌, ◌++◌, Option, Result}
 use Rattle.bq_load.specs.declared.fault.LoadFault.{LoadFault}
 use Rattle.bq_parts.specs.declared.event.Event.{Event}

@@ -35,7 +35,7 @@ pub record Moves (m : Driven) (event : Event) (answer : Result Reply Refusal) (k
   pub same_rule : k.rule ≡ m.rule
   pub step : Advances (semantics_of m.rule) m.world m.counters event answer k.world k.counters
 
--- Line n brings an event: it is told before it is done, and its answer after, without the policy that it brings. Want of
+-- Line n brings an event: it is reported before it is done, and its answer after, without the policy that it brings. Want of
 -- memory is no answer.
 pub record Happens (m : Driven) (n : ℕ) (event : Event) (answer : Result Reply Refusal) (told : Told) (k : Driven) : Type 0 where
   pub answered : answer ≢ Err no.OutOfMemory

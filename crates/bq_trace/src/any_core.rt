@@ -94,11 +94,11 @@ impl AnyCore {
         }
     }
 
-    /// Does an event.
+    /// Does one event.
     pub fn step(&mut self, alloc: Global, event: Event) -> Result<Reply, Refusal>
         ensures { Moves self.old event result self.new }
     {
-        // Each arm returns by itself, since a reply is large and would else be moved once more.
+        // Each arm returns by itself, since a reply is large and would else be moved again.
         match &mut self.core {
             RuleCore::Cfs(core) => return core.step(alloc, event, &mut self.board),
             RuleCore::Eevdf(core) => return core.step(alloc, event, &mut self.board),

@@ -1,6 +1,6 @@
 //! A trace of events, read in pieces from any reader, and the lines that answer it, written to any writer.
 //! Promises that what is written is the text of the replies that the core gives, line by line.
-//! Whatever takes what comes of a trace, line by line, is a sink; that text is one.
+//! A sink gets what comes of a trace, line by line; that text is one.
 //! Stands on counted streams, on the lines of a trace, on the core's step and on the two disciplines.
 #![tactic(auto)]
 

@@ -9,7 +9,18 @@ use bq_streams::{Counted, PIECE, READS, StreamFault};
 use std::alloc::Global;
 use std::io::{Read, Write};
 
-/// Reads a trace to its end and writes what answers it. True where no line was bad.
+/// Reads a trace to its end and writes the answers. True if no line was bad.
+///
+/// # Example
+///
+/// ```
+/// let mut input = Counted::new(b"machine cfs 1\nadmit 1 0 1 3000000\n".as_slice());
+/// let mut output = Counted::new(Vec::new(alloc));
+/// let is_clean = replay(alloc, &mut input, &mut output)?;
+/// let answers = output.into_inner();
+/// assert_eq!(rt; answers.as_slice(), b"admit ok\n".as_slice());
+/// assert_eq!(rt; is_clean, true);
+/// ```
 pub fn replay<R: Read, W: Write>(
     alloc: Global,
     input: &mut Counted<R>,

@@ -10,7 +10,7 @@ use std::alloc::Global;
 use std::io::Write;
 use std::marker::Model;
 
-/// A replay of the pieces so far. Contracts see where it stands.
+/// A replay of a trace that comes in pieces. Contracts see how far it has come.
 ///
 /// # Example
 ///
@@ -27,7 +27,7 @@ use std::marker::Model;
 pub struct Session {
     alloc: Global,
     position: TracePosition,
-    /// The answers to one piece, kept for its memory alone.
+    /// The answers to one piece, kept only for its memory.
     answers: String,
 }
 
@@ -53,7 +53,7 @@ impl Session {
     ghost use Rattle.bq_trace.specs.Trace.{start};
     ghost use Rattle.bq_trace.specs.Feeding.{Feeds, BreaksOff, Finishes};
 
-    /// A replay of which nothing has come yet. It takes its memory from `alloc`.
+    /// A replay to which nothing has come yet. It takes its memory from `alloc`.
     pub fn new(alloc: Global) -> Session
         ensures progress { result.progress ≡ start }
         ensures begun { result.begun ≡ Some [] }
@@ -79,8 +79,8 @@ impl Session {
         Ok(())
     }
 
-    /// Runs the lines that this piece ends, and writes what answers them. After a fault there is no session any more, a beginning of
-    /// the answers is written, and the writer's fault comes only where it failed.
+    /// Runs the lines that this piece ends, and writes their answers. A fault ends the session: a beginning of the answers is
+    /// written, and the fault is the writer's only if the writer failed.
     pub fn feed<W: Write>(
         mut self,
         piece: &[u8],
@@ -111,7 +111,7 @@ impl Session {
         Ok(self.position.progress.clean)
     }
 
-    /// Runs the last line, where no line feed ended it. True where no line of the trace was bad.
+    /// Runs the last line, if no line feed ended it. True if no line of the trace was bad.
     pub fn finish<W: Write>(mut self, out: &mut Counted<W>) -> Result<bool, StreamFault>
         ensures ok { IfOk result (λ clean. (begun : List ℕ) → StandsFor self.begun begun
             → Finishes self begun (W.contents (inner_of out.old)) (W.contents (inner_of out.new)) clean) }

@@ -29,7 +29,7 @@ pub trait Sink {
     fn skipped(&mut self, number: u64, line: &[u8]) -> Result<(), AllocError>
         ensures { OnOk result (takes self.old number (Skipped line.now) self.new) };
 
-    /// This event is about to be done in the machine. An Install is told without its policy, here and below.
+    /// This event is about to be done in the machine. An Install is reported without its policy, here and below.
     fn comes(&mut self, number: u64, event: &Event, machine: &AnyCore) -> Result<(), AllocError>
         ensures { OnOk result (takes self.old number (Comes event.now machine.now) self.new) };
 
@@ -47,7 +47,7 @@ pub trait Sink {
     fn unspelled(&mut self, number: u64) -> Result<(), AllocError>
         ensures { OnOk result (takes self.old number Unspelled self.new) };
 
-    /// An image doesn't load. Want of memory is no such fault.
+    /// An image doesn't load. Lack of memory is no such fault.
     fn unloaded(&mut self, number: u64, fault: LoadFault) -> Result<(), AllocError>
         requires { fault ≢ why.OutOfMemory }
         ensures { OnOk result (takes self.old number (Unloaded fault) self.new) };

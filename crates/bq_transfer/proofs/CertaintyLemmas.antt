@@ -272,7 +272,7 @@ has_left (IsPlainAt j) slot k insn state none inexact nowhere bytes after = afte
 pub bytes_at : (a b count i : ℕ) (off : ℤ) → pos a ≡ (pos 512 +ℤ off) → pos b ≡ (pos 512 +ℤ off) → a ≤ i → i < a + count → (b ≤ i) × (i < b + count)
 bytes_at a b count i off p q le lt = let same : pos a ≡ pos b = p ∙ sym q in let e : a ≡ b = cc in (omega arith, omega arith)
 
--- one register is learnt anew
+-- one register is learnt again
 pub knowing_made : (s : Certainty) (state : AbstractState) (dst : ℕ) (k : AbstractValue) → dst < length state.registers → Stands s (Some k) → IsMade s state (knowing state dst k) dst
 knowing_made s state dst k there stands = record {
   given = subst (λ (v : Option AbstractValue). Stands s v) (sym (get_or-set_same state.registers dst (Some k) None there)) stands;
@@ -289,7 +289,7 @@ made_classes s old new dst classes made = record { given = made.given; kept = ma
 pub knowing_given : (state : AbstractState) (dst : ℕ) (k : AbstractValue) → dst < length state.registers → k.kind ≡ Number → IsGiven state (knowing state dst k) dst
 knowing_given state dst k there number = knowing_made Scalar state dst k there number
 
--- registers 1 to 5 are forgotten, and register 0 is learnt anew
+-- registers 1 to 5 are forgotten, and register 0 is learnt again
 pub called_by : (s : Certainty) (state : AbstractState) (registers : List (Option AbstractValue)) (classes : List ℕ) (k : AbstractValue) → 0 < length registers → Clears state.registers registers → Stands s (Some k) → IsCalled s state (knowing (record state { registers = registers; classes = classes }) 0 k)
 called_by s state registers classes k there clears stands = record {
   given = subst (λ (v : Option AbstractValue). Stands s v) (sym (get_or-set_same registers 0 (Some k) None there)) stands;

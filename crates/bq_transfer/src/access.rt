@@ -16,7 +16,7 @@ use bq_states::abstract_state::{AbstractState, ValueKind};
 use bq_states::places::{bound, stays};
 use bq_states::registers::known;
 
-/// What an instruction loads or stores: so many bytes, at that distance from where a register points.
+/// What an instruction loads or stores: this many bytes, at that distance from where a register points.
 #[derive(Clone, Copy)]
 pub struct Access {
     pub size: Size,

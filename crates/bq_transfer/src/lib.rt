@@ -1,8 +1,8 @@
 //! What one instruction does to what is known of registers and stack: the verifier's transfer functions.
 //! `transfer` and `ask` take an abstract state over an instruction, and `side` says what a branch leaves of an operand. Each
-//! new abstract state contains every state that the machine comes to, and a refusal names an obligation of the instruction that may
-//! raise. Stands on `bq_states`, where an abstract state is read, written and joined; where abstract states come from and go
-//! to is the verifier's, above this layer.
+//! new abstract state contains every state that the machine comes to, and a refusal names an obligation of the instruction.
+//! Stands on `bq_states`, which reads, writes and joins abstract states; the verifier, above this layer, says where they come
+//! from and go to.
 #![tactic(auto)]
 
 mod access;

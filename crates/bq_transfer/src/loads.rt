@@ -87,7 +87,7 @@ fn kept_in(state: &AbstractState, slot: usize) -> Option<AbstractValue>
     state.kept[slot]
 }
 
-/// The numbers that a read of so many bytes gives there.
+/// The numbers that a read of this many bytes gives there.
 fn reads_at(state: &AbstractState, place: Location, size: Size) -> Range
     ensures any { (x : ℕ) → place.kind ≢ ValueKind.Stack → x < 256 ^ byte_count size → Within result x }
     ensures stack { (stack : ℕ → Option ℕ) (o : ℕ) (bytes : List ℕ) → place.kind ≡ ValueKind.Stack → HaveParts stack state.now.parts → Within place.at o → HasBytes stack o (byte_count size) bytes → number_of bytes < 256 ^ byte_count size → Within result (number_of bytes) }

@@ -1,20 +1,17 @@
-// What a user of the library starts with. Each body stands, word for word, as the example of the call that it shows;
-// `tests/examples.py` compares them.
+// What a user of the library starts with: programs and their images. Each body stands, word for word, as the example of the call that
+// it shows; `tests/examples.py` compares them.
 
+use arrayvec::ArrayVec;
 use bq_asm::assemble;
 use bq_bpf::Plain;
-use bq_cfs::CfsQueue;
-use bq_core::{Core, DynamicCore};
 use bq_hooks::{Hook, Version, context_length};
 use bq_interp::env::Env;
-use bq_interp::runs::run;
+use bq_interp::runs::{run, run_into};
 use bq_interp::stack::Stack;
-use bq_load::load;
+use bq_interp::traced::run_traced;
+use bq_load::{Image, ImageReader, load, read_image, write_image};
 use bq_maps::Maps;
-use bq_parts::{Event, Reply};
-use bq_streams::Counted;
-use bq_trace::Session;
-use bq_verify::{Program, Verified, verify};
+use bq_verify::{PolicyForm, Program, Verified, state_at, verify};
 use std::alloc::Global;
 use std::test::Fail;
 
@@ -33,12 +30,33 @@ fn a_program_is_verified(rt: HostRuntime) -> Result<(), Fail> {
     let alloc = rt.alloc();
     let program = Program {
         insns: assemble(alloc, "mov64 r0, 1\nexit\n")?,
-        shapes: Vec::new(alloc),
-        hook: Hook::Preempt,
-        version: Version::First,
+        form: PolicyForm {
+            hook: Hook::Preempt,
+            version: Version::First,
+            shapes: Vec::new(alloc),
+        },
     };
     let verified = verify(alloc, program)?;
     assert_eq!(rt; verified.budget(), 2);
+    Ok(())
+}
+
+/// The example of `state_at`.
+#[test]
+fn what_is_known_at_a_slot(rt: HostRuntime) -> Result<(), Fail> {
+    let alloc = rt.alloc();
+    let program = Program {
+        insns: assemble(alloc, "mov64 r0, 1\nexit\n")?,
+        form: PolicyForm {
+            hook: Hook::Preempt,
+            version: Version::First,
+            shapes: Vec::new(alloc),
+        },
+    };
+    let before_exit = state_at(alloc, &program, 1)?;
+    assert_eq!(rt; before_exit.is_some(), true);
+    let past_the_end = state_at(alloc, &program, 2)?;
+    assert_eq!(rt; past_the_end.is_some(), false);
     Ok(())
 }
 
@@ -53,6 +71,56 @@ fn an_image_is_loaded(rt: HostRuntime) -> Result<(), Fail> {
     ];
     let verified = load(alloc, &image)?;
     assert_eq!(rt; verified.hook(), Hook::Preempt);
+    Ok(())
+}
+
+/// The example of `read_image`.
+#[test]
+fn an_image_is_read(rt: HostRuntime) -> Result<(), Fail> {
+    let alloc = rt.alloc();
+    let bytes = [
+        0x42, 0x51, 0x50, 0x49, 1, 1, 0, 0, 2, 0, 0, 0, // BQPI, version 1, preempt, no maps, 2 slots
+        0xb7, 0, 0, 0, 1, 0, 0, 0, // mov64 r0, 1
+        0x95, 0, 0, 0, 0, 0, 0, 0, // exit
+    ];
+    let image = read_image(alloc, &bytes)?;
+    assert_eq!(rt; image.form.hook, Hook::Preempt);
+    assert_eq!(rt; image.program.len(), 16);
+    Ok(())
+}
+
+/// The example of `write_image`.
+#[test]
+fn an_image_is_written(rt: HostRuntime) -> Result<(), Fail> {
+    let alloc = rt.alloc();
+    let image = Image {
+        form: PolicyForm {
+            hook: Hook::Preempt,
+            version: Version::First,
+            shapes: Vec::new(alloc),
+        },
+        program: Vec::from_slice(alloc, &[0x95, 0, 0, 0, 0, 0, 0, 0])?, // exit
+    };
+    let mut bytes = Vec::new(alloc);
+    write_image(&image, &mut bytes)?;
+    let expected = [
+        0x42, 0x51, 0x50, 0x49, 1, 1, 0, 0, 1, 0, 0, 0, // BQPI, version 1, preempt, no maps, 1 slot
+        0x95, 0, 0, 0, 0, 0, 0, 0, // exit
+    ];
+    assert_eq!(rt; bytes.as_slice(), expected.as_slice());
+    Ok(())
+}
+
+/// The example of `ImageReader`.
+#[test]
+fn an_image_is_loaded_in_pieces(rt: HostRuntime) -> Result<(), Fail> {
+    let alloc = rt.alloc();
+    let mut reader = ImageReader::new(alloc);
+    reader.feed(&[0x42, 0x51, 0x50, 0x49, 1, 1, 0, 0])?; // BQPI, version 1, preempt, no maps
+    reader.feed(&[2, 0, 0, 0, 0xb7, 0, 0, 0, 1, 0, 0, 0])?; // 2 slots, mov64 r0, 1
+    reader.feed(&[0x95, 0, 0, 0, 0, 0, 0, 0])?; // exit
+    let verified = reader.finish_load()?;
+    assert_eq!(rt; verified.budget(), 2);
     Ok(())
 }
 
@@ -78,62 +146,82 @@ fn a_program_is_run(rt: HostRuntime) -> Result<(), Fail> {
     let alloc = rt.alloc();
     let program = Program {
         insns: assemble(alloc, "mov64 r0, 1\nexit\n")?,
-        shapes: Vec::new(alloc),
-        hook: Hook::Preempt,
-        version: Version::First,
+        form: PolicyForm {
+            hook: Hook::Preempt,
+            version: Version::First,
+            shapes: Vec::new(alloc),
+        },
     };
     let verified = verify(alloc, program)?;
     assert_eq!(rt; answer_of(alloc, &verified)?, Some((1, 2)));
     Ok(())
 }
 
-/// The example of `Core::step`.
-#[test]
-fn an_event_is_done(rt: HostRuntime) -> Result<(), Fail> {
-    let alloc = rt.alloc();
-    let mut core = Core::<CfsQueue, 1>::new(alloc)?;
+/// The example of `run_into`, of a program for the hook preempt.
+fn answer_and_calls_of(
+    alloc: Global,
+    verified: &Verified,
+) -> Result<Option<(u64, u32, usize)>, Fail> {
+    let context = [0; 56];
+    if context.len() != context_length(verified.hook(), verified.version()) {
+        return Ok(None);
+    }
+    let mut maps = Maps::new(alloc, verified.shapes())?;
+    let mut stack = Stack::from_bytes([0; 512]);
     let mut board = Plain::new();
-    let admit = Event::Admit {
-        task: 1,
-        nice: 0,
-        mask: 1,
-        slice: 3_000_000,
+    let env = Env {
+        now: 1_000,
+        processor: 0,
     };
-    let Ok(Reply::Admitted) = core.step(alloc, admit, &mut board) else {
-        return Err(Fail::from("not admitted"));
-    };
-    Ok(())
+    let mut calls = ArrayVec::new();
+    let done = run_into(
+        verified, &context, &mut maps, &mut stack, env, &mut board, &mut calls,
+    );
+    Ok(Some((done.r0, done.steps, calls.len())))
 }
 
-/// The example of `DynamicCore::step`.
-#[test]
-fn an_event_is_done_by_a_core_of_one_processor(rt: HostRuntime) -> Result<(), Fail> {
-    let alloc = rt.alloc();
-    let mut core = DynamicCore::<CfsQueue>::new(alloc, 1)?;
+/// The example of `run_traced`, of a program for the hook preempt.
+fn answer_and_snapshots_of(
+    alloc: Global,
+    verified: &Verified,
+) -> Result<Option<(u64, usize)>, Fail> {
+    let context = [0; 56];
+    if context.len() != context_length(verified.hook(), verified.version()) {
+        return Ok(None);
+    }
+    let mut maps = Maps::new(alloc, verified.shapes())?;
+    let mut stack = Stack::from_bytes([0; 512]);
     let mut board = Plain::new();
-    let admit = Event::Admit {
-        task: 1,
-        nice: 0,
-        mask: 1,
-        slice: 3_000_000,
+    let env = Env {
+        now: 1_000,
+        processor: 0,
     };
-    let Ok(Reply::Admitted) = core.step(alloc, admit, &mut board) else {
-        return Err(Fail::from("not admitted"));
-    };
-    Ok(())
+    let mut snapshots = Vec::new(alloc);
+    let ran = run_traced(
+        verified,
+        &context,
+        &mut maps,
+        &mut stack,
+        env,
+        &mut board,
+        &mut snapshots,
+    )?;
+    Ok(Some((ran.r0, snapshots.len())))
 }
 
-/// The example of `Session`.
 #[test]
-fn a_trace_is_answered_in_pieces(rt: HostRuntime) -> Result<(), Fail> {
+fn a_run_tells_its_calls_and_its_steps(rt: HostRuntime) -> Result<(), Fail> {
     let alloc = rt.alloc();
-    let mut answers = Counted::new(Vec::new(alloc));
-    let session = Session::new(alloc);
-    let session = session.feed(b"machine cfs 1\nadmit 1 0 1 ", &mut answers)?;
-    let session = session.feed(b"3000000\n", &mut answers)?;
-    let is_clean = session.finish(&mut answers)?;
-    let answers = answers.into_inner();
-    assert_eq!(rt; answers.as_slice(), b"admit ok\n".as_slice());
-    assert_eq!(rt; is_clean, true);
+    let program = Program {
+        insns: assemble(alloc, "mov64 r1, 3\ncall 101\nexit\n")?,
+        form: PolicyForm {
+            hook: Hook::Preempt,
+            version: Version::First,
+            shapes: Vec::new(alloc),
+        },
+    };
+    let verified = verify(alloc, program)?;
+    assert_eq!(rt; answer_and_calls_of(alloc, &verified)?, Some((0, 3, 1)));
+    assert_eq!(rt; answer_and_snapshots_of(alloc, &verified)?, Some((0, 3)));
     Ok(())
 }

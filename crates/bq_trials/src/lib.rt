@@ -26,3 +26,5 @@ mod policies;
 mod tests;
 #[cfg(test)]
 mod weights;
+#[cfg(test)]
+mod world_examples;

@@ -6,7 +6,7 @@ use bq_bpf::{Call, MapShape, Plain};
 use bq_hooks::{Hook, Version, context_length};
 use bq_installed::{Hooks, Installed, Policy, Scratch};
 use bq_interp::Env;
-use bq_verify::{Program, verify};
+use bq_verify::{PolicyForm, Program, verify};
 use std::alloc::Global;
 use std::process::Abort;
 
@@ -43,9 +43,11 @@ fn policy(rt: &impl Abort, alloc: Global, text: &str, shapes: &[MapShape]) -> Po
     assert!(rt; shapes.len() <= 8);
     let program = Program {
         insns: assemble(alloc, text).expect(rt, "a program"),
-        shapes: shapes.to_vec(alloc).expect(rt, "memory"),
-        hook: Hook::Preempt,
-        version: Version::First,
+        form: PolicyForm {
+            hook: Hook::Preempt,
+            version: Version::First,
+            shapes: shapes.to_vec(alloc).expect(rt, "memory"),
+        },
     };
     let verified = verify(alloc, program).expect(rt, "not accepted");
     Policy::new(alloc, verified).expect(rt, "memory")

@@ -16,6 +16,7 @@ use Rattle.bq_bpf.specs.Safe.{IsSetting}
 use Rattle.bq_verify.specs.Edges.{IsEdge, IsStart}
 use Rattle.bq_bpf.specs.Instructions.{Leaves}
 use Rattle.bq_verify.specs.Passes.{IsSound}
+use Rattle.bq_verify.specs.Subjects.{Subject}
 use Rattle.bq_states.specs.declared.abstract_state.AbstractState.{AbstractState}
 use Rattle.bq_states.specs.declared.abstract_state.ValueKind.TheVariants.{Map}
 use Rattle.bq_states.specs.AbstractStates.{Contains}
@@ -96,44 +97,44 @@ after_one f L small s u (Some c) (inr (inr each)) step =
     (λ x y p q. ap answer_of (sym (same_Some e.0 x p)) ∙ (e.2 ∙ ap answer_of (same_Some c y q))) in
     subst (λ (x : State). IsEdge f.slots s.slot x.slot × L f x) same.1 (record { insn = e.4.insn; here = e.4.here; leaves = e.4.leaves }, e.5)
 
-module _ (slots : List (Option Insn)) (shapes : List MapShape) (context_length : ℕ) (sound : IsSound slots) (small : context_length < 2 ^ 16) where
+module _ (p : Subject) (sound : IsSound p.slots) (small : p.context < 2 ^ 16) where
   -- a chain goes forward
-  forward : (f : Setting) → IsSetting slots shapes context_length f → (s : State) (n : ℕ) (calls : List Asked) (t : State) → Steps f s n calls t → s.slot ≤ t.slot
-  forward f setting s zero calls t (none, same) = let p : t.slot ≡ s.slot = ap (λ (x : State). x.slot) same in omega (arith, p)
+  forward : (f : Setting) → IsSetting p.slots p.shapes p.context f → (s : State) (n : ℕ) (calls : List Asked) (t : State) → Steps f s n calls t → s.slot ≤ t.slot
+  forward f setting s zero calls t (none, same) = let still : t.slot ≡ s.slot = ap (λ (x : State). x.slot) same in omega (arith, still)
   forward f setting s (suc n) calls t (before, c, u, chain, step, e) =
-      let edge : IsEdge slots u.slot t.slot = rw setting.slots_are at (edge_of f u c t step) in
+      let edge : IsEdge p.slots u.slot t.slot = rw setting.slots_are at (edge_of f u c t step) in
       omega (arith, forward f setting s n before u chain, (sound.forward u.slot t.slot edge).0)
 
   -- a chain with a step goes on
-  farther : (f : Setting) → IsSetting slots shapes context_length f → (s : State) (n : ℕ) (calls : List Asked) (t : State) → Steps f s (suc n) calls t → s.slot < t.slot
+  farther : (f : Setting) → IsSetting p.slots p.shapes p.context f → (s : State) (n : ℕ) (calls : List Asked) (t : State) → Steps f s (suc n) calls t → s.slot < t.slot
   farther f setting s n calls t (before, c, u, chain, step, e) =
-      let edge : IsEdge slots u.slot t.slot = rw setting.slots_are at (edge_of f u c t step) in
+      let edge : IsEdge p.slots u.slot t.slot = rw setting.slots_are at (edge_of f u c t step) in
       omega (arith, forward f setting s n before u chain, (sound.forward u.slot t.slot edge).0)
 
   module _ (target : ℕ) (seen : AbstractState) (slot : ℕ) (K L : Setting → State → Type 0) where
-    at_state : slot < target → PassesOn slots shapes context_length slot K L → RestIsCovered slots shapes context_length target seen (slot + 1) L
-        → (f : Setting) (s : State) (b : Bool) → IsSetting slots shapes context_length f → slot ≤ s.slot → IsStart slots s.slot → K f s → ((b ≡ true) × (s.slot ≡ slot)) ⊎ ((b ≡ false) × (s.slot ≢ slot))
+    at_state : slot < target → PassesOn p slot K L → RestIsCovered p target seen (slot + 1) L
+        → (f : Setting) (s : State) (b : Bool) → IsSetting p.slots p.shapes p.context f → slot ≤ s.slot → IsStart p.slots s.slot → K f s → ((b ≡ true) × (s.slot ≡ slot)) ⊎ ((b ≡ false) × (s.slot ≢ slot))
         → (n : ℕ) (calls : List Asked) (t : State) → Steps f s n calls t → t.slot ≡ target → Contains f seen t
     at_state before passes rest f s b setting le begins known (inr (e, other)) n calls t chain here =
         rest f s setting (omega arith) begins ((passes f s setting begins known).0 other) n calls t chain here
     at_state before passes rest f s b setting le begins known (inl (e, same)) zero calls t (none, is) here =
-        let p : t.slot ≡ s.slot = ap (λ (x : State). x.slot) is in absurd (omega (arith, p, same, here, before))
+        let still : t.slot ≡ s.slot = ap (λ (x : State). x.slot) is in absurd (omega (arith, still, same, here, before))
     at_state before passes rest f s b setting le begins known (inl (e, same)) (suc n) calls t chain here =
         let first = first_step f s n calls t chain in
         let short : length f.context < 2 ^ 16 = subst (λ (n : ℕ). n < 2 ^ 16) (sym setting.context_long) small in
         let next = after_one f L short s first.1 first.0 ((passes f s setting begins known).1 same) first.3 in
-        let edge : IsEdge slots s.slot first.1.slot = subst (λ (x : List (Option Insn)). IsEdge x s.slot first.1.slot) setting.slots_are next.0 in
+        let edge : IsEdge p.slots s.slot first.1.slot = subst (λ (x : List (Option Insn)). IsEdge x s.slot first.1.slot) setting.slots_are next.0 in
         let later = sound.forward s.slot first.1.slot edge in
         rest f first.1 setting (omega (arith, later.0, same)) later.1 next.1 n first.2 t first.4 here
 
     -- if the rest is covered after the pass of a slot, it is before
-    pub covered_before : slot < target → PassesOn slots shapes context_length slot K L → RestIsCovered slots shapes context_length target seen (slot + 1) L → RestIsCovered slots shapes context_length target seen slot K
+    pub covered_before : slot < target → PassesOn p slot K L → RestIsCovered p target seen (slot + 1) L → RestIsCovered p target seen slot K
     covered_before before passes rest f s setting le begins known = at_state before passes rest f s _ setting le begins known (eqb_tells s.slot slot)
 
   -- at the slot itself the abstract state is what is known
   pub covered_at : (target : ℕ) (pending after : List (Option (Box AbstractState Global))) (state seen : AbstractState) (live arrived : Bool)
       → ((f : Setting) (s : State) → IsKnown pending state live target f s → IsKnown after seen arrived target f s) → slice_index_or after target None ≡ None
-      → RestIsCovered slots shapes context_length target seen target (IsKnown pending state live target)
+      → RestIsCovered p target seen target (IsKnown pending state live target)
   covered_at target pending after state seen live arrived arrives empty f s setting le begins known (suc n) calls t chain here =
       absurd (omega (arith, farther f setting s n calls t chain, here, le))
   covered_at target pending after state seen live arrived arrives empty f s setting le begins known zero calls t (none, is) here =
@@ -147,7 +148,7 @@ module _ (slots : List (Option Insn)) (shapes : List MapShape) (context_length :
   -- and where nothing is known there, no chain that is left to follow comes to it
   pub covered_by_any : (target : ℕ) (pending after : List (Option (Box AbstractState Global))) (state seen any : AbstractState) (live arrived : Bool)
       → ((f : Setting) (s : State) → IsKnown pending state live target f s → IsKnown after seen arrived target f s) → slice_index_or after target None ≡ None → arrived ≡ false
-      → RestIsCovered slots shapes context_length target any target (IsKnown pending state live target)
+      → RestIsCovered p target any target (IsKnown pending state live target)
   covered_by_any target pending after state seen any live arrived arrives empty not f s setting le begins known (suc n) calls t chain here =
       absurd (omega (arith, farther f setting s n calls t chain, here, le))
   covered_by_any target pending after state seen any live arrived arrives empty not f s setting le begins known zero calls t (none, is) here =
@@ -158,7 +159,7 @@ module _ (slots : List (Option Insn)) (shapes : List MapShape) (context_length :
       is_none (inl waits) there = none_waits f s (slice_index_or after target None) empty (waits_at_slot f s after target there waits)
       is_none (inr (e, same, contains)) there = both_ways arrived not e
 
--- an abstract state of no state: its first register names a map that there is not
+-- an abstract state of no state: its first register names a map that does not exist
 pub nowhere : List MapShape → AbstractState
 nowhere shapes = record {
   registers = Some (record { kind = Map (length shapes); offset = record { lo = 0; hi = 0; ordered = zero-le; fits = omega arith } }) ∷ [];
@@ -176,13 +177,13 @@ contains_none f s contains =
     omega (arith, base.1)
 
 -- what contains the runs with the abstract state of no state says that there are none
-pub not_reached : (slots : List (Option Insn)) (shapes : List MapShape) (context_length target : ℕ) → ContainsRuns slots shapes context_length target (nowhere shapes) → IsNotReached slots shapes context_length target
-not_reached slots shapes context_length target contains f maps setting have n calls t chain here =
+pub not_reached : (p : Subject) (target : ℕ) → ContainsRuns p target (nowhere p.shapes) → IsNotReached p target
+not_reached p target contains f maps setting have n calls t chain here =
     contains_none f t (subst (λ (x : List MapShape). Contains f (nowhere x) t) (sym setting.shapes_are) (contains f maps setting have n calls t chain here))
 
 -- an abstract state that contains the rest from the start contains the runs
-pub contains_runs : (slots : List (Option Insn)) (shapes : List MapShape) (context_length target : ℕ) (seen : AbstractState) (pending : List (Option (Box AbstractState Global))) (state : AbstractState)
-    → IsStart slots 0 → ((f : Setting) (maps : List (List ℕ)) → HaveShapes f.shapes maps → Contains f state (start maps))
-    → RestIsCovered slots shapes context_length target seen 0 (IsKnown pending state true 0) → ContainsRuns slots shapes context_length target seen
-contains_runs slots shapes context_length target seen pending state first begins rest f maps setting have n calls t chain here =
+pub contains_runs : (p : Subject) (target : ℕ) (seen : AbstractState) (pending : List (Option (Box AbstractState Global))) (state : AbstractState)
+    → IsStart p.slots 0 → ((f : Setting) (maps : List (List ℕ)) → HaveShapes f.shapes maps → Contains f state (start maps))
+    → RestIsCovered p target seen 0 (IsKnown pending state true 0) → ContainsRuns p target seen
+contains_runs p target seen pending state first begins rest f maps setting have n calls t chain here =
     rest f (start maps) setting zero-le first (inr (refl, refl, begins f maps (rw setting.shapes_are have))) n calls t chain here

@@ -17,3 +17,4 @@ pub mod FrameLemmas
 pub mod AskLemmas
 pub mod CallingLemmas
 pub mod KnownLemmas
+pub mod VerdictLemmas

@@ -23,13 +23,14 @@ use Rattle.bq_ranges.specs.Within.{Within}
 use Rattle.bq_verify.specs.Edges.{IsEdge, IsStart}
 use Rattle.bq_bpf.specs.Instructions.{Leaves}
 use Rattle.bq_verify.specs.Passes.{IsSound}
+use Rattle.bq_verify.specs.Subjects.{Subject}
 use Rattle.bq_states.specs.declared.abstract_state.AbstractState.{AbstractState}
 use Rattle.bq_states.specs.declared.abstract_state.AbstractValue.{AbstractValue}
 use Rattle.bq_states.specs.declared.abstract_state.ValueKind.TheVariants.{Context, Stack}
 use Rattle.bq_states.specs.AbstractStates.{Contains, Suits, Describes, knowing}
 use Rattle.bq_transfer.specs.Transfers.{Transfers, AsksFrom, IsStraight}
 use Rattle.bq_transfer.specs.Sides.{Fits}
-use Rattle.bq_verify.specs.Control.{IsAskingEdge, AreHeights, AreMade, EndsWithin, IsIn, WaitsBoxed, IsKnown, LeadsOn, Goes, PassesOn, RestIsSafe, IsOnSide, PartsTo}
+use Rattle.bq_verify.specs.Control.{IsAskingEdge, AreHeights, AreMade, EndsWithin, IsIn, KeepsWaiting, WaitsBoxed, IsKnown, LeadsOn, Goes, PassesOn, RestIsSafe, IsOnSide, PartsTo}
 use Rattle.bq_insn.proofs.OptionLemmas.{some_none}
 use Rattle.bq_states.proofs.LearnLemmas.{contains_learn, found_at}
 use Rattle.bq_verify.proofs.OneStepLemmas.{goes_well}
@@ -66,14 +67,14 @@ test_chooses_side f state s slot dst a b src (Some word) right is operand contai
   },
 )
 
-module _ (slots : List (Option Insn)) (shapes : List MapShape) (context_length slot : ℕ) (state : AbstractState) (K : Setting → State → Type 0) where
-  here_at : (insn : Insn) → instruction_at slots slot ≡ Some insn → (f : Setting) (s : State) → IsSetting slots shapes context_length f → s.slot ≡ slot → instruction_at f.slots s.slot ≡ Some insn
+module _ (p : Subject) (slot : ℕ) (state : AbstractState) (K : Setting → State → Type 0) where
+  here_at : (insn : Insn) → instruction_at p.slots slot ≡ Some insn → (f : Setting) (s : State) → IsSetting p.slots p.shapes p.context f → s.slot ≡ slot → instruction_at f.slots s.slot ≡ Some insn
   here_at insn here f s setting same = rw (setting.slots_are, same) here
 
   -- the next instruction, at an abstract state of which the state is known
-  pub goes_on : (insn : Insn) (after : AbstractState) → instruction_at slots slot ≡ Some insn → IsStraight insn → Transfers shapes context_length insn state after → ((f : Setting) (s : State) → s.slot ≡ slot + slots_of insn → Contains f after s → K f s) → Goes slots shapes context_length slot state K
+  pub goes_on : (insn : Insn) (after : AbstractState) → instruction_at p.slots slot ≡ Some insn → IsStraight insn → Transfers p.shapes p.context insn state after → ((f : Setting) (s : State) → s.slot ≡ slot + slots_of insn → Contains f after s → K f s) → Goes p slot state K
   goes_on insn after here straight transfers added f s setting same contains =
-      let on = transfers f s (setting_suits slots shapes context_length f setting) contains in
+      let on = transfers f s (setting_suits p.slots p.shapes p.context f setting) contains in
       let at = here_at insn here f s setting same in
       inr (inl (
         on.0,
@@ -82,7 +83,7 @@ module _ (slots : List (Option Insn)) (shapes : List MapShape) (context_length s
         added f on.0 (rw (← same) on.3) on.2,
       ))
 
-  pub goes_there : (off : ℤ) (to : ℕ) → instruction_at slots slot ≡ Some (Goto off) → LeadsTo slot off to → ((f : Setting) (s : State) → s.slot ≡ to → Contains f state s → K f s) → Goes slots shapes context_length slot state K
+  pub goes_there : (off : ℤ) (to : ℕ) → instruction_at p.slots slot ≡ Some (Goto off) → LeadsTo slot off to → ((f : Setting) (s : State) → s.slot ≡ to → Contains f state s → K f s) → Goes p slot state K
   goes_there off to here leads added f s setting same contains =
       let at = here_at (Goto off) here f s setting same in
       let there : LeadsTo s.slot off to = rw same leads in
@@ -93,7 +94,7 @@ module _ (slots : List (Option Insn)) (shapes : List MapShape) (context_length s
         added f (record s { slot = to }) refl (Contains-at f state s to contains),
       ))
 
-  pub goes_far : (imm : ℤ) (to : ℕ) → instruction_at slots slot ≡ Some (Goto32 imm) → LeadsTo slot imm to → ((f : Setting) (s : State) → s.slot ≡ to → Contains f state s → K f s) → Goes slots shapes context_length slot state K
+  pub goes_far : (imm : ℤ) (to : ℕ) → instruction_at p.slots slot ≡ Some (Goto32 imm) → LeadsTo slot imm to → ((f : Setting) (s : State) → s.slot ≡ to → Contains f state s → K f s) → Goes p slot state K
   goes_far imm to here leads added f s setting same contains =
       let at = here_at (Goto32 imm) here f s setting same in
       let there : LeadsTo s.slot imm to = rw same leads in
@@ -104,7 +105,7 @@ module _ (slots : List (Option Insn)) (shapes : List MapShape) (context_length s
         added f (record s { slot = to }) refl (Contains-at f state s to contains),
       ))
 
-  pub goes_asking : (insn : Insn) (after : AbstractState) → instruction_at slots slot ≡ Some insn → IsCounterCall insn → AsksFrom insn state after → ((f : Setting) (s : State) → s.slot ≡ slot + 1 → Contains f after s → K f s) → Goes slots shapes context_length slot state K
+  pub goes_asking : (insn : Insn) (after : AbstractState) → instruction_at p.slots slot ≡ Some insn → IsCounterCall insn → AsksFrom insn state after → ((f : Setting) (s : State) → s.slot ≡ slot + 1 → Contains f after s → K f s) → Goes p slot state K
   goes_asking insn after here counter asks added f s setting same contains =
       inr (inr (λ x small.
       let on = asks f s x contains small in
@@ -133,7 +134,7 @@ module _ (slots : List (Option Insn)) (shapes : List MapShape) (context_length s
         parts.no (record s { slot = s.slot + 1 }) refl e,
       ))
 
-  pub goes_apart : (w : Width) (c : Condition) (dst : ℕ) (src : Source) (off : ℤ) (to : ℕ) → instruction_at slots slot ≡ Some (Branch w c dst src off) → LeadsTo slot off to → ((f : Setting) (s : State) → Contains f state s → PartsTo K f s w c dst src to (slot + 1)) → Goes slots shapes context_length slot state K
+  pub goes_apart : (w : Width) (c : Condition) (dst : ℕ) (src : Source) (off : ℤ) (to : ℕ) → instruction_at p.slots slot ≡ Some (Branch w c dst src off) → LeadsTo slot off to → ((f : Setting) (s : State) → Contains f state s → PartsTo K f s w c dst src to (slot + 1)) → Goes p slot state K
   goes_apart w c dst src off to here leads parts f s setting same contains =
       parted w c dst src off to f s (here_at (Branch w c dst src off) here f s setting same) (rw same leads) (subst (λ (n : ℕ). PartsTo K f s w c dst src to (n + 1)) (sym same) (parts f s contains)) _ refl
 
@@ -179,32 +180,32 @@ ends_asking f s (suc m) made le few each =
       λ x small. let e = each x small in (e.0, e.1, e.4, e.5, ends_more f e.1 e.2 m e.3 (made + 1) (let lt = e.6 in omega arith) (let lt = e.7 in omega arith) e.8),
     ))
 
-module _ (slots : List (Option Insn)) (shapes : List MapShape) (context_length : ℕ) (heights : List ℕ) (made : ℕ → ℕ) (sound : IsSound slots) (fall : AreHeights slots heights) (rise : AreMade slots made) (slot : ℕ) (K L : Setting → State → Type 0) where
+module _ (p : Subject) (heights : List ℕ) (made : ℕ → ℕ) (sound : IsSound p.slots) (fall : AreHeights p.slots heights) (rise : AreMade p.slots made) (slot : ℕ) (K L : Setting → State → Type 0) where
   -- a state from which the program goes on is safe where the rest is
-  ends_from : RestIsSafe slots shapes context_length heights made (slot + 1) L → (f : Setting) (s : State) → IsSetting slots shapes context_length f → s.slot ≡ slot → LeadsOn L f s → EndsWithin f s (slice_index heights s.slot) (made s.slot)
+  ends_from : RestIsSafe p heights made (slot + 1) L → (f : Setting) (s : State) → IsSetting p.slots p.shapes p.context f → s.slot ≡ slot → LeadsOn L f s → EndsWithin f s (slice_index heights s.slot) (made s.slot)
   ends_from rest f s setting same (inl (answer, ends)) =
       ends_now f s _ _ answer (fall.positive s.slot _ (rw setting.slots_are at ends.here)) ends
   ends_from rest f s setting same (inr (inl (t, step, edge, known))) =
-      let edge' : IsEdge slots s.slot t.slot = rw setting.slots_are at edge in
+      let edge' : IsEdge p.slots s.slot t.slot = rw setting.slots_are at edge in
       let later = sound.forward s.slot t.slot edge' in
       ends_after f s t _ _ _ _ (fall.fall s.slot t.slot edge') (rise.kept s.slot t.slot edge') step (rest f t setting (omega (arith, later.0)) later.1 known)
   ends_from rest f s setting same (inr (inr each)) =
       let first = each 0 (omega arith) in
-      let edge : IsAskingEdge slots s.slot first.1.slot = rw setting.slots_are at first.4 in
+      let edge : IsAskingEdge p.slots s.slot first.1.slot = rw setting.slots_are at first.4 in
       ends_asking f s _ _ (fall.positive s.slot edge.insn edge.here) (rise.few s.slot first.1.slot edge)
       (λ x small.
       let e = each x small in
-      let asking : IsAskingEdge slots s.slot e.1.slot = rw setting.slots_are at e.4 in
-      let edge' : IsEdge slots s.slot e.1.slot = record { insn = asking.insn; here = asking.here; leaves = asking.leaves } in
+      let asking : IsAskingEdge p.slots s.slot e.1.slot = rw setting.slots_are at e.4 in
+      let edge' : IsEdge p.slots s.slot e.1.slot = record { insn = asking.insn; here = asking.here; leaves = asking.leaves } in
       let later = sound.forward s.slot e.1.slot edge' in
       (e.0, e.1, slice_index heights e.1.slot, made e.1.slot, e.2, e.3, fall.fall s.slot e.1.slot edge', rise.risen s.slot e.1.slot asking, rest f e.1 setting (omega (arith, later.0)) later.1 e.5))
 
-  at_state : PassesOn slots shapes context_length slot K L → RestIsSafe slots shapes context_length heights made (slot + 1) L → (f : Setting) (s : State) (b : Bool) → IsSetting slots shapes context_length f → slot ≤ s.slot → IsStart slots s.slot → K f s → ((b ≡ true) × (s.slot ≡ slot)) ⊎ ((b ≡ false) × (s.slot ≢ slot)) → EndsWithin f s (slice_index heights s.slot) (made s.slot)
+  at_state : PassesOn p slot K L → RestIsSafe p heights made (slot + 1) L → (f : Setting) (s : State) (b : Bool) → IsSetting p.slots p.shapes p.context f → slot ≤ s.slot → IsStart p.slots s.slot → K f s → ((b ≡ true) × (s.slot ≡ slot)) ⊎ ((b ≡ false) × (s.slot ≢ slot)) → EndsWithin f s (slice_index heights s.slot) (made s.slot)
   at_state passes rest f s b setting le begins known (inl (e, same)) = ends_from rest f s setting same ((passes f s setting begins known).1 same)
   at_state passes rest f s b setting le begins known (inr (e, other)) = rest f s setting (omega arith) begins ((passes f s setting begins known).0 other)
 
   -- if the rest is safe after the pass of a slot, it is safe before
-  pub rest_before : PassesOn slots shapes context_length slot K L → RestIsSafe slots shapes context_length heights made (slot + 1) L → RestIsSafe slots shapes context_length heights made slot K
+  pub rest_before : PassesOn p slot K L → RestIsSafe p heights made (slot + 1) L → RestIsSafe p heights made slot K
   rest_before passes rest f s setting le begins known = at_state passes rest f s _ setting le begins known (eqb_tells s.slot slot)
 
 -- where no abstract state waits, none is right about the state
@@ -215,9 +216,9 @@ none_waits f s waiting none here = rw none at here
 pub waits_at_slot : (f : Setting) (s : State) (pending : List (Option (Box AbstractState Global))) (slot : ℕ) → s.slot ≡ slot → WaitsBoxed f pending s → IsIn f (slice_index_or pending slot None) s
 waits_at_slot f s pending slot same waits = subst (λ (n : ℕ). IsIn f (slice_index_or pending n None) s) same waits
 
-module _ (slots : List (Option Insn)) (shapes : List MapShape) (context_length slot : ℕ) (pending : List (Option (Box AbstractState Global))) (state : AbstractState) (live : Bool) (K : Setting → State → Type 0) (empty : slice_index_or pending slot None ≡ None) (arrives : (f : Setting) (s : State) → K f s → IsKnown pending state live slot f s) where
+module _ (p : Subject) (slot : ℕ) (pending : List (Option (Box AbstractState Global))) (state : AbstractState) (live : Bool) (K : Setting → State → Type 0) (empty : slice_index_or pending slot None ≡ None) (arrives : (f : Setting) (s : State) → K f s → IsKnown pending state live slot f s) where
   -- nothing is known at the slot
-  pub passes_over : (after : AbstractState) → live ≡ false → PassesOn slots shapes context_length slot K (IsKnown pending after false (slot + 1))
+  pub passes_over : (after : AbstractState) → live ≡ false → PassesOn p slot K (IsKnown pending after false (slot + 1))
   passes_over after dead f s setting begins known = (λ other. side (arrives f s known) other, λ same. absurd (here (arrives f s known) same))
     where
       side : IsKnown pending state live slot f s → s.slot ≢ slot → IsKnown pending after false (slot + 1) f s
@@ -228,7 +229,7 @@ module _ (slots : List (Option Insn)) (shapes : List MapShape) (context_length s
       here (inl waits) same = none_waits f s (slice_index_or pending slot None) empty (waits_at_slot f s pending slot same waits)
       here (inr (e, same', contains)) same = both_ways live dead e
 
-  pub passes_by : (new : List (Option (Box AbstractState Global))) (after : AbstractState) (on : Bool) → ((f : Setting) (s : State) → WaitsBoxed f pending s → WaitsBoxed f new s) → Goes slots shapes context_length slot state (IsKnown new after on (slot + 1)) → PassesOn slots shapes context_length slot K (IsKnown new after on (slot + 1))
+  pub passes_by : (new : List (Option (Box AbstractState Global))) (after : AbstractState) (on : Bool) → KeepsWaiting pending new → Goes p slot state (IsKnown new after on (slot + 1)) → PassesOn p slot K (IsKnown new after on (slot + 1))
   passes_by new after on kept goes f s setting begins known = (λ other. side (arrives f s known) other, λ same. here (arrives f s known) same)
     where
       side : IsKnown pending state live slot f s → s.slot ≢ slot → IsKnown new after on (slot + 1) f s
@@ -240,15 +241,15 @@ module _ (slots : List (Option Insn)) (shapes : List MapShape) (context_length s
       here (inr (e, same', contains)) same = goes f s setting same contains
 
 -- no instruction begins past the end
-pub rest_at_end : (slots : List (Option Insn)) (shapes : List MapShape) (context_length : ℕ) (heights : List ℕ) (made : ℕ → ℕ) (slot : ℕ) (K : Setting → State → Type 0) → length slots ≤ slot → RestIsSafe slots shapes context_length heights made slot K
-rest_at_end slots shapes context_length heights made slot K end f s setting le begins known =
-    absurd (some_none _ _ begins.here (get_or_past slots s.slot None (omega arith)))
+pub rest_at_end : (p : Subject) (heights : List ℕ) (made : ℕ → ℕ) (slot : ℕ) (K : Setting → State → Type 0) → length p.slots ≤ slot → RestIsSafe p heights made slot K
+rest_at_end p heights made slot K end f s setting le begins known =
+    absurd (some_none _ _ begins.here (get_or_past p.slots s.slot None (omega arith)))
 
 -- a program whose start is known is safe
-pub safe_from_start : (slots : List (Option Insn)) (shapes : List MapShape) (context_length : ℕ) (heights : List ℕ) (made : ℕ → ℕ) (pending : List (Option (Box AbstractState Global))) (state : AbstractState) → context_length < 2 ^ 16 → IsStart slots 0 → ((f : Setting) (maps : List (List ℕ)) → HaveShapes f.shapes maps → Contains f state (start maps)) → RestIsSafe slots shapes context_length heights made 0 (IsKnown pending state true 0) → Safe slots shapes context_length (slice_index heights 0)
-safe_from_start slots shapes context_length heights made pending state small first begins rest f maps setting have n calls t chain =
+pub safe_from_start : (p : Subject) (heights : List ℕ) (made : ℕ → ℕ) (pending : List (Option (Box AbstractState Global))) (state : AbstractState) → p.context < 2 ^ 16 → IsStart p.slots 0 → ((f : Setting) (maps : List (List ℕ)) → HaveShapes f.shapes maps → Contains f state (start maps)) → RestIsSafe p heights made 0 (IsKnown pending state true 0) → Safe p.slots p.shapes p.context (slice_index heights 0)
+safe_from_start p heights made pending state small first begins rest f maps setting have n calls t chain =
     goes_well f (rw setting.context_long small) (start maps) (slice_index heights 0)
-    (ends_more f (start maps) _ _ _ 0 (let p : slice_index heights 0 ≤ slice_index heights 0 = omega arith in p) zero-le
+    (ends_more f (start maps) _ _ _ 0 (let same : slice_index heights 0 ≤ slice_index heights 0 = omega arith in same) zero-le
     (rest f (start maps) setting zero-le first (inr (refl, refl, begins f maps (rw setting.shapes_are have))))) n calls t chain
 
 -- a register of a start state

@@ -33,7 +33,7 @@ pub known_inside : (xs : List (Option AbstractValue)) (r : ℕ) (k : AbstractVal
 known_inside xs r k known = known_within xs r k known (cases_lt r (length xs))
 
 -- what is sure after a test of a look-up's answer, on a side of it
-pub has_tested : (x : Fact) (slot k : ℕ) (w : Width) (c : Condition) (dst : ℕ) (src : Source) (off : ℤ) (m : ℕ) (found : Bool) (state : AbstractState) → StandsAt (Pointer (EntryOrNull m) 0) state dst → (IsFoundSide c off slot k → found ≡ true) → After x slot k (Branch w c dst src off) state → AfterTest x state dst m found
+pub has_tested : (x : Fact) (slot k : ℕ) (w : Width) (c : Condition) (dst : ℕ) (src : Source) (off : ℤ) (m : ℕ) (found : Bool) (state : AbstractState) → StandsAt (Pointer (EntryOrNull m) 0) state dst → (IsFoundSide c off slot k → found ≡ true) → After x slot k (Branch w c dst src off) state → AfterTest state dst m found x
 has_tested Never slot k w c dst src off m found state stands side after = absurd after
 has_tested (AtRegister Scalar r) slot k w c dst src off m found state stands side (inl gives) = absurd (some_none _ _ gives refl)
 has_tested (AtRegister Scalar r) slot k w c dst src off m found state stands side (inr (_, scalar)) = inr (λ same. not_both _ (EntryOrNull m) 0 (subst (λ (n : ℕ). StandsAt Scalar state n) same scalar) stands, tt, scalar)
@@ -64,7 +64,7 @@ knowing_apart (IsSetAt i) state dst word other has = has
 knowing_apart (IsPlainAt j) state dst word other has = has
 
 -- the word that is learnt on that side
-pub has_on_tested : (x : Fact) (state : AbstractState) (dst m : ℕ) (found : Bool) (side : Option AbstractValue) → dst < length state.registers → IsTested m found side → AfterTest x state dst m found → HasOnSide x state dst side
+pub has_on_tested : (x : Fact) (state : AbstractState) (dst m : ℕ) (found : Bool) (side : Option AbstractValue) → dst < length state.registers → IsTested m found side → AfterTest state dst m found x → HasOnSide x state dst side
 has_on_tested x state dst m found side there tested (inl (yes', is)) =
     let word : Stands (Pointer (Entry m) 0) (slice_index_or (slice_set state.registers dst (Some tested.word)) dst None) = subst (λ (v : Option AbstractValue). Stands (Pointer (Entry m) 0) v) (sym (get_or-set_same state.registers dst (Some tested.word) None there)) (tested.entry yes') in
     let at : HasOnSide (AtRegister (Pointer (Entry m) 0) dst) state dst (Some tested.word) = (tt, word) in

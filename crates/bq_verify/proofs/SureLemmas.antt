@@ -16,7 +16,6 @@ use Rattle.bq_insn.specs.declared.Width.{Width}
 use Rattle.bq_insn.specs.declared.Width.TheVariants.{W64}
 use Rattle.bq_insn.specs.Slots.{byte_count}
 use Rattle.bq_bpf.specs.Meaning.{word_of}
-use Rattle.bq_bpf.specs.declared.shape.MapShape.{MapShape}
 use Rattle.bq_bpf.specs.Steps.{instruction_at}
 use Rattle.bq_verify.specs.Edges.{IsEdge}
 use Rattle.bq_verify.specs.Paths.{IsPath, Path, end_of}
@@ -28,8 +27,9 @@ use Rattle.bq_states.specs.declared.abstract_state.ValueKind.{ValueKind}
 use Rattle.bq_states.specs.declared.abstract_state.ValueKind.TheVariants.{Context, Stack, Entry, EntryOrNull, Map}
 use Rattle.bq_states.specs.declared.abstract_state.AbstractState.{AbstractState}
 use Rattle.bq_states.specs.Certainty.{Scalar, Exact, Pointer, NoPointer, StandsAt, Fact, Never, AtRegister, IsSetAt, IsPlainAt, Has, IsScalarOperand}
-use Rattle.bq_verify.specs.Ways.{HasWaiting, GoesOnSure}
-use Rattle.bq_transfer.specs.Ready.{IsAsking, IsAtMost, IsCopyOfFrame, IsLeftReady, IsMoveOfPointer, IsNamingEntry, IsPlaced, IsReadable, IsOnFrame, IsIntoEntry, IsReady, IsReadyToAsk, IsUpdating}
+use Rattle.bq_verify.specs.Ways.{HasWaiting, GoesOnSure, IsReadyFor}
+use Rattle.bq_verify.specs.Subjects.{Subject}
+use Rattle.bq_transfer.specs.Ready.{IsAsking, IsAtMost, IsCopyOfFrame, IsLeftReady, IsMoveOfPointer, IsNamingEntry, IsPlaced, IsReadable, IsOnFrame, IsIntoEntry, IsUpdating}
 use Rattle.bq_states.specs.AbstractStates.{size_of_shape}
 use Rattle.bq_transfer.specs.After.{GivesExact, GivesNumber, GivesPointer, IsNoTestOf, LeavesNumber, LeavesPointer, Spares, IsStackByte, StoresByte, After}
 use Rattle.bq_states.specs.Told.{IsCertain}
@@ -144,8 +144,8 @@ gives_pointer kind o r slot k (Branch w c dst src off) state Was frame known (sa
 gives_pointer kind o r slot k _ state Was frame known made = absurd made
 
 -- one slot of a program that is straight up to it
-module _ (slots : List (Option Insn)) (shapes : List MapShape) (context slot : ℕ) (insn : Insn) (state : AbstractState) (here : instruction_at slots slot ≡ Some insn) (straight : IsStraightBefore slots shapes context (slot + 1)) (has : (x : Fact) → IsDue slots x slot → Has x state) where
-  reached : (Path slots 0 slot → ⊥) → ⊥
+module _ (p : Subject) (slot : ℕ) (insn : Insn) (state : AbstractState) (here : instruction_at p.slots slot ≡ Some insn) (straight : IsStraightBefore p (slot + 1)) (has : (x : Fact) → IsDue p.slots x slot → Has x state) where
+  reached : (Path p.slots 0 slot → ⊥) → ⊥
   reached none = has Never none
 
   frame_spared : (i : Insn) → (destination_of i ≡ Some 10 → ⊥) → Spares i 10
@@ -155,48 +155,48 @@ module _ (slots : List (Option Insn)) (shapes : List MapShape) (context slot : �
   frame : StandsAt (Pointer Stack 512) state 10
   frame = has (AtRegister (Pointer Stack 512) 10) (inr (inl (refl, refl, refl)))
 
-  pointer : (kind : ValueKind) (o r : ℕ) → IsPointerAt slots kind o r slot → StandsAt (Pointer kind o) state r
+  pointer : (kind : ValueKind) (o r : ℕ) → IsPointerAt p.slots kind o r slot → StandsAt (Pointer kind o) state r
   pointer kind o r at = has (AtRegister (Pointer kind o) r) (inr (inr at))
 
   -- what the step before says, of this slot and its instruction
-  here_made : (k : ℕ) (kind : ValueKind) (o r before : ℕ) (back : List ℕ) → before ≡ slot → MakesPointer kind o r before k (instruction_at slots before) (λ kind o r. IsPointerFrom slots kind o r before back) → MakesPointer kind o r slot k (Some insn) (λ kind o r. IsPointerFrom slots kind o r slot back)
+  here_made : (k : ℕ) (kind : ValueKind) (o r before : ℕ) (back : List ℕ) → before ≡ slot → MakesPointer kind o r before k (instruction_at p.slots before) (λ kind o r. IsPointerFrom p.slots kind o r before back) → MakesPointer kind o r slot k (Some insn) (λ kind o r. IsPointerFrom p.slots kind o r slot back)
   here_made k kind o r before back same made =
-      subst (λ (v : Option Insn). MakesPointer kind o r slot k v (λ kind o r. IsPointerFrom slots kind o r slot back)) here
-      (subst (λ (n : ℕ). MakesPointer kind o r n k (instruction_at slots n) (λ kind o r. IsPointerFrom slots kind o r n back)) same made)
+      subst (λ (v : Option Insn). MakesPointer kind o r slot k v (λ kind o r. IsPointerFrom p.slots kind o r slot back)) here
+      (subst (λ (n : ℕ). MakesPointer kind o r n k (instruction_at p.slots n) (λ kind o r. IsPointerFrom p.slots kind o r n back)) same made)
 
-  here_left : (kind : ValueKind) (r before : ℕ) → before ≡ slot → LeavesPointerIn kind r (instruction_at slots before) → LeavesPointerIn kind r (Some insn)
-  here_left kind r before same left = subst (λ (v : Option Insn). LeavesPointerIn kind r v) (ap (λ (n : ℕ). instruction_at slots n) same ∙ here) left
+  here_left : (kind : ValueKind) (r before : ℕ) → before ≡ slot → LeavesPointerIn kind r (instruction_at p.slots before) → LeavesPointerIn kind r (Some insn)
+  here_left kind r before same left = subst (λ (v : Option Insn). LeavesPointerIn kind r v) (ap (λ (n : ℕ). instruction_at p.slots n) same ∙ here) left
 
   -- a pointer that was made
-  due_pointer : (k : ℕ) → IsEdge slots slot k → (kind : ValueKind) (o r : ℕ) (back : List ℕ) → IsPointerFrom slots kind o r k back → After (AtRegister (Pointer kind o) r) slot k insn state
+  due_pointer : (k : ℕ) → IsEdge p.slots slot k → (kind : ValueKind) (o r : ℕ) (back : List ℕ) → IsPointerFrom p.slots kind o r k back → After (AtRegister (Pointer kind o) r) slot k insn state
   due_pointer k edge kind o r [] chain = absurd chain
   due_pointer k edge kind o r (before ∷ back) (one_way, way, inl made) =
-      inl (gives_pointer kind o r slot k insn state (λ kind o r. IsPointerFrom slots kind o r slot back) frame (λ kind o r was. pointer kind o r (back, was)) (here_made k kind o r before back (one_way before slot way edge) made))
+      inl (gives_pointer kind o r slot k insn state (λ kind o r. IsPointerFrom p.slots kind o r slot back) frame (λ kind o r was. pointer kind o r (back, was)) (here_made k kind o r before back (one_way before slot way edge) made))
   due_pointer k edge kind o r (before ∷ back) (one_way, way, inr (left, was)) =
       let same = one_way before slot way edge in
       let leaves' = here_left kind r before same left in
-      inr (spares_is insn r leaves'.0, leaves'.1, pointer kind o r (back, subst (λ (n : ℕ). IsPointerFrom slots kind o r n back) same was))
+      inr (spares_is insn r leaves'.0, leaves'.1, pointer kind o r (back, subst (λ (n : ℕ). IsPointerFrom p.slots kind o r n back) same was))
 
   -- what is due after an edge is sure after the instruction
-  due_on : (k : ℕ) → IsEdge slots slot k → (x : Fact) → IsDue slots x k → After x slot k insn state
+  due_on : (k : ℕ) → IsEdge p.slots slot k → (x : Fact) → IsDue p.slots x k → After x slot k insn state
   due_on k edge Never due =
       has Never
       (λ path.
-      let edge' : IsEdge slots (end_of 0 path.rest) k = subst (λ (s : ℕ). IsEdge slots s k) (sym path.ends) edge in
-      due (record { rest = path.rest ++ k ∷ []; is_path = IsPath-push slots 0 path.rest k path.is_path edge'; ends = end_of-push 0 path.rest k }))
-  due_on k edge (AtRegister Scalar r) due = by (made_or_left slots (writes r) (leaves r) false slot k insn here edge due reached)
+      let edge' : IsEdge p.slots (end_of 0 path.rest) k = subst (λ (s : ℕ). IsEdge p.slots s k) (sym path.ends) edge in
+      due (record { rest = path.rest ++ k ∷ []; is_path = IsPath-push p.slots 0 path.rest k path.is_path edge'; ends = end_of-push 0 path.rest k }))
+  due_on k edge (AtRegister Scalar r) due = by (made_or_left p.slots (writes r) (leaves r) false slot k insn here edge due reached)
     where
-      by : (writes r (Some insn) ≡ true) ⊎ ((leaves r (Some insn) ≡ true) × IsWritten slots slot r) → After (AtRegister Scalar r) slot k insn state
+      by : (writes r (Some insn) ≡ true) ⊎ ((leaves r (Some insn) ≡ true) × IsWritten p.slots slot r) → After (AtRegister Scalar r) slot k insn state
       by (inl made) = inl (writes_gives insn r made)
       by (inr (left, written)) = inr (leaves_is insn r left, has (AtRegister Scalar r) written)
-  due_on k edge (AtRegister (Exact n) r) due = by (made_or_left slots (loads r n) (untouched r) false slot k insn here edge due reached)
+  due_on k edge (AtRegister (Exact n) r) due = by (made_or_left p.slots (loads r n) (untouched r) false slot k insn here edge due reached)
     where
-      by : (loads r n (Some insn) ≡ true) ⊎ ((untouched r (Some insn) ≡ true) × IsLoaded slots slot r n) → After (AtRegister (Exact n) r) slot k insn state
+      by : (loads r n (Some insn) ≡ true) ⊎ ((untouched r (Some insn) ≡ true) × IsLoaded p.slots slot r n) → After (AtRegister (Exact n) r) slot k insn state
       by (inl made) = inl (loads_gives insn r n made)
       by (inr (left, loaded)) = inr (untouched_spares insn r left, untouched_tests insn r left, has (AtRegister (Exact n) r) loaded)
-  due_on k edge (AtRegister (Pointer kind o) r) (inl (is, zero, one, kept)) = by (made_or_left slots never (spares 1) true slot k insn here edge kept reached)
+  due_on k edge (AtRegister (Pointer kind o) r) (inl (is, zero, one, kept)) = by (made_or_left p.slots never (spares 1) true slot k insn here edge kept reached)
     where
-      by : (never (Some insn) ≡ true) ⊎ ((spares 1 (Some insn) ≡ true) × IsContextLeft slots slot) → After (AtRegister (Pointer kind o) r) slot k insn state
+      by : (never (Some insn) ≡ true) ⊎ ((spares 1 (Some insn) ≡ true) × IsContextLeft p.slots slot) → After (AtRegister (Pointer kind o) r) slot k insn state
       by (inl made) = absurd (let no : ⊥ = cc in no)
       by (inr (left, before)) =
           let certain : IsCertain kind = rw is tt in
@@ -210,28 +210,28 @@ module _ (slots : List (Option Insn)) (shapes : List MapShape) (context slot : �
       )
   due_on k edge (AtRegister (Pointer kind o) r) (inr (inr (back, chain))) = due_pointer k edge kind o r back chain
   due_on k edge (AtRegister NoPointer r) due = absurd due
-  due_on k edge (IsSetAt i) (size, off, stored, byte) = by (made_or_left slots (stores size off) always false slot k insn here edge stored reached)
+  due_on k edge (IsSetAt i) (size, off, stored, byte) = by (made_or_left p.slots (stores size off) always false slot k insn here edge stored reached)
     where
-      by : (stores size off (Some insn) ≡ true) ⊎ ((always (Some insn) ≡ true) × IsStored slots slot size off) → After (IsSetAt i) slot k insn state
+      by : (stores size off (Some insn) ≡ true) ⊎ ((always (Some insn) ≡ true) × IsStored p.slots slot size off) → After (IsSetAt i) slot k insn state
       by (inl made) = inl (stores_byte insn size off i made byte)
       by (inr (left, before)) = inr (has (IsSetAt i) (size, off, before, byte))
   due_on k edge (IsPlainAt j) due = has (IsPlainAt j) tt
 
-  operand_ready : (src : Source) → IsWrittenOperand slots slot src → IsScalarOperand state src
+  operand_ready : (src : Source) → IsWrittenOperand p.slots slot src → IsScalarOperand state src
   operand_ready (Imm i) w = tt
   operand_ready (Reg r) w = has (AtRegister Scalar r) w
 
-  left_ready : (op : Operation) (dst : ℕ) → IsWrittenLeft op slots slot dst → IsLeftReady op state dst
+  left_ready : (op : Operation) (dst : ℕ) → IsWrittenLeft op p.slots slot dst → IsLeftReady op state dst
   left_ready Mov dst w = tt
   left_ready _ dst w = has (AtRegister Scalar dst) w
 
-  frame_placed : (size : Size) (dst : ℕ) (off : ℤ) (at : ℕ) → dst ≡ 10 → pos at ≡ (pos 512 +ℤ off) → at + byte_count size ≤ 512 → IsPlaced shapes context state size dst off Stack at
+  frame_placed : (size : Size) (dst : ℕ) (off : ℤ) (at : ℕ) → dst ≡ 10 → pos at ≡ (pos 512 +ℤ off) → at + byte_count size ≤ 512 → IsPlaced p.shapes p.context state size dst off Stack at
   frame_placed size dst off at ten at_is inside = record { base = 512; stands = subst (λ (n : ℕ). StandsAt (Pointer Stack 512) state n) (sym ten) frame; at_is = at_is; bound = 512; bound_is = refl; inside = inside }
 
-  on_frame : (size : Size) (dst : ℕ) (off : ℤ) → dst ≡ 10 → IsOnStack size off → IsOnFrame shapes context state size dst off
+  on_frame : (size : Size) (dst : ℕ) (off : ℤ) → dst ≡ 10 → IsOnStack size off → IsOnFrame p.shapes p.context state size dst off
   on_frame size dst off ten (at, at_is, inside) = record { at = at; at_is = at_is; placed = frame_placed size dst off at ten at_is inside }
 
-  entry_placed : (size : Size) (r : ℕ) (off : ℤ) → (entry : IsInEntry slots shapes slot r size off) → IsPlaced shapes context state size r off (Entry entry.map) entry.at
+  entry_placed : (size : Size) (r : ℕ) (off : ℤ) → (entry : IsInEntry p.slots p.shapes slot r size off) → IsPlaced p.shapes p.context state size r off (Entry entry.map) entry.at
   entry_placed size r off entry = record {
     base = 0;
     stands = pointer (Entry entry.map) 0 r entry.entry;
@@ -241,7 +241,7 @@ module _ (slots : List (Option Insn)) (shapes : List MapShape) (context slot : �
     inside = entry.inside;
   }
 
-  readable : (size : Size) (src : ℕ) (off : ℤ) → IsGoodLoad slots shapes context slot size src off → IsReadable shapes context state size src off
+  readable : (size : Size) (src : ℕ) (off : ℤ) → IsGoodLoad p.slots p.shapes p.context slot size src off → IsReadable p.shapes p.context state size src off
   readable size src off (inl (one, left, at, off_is, inside)) = record {
     kind = Context;
     at = at;
@@ -249,7 +249,7 @@ module _ (slots : List (Option Insn)) (shapes : List MapShape) (context slot : �
       base = 0;
       stands = subst (λ (n : ℕ). StandsAt (Pointer Context 0) state n) (sym one) (has (AtRegister (Pointer Context 0) 1) (inl (refl, refl, refl, left)));
       at_is = omega (arith, ints, off_is);
-      bound = context;
+      bound = p.context;
       bound_is = refl;
       inside = inside;
     };
@@ -271,11 +271,11 @@ module _ (slots : List (Option Insn)) (shapes : List MapShape) (context slot : �
     plain = λ j. has (IsPlainAt j) tt;
   }
 
-  storable : (size : Size) (dst : ℕ) (off : ℤ) → IsGoodStore slots shapes slot size dst off → IsOnFrame shapes context state size dst off ⊎ IsIntoEntry shapes context state size dst off
+  storable : (size : Size) (dst : ℕ) (off : ℤ) → IsGoodStore p.slots p.shapes slot size dst off → IsOnFrame p.shapes p.context state size dst off ⊎ IsIntoEntry p.shapes p.context state size dst off
   storable size dst off (inl (ten, on)) = inl (on_frame size dst off ten on)
   storable size dst off (inr (other, entry)) = inr (record { map = entry.map; at = entry.at; placed = entry_placed size dst off entry; other = other })
 
-  naming : (map : ℕ) → IsNaming slots slot map → IsNamingEntry state map
+  naming : (map : ℕ) → IsNaming p.slots slot map → IsNamingEntry state map
   naming map n = record {
     names = pointer (Map map) 0 1 n.names;
     at = n.at;
@@ -285,10 +285,10 @@ module _ (slots : List (Option Insn)) (shapes : List MapShape) (context slot : �
   }
 
   -- a register that was loaded with a number
-  bounded : (r n most : ℕ) → n ≤ most → IsLoaded slots slot r n → IsAtMost most (slice_index_or state.registers r None)
+  bounded : (r n most : ℕ) → n ≤ most → IsLoaded p.slots slot r n → IsAtMost most (slice_index_or state.registers r None)
   bounded r n most le loaded = exact_at_most n most (slice_index_or state.registers r None) le (has (AtRegister (Exact n) r) loaded)
 
-  updating : (map : ℕ) → IsGiving slots shapes slot map → IsUpdating shapes state map
+  updating : (map : ℕ) → IsGiving p.slots p.shapes slot map → IsUpdating p.shapes state map
   updating map g = record {
     names = naming map g.naming;
     size = g.shape.value_size;
@@ -300,17 +300,17 @@ module _ (slots : List (Option Insn)) (shapes : List MapShape) (context slot : �
     flags = bounded 4 0 0 (omega arith) g.flags;
   }
 
-  asking : (helper : ℤ) → IsCounting slots slot helper → IsAsking state helper
+  asking : (helper : ℤ) → IsCounting p.slots slot helper → IsAsking state helper
   asking helper c = (bounded 1 c.counter 63 (let few = c.few in omega (arith, few)) c.loaded, λ is. has (AtRegister Scalar 2) (c.amount is))
 
-  operands : (w : Width) (op : Operation) (dst : ℕ) (src : Source) → (IsWrittenLeft op slots slot dst × IsWrittenOperand slots slot src) ⊎ (IsCopyOfEnd w op src ⊎ IsMoveOnStack slots slot w op dst src) → (IsLeftReady op state dst × IsScalarOperand state src) ⊎ (IsCopyOfFrame state w op src ⊎ IsMoveOfPointer state w op dst src)
+  operands : (w : Width) (op : Operation) (dst : ℕ) (src : Source) → (IsWrittenLeft op p.slots slot dst × IsWrittenOperand p.slots slot src) ⊎ (IsCopyOfEnd w op src ⊎ IsMoveOnStack p.slots slot w op dst src) → (IsLeftReady op state dst × IsScalarOperand state src) ⊎ (IsCopyOfFrame state w op src ⊎ IsMoveOfPointer state w op dst src)
   operands w op dst src (inl numbers) = inl (left_ready op dst numbers.0, operand_ready src numbers.1)
   operands w op dst src (inr (inl copy)) = inr (inl (record { is_copy = copy.1; whole = copy.0; of_frame = copy.2; base = 512; stands = frame }))
   operands w op dst src (inr (inr m)) =
       inr (inr (record { is_sum = m.is_sum; whole = m.whole; distance = m.distance; by_distance = m.by_distance; base = m.base; stands = pointer Stack m.base dst m.from; at = m.at; at_is = m.at_is; below = m.below; small = m.small }))
 
   -- the instruction has what it needs: for a call of a counter it is the abstract state that is asked from
-  ready_of : (i : Insn) → Needs slots shapes context slot i → IsReady shapes context state i ⊎ IsReadyToAsk state i
+  ready_of : (i : Insn) → Needs p.slots p.shapes p.context slot i → IsReadyFor p state i
   ready_of (Alu w op dst src) n = inl (n.0, operands w op dst src n.1)
   ready_of (MovSx w bits dst src) n = inl (n.0, has (AtRegister Scalar src) n.1)
   ready_of (Neg w dst) n = inl (n.0, has (AtRegister Scalar dst) n.1)
@@ -330,20 +330,20 @@ module _ (slots : List (Option Insn)) (shapes : List MapShape) (context slot : �
   ready_of (Call helper) (inr (inr (inr (which, c)))) = inr (which, asking helper c)
   ready_of Exit n = inl (has (AtRegister Scalar 0) n)
 
-  pub ready_at : IsReady shapes context state insn ⊎ IsReadyToAsk state insn
+  pub ready_at : IsReadyFor p state insn
   ready_at = ready_of insn (straight.before slot insn (omega arith) here)
 
   -- one slot further the pass is as sure
-  pub sure_on : (pending new : List (Option (Box AbstractState Global))) (after : AbstractState) (on : Bool) → ((x : Fact) (k : ℕ) → IsDue slots x k → HasWaiting x pending k) → GoesOnSure slots slot insn state pending new after on → IsSure slots new after on (slot + 1)
+  pub sure_on : (pending new : List (Option (Box AbstractState Global))) (after : AbstractState) (on : Bool) → ((x : Fact) (k : ℕ) → IsDue p.slots x k → HasWaiting x pending k) → GoesOnSure p.slots slot insn state pending new after on → IsSure p.slots new after on (slot + 1)
   sure_on pending new after on waits goes x k due = goes x k (waits x k due) (λ edge. due_on k edge x due)
 
 -- a straight program is straight before each slot
-pub straight_before : (slots : List (Option Insn)) (shapes : List MapShape) (context slot : ℕ) → IsStraightProgram slots shapes context → IsStraightBefore slots shapes context slot
-straight_before slots shapes context slot straight = record { faultless = straight.faultless; before = λ k insn below here. straight.each k insn here }
+pub straight_before : (p : Subject) (slot : ℕ) → IsStraightProgram p → IsStraightBefore p slot
+straight_before p slot straight = record { faultless = straight.faultless; before = λ k insn below here. straight.each k insn here }
 
 -- what is straight before a slot is so before each that comes earlier
-pub straight_earlier : (slots : List (Option Insn)) (shapes : List MapShape) (context slot later : ℕ) → slot ≤ later → IsStraightBefore slots shapes context later → IsStraightBefore slots shapes context slot
-straight_earlier slots shapes context slot later order straight = record { faultless = straight.faultless; before = λ k insn below here. straight.before k insn (omega arith) here }
+pub straight_earlier : (p : Subject) (slot later : ℕ) → slot ≤ later → IsStraightBefore p later → IsStraightBefore p slot
+straight_earlier p slot later order straight = record { faultless = straight.faultless; before = λ k insn below here. straight.before k insn (omega arith) here }
 
 -- where no abstract state is transferred on
 pub sure_over : (slots : List (Option Insn)) (pending : List (Option (Box AbstractState Global))) (state : AbstractState) (slot : ℕ) → ((x : Fact) (k : ℕ) → IsDue slots x k → HasWaiting x pending k) → IsSure slots pending state false slot

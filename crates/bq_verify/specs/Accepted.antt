@@ -1,4 +1,4 @@
--- What callers see of an accepted program, and what they are told of another.
+-- What callers see of an accepted program, and what is reported to them of another.
 use Rattle.std.specs.Prelude.{ℕ, ◌≤◌, List, Option, length}
 use Rattle.bq_bpf.specs.Safe.{Safe}
 use Rattle.bq_insn.specs.declared.Insn.{Insn}

@@ -1,6 +1,6 @@
 -- One pass over the slots: what is known along the way, and what that makes safe.
 -- One abstract state is transferred from slot to slot; where ways part an abstract state is boxed and waits at its slot.
-use Rattle.std.specs.Prelude.{Bool, true, false, ◌≡◌, ◌≢◌, ℕ, zero, suc, ◌+◌, ◌^◌, ◌<◌, ◌≤◌, List, Option, Some, None, slice_index, slice_index_or, ◌⊎◌}
+use Rattle.std.specs.Prelude.{Bool, true, false, ◌≡◌, ◌≢◌, ℕ, zero, suc, ◌+◌, ◌^◌, ◌<◌, ◌≤◌, List, Option, Some, None, length, slice_index, slice_index_or, ◌⊎◌}
 use Rattle.std.proofs.Common.{Global}
 use Rattle.std.specs.declared.boxed.Box.{Box}
 use Rattle.bq_insn.specs.declared.Insn.{Insn}
@@ -8,7 +8,6 @@ use Rattle.bq_insn.specs.declared.Width.{Width}
 use Rattle.bq_insn.specs.declared.Condition.{Condition}
 use Rattle.bq_insn.specs.declared.Source.{Source}
 use Rattle.bq_bpf.specs.Meaning.{taken}
-use Rattle.bq_bpf.specs.declared.shape.MapShape.{MapShape}
 use Rattle.bq_bpf.specs.declared.board.Call.{Call as Asked}
 use Rattle.bq_bpf.specs.Counters.{answer_of}
 use Rattle.bq_bpf.specs.Memory.{Setting, State}
@@ -16,7 +15,11 @@ use Rattle.bq_bpf.specs.Steps.{IsOperand, instruction_at, Step, IsCounterCall}
 use Rattle.bq_bpf.specs.Runs.{Ends}
 use Rattle.bq_bpf.specs.Safe.{IsSetting, most_calls}
 use Rattle.bq_bpf.specs.Instructions.{Leaves}
+use Rattle.bq_insn.specs.declared.TheConstants.{SLOTS}
+use Rattle.bq_bpf.specs.declared.shape.TheConstants.{MAPS}
 use Rattle.bq_verify.specs.Edges.{IsEdge, IsStart}
+use Rattle.bq_verify.specs.Passes.{IsSound}
+use Rattle.bq_verify.specs.Subjects.{Subject}
 use Rattle.bq_states.specs.declared.abstract_state.AbstractValue.{AbstractValue}
 use Rattle.bq_states.specs.declared.abstract_state.AbstractState.{AbstractState}
 use Rattle.bq_transfer.specs.Ready.{WritesBelowFrame}
@@ -31,6 +34,15 @@ pub record AreHeights (slots : List (Option Insn)) (heights : List ℕ) : Type 0
 -- no instruction writes register 10, the address of the stack's end
 abbrev pub SparesFrame : List (Option Insn) → Type 0
 SparesFrame slots = (slot : ℕ) (insn : Insn) → instruction_at slots slot ≡ Some insn → WritesBelowFrame insn
+
+-- what the pass rests on: the control graph may be walked from slot 0 on, no instruction writes register 10, and all is within the limits of images
+pub record CanBePassed (p : Subject) : Type 0 where
+  pub sound : IsSound p.slots
+  pub first : IsStart p.slots 0
+  pub frame : SparesFrame p.slots
+  pub short : length p.slots ≤ SLOTS
+  pub few : length p.shapes ≤ MAPS
+  pub small : p.context < 2 ^ 16
 
 -- an edge from a call of a counter
 pub record IsAskingEdge (slots : List (Option Insn)) (from to : ℕ) : Type 0 where
@@ -62,6 +74,10 @@ IsIn f (Some boxed) s = Contains f boxed.value s
 abbrev pub WaitsBoxed : Setting → List (Option (Box AbstractState Global)) → State → Type 0
 WaitsBoxed f pending s = IsIn f (slice_index_or pending s.slot None) s
 
+-- what waited waits still
+abbrev pub KeepsWaiting : List (Option (Box AbstractState Global)) → List (Option (Box AbstractState Global)) → Type 0
+KeepsWaiting old new = (f : Setting) (s : State) → WaitsBoxed f old s → WaitsBoxed f new s
+
 -- the state is one of a waiting abstract state, or one of the abstract state that is transferred to that slot
 abbrev pub IsKnown : List (Option (Box AbstractState Global)) → AbstractState → Bool → ℕ → Setting → State → Type 0
 IsKnown pending state live slot f s = WaitsBoxed f pending s ⊎ ((live ≡ true) × (s.slot ≡ slot) × Contains f state s)
@@ -74,19 +90,19 @@ LeadsOn K f s =
     ⊎ ((x : ℕ) → x < 2 ^ 64 → (c : Asked) × (t : State) × (answer_of c ≡ x) × Step f s (Some c) t × IsAskingEdge f.slots s.slot t.slot × K f t)
 
 -- from the states of the abstract state at that slot the program goes on
-abbrev pub Goes : List (Option Insn) → List MapShape → ℕ → ℕ → AbstractState → (Setting → State → Type 0) → Type 0
-Goes slots shapes context_length slot state K =
-    (f : Setting) (s : State) → IsSetting slots shapes context_length f → s.slot ≡ slot → Contains f state s → LeadsOn K f s
+abbrev pub Goes : Subject → ℕ → AbstractState → (Setting → State → Type 0) → Type 0
+Goes p slot state K =
+    (f : Setting) (s : State) → IsSetting p.slots p.shapes p.context f → s.slot ≡ slot → Contains f state s → LeadsOn K f s
 
 -- one slot is done
-abbrev pub PassesOn : List (Option Insn) → List MapShape → ℕ → ℕ → (Setting → State → Type 0) → (Setting → State → Type 0) → Type 0
-PassesOn slots shapes context_length slot K L =
-    (f : Setting) (s : State) → IsSetting slots shapes context_length f → IsStart slots s.slot → K f s → (s.slot ≢ slot → L f s) × (s.slot ≡ slot → LeadsOn L f s)
+abbrev pub PassesOn : Subject → ℕ → (Setting → State → Type 0) → (Setting → State → Type 0) → Type 0
+PassesOn p slot K L =
+    (f : Setting) (s : State) → IsSetting p.slots p.shapes p.context f → IsStart p.slots s.slot → K f s → (s.slot ≢ slot → L f s) × (s.slot ≡ slot → LeadsOn L f s)
 
 -- from each known state at an instruction, at that slot or later, the program ends within the height of its slot
-abbrev pub RestIsSafe : List (Option Insn) → List MapShape → ℕ → List ℕ → (ℕ → ℕ) → ℕ → (Setting → State → Type 0) → Type 0
-RestIsSafe slots shapes context_length heights made slot K =
-    (f : Setting) (s : State) → IsSetting slots shapes context_length f → slot ≤ s.slot → IsStart slots s.slot → K f s → EndsWithin f s (slice_index heights s.slot) (made s.slot)
+abbrev pub RestIsSafe : Subject → List ℕ → (ℕ → ℕ) → ℕ → (Setting → State → Type 0) → Type 0
+RestIsSafe p heights made slot K =
+    (f : Setting) (s : State) → IsSetting p.slots p.shapes p.context f → slot ≤ s.slot → IsStart p.slots s.slot → K f s → EndsWithin f s (slice_index heights s.slot) (made s.slot)
 
 -- the state is one of the abstract state, and both operands are as told there; of none where control never goes there
 abbrev pub IsOnSide : Setting → AbstractState → ℕ → Source → Option AbstractValue → AbstractValue → State → Type 0

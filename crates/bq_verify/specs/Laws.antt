@@ -17,11 +17,11 @@ OneFirstFault = (slots : List (Option Insn)) (a b : GraphCause) (j k : ℕ) → 
 abbrev pub FaultlessHasNone : Type 0
 FaultlessHasNone = (slots : List (Option Insn)) (cause : GraphCause) (slot : ℕ) → IsFaultless slots → IsFirstFault slots cause slot → ⊥
 
--- the setting with the first bytes of its context alone
+-- the setting with only the first bytes of its context
 abbrev pub shortened : Setting → ℕ → Setting
 shortened f n = record f { context = take n f.context }
 
--- a program that is safe on a context of so many bytes is safe on a longer one
+-- a program that is safe on a context of this many bytes is safe on a longer one
 abbrev pub SafeOnLonger : Type 0
 SafeOnLonger =
     (slots : List (Option Insn)) (shapes : List MapShape) (n m budget : ℕ) → n ≤ m → m < 2 ^ 16 → Safe slots shapes n budget → Safe slots shapes m budget

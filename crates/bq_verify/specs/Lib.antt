@@ -3,6 +3,7 @@ pub mod GraphCauses
 pub mod Paths
 pub mod Faults
 pub mod Passes
+pub mod Subjects
 pub mod Control
 pub mod Ways
 pub mod Straight

@@ -22,7 +22,7 @@ pub record Path (slots : List (Option Insn)) (from to : ℕ) : Type 0 where
   pub is_path : IsPath slots from rest
   pub ends : end_of from rest ≡ to
 
--- a path from the slot to an EXIT, of so many instructions
+-- a path from the slot to an EXIT, of this many instructions
 pub record PathOut (slots : List (Option Insn)) (from count : ℕ) : Type 0 where
   pub rest : List ℕ
   pub is_path : IsPath slots from rest
@@ -44,7 +44,7 @@ abbrev pub calls_before_end : List (Option Insn) → ℕ → List ℕ → ℕ
 calls_before_end slots from [] = 0
 calls_before_end slots from (next ∷ rest) = calls_of (instruction_at slots from) + calls_before_end slots next rest
 
--- a path from the start to the slot, before which so many counter calls come on it
+-- a path from the start to the slot, before which this many counter calls come on it
 pub record CallsOnWay (slots : List (Option Insn)) (slot count : ℕ) : Type 0 where
   pub rest : List ℕ
   pub is_path : IsPath slots 0 rest

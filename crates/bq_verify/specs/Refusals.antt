@@ -1,8 +1,11 @@
--- What a refusal says of a program.
+-- What a refusal says of a program: one program has one verdict, whichever way it comes to the verifier.
+-- Where the control graph has faults, the verdict is the first of them. Where it has none, the verdict is where the pass stops
+-- and for what. Only proofs of this crate show that (`StopsAt` is shut), so any other code has it from a call of `verify`.
 use Rattle.std.specs.Prelude.{◌≡◌, ℕ, List, Option, Some}
 use Rattle.bq_insn.specs.declared.Insn.{Insn}
 use Rattle.bq_bpf.specs.Steps.{instruction_at}
 use Rattle.bq_verify.specs.Faults.{IsFirstFault, IsFaultless}
+use Rattle.bq_verify.specs.Subjects.{Subject}
 use Rattle.bq_transfer.specs.Obligations.{MayBeUnproven}
 use Rattle.bq_transfer.specs.declared.obligation.Obligation.{Obligation}
 use Rattle.bq_verify.specs.declared.cause.Cause.TheVariants.{Graph, State}
@@ -15,17 +18,37 @@ pub record IsUnproven (slots : List (Option Insn)) (obligation : Obligation) (sl
   pub here : instruction_at slots slot ≡ Some insn
   pub may : MayBeUnproven obligation insn
 
--- what the pass answers where it stops; want of memory says nothing of the program
-abbrev pub IsStopped : List (Option Insn) → Refused → Type 0
-IsStopped slots OutOfMemory = Unit {0}
-IsStopped slots (At slot (Graph cause)) = ⊥
-IsStopped slots (At slot (State obligation)) = IsUnproven slots obligation slot
+-- the pass over the program stops at that slot, since this is not shown there
+pub StopsAt : Subject → ℕ → Obligation → Type 0
+StopsAt subject slot obligation = IsUnproven subject.slots obligation slot
 
--- the cause and the slot that are named: the first fault of the control graph, or, where it has none, something that is not shown
-abbrev pub IsRefusal : List (Option Insn) → Refused → Type 0
-IsRefusal slots OutOfMemory = Unit {0}
-IsRefusal slots (At slot (Graph cause)) = IsFirstFault slots cause slot
-IsRefusal slots (At slot (State obligation)) = IsFaultless slots × IsUnproven slots obligation slot
+-- only proofs of this crate cite this (`tests/one_place.py` sees to it): the pass stopped there
+pub stopped_at : (subject : Subject) (slot : ℕ) (obligation : Obligation) → IsUnproven subject.slots obligation slot → StopsAt subject slot obligation
+unfolding StopsAt
+stopped_at subject slot obligation unproven = unproven
+
+-- what it says of the instruction there
+pub unproven_where_it_stops : (subject : Subject) (slot : ℕ) (obligation : Obligation) → StopsAt subject slot obligation → IsUnproven subject.slots obligation slot
+unfolding StopsAt
+unproven_where_it_stops subject slot obligation stops = stops
+
+-- what the pass answers where it stops; lack of memory says nothing of the program
+abbrev pub IsStopped : Subject → Refused → Type 0
+IsStopped subject OutOfMemory = Unit {0}
+IsStopped subject (At slot (Graph cause)) = ⊥
+IsStopped subject (At slot (State obligation)) = StopsAt subject slot obligation
+
+-- what the checks of the control graph answer
+abbrev pub IsGraphVerdict : List (Option Insn) → Refused → Type 0
+IsGraphVerdict slots OutOfMemory = Unit {0}
+IsGraphVerdict slots (At slot (Graph cause)) = IsFirstFault slots cause slot
+IsGraphVerdict slots (At slot (State obligation)) = ⊥
+
+-- the verdict on a program that is refused
+abbrev pub IsVerdictOn : Subject → Refused → Type 0
+IsVerdictOn subject OutOfMemory = Unit {0}
+IsVerdictOn subject (At slot (Graph cause)) = IsFirstFault subject.slots cause slot
+IsVerdictOn subject (At slot (State obligation)) = IsFaultless subject.slots × StopsAt subject slot obligation
 
 abbrev pub IsOutOfMemory : Refused → Type 0
 IsOutOfMemory refused = refused ≡ OutOfMemory

@@ -9,7 +9,7 @@ use Rattle.bq_verify.specs.declared.stop.PassStop.{PassStop}
 abbrev pub IsWantOfMemory : PassStop → Type 0
 IsWantOfMemory reason = reason ≡ stop.OutOfMemory
 
--- the pass stops at an instruction for what is not shown of it, or for want of memory
+-- the pass stops at an instruction for what is not shown of it, or for lack of memory
 abbrev pub MayStop : PassStop → Insn → Type 0
 MayStop (Unproven obligation) insn = MayBeUnproven obligation insn
 MayStop stop.OutOfMemory insn = Unit {0}

@@ -21,6 +21,7 @@ use Rattle.bq_bpf.specs.Memory.{stack_size}
 use Rattle.bq_verify.specs.Edges.{IsEdge}
 use Rattle.bq_verify.specs.Paths.{IsPath, end_of}
 use Rattle.bq_verify.specs.Faults.{IsFaultless}
+use Rattle.bq_verify.specs.Subjects.{Subject}
 use Rattle.bq_bpf.specs.Instructions.{destination_of}
 use Rattle.bq_transfer.specs.Ready.{IsNullCheck}
 use Rattle.bq_transfer.specs.After.{IsFoundSide, IsStackByte, LeavesPointer}
@@ -75,7 +76,7 @@ abbrev pub untouched : ℕ → Option Insn → Bool
 untouched r (Some (Branch w c dst src off)) = not (dst == r)
 untouched r insn = spares r insn
 
--- the instruction stores so many bytes at that offset from register 10
+-- the instruction stores this many bytes at that offset from register 10
 abbrev pub stores : Size → ℤ → Option Insn → Bool
 stores size off (Some (StoreImm s dst o imm)) = (byte_count s == byte_count size) && ((dst == 10) && int_eq o off)
 stores size off (Some (StoreReg s dst o src)) = (byte_count s == byte_count size) && ((dst == 10) && int_eq o off)
@@ -91,7 +92,7 @@ never insn = false
 abbrev pub IsWritten : List (Option Insn) → ℕ → ℕ → Type 0
 IsWritten slots slot r = OnEachPath slots (writes r) (leaves r) false slot
 
--- on each path to the slot so many bytes were stored at that offset
+-- on each path to the slot this many bytes were stored at that offset
 abbrev pub IsStored : List (Option Insn) → ℕ → Size → ℤ → Type 0
 IsStored slots slot size off = OnEachPath slots (stores size off) always false slot
 
@@ -134,7 +135,7 @@ MakesPointer kind o r slot to (Some (Call helper)) Was = (r ≡ 0) × (helper �
 MakesPointer kind o r slot to (Some (Branch w c dst src off)) Was = (dst ≡ r) × (m : ℕ) × (kind ≡ Entry m) × (o ≡ 0) × Was (EntryOrNull m) 0 r × IsFoundSide c off slot to
 MakesPointer kind o r slot to _ Was = ⊥
 
--- the instruction leaves such a pointer in the register: a look-up's answer is told apart by a test
+-- the instruction leaves such a pointer in the register: a look-up's answer is distinguished by a test
 abbrev pub LeavesPointerIn : ValueKind → ℕ → Option Insn → Type 0
 LeavesPointerIn kind r None = ⊥
 LeavesPointerIn kind r (Some insn) = (spares r (Some insn) ≡ true) × LeavesPointer kind insn
@@ -246,11 +247,11 @@ Needs slots shapes context slot (Call helper) = IsGoodCall slots shapes slot hel
 Needs slots shapes context slot Exit = IsWritten slots slot 0
 
 -- a straight program: its control graph has no fault, and each instruction has what it needs
-pub record IsStraightProgram (slots : List (Option Insn)) (shapes : List MapShape) (context : ℕ) : Type 0 where
-  pub faultless : IsFaultless slots
-  pub each : (slot : ℕ) (insn : Insn) → instruction_at slots slot ≡ Some insn → Needs slots shapes context slot insn
+pub record IsStraightProgram (p : Subject) : Type 0 where
+  pub faultless : IsFaultless p.slots
+  pub each : (slot : ℕ) (insn : Insn) → instruction_at p.slots slot ≡ Some insn → Needs p.slots p.shapes p.context slot insn
 
--- the same of the instructions before that slot alone, in a control graph that has no fault anywhere
-pub record IsStraightBefore (slots : List (Option Insn)) (shapes : List MapShape) (context slot : ℕ) : Type 0 where
-  pub faultless : IsFaultless slots
-  pub before : (k : ℕ) (insn : Insn) → k < slot → instruction_at slots k ≡ Some insn → Needs slots shapes context k insn
+-- the same, only of the instructions before that slot, in a control graph that has no fault anywhere
+pub record IsStraightBefore (p : Subject) (slot : ℕ) : Type 0 where
+  pub faultless : IsFaultless p.slots
+  pub before : (k : ℕ) (insn : Insn) → k < slot → instruction_at p.slots k ≡ Some insn → Needs p.slots p.shapes p.context k insn

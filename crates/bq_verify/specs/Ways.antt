@@ -4,12 +4,18 @@ use Rattle.std.specs.Prelude.{Bool, true, ◌≡◌, ◌≢◌, ℕ, ◌+◌, Li
 use Rattle.std.specs.declared.boxed.Box.{Box}
 use Rattle.bq_insn.specs.declared.Insn.{Insn}
 use Rattle.bq_verify.specs.Edges.{IsEdge}
+use Rattle.bq_verify.specs.Subjects.{Subject}
+use Rattle.bq_transfer.specs.Ready.{IsReady, IsReadyToAsk}
 use Rattle.bq_transfer.specs.After.{After}
-use Rattle.bq_states.specs.Certainty.{Pointer, Fact, AtRegister, Has}
+use Rattle.bq_states.specs.Certainty.{Pointer, Fact, AtRegister, Has, Outlasts}
 use Rattle.bq_states.specs.Told.{HasLearnt, IsLasting}
 use Rattle.bq_states.specs.declared.abstract_state.ValueKind.TheVariants.{Entry}
 use Rattle.bq_states.specs.declared.abstract_state.AbstractValue.{AbstractValue}
 use Rattle.bq_states.specs.declared.abstract_state.AbstractState.{AbstractState}
+
+-- the abstract state has what the instruction needs: to be transferred over it, or to be asked from at a call of a counter
+abbrev pub IsReadyFor : Subject → AbstractState → Insn → Type 0
+IsReadyFor p state insn = IsReady p.shapes p.context state insn ⊎ IsReadyToAsk state insn
 
 -- the fact is not one of that register
 abbrev pub IsApartFrom : Fact → ℕ → Type 0
@@ -17,8 +23,12 @@ IsApartFrom (AtRegister s r) dst = r ≢ dst
 IsApartFrom x dst = Unit {0}
 
 -- what is sure on a side of a test of a look-up's answer: the entry, where it was found, and what is sure of the rest
-abbrev pub AfterTest : Fact → AbstractState → ℕ → ℕ → Bool → Type 0
-AfterTest x state dst map found = ((found ≡ true) × (x ≡ AtRegister (Pointer (Entry map) 0) dst)) ⊎ (IsApartFrom x dst × IsLasting x × Has x state)
+abbrev pub AfterTest : AbstractState → ℕ → ℕ → Bool → Fact → Type 0
+AfterTest state dst map found x = ((found ≡ true) × (x ≡ AtRegister (Pointer (Entry map) 0) dst)) ⊎ (IsApartFrom x dst × IsLasting x × Has x state)
+
+-- what is sure on either side of a test of numbers: what was so, but for the number of the register that was tested
+abbrev pub OutlastsTest : AbstractState → ℕ → Fact → Type 0
+OutlastsTest state dst x = Outlasts x dst × IsLasting x × Has x state
 
 -- the fact is true of an abstract state that waits, if one does
 abbrev pub HasIn : Fact → Option (Box AbstractState Global) → Type 0
@@ -37,6 +47,11 @@ pub record IsSureOf (x : Fact) (pending : List (Option (Box AbstractState Global
 abbrev pub GoesOnSure : List (Option Insn) → ℕ → Insn → AbstractState → List (Option (Box AbstractState Global)) → List (Option (Box AbstractState Global)) → AbstractState → Bool → Type 0
 GoesOnSure slots slot insn state old new after live =
     (x : Fact) (k : ℕ) → HasWaiting x old k → (IsEdge slots slot k → After x slot k insn state) → IsSureOf x new after live (slot + 1) k
+
+-- what is sure of the two ways from a branch: what was so of what waited, and what is so on the way that leads there
+abbrev pub PartsSure : (Fact → Type 0) → (Fact → Type 0) → ℕ → ℕ → List (Option (Box AbstractState Global)) → List (Option (Box AbstractState Global)) → AbstractState → Bool → Type 0
+PartsSure Taken Other to next old new after live =
+    (x : Fact) (k : ℕ) → HasWaiting x old k → (k ≡ to → Taken x) → (k ≡ next → Other x) → IsSureOf x new after live next k
 
 -- the fact lasts, and is true of the abstract state with that word in the register, if control goes there
 abbrev pub HasOnSide : Fact → AbstractState → ℕ → Option AbstractValue → Type 0

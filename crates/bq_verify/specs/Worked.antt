@@ -12,6 +12,11 @@ use Rattle.bq_insn.specs.Slots.{spread}
 use Rattle.bq_insn.specs.Spelling.{is_well_formed}
 use Rattle.bq_bpf.specs.declared.shape.MapShape.{MapShape}
 use Rattle.bq_verify.specs.Straight.{IsStraightProgram}
+use Rattle.bq_verify.specs.Subjects.{Subject}
+
+-- a program beside that one map, on a context of that length
+abbrev pub beside : List Insn → MapShape → ℕ → Subject
+beside insns shape context = record { slots = spread insns; shapes = shape ∷ []; context = context }
 
 -- stw [r10-4], 0; ldmap r1, 0; mov64 r2, r10; add64 r2, -4; call 1; jeq64 r0, 0, +2; ldxdw r0, [r0+0]; exit; mov64 r0, 0; exit
 abbrev pub worked : List Insn
@@ -21,7 +26,7 @@ worked =
 
 -- it is a program, and a straight one, beside any one map and on a context of any length
 abbrev pub WorkedIsStraight : Type 0
-WorkedIsStraight = (is_well_formed worked ≡ true) × ((shape : MapShape) (context : ℕ) → IsStraightProgram (spread worked) (shape ∷ []) context)
+WorkedIsStraight = (is_well_formed worked ≡ true) × ((shape : MapShape) (context : ℕ) → IsStraightProgram (beside worked shape context))
 
 -- stdw [r10-8], 0; ldmap r1, 0; mov64 r2, r10; add64 r2, -8; mov64 r3, r10; add64 r3, -8; mov64 r4, 0; call 2;
 -- mov64 r2, 1; mov64 r1, 5; call 100; mov64 r1, 5; call 101; exit
@@ -34,4 +39,4 @@ calling =
 -- it is a straight program beside any one map whose values have at most 8 bytes
 abbrev pub CallingIsStraight : Type 0
 CallingIsStraight =
-    (is_well_formed calling ≡ true) × ((shape : MapShape) (context : ℕ) → shape.value_size ≤ 8 → IsStraightProgram (spread calling) (shape ∷ []) context)
+    (is_well_formed calling ≡ true) × ((shape : MapShape) (context : ℕ) → shape.value_size ≤ 8 → IsStraightProgram (beside calling shape context))

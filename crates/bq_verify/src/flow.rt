@@ -1,19 +1,18 @@
 //! Where control goes from a slot, and what is known there.
 
-ghost use Rattle.std.specs.Prelude.{◌≡◌, ◌<◌, ◌≤◌, ◌+◌, ◌^◌, ℕ, length, IfOk, IfErr, IsOk, OnOk, Some, true, false, ◌⊎◌};
+ghost use Rattle.std.specs.Prelude.{◌≡◌, ◌<◌, ◌+◌, ℕ, length, IfOk, IfErr, IsOk, OnOk, Some, true, false};
 ghost use Rattle.bq_insn.specs.declared.Insn.{Insn};
 ghost use Rattle.bq_bpf.specs.Memory.{Setting, State};
 ghost use Rattle.bq_bpf.specs.Steps.{instruction_at};
-ghost use Rattle.bq_verify.specs.Passes.{IsSound};
+ghost use Rattle.bq_verify.specs.Subjects.{judged};
 ghost use Rattle.bq_transfer.specs.Obligations.{MayBeUnproven, ReadsOperand, UsesWord};
 ghost use Rattle.bq_verify.specs.Stops.{IsWantOfMemory, MayStop};
-ghost use Rattle.bq_verify.specs.Ways.{AfterTest, GoesOnSure, HasOnSide, HasWaiting, IsSureOf};
-ghost use Rattle.bq_states.specs.Certainty.{Fact, Has, IsScalarOperand, Outlasts, Pointer, Scalar, StandsAt};
-ghost use Rattle.bq_transfer.specs.Ready.{IsNullCheck, IsReady, IsReadyToAsk, WritesBelowFrame};
+ghost use Rattle.bq_verify.specs.Ways.{AfterTest, GoesOnSure, HasOnSide, HasWaiting, IsReadyFor, OutlastsTest, PartsSure};
+ghost use Rattle.bq_states.specs.Certainty.{Fact, Has, IsScalarOperand, Pointer, Scalar, StandsAt};
+ghost use Rattle.bq_transfer.specs.Ready.{IsNullCheck, IsReady};
 ghost use Rattle.bq_transfer.specs.Sides.{is_found};
-ghost use Rattle.bq_states.specs.Told.{IsLasting};
 ghost use Rattle.bq_states.specs.AbstractStates.{Contains};
-ghost use Rattle.bq_verify.specs.Control.{Goes, IsKnown, IsOnSide, PartsTo, WaitsBoxed};
+ghost use Rattle.bq_verify.specs.Control.{CanBePassed, Goes, IsKnown, IsOnSide, KeepsWaiting, PartsTo, WaitsBoxed};
 
 use crate::passes::target;
 use crate::stop::PassStop;
@@ -30,7 +29,7 @@ use bq_transfer::sides::{right_side, side};
 use bq_transfer::transfer::transfer;
 use std::alloc::{AllocError, Global};
 
-/// What a branch asks: how so many bits of a register compare with an operand.
+/// What a branch asks: how this many bits of a register compare with an operand.
 #[derive(Clone, Copy)]
 struct Test {
     width: Width,
@@ -39,7 +38,7 @@ struct Test {
     src: Source,
 }
 
-/// What is told of both operands on one side of a branch; of the left one `None` where control does not go there.
+/// What is known of both operands on one side of a branch; of the left one `None` where control does not go there.
 #[derive(Clone, Copy)]
 struct Told {
     dst: u8,
@@ -59,17 +58,14 @@ pub fn visit(
 ) -> Result<bool, PassStop>
     requires here { instruction_at subject.now.slots.now slot ≡ Some insn }
     requires inside { slot < length subject.now.slots.now }
-    requires sound { IsSound subject.now.slots.now }
+    requires passable { CanBePassed (judged subject.now) }
     requires room { length pending.old ≡ length subject.now.slots.now }
-    requires short { length subject.now.slots.now ≤ SLOTS }
-    requires context { subject.now.context < 2 ^ 16 }
-    requires few { length subject.now.shapes.now ≤ 8 }
-    requires below { WritesBelowFrame insn }
     ensures long { length pending.new ≡ length pending.old }
-    ensures goes { IfOk result (λ live. ((f : Setting) (s : State) → WaitsBoxed f pending.old s → WaitsBoxed f pending.new s) × Goes subject.now.slots.now subject.now.shapes.now subject.now.context slot state.old (IsKnown pending.new state.new live (slot + 1))) }
+    ensures kept { OnOk result (KeepsWaiting pending.old pending.new) }
+    ensures goes { IfOk result (λ live. Goes (judged subject.now) slot state.old (IsKnown pending.new state.new live (slot + 1))) }
     ensures obligations { IfErr result (λ stop. MayStop stop insn) }
-    ensures accepts { IsReady subject.now.shapes.now subject.now.context state.old insn ⊎ IsReadyToAsk state.old insn → IfErr result IsWantOfMemory }
-    ensures sure { IsReady subject.now.shapes.now subject.now.context state.old insn ⊎ IsReadyToAsk state.old insn → IfOk result (GoesOnSure subject.now.slots.now slot insn state.old pending.old pending.new state.new) }
+    ensures accepts { IsReadyFor (judged subject.now) state.old insn → IfErr result IsWantOfMemory }
+    ensures sure { IsReadyFor (judged subject.now) state.old insn → IfOk result (GoesOnSure subject.now.slots.now slot insn state.old pending.old pending.new state.new) }
 {
     if is_counter_call(insn) {
         ask(state, insn)?;
@@ -89,14 +85,11 @@ fn go_on(
 ) -> Result<bool, PassStop>
     requires here { instruction_at subject.now.slots.now slot ≡ Some insn }
     requires inside { slot < length subject.now.slots.now }
-    requires sound { IsSound subject.now.slots.now }
+    requires passable { CanBePassed (judged subject.now) }
     requires room { length pending.old ≡ length subject.now.slots.now }
-    requires short { length subject.now.slots.now ≤ SLOTS }
-    requires context { subject.now.context < 2 ^ 16 }
-    requires few { length subject.now.shapes.now ≤ 8 }
-    requires below { WritesBelowFrame insn }
     ensures long { length pending.new ≡ length pending.old }
-    ensures goes { IfOk result (λ live. ((f : Setting) (s : State) → WaitsBoxed f pending.old s → WaitsBoxed f pending.new s) × Goes subject.now.slots.now subject.now.shapes.now subject.now.context slot state.old (IsKnown pending.new state.new live (slot + 1))) }
+    ensures kept { OnOk result (KeepsWaiting pending.old pending.new) }
+    ensures goes { IfOk result (λ live. Goes (judged subject.now) slot state.old (IsKnown pending.new state.new live (slot + 1))) }
     ensures obligations { IfErr result (λ stop. MayStop stop insn) }
     ensures accepts { IsReady subject.now.shapes.now subject.now.context state.old insn → IfErr result IsWantOfMemory }
     ensures sure { IsReady subject.now.shapes.now subject.now.context state.old insn → IfOk result (GoesOnSure subject.now.slots.now slot insn state.old pending.old pending.new state.new) }
@@ -170,13 +163,13 @@ fn branch(
 ) -> Result<bool, PassStop>
     requires to { to < length pending.old }
     ensures long { length pending.new ≡ length pending.old }
-    ensures parts { IfOk result (λ live. ((f : Setting) (s : State) → WaitsBoxed f pending.old s → WaitsBoxed f pending.new s)
-        × ((f : Setting) (s : State) → Contains f state.old s → PartsTo (IsKnown pending.new state.new live next) f s test.width test.cond test.dst test.src to next)) }
+    ensures kept { OnOk result (KeepsWaiting pending.old pending.new) }
+    ensures parts { IfOk result (λ live. (f : Setting) (s : State) → Contains f state.old s → PartsTo (IsKnown pending.new state.new live next) f s test.width test.cond test.dst test.src to next) }
     ensures obligations { IfErr result (λ stop. (insn : Insn) → ReadsOperand insn → UsesWord insn → MayStop stop insn) }
     ensures accepts { test.dst < 10 → StandsAt Scalar state.old test.dst → IsScalarOperand state.old test.src → IfErr result IsWantOfMemory }
     ensures checks { (map : ℕ) → test.dst < 10 → IsNullCheck test.width test.cond test.src → StandsAt (Pointer (ValueKind.EntryOrNull map) 0) state.old test.dst → IfErr result IsWantOfMemory }
-    ensures checked { (map : ℕ) → IsNullCheck test.width test.cond test.src → StandsAt (Pointer (ValueKind.EntryOrNull map) 0) state.old test.dst → IfOk result (λ live. (x : Fact) (k : ℕ) → HasWaiting x pending.old k → (k ≡ to → AfterTest x state.old test.dst map (is_found test.cond true)) → (k ≡ next → AfterTest x state.old test.dst map (is_found test.cond false)) → IsSureOf x pending.new state.new live next k) }
-    ensures sure { StandsAt Scalar state.old test.dst → IsScalarOperand state.old test.src → IfOk result (λ live. (x : Fact) (k : ℕ) → HasWaiting x pending.old k → ((k ≡ to) ⊎ (k ≡ next) → Outlasts x test.dst × IsLasting x × Has x state.old) → IsSureOf x pending.new state.new live next k) }
+    ensures checked { (map : ℕ) → IsNullCheck test.width test.cond test.src → StandsAt (Pointer (ValueKind.EntryOrNull map) 0) state.old test.dst → IfOk result (PartsSure (AfterTest state.old test.dst map (is_found test.cond true)) (AfterTest state.old test.dst map (is_found test.cond false)) to next pending.old pending.new state.new) }
+    ensures sure { StandsAt Scalar state.old test.dst → IsScalarOperand state.old test.src → IfOk result (PartsSure (OutlastsTest state.old test.dst) (OutlastsTest state.old test.dst) to next pending.old pending.new state.new) }
 {
     let Some(right) = operand(state, test.src) else {
         return Err(PassStop::Unproven(Obligation::Unset));
@@ -205,7 +198,7 @@ fn branch(
     Ok(carry_on(state, other))
 }
 
-/// The abstract state waits for the slot with what is told of both operands there, if control goes there.
+/// The abstract state waits for the slot with what is known of both operands there, if control goes there.
 fn wait_on_side(
     alloc: Global,
     pending: &mut [Option<Box<AbstractState>>],
@@ -216,7 +209,7 @@ fn wait_on_side(
     requires here { slot < length pending.old }
     requires dst { told.dst < 11 }
     ensures long { length pending.new ≡ length pending.old }
-    ensures kept { OnOk result ((f : Setting) (s : State) → WaitsBoxed f pending.old s → WaitsBoxed f pending.new s) }
+    ensures kept { OnOk result (KeepsWaiting pending.old pending.new) }
     ensures added { OnOk result ((f : Setting) (s : State) → s.slot ≡ slot → IsOnSide f state.now told.dst told.src told.left told.right s → WaitsBoxed f pending.new s) }
     ensures has { OnOk result ((x : Fact) (k : ℕ) → HasWaiting x pending.old k → (k ≡ slot → HasOnSide x state.now told.dst told.left) → HasWaiting x pending.new k) }
 {
@@ -228,7 +221,7 @@ fn wait_on_side(
     wait(alloc, pending, slot, &there)
 }
 
-/// The abstract state is transferred on with what is told of both operands there, if control goes there.
+/// The abstract state is transferred on with what is known of both operands there, if control goes there.
 fn carry_on(state: &mut AbstractState, told: Told) -> bool
     requires { told.dst < 11 }
     ensures contains { (f : Setting) (s : State) → IsOnSide f state.old told.dst told.src told.left told.right s → (result ≡ true) × Contains f state.new s }

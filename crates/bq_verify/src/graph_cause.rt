@@ -13,7 +13,7 @@ pub enum GraphCause {
     Unreached,
     /// An instruction that writes register 10, the address of the stack's end.
     Frame,
-    /// A call of a helper that there is not.
+    /// A call of a helper that does not exist.
     Helper,
     /// A counter call that is at least the seventeenth on some path.
     Counters,

@@ -1,17 +1,16 @@
 //! One pass over the slots, by rising number.
 
-ghost use Rattle.std.specs.Prelude.{◌≡◌, ◌<◌, ◌≤◌, ◌+◌, ◌^◌, ℕ, List, length, IfOk, IfErr, OnOk, None, false, true, slice_index, slice_index_or};
+ghost use Rattle.std.specs.Prelude.{◌≡◌, ◌<◌, ◌+◌, ℕ, List, length, IfOk, IfErr, OnOk, None, false, true, slice_index, slice_index_or};
 ghost use Rattle.bq_bpf.specs.Memory.{Setting, State, HaveShapes};
 ghost use Rattle.bq_bpf.specs.Safe.{Safe};
 ghost use Rattle.bq_bpf.specs.Runs.{start as beginning};
-ghost use Rattle.bq_verify.specs.Edges.{IsStart};
-ghost use Rattle.bq_verify.specs.Passes.{IsSound};
+ghost use Rattle.bq_verify.specs.Subjects.{judged};
 ghost use Rattle.bq_verify.specs.Refusals.{IsOutOfMemory, IsStopped};
 ghost use Rattle.bq_states.specs.Certainty.{Pointer, Has, IsPlainAt, StandsAt};
 ghost use Rattle.bq_verify.specs.Straight.{IsStraightBefore, IsStraightProgram};
 ghost use Rattle.bq_verify.specs.Sure.{IsSure};
 ghost use Rattle.bq_states.specs.AbstractStates.{Contains};
-ghost use Rattle.bq_verify.specs.Control.{AreHeights, AreMade, IsKnown, PassesOn, RestIsSafe, SparesFrame};
+ghost use Rattle.bq_verify.specs.Control.{AreHeights, AreMade, CanBePassed, IsKnown, PassesOn, RestIsSafe};
 
 use crate::edges::instruction;
 use crate::flow::visit;
@@ -29,17 +28,12 @@ use std::alloc::Global;
 ///
 /// The control graph of `subject` has no fault, and `heights` are the longest paths from its slots.
 pub fn judge(alloc: Global, subject: &Subject, heights: &[u32]) -> Result<(), Refused>
-    requires sound { IsSound subject.now.slots.now }
+    requires passable { CanBePassed (judged subject.now) }
     requires heights { AreHeights subject.now.slots.now heights.now }
     requires made { (made : ℕ → ℕ) × AreMade subject.now.slots.now made }
-    requires first { IsStart subject.now.slots.now 0 }
-    requires short { length subject.now.slots.now ≤ SLOTS }
-    requires context { subject.now.context < 2 ^ 16 }
-    requires few { length subject.now.shapes.now ≤ 8 }
-    requires frame { SparesFrame subject.now.slots.now }
     ensures safe { OnOk result (Safe subject.now.slots.now subject.now.shapes.now subject.now.context (slice_index heights.now 0)) }
-    ensures stopped { IfErr result (IsStopped subject.now.slots.now) }
-    ensures accepts { IsStraightProgram subject.now.slots.now subject.now.shapes.now subject.now.context → IfErr result IsOutOfMemory }
+    ensures stopped { IfErr result (IsStopped (judged subject.now)) }
+    ensures accepts { IsStraightProgram (judged subject.now) → IfErr result IsOutOfMemory }
 {
     let mut pending = nothing_waits(alloc, subject.slots.len())?;
     let mut state = start();
@@ -55,16 +49,12 @@ fn pass(
     state: &mut AbstractState,
     pending: &mut [Option<Box<AbstractState>>],
 ) -> Result<(), Refused>
-    requires sound { IsSound subject.now.slots.now }
+    requires passable { CanBePassed (judged subject.now) }
     requires heights { AreHeights subject.now.slots.now heights.now }
     requires room { length pending.old ≡ length subject.now.slots.now }
-    requires short { length subject.now.slots.now ≤ SLOTS }
-    requires context { subject.now.context < 2 ^ 16 }
-    requires few { length subject.now.shapes.now ≤ 8 }
-    requires frame { SparesFrame subject.now.slots.now }
-    ensures safe { OnOk result ((made : ℕ → ℕ) → AreMade subject.now.slots.now made → RestIsSafe subject.now.slots.now subject.now.shapes.now subject.now.context heights.now made 0 (IsKnown pending.old state.old true 0)) }
-    ensures stopped { IfErr result (IsStopped subject.now.slots.now) }
-    ensures accepts { IsStraightProgram subject.now.slots.now subject.now.shapes.now subject.now.context → IsSure subject.now.slots.now pending.old state.old true 0 → IfErr result IsOutOfMemory }
+    ensures safe { OnOk result ((made : ℕ → ℕ) → AreMade subject.now.slots.now made → RestIsSafe (judged subject.now) heights.now made 0 (IsKnown pending.old state.old true 0)) }
+    ensures stopped { IfErr result (IsStopped (judged subject.now)) }
+    ensures accepts { IsStraightProgram (judged subject.now) → IsSure subject.now.slots.now pending.old state.old true 0 → IfErr result IsOutOfMemory }
 {
     let mut live = true;
     for slot in 0..subject.slots.len() {
@@ -82,18 +72,14 @@ pub(crate) fn pass_slot(
     live: bool,
     pending: &mut [Option<Box<AbstractState>>],
 ) -> Result<bool, Refused>
-    requires sound { IsSound subject.now.slots.now }
+    requires passable { CanBePassed (judged subject.now) }
     requires here { slot < length subject.now.slots.now }
     requires room { length pending.old ≡ length subject.now.slots.now }
-    requires short { length subject.now.slots.now ≤ SLOTS }
-    requires context { subject.now.context < 2 ^ 16 }
-    requires few { length subject.now.shapes.now ≤ 8 }
-    requires frame { SparesFrame subject.now.slots.now }
     ensures long { length pending.new ≡ length pending.old }
-    ensures passes { IfOk result (λ on. PassesOn subject.now.slots.now subject.now.shapes.now subject.now.context slot (IsKnown pending.old state.old live slot) (IsKnown pending.new state.new on (slot + 1))) }
-    ensures stopped { IfErr result (IsStopped subject.now.slots.now) }
-    ensures accepts { IsStraightBefore subject.now.slots.now subject.now.shapes.now subject.now.context (slot + 1) → IsSure subject.now.slots.now pending.old state.old live slot → IfErr result IsOutOfMemory }
-    ensures sure { IsStraightBefore subject.now.slots.now subject.now.shapes.now subject.now.context (slot + 1) → IsSure subject.now.slots.now pending.old state.old live slot → IfOk result (λ on. IsSure subject.now.slots.now pending.new state.new on (slot + 1)) }
+    ensures passes { IfOk result (λ on. PassesOn (judged subject.now) slot (IsKnown pending.old state.old live slot) (IsKnown pending.new state.new on (slot + 1))) }
+    ensures stopped { IfErr result (IsStopped (judged subject.now)) }
+    ensures accepts { IsStraightBefore (judged subject.now) (slot + 1) → IsSure subject.now.slots.now pending.old state.old live slot → IfErr result IsOutOfMemory }
+    ensures sure { IsStraightBefore (judged subject.now) (slot + 1) → IsSure subject.now.slots.now pending.old state.old live slot → IfOk result (λ on. IsSure subject.now.slots.now pending.new state.new on (slot + 1)) }
 {
     if !arrive(state, live, pending, slot) {
         return Ok(false);
@@ -103,7 +89,7 @@ pub(crate) fn pass_slot(
     };
     match visit(alloc, subject, slot, insn, state, pending) {
         Ok(on) => Ok(on),
-        Err(stop) => Err(refuse(slot, stop)),
+        Err(stop) => Err(refuse(subject, slot, stop)),
     }
 }
 

@@ -9,33 +9,29 @@ ghost use Rattle.bq_verify.specs.Edges.{IsWhole};
 ghost use Rattle.bq_verify.specs.Passes.{IsSound, Measured};
 ghost use Rattle.bq_verify.specs.Paths.{IsGreatest, PathOut};
 ghost use Rattle.bq_verify.specs.Faults.{IsFaultless};
-ghost use Rattle.bq_verify.specs.Refusals.{IsRefusal, IsOutOfMemory};
+ghost use Rattle.bq_verify.specs.Refusals.{IsGraphVerdict, IsOutOfMemory, IsVerdictOn};
 ghost use Rattle.bq_verify.specs.Control.{AreMade};
 ghost use Rattle.bq_hooks.specs.Hooks.{context_length_of};
 ghost use Rattle.bq_verify.specs.Straight.{IsStraightProgram};
+ghost use Rattle.bq_verify.specs.Subjects.{handed_in};
 
 use crate::cause::Cause;
 use crate::checks::check;
 use crate::layout::lay_out;
 use crate::passes::measure;
+use crate::policy_form::PolicyForm;
 use crate::refused::Refused;
 use crate::verified::Verified;
-use bq_bpf::MapShape;
-use bq_hooks::{Hook, Version};
 use bq_insn::{Insn, SLOTS};
 use std::alloc::{AllocError, Global};
 
-/// A program as it is handed in.
+/// A program that is to be verified.
 #[derive(Drop)]
 pub struct Program {
     /// Its instructions, one after another.
     pub insns: Vec<Insn>,
-    /// The shapes of its maps, by their numbers.
-    pub shapes: Vec<MapShape>,
-    /// The choice that it is to make.
-    pub hook: Hook,
-    /// The version of its image, on which the length of its context rests.
-    pub version: Version,
+    /// Its hook, version and maps.
+    pub form: PolicyForm,
 }
 
 fn blank_counts(alloc: Global, count: usize) -> Result<Vec<Option<u32>>, AllocError>
@@ -51,7 +47,7 @@ pub(crate) fn check_graph(alloc: Global, slots: &[Option<Insn>]) -> Result<(), R
     requires short { length slots.now ≤ SLOTS }
     requires whole { IsWhole slots.now }
     ensures ok { OnOk result (IsFaultless slots.now) }
-    ensures refused { IfErr result (IsRefusal slots.now) }
+    ensures refused { IfErr result (IsGraphVerdict slots.now) }
     ensures made { OnOk result ((made : ℕ → ℕ) × AreMade slots.now made) }
     ensures passes { IsFaultless slots.now → IfErr result IsOutOfMemory }
 {
@@ -77,69 +73,64 @@ fn heights_of(alloc: Global, slots: &[Option<Insn>]) -> Result<Vec<u32>, AllocEr
     Ok(heights)
 }
 
-/// The program, if it is shown to be safe.
+/// Accepts a program if it is shown to be safe.
 ///
 /// The checks of the control graph run one after the other over the whole program, each naming its least slot:
 /// `Jump`, `NoExit`, `Unreached`, `Frame`, `Helper`, `Counters`. One pass by rising slot follows, which stops at the
 /// first slot of which something is not shown. What is accepted is safe within its budget (see `Verified`), and the
-/// budget is the number of instructions on the longest path to an EXIT. `OutOfMemory` is answered where a growth
-/// was refused; no other refusal is answered to a straight program, in which each instruction finds what it needs
-/// on every path (`IsStraightProgram`).
+/// budget is the number of instructions on the longest path to an EXIT. `OutOfMemory` is the answer where memory was
+/// refused. A straight program, in which each instruction finds what it needs on every path (`IsStraightProgram`),
+/// gets no other refusal. A program has one verdict (`IsVerdictOn`), whichever way it comes here.
 ///
 /// # Example
 ///
 /// ```
 /// let program = Program {
 ///     insns: assemble(alloc, "mov64 r0, 1\nexit\n")?,
-///     shapes: Vec::new(alloc),
-///     hook: Hook::Preempt,
-///     version: Version::First,
+///     form: PolicyForm {
+///         hook: Hook::Preempt,
+///         version: Version::First,
+///         shapes: Vec::new(alloc),
+///     },
 /// };
 /// let verified = verify(alloc, program)?;
 /// assert_eq!(rt; verified.budget(), 2);
 /// ```
 pub fn verify(alloc: Global, program: Program) -> Result<Verified, Refused>
-    requires whole { is_well_formed program.insns.items ≡ true }
-    requires few { length program.shapes.items ≤ 8 }
+    requires { is_well_formed program.insns.items ≡ true }
     ensures slots { IfOk result (λ v. v.slots ≡ spread program.insns.items) }
-    ensures shapes { IfOk result (λ v. v.shapes ≡ program.shapes.items) }
-    ensures hook { IfOk result (λ v. v.hook ≡ program.hook) }
-    ensures version { IfOk result (λ v. v.version ≡ program.version) }
+    ensures shapes { IfOk result (λ v. v.shapes ≡ program.form.shapes.items) }
+    ensures hook { IfOk result (λ v. v.hook ≡ program.form.hook) }
+    ensures version { IfOk result (λ v. v.version ≡ program.form.version) }
     ensures faultless { IfOk result (λ v. IsFaultless v.slots) }
     ensures budget { IfOk result (λ v. IsGreatest (PathOut v.slots 0) v.budget) }
     ensures safe { IfOk result (λ v. Safe v.slots v.shapes (context_length_of v.hook v.version) v.budget) }
-    ensures refused { IfErr result (IsRefusal (spread program.insns.items)) }
-    ensures accepts { IsStraightProgram (spread program.insns.items) program.shapes.items (context_length_of program.hook program.version) → IfErr result IsOutOfMemory }
+    ensures refused { IfErr result (IsVerdictOn (handed_in program)) }
+    ensures accepts { IsStraightProgram (handed_in program) → IfErr result IsOutOfMemory }
 {
     verify_slots(alloc, program)
 }
 
-/// The same, of a program of some slots, but not too many.
+/// The same, of a program of 1 to 4,096 slots.
 fn verify_slots(alloc: Global, program: Program) -> Result<Verified, Refused>
     requires registers { list_all is_insn program.insns.items ≡ true }
     requires some { 0 < length (spread program.insns.items) }
-    requires short { length (spread program.insns.items) ≤ 4096 }
-    requires few { length program.shapes.items ≤ 8 }
+    requires short { length (spread program.insns.items) ≤ SLOTS }
     ensures slots { IfOk result (λ v. v.slots ≡ spread program.insns.items) }
-    ensures shapes { IfOk result (λ v. v.shapes ≡ program.shapes.items) }
-    ensures hook { IfOk result (λ v. v.hook ≡ program.hook) }
-    ensures version { IfOk result (λ v. v.version ≡ program.version) }
+    ensures shapes { IfOk result (λ v. v.shapes ≡ program.form.shapes.items) }
+    ensures hook { IfOk result (λ v. v.hook ≡ program.form.hook) }
+    ensures version { IfOk result (λ v. v.version ≡ program.form.version) }
     ensures faultless { IfOk result (λ v. IsFaultless v.slots) }
     ensures budget { IfOk result (λ v. IsGreatest (PathOut v.slots 0) v.budget) }
     ensures safe { IfOk result (λ v. Safe v.slots v.shapes (context_length_of v.hook v.version) v.budget) }
-    ensures refused { IfErr result (IsRefusal (spread program.insns.items)) }
-    ensures accepts { IsStraightProgram (spread program.insns.items) program.shapes.items (context_length_of program.hook program.version) → IfErr result IsOutOfMemory }
+    ensures refused { IfErr result (IsVerdictOn (handed_in program)) }
+    ensures accepts { IsStraightProgram (handed_in program) → IfErr result IsOutOfMemory }
 {
-    let Program {
-        insns,
-        shapes,
-        hook,
-        version,
-    } = program;
+    let Program { insns, form } = program;
     let slots = lay_out(alloc, insns.as_slice())?;
     check_graph(alloc, slots.as_slice())?;
     let heights = heights_of(alloc, slots.as_slice())?;
-    match Verified::new(alloc, slots, shapes, hook, version, heights.as_slice()) {
+    match Verified::new(alloc, slots, form, heights.as_slice()) {
         Ok(verified) => Ok(verified),
         Err(refused) => Err(refused),
     }

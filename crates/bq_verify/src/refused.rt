@@ -1,23 +1,25 @@
 //! The answer to a program that is not accepted.
 
-ghost use Rattle.std.specs.Prelude.{◌≡◌, Some, List, Option};
+ghost use Rattle.std.specs.Prelude.{◌≡◌, Some};
 ghost use Rattle.bq_insn.specs.declared.Insn.{Insn};
 ghost use Rattle.bq_bpf.specs.Steps.{instruction_at};
 ghost use Rattle.bq_verify.specs.Stops.{IsWantOfMemory, MayStop};
 ghost use Rattle.bq_transfer.specs.declared.obligation.Obligation.{Obligation as Missing};
 ghost use Rattle.bq_verify.specs.declared.refused.Refused.TheVariants.{At};
 ghost use Rattle.bq_verify.specs.Refusals.{IsOutOfMemory, IsStopped};
+ghost use Rattle.bq_verify.specs.Subjects.{judged};
 
 use crate::cause::Cause;
 use crate::stop::PassStop;
+use crate::subject::Subject;
 use std::alloc::AllocError;
 
-/// Why a program is not accepted: a cause at a slot, or want of memory.
+/// Why a program is not accepted: a cause at a slot, or that memory ran out.
 #[derive(Clone, Copy, Debug)]
 pub enum Refused {
     /// The cause, and the slot of the instruction that has it.
     At { slot: usize, cause: Cause },
-    /// A growth was refused, which says nothing of the program.
+    /// Memory ran out, which says nothing of the program.
     OutOfMemory,
 }
 
@@ -31,9 +33,9 @@ impl From<AllocError> for Refused {
     }
 }
 
-/// The refusal where the pass stopped at a slot.
-pub(crate) fn refuse(slot: usize, stop: PassStop) -> Refused
-    ensures stopped { (slots : List (Option Insn)) (insn : Insn) → instruction_at slots slot ≡ Some insn → MayStop stop insn → IsStopped slots result }
+/// The refusal of a program over which the pass stopped at a slot.
+pub(crate) fn refuse(subject: &Subject, slot: usize, stop: PassStop) -> Refused
+    ensures stopped { (insn : Insn) → instruction_at subject.now.slots.now slot ≡ Some insn → MayStop stop insn → IsStopped (judged subject.now) result }
     ensures named { (obligation : Missing) → stop ≡ PassStop.Unproven obligation → result ≡ At slot (Cause.State obligation) }
     ensures memory { IsWantOfMemory stop → IsOutOfMemory result }
 {

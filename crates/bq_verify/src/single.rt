@@ -51,7 +51,7 @@ pub fn writes_frame(slots: &[Option<Insn>], slot: usize, insn: Insn) -> bool
     }
 }
 
-/// Whether the instruction calls a helper that there is not.
+/// Whether the instruction calls a helper that does not exist.
 pub fn calls_unknown(slots: &[Option<Insn>], slot: usize, insn: Insn) -> bool
     requires here { instruction_at slots.now slot ≡ Some insn }
     ensures { IsTrue result ↔ CallsUnknown slots.now slot }

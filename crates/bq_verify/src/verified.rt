@@ -1,11 +1,12 @@
 //! Programs that were accepted.
 
 use crate::pass::judge;
+use crate::policy_form::PolicyForm;
 use crate::refused::Refused;
 use crate::subject::Subject;
 use bq_bpf::{MapShape, Packed, pack_all};
-use bq_hooks::{Hook, Version, context_length};
-use bq_insn::{Insn, SLOTS};
+use bq_hooks::{Hook, Version};
+use bq_insn::Insn;
 use std::alloc::Global;
 use std::marker::Model;
 
@@ -14,32 +15,29 @@ use std::marker::Model;
 pub struct Verified {
     slots: Vec<Option<Insn>>,
     code: Vec<Packed>,
-    shapes: Vec<MapShape>,
-    hook: Hook,
-    version: Version,
+    form: PolicyForm,
     budget: u32,
 }
 
 impl Model for Verified {
     ghost use Rattle.bq_bpf.specs.Packing.{Stands};
     ghost use Rattle.bq_verify.specs.Accepted.{Accepted, IsAccepted};
-    ghost use Rattle.bq_hooks.specs.Hooks.{context_length_of};
+    ghost use Rattle.bq_verify.specs.Subjects.{context_of};
 
     ghost Value = { Accepted };
 
-    ghost view = { λ v. record { slots = v.slots.items; shapes = v.shapes.items; hook = v.hook; version = v.version; budget = v.budget } };
+    ghost view = { λ v. record { slots = v.slots.items; shapes = v.form.shapes.items; hook = v.form.hook; version = v.form.version; budget = v.budget } };
 
-    ghost invariant = { λ v. Stands v.code.items v.slots.items × IsAccepted v.slots.items v.shapes.items (context_length_of v.hook v.version) v.budget };
+    ghost invariant = { λ v. Stands v.code.items v.slots.items × IsAccepted v.slots.items v.form.shapes.items (context_of v.form) v.budget };
 }
 
 impl Verified {
-    ghost use Rattle.std.specs.Prelude.{◌≡◌, ◌≤◌, ◌<◌, ℕ, IfErr, IfOk, length, slice_index};
+    ghost use Rattle.std.specs.Prelude.{◌≡◌, ◌<◌, ℕ, IfErr, IfOk, length, slice_index};
     ghost use Rattle.bq_bpf.specs.Packing.{Stands};
     ghost use Rattle.bq_verify.specs.Accepted.{IsAccepted};
     ghost use Rattle.bq_hooks.specs.Hooks.{context_length_of};
-    ghost use Rattle.bq_verify.specs.Control.{AreHeights, AreMade, SparesFrame};
-    ghost use Rattle.bq_verify.specs.Passes.{IsSound};
-    ghost use Rattle.bq_verify.specs.Edges.{IsStart};
+    ghost use Rattle.bq_verify.specs.Control.{AreHeights, AreMade, CanBePassed};
+    ghost use Rattle.bq_verify.specs.Subjects.{in_form};
     ghost use Rattle.bq_verify.specs.Refusals.{IsOutOfMemory, IsStopped};
     ghost use Rattle.bq_verify.specs.Straight.{IsStraightProgram};
     ghost use Rattle.bq_bpf.specs.Safe.{Safe};
@@ -75,21 +73,21 @@ impl Verified {
     pub fn shapes(&self) -> &[MapShape]
         ensures { result.now ≡ self.now.shapes }
     {
-        &self.shapes
+        &self.form.shapes
     }
 
-    /// The choice that the program makes.
+    /// The hook that the program is for.
     pub fn hook(&self) -> Hook
         ensures { result ≡ self.now.hook }
     {
-        self.hook
+        self.form.hook
     }
 
     /// The version of the program's image.
     pub fn version(&self) -> Version
         ensures { result ≡ self.now.version }
     {
-        self.version
+        self.form.version
     }
 
     /// How many instructions a run takes at most.
@@ -103,33 +101,27 @@ impl Verified {
     pub(crate) fn new(
         alloc: Global,
         slots: Vec<Option<Insn>>,
-        shapes: Vec<MapShape>,
-        hook: Hook,
-        version: Version,
+        form: PolicyForm,
         heights: &[u32],
     ) -> Result<Verified, Refused>
-        requires sound { IsSound slots.items }
+        requires passable { CanBePassed (in_form slots.items form) }
         requires heights { AreHeights slots.items heights.now }
         requires made { (made : ℕ → ℕ) × AreMade slots.items made }
-        requires first { IsStart slots.items 0 }
         requires as_many { length heights.now ≡ length slots.items }
-        requires short { length slots.items ≤ SLOTS }
-        requires few { length shapes.items ≤ 8 }
-        requires frame { SparesFrame slots.items }
         requires some { 0 < length slots.items }
         ensures slots { IfOk result (λ v. v.slots ≡ slots.items) }
-        ensures shapes { IfOk result (λ v. v.shapes ≡ shapes.items) }
-        ensures hook { IfOk result (λ v. v.hook ≡ hook) }
-        ensures version { IfOk result (λ v. v.version ≡ version) }
+        ensures shapes { IfOk result (λ v. v.shapes ≡ form.shapes.items) }
+        ensures hook { IfOk result (λ v. v.hook ≡ form.hook) }
+        ensures version { IfOk result (λ v. v.version ≡ form.version) }
         ensures budget { IfOk result (λ v. v.budget ≡ slice_index heights.now 0) }
         ensures safe { IfOk result (λ v. Safe v.slots v.shapes (context_length_of v.hook v.version) v.budget) }
-        ensures stopped { IfErr result (IsStopped slots.items) }
-        ensures accepts { IsStraightProgram slots.items shapes.items (context_length_of hook version) → IfErr result IsOutOfMemory }
+        ensures stopped { IfErr result (IsStopped (in_form slots.items form)) }
+        ensures accepts { IsStraightProgram (in_form slots.items form) → IfErr result IsOutOfMemory }
     {
         let subject = Subject {
             slots: slots.as_slice(),
-            shapes: shapes.as_slice(),
-            context: context_length(hook, version),
+            shapes: form.shapes.as_slice(),
+            context: form.context_length(),
         };
         judge(alloc, &subject, heights)?;
         let code = pack_all(alloc, slots.as_slice())?;
@@ -137,9 +129,7 @@ impl Verified {
         Ok(Verified {
             slots,
             code,
-            shapes,
-            hook,
-            version,
+            form,
             budget,
         })
     }

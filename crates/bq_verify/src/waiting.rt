@@ -5,7 +5,7 @@ ghost use Rattle.bq_bpf.specs.Memory.{Setting, State};
 ghost use Rattle.bq_states.specs.Certainty.{Fact, Has};
 ghost use Rattle.bq_verify.specs.Ways.{HasIn, HasWaiting, IsSureOf};
 ghost use Rattle.bq_states.specs.AbstractStates.{Contains};
-ghost use Rattle.bq_verify.specs.Control.{IsIn, WaitsBoxed, IsKnown};
+ghost use Rattle.bq_verify.specs.Control.{IsIn, IsKnown, KeepsWaiting, WaitsBoxed};
 
 use bq_states::abstract_state::AbstractState;
 use bq_states::joins::join_states;
@@ -73,7 +73,7 @@ pub fn wait(
 ) -> Result<(), AllocError>
     requires here { slot < length pending.old }
     ensures long { length pending.new ≡ length pending.old }
-    ensures kept { OnOk result ((f : Setting) (s : State) → WaitsBoxed f pending.old s → WaitsBoxed f pending.new s) }
+    ensures kept { OnOk result (KeepsWaiting pending.old pending.new) }
     ensures added { OnOk result ((f : Setting) (s : State) → s.slot ≡ slot → Contains f state.now s → WaitsBoxed f pending.new s) }
     ensures has { OnOk result ((x : Fact) (k : ℕ) → HasWaiting x pending.old k → (k ≡ slot → Has x state.now) → HasWaiting x pending.new k) }
 {

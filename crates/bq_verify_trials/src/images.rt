@@ -324,20 +324,20 @@ fn the_version_says_how_long_the_context_is(rt: HostRuntime) {
 
 /// The image is that of the counting program: for the hook preempt, in the first version, with one map of one entry of 8 bytes.
 fn is_counting(rt: &impl Abort, image: &Image) {
-    is_true(rt, image.version == Version::First);
-    is_true(rt, image.hook == Hook::Preempt);
-    is_number(rt, image.shapes.len() as u64, 1);
-    for shape in &image.shapes {
+    is_true(rt, image.form.version == Version::First);
+    is_true(rt, image.form.hook == Hook::Preempt);
+    is_number(rt, image.form.shapes.len() as u64, 1);
+    for shape in &image.form.shapes {
         is_number(rt, u64::from(shape.value_size), 8);
         is_number(rt, u64::from(shape.entries), 1);
     }
     are_bytes(rt, image.program.as_slice(), &COUNTING[16..]);
 }
 
-/// The image written behind one byte, if it has few maps and a program of whole slots.
+/// The image written behind one byte, if it has a program of whole slots.
 fn written(alloc: Global, image: &Image) -> Result<Option<Vec<u8>>, AllocError> {
     let length = image.program.len();
-    if image.shapes.len() > 8 || length % 8 != 0 || length < 1 || length > 32768 {
+    if length % 8 != 0 || length < 1 || length > 32768 {
         return Ok(None);
     }
     let mut out = Vec::from_slice(alloc, &COUNTING[..1])?;

@@ -9,7 +9,7 @@ use bq_bpf::MapShape;
 use bq_hooks::{Hook, Version};
 use bq_insn::Insn;
 use bq_insn::encode::well_formed;
-use bq_verify::{Program, Refused, verify};
+use bq_verify::{PolicyForm, Program, Refused, verify};
 use std::alloc::Global;
 use std::process::Abort;
 
@@ -55,13 +55,12 @@ fn verdict(
     terms: &Terms<'_>,
 ) -> Result<u32, Refused> {
     may_be_judged(rt, insns.as_slice(), terms.shapes);
-    let program = Program {
-        insns,
-        shapes: terms.shapes.to_vec(alloc).expect(rt, "memory"),
+    let form = PolicyForm {
         hook: terms.hook,
         version: terms.version,
+        shapes: terms.shapes.to_vec(alloc).expect(rt, "memory"),
     };
-    let verified = verify(alloc, program)?;
+    let verified = verify(alloc, Program { insns, form })?;
     Ok(verified.budget())
 }
 

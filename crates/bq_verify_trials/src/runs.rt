@@ -11,7 +11,7 @@ use bq_interp::env::Env;
 use bq_interp::runs::{Ran, run};
 use bq_interp::stack::Stack;
 use bq_maps::Maps;
-use bq_verify::{Program, Verified, verify};
+use bq_verify::{PolicyForm, Program, Verified, verify};
 use std::alloc::Global;
 use std::process::Abort;
 
@@ -19,9 +19,11 @@ use std::process::Abort;
 fn accepted(rt: &impl Abort, alloc: Global, text: &str) -> Verified {
     let program = Program {
         insns: assemble(alloc, text).expect(rt, "a program"),
-        shapes: vec![in alloc; shape(rt, 8, 2)].expect(rt, "memory"),
-        hook: Hook::Preempt,
-        version: Version::First,
+        form: PolicyForm {
+            hook: Hook::Preempt,
+            version: Version::First,
+            shapes: vec![in alloc; shape(rt, 8, 2)].expect(rt, "memory"),
+        },
     };
     verify(alloc, program).expect(rt, "not accepted")
 }

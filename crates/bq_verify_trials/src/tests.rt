@@ -167,6 +167,38 @@ jeq64 r6, 0, out
 ldxdw r0, [r6+8]
 exit
 
+12
+; the number 0 meets the answer of a look-up
+stw [r10-4], 0
+ldxw r7, [r1+0]
+mov64 r6, 0
+jeq64 r7, 0, both
+ldmap r1, 0
+mov64 r2, r10
+add64 r2, -4
+call 1
+mov64 r6, r0
+both:
+jeq64 r6, 0, out
+ldxdw r0, [r6+8]
+exit
+
+Unset 10
+; another number
+stw [r10-4], 0
+ldxw r7, [r1+0]
+mov64 r6, 1
+jeq64 r7, 0, both
+ldmap r1, 0
+mov64 r2, r10
+add64 r2, -4
+call 1
+mov64 r6, r0
+both:
+jeq64 r6, 0, out
+ldxdw r0, [r6+8]
+exit
+
 Unset 14
 ; in another map
 stw [r10-4], 0

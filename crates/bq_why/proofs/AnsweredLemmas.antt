@@ -4,7 +4,7 @@ use Rattle.bq_verify.specs.Accepted.{Accepted}
 use Rattle.bq_interp.specs.declared.runs.Done.{Done}
 use Rattle.bq_installed.specs.Standing.{HasAnswered, WasAnswered}
 
--- what is remembered of a policy that stands is an answer which it gave, in so many steps
+-- what is remembered of a policy that stands is an answer which it gave, in this many steps
 pub answered_by : (p : Option Accepted) (d : Done) (steps : ℕ) → d.steps ≡ steps → WasAnswered p (Some d) → (policy : Accepted) × (p ≡ Some policy) × HasAnswered policy (record { r0 = d.r0; steps = steps })
 answered_by None d steps e h = absurd h
 answered_by (Some policy) d steps e h =

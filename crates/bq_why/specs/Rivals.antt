@@ -1,4 +1,4 @@
--- The tasks that a choice is told apart from.
+-- The tasks that a choice is distinguished from.
 use Rattle.std.specs.Prelude.{ℕ, Bool, ◌==◌, ◌&&◌, not, if◌then◌else◌, List, Option, Some, None, find}
 use Rattle.bq_words.specs.declared.rule.Rule.{Rule}
 use Rattle.bq_words.specs.declared.rule.Rule.TheVariants.{Cfs, Eevdf}

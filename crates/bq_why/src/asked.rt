@@ -23,7 +23,7 @@ impl Asked {
         }
     }
 
-    /// The policy at a hook of a processor took so many steps.
+    /// The policy at a hook of a processor took this many steps.
     pub fn at(machine: &AnyCore, processor: u8, hook: Hook, steps: u32) -> Asked {
         let answer = match machine.seen(processor) {
             Some(Seen::Cfs(cpu)) => answer(cpu, hook, steps),

@@ -22,7 +22,7 @@ pub enum Fault<'a> {
     Name(&'a [u8]),
     /// The command takes another number of words.
     Count { name: &'a [u8], wanted: usize },
-    /// A word is not what stands at its place.
+    /// A word is not what its place takes.
     Word { word: &'a [u8], kind: LineOperand },
     /// A machine is made already.
     Again,

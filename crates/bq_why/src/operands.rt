@@ -110,7 +110,7 @@ impl fmt::Display for LineOperand {
     }
 }
 
-/// Whether a word is digits alone, one or more.
+/// Whether a word is one digit or more, and nothing else.
 fn are_digits(word: &[u8]) -> bool
     ensures { result ≡ (nat_lt 0 (length word.now) && list_all is_ascii_digit word.now) }
 {

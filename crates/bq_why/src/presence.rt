@@ -8,7 +8,7 @@ use bq_parts::Cpu;
 use std::alloc::{AllocError, Global};
 
 /// The tasks that run or wait at a processor, the running one first, then by rising (v, id). Were there more than 1,024, some
-/// would be left out; there are only so many ids.
+/// would be left out; the number of ids is limited.
 pub fn present<Q: RunQueue>(alloc: Global, cpu: &Cpu<Q>) -> Result<Vec<Entity>, AllocError>
     ensures few { IfOk result (λ tasks. length tasks.items ≤ TASKS) }
     ensures all { IfOk result (λ tasks. length (present_at cpu.now.running) ≤ 1024 → tasks.items ≡ present_at cpu.now.running) }

@@ -1,4 +1,4 @@
-//! The tasks that a choice was told apart from, in words.
+//! The tasks that a choice was distinguished from, in words.
 ghost use Rattle.std.specs.Prelude.{◌≤◌, length};
 
 use crate::reasons::with_number;

@@ -26,11 +26,11 @@ amount_at unit number None = option_and_then (λ whole. below (2 ^ 64) (Some (wh
 amount_at unit number (Some point) =
     option_and_then (λ whole. option_and_then (λ part. below (2 ^ 64) (Some (whole * unit + part))) (fraction_of unit (drop (point + 1) number))) (decimal_of (take point number))
 
--- so many units of so many nanoseconds each
+-- that many units of this many nanoseconds each
 abbrev pub amount_of : ℕ → List ℕ → Option ℕ
 amount_of unit number = amount_at unit number (position is_point number)
 
--- the word cut where its number ends: so many of the unit that is behind it, or so many nanoseconds where nothing is
+-- the word cut where its number ends: that number of the unit that is behind it, or of nanoseconds if there is none
 abbrev pub duration_at : List ℕ → Option ℕ → Option ℕ
 duration_at word None = amount_of 1 word
 duration_at word (Some end) = option_and_then (λ unit. amount_of unit (take end word)) (unit_of (drop end word))

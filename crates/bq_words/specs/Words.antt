@@ -19,7 +19,7 @@ abbrev pub StartsWithWord : (ℕ → Bool) → List ℕ → Type 0
 StartsWithWord is_blank [] = Unit {0}
 StartsWithWord is_blank (b ∷ bs) = is_blank b ≡ false
 
--- so many bytes are no blank, and then comes one or the end
+-- this many bytes are no blank, and then comes one or the end
 pub record IsWordLen (is_blank : ℕ → Bool) (text : List ℕ) (len : ℕ) : Type 0 where
   pub within : len ≤ length text
   pub no_blank : All (λ b. is_blank b ≡ false) (take len text)

@@ -49,7 +49,7 @@ fn point(number: &[u8]) -> Option<usize>
     number.iter().position(|byte| is_point(*byte))
 }
 
-/// So many units of so many nanoseconds each, as nanoseconds.
+/// That many units of this many nanoseconds each, as nanoseconds.
 ///
 /// None where that is no number, or 2^64 ns or more.
 fn amount(number: &[u8], unit: u64) -> Option<u64>

@@ -1,7 +1,7 @@
 //! The words of a line, the numbers that words write, and what words name: rules, sizes, processors, lengths of time.
-//! Promises that a line falls into exactly the words between its blanks, whatever counts as a blank, that a word is taken
-//! for a number only where it is one that fits its type, that words and numbers name exactly the schedulers that can be
-//! asked for, and that a word which was perhaps meant is near. Traces, workloads, marks, options and assembler text share these.
+//! Promises that a line is split into exactly the words between its blanks, that a word is read as a number only if it is one
+//! that fits its type, that words and numbers name exactly the schedulers that can be asked for, and that a word suggested in
+//! place of another is near it. Traces, workloads, marks, options and assembler text share these.
 #![tactic(auto)]
 
 pub mod blanks;

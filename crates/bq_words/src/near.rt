@@ -12,7 +12,7 @@ const EDITS: usize = 2;
 /// How near a word has to be to be the one that was perhaps meant: nearer than each that was asked of before.
 #[derive(Drop)]
 pub struct Near {
-    /// So many edits, or more, are too many.
+    /// This many edits, or more, are too many.
     before: usize,
 }
 

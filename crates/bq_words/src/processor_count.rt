@@ -26,7 +26,7 @@ macro_rules! with_sizes {
 }
 
 impl ProcessorCount {
-    /// The size of so many processors, if there is one.
+    /// The size of this many processors, if there is one.
     pub fn of_number(processors: u8) -> Option<ProcessorCount>
         ensures { result ≡ size_numbered processors }
     {

@@ -32,7 +32,7 @@ pub changed_at-others : {A : Type 0} (f : A → A) (xs : List A) (n k : ℕ) →
 changed_at-others {A} f xs n k h =
     elim (slice_get xs n) as (λ (o : Option A). slice_get (option_map_or (λ (x : A). slice_set xs n (f x)) o xs) k ≡ slice_get xs k) [ None ↦ refl | Some x ↦ slice_get-set_other xs n k (f x) h ]
 
--- what stands at a place is changed
+-- what is at a place is changed
 pub changed_at-here : {A : Type 0} (f : A → A) (xs : List A) (n : ℕ) (x : A) → slice_get xs n ≡ Some x → slice_get (changed_at f xs n) n ≡ Some (f x)
 changed_at-here {A} f xs n x h = ap (λ (o : Option A). slice_get (option_map_or (λ (y : A). slice_set xs n (f y)) o xs) n) h ∙ slice_get-set_here xs n (f x) x h
 
@@ -95,7 +95,7 @@ kept-end end q a b x y by_processor by_task place h =
 pub kept-home : (a b : Accounts) (task q : ℕ) → slice_get b.by_task task ≡ slice_get a.by_task task → HasHome a task q → HasHome b task q
 kept-home a b task q same h = record { progress = h.progress; there = same ∙ h.there; home = h.home }
 
--- a task runs at one processor alone
+-- a task runs at only one processor
 pub one-home : (a : Accounts) (task p q : ℕ) → HasHome a task p → HasHome a task q → p ≡ q
 one-home a task p q g h = sym g.home ∙ ap (λ (c : TaskProgress). c.home) (same_Some g.progress h.progress (sym g.there ∙ h.there)) ∙ h.home
 

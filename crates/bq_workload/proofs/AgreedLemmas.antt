@@ -45,7 +45,7 @@ pub record AgreesBut (end p : ℕ) (a : Accounts) (x : List ℕ) : Type 0 where
   pub looks : (q : ℕ) → AgreesAt end a x (Pull q)
   pub homes : HaveHomes a
 
--- what agrees, but for that end
+-- what agrees, except for that end
 pub agrees_but_one_end : (end p : ℕ) (a : Accounts) (x : List ℕ) → Agrees end a x → AgreesBut end p a x
 agrees_but_one_end end p a x h = record { ends = λ q other. h.all (End q); wakes = λ k. h.all (Wake k); ticks = λ q. h.all (Tick q); looks = λ q. h.all (Pull q); homes = h.homes }
 

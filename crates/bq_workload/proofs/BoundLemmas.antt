@@ -25,7 +25,7 @@ more_units m total count steps inner product units next u i p n =
     let e : product ≡ min (count * steps) m = p ∙ ap (λ x. min (count * x) m) i ∙ capped_product m count steps in
     n ∙ ap (λ x. min (units + x) m) e ∙ ap (λ x. min (x + min (count * steps) m) m) u ∙ capped_sums m total (count * steps)
 
--- at each of so many instants so many steps
+-- at each of this many instants this many steps
 pub all_steps : (m a b instants at_once next : ℕ) → instants ≡ min a m → at_once ≡ min b m → next ≡ min (instants * at_once) m → next ≡ min (a * b) m
 all_steps m a b instants at_once next i o n = n ∙ ap (λ x. min (x * at_once) m) i ∙ ap (λ x. min (min a m * x) m) o ∙ capped_factors m a b
 

@@ -9,7 +9,7 @@ unfolding fraction
 fraction-step zero known m d r h e f = absurd (omega arith)
 fraction-step (suc n) known m d r h e f = rw (sub-one, e, f) refl
 
--- a number with room for so many digits takes one
+-- a number with room for this many digits takes one
 pub room-step : (left known d : ℕ) → 0 < left → d ≤ 1 → (known + 1) * 2 ^ left ≤ 4294967296 → (2 * known + d + 1) * 2 ^ (left - 1) ≤ 4294967296
 room-step zero known d h small room = absurd (omega arith)
 room-step (suc n) known d h small room =

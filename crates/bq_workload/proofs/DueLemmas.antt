@@ -233,7 +233,7 @@ resized-agreed p f r s run ends tick look is event_queue periods h =
 pub shrunk-agreed : (p : ℕ) (r s : Roster) → accounts_of s ≡ shrunk p (accounts_of r) → s.event_queue ≡ r.event_queue → s.periods ≡ r.periods → StaysAgreed r s
 shrunk-agreed p r s is event_queue periods = resized-agreed p (λ l. record l { size = l.size - 1 }) r s (λ l. refl) (λ cs l. refl) (λ l. refl) (λ l. refl) is event_queue periods
 
--- so many tasks more at a processor
+-- this many tasks more at a processor
 pub grown-agreed : (p count : ℕ) (r s : Roster) → accounts_of s ≡ grown p count (accounts_of r) → s.event_queue ≡ r.event_queue → s.periods ≡ r.periods → StaysAgreed r s
 grown-agreed p count r s is event_queue periods = resized-agreed p (λ l. record l { size = l.size + count }) r s (λ l. refl) (λ cs l. refl) (λ l. refl) (λ l. refl) is event_queue periods
 
@@ -251,7 +251,7 @@ place-low (Wake k) h = omega (arith, h)
 place-low (Tick p) h = omega (arith, h)
 place-low (Pull p) h = omega (arith, h)
 
--- what stands at a place is due, and has that place
+-- what is at a place is due, and has that place
 abbrev Stands : ℕ → Due → Type 0
 Stands n due = IsDue due × (place_of due ≡ n)
 
@@ -309,7 +309,7 @@ none-next end a x none h due = elim (some_or_none (comes_at end a due)) [
       absurd (omega (arith, few, stood, at))
 ]
 
--- a processor of so many stands in their list
+-- a processor of this many stands in their list
 at-replicate : {A : Type 0} (count k : ℕ) (x y : A) → slice_get (replicate count x) k ≡ Some y → (k < count) × (x ≡ y)
 at-replicate zero k x y h = absurd (none-some y h)
 at-replicate (suc n) zero x y h = (omega arith, same_Some x y h)
@@ -357,7 +357,7 @@ nothing-read {B} v count k processor_state none = elim (some_or_none (slice_get 
   | inr (l, at) ↦ ap (λ (o : Option ProcessorState). option_and_then v o) at ∙ ap v (sym (at-replicate count k processor_state l at).1) ∙ none
 ]
 
--- no place before those of looks, and none after the last of so many, is due at the opening
+-- no place before those of looks, and none after the last of this many, is due at the opening
 look-past : (count : ℕ) (time : Option ℕ) (place : ℕ) → place < 1152 → look_of count time place ≡ None
 look-past count time place low = ap (λ (b : Bool). if b && nat_lt place (1152 + count) then time else None) (lt-leb 1152 place low)
 

@@ -13,7 +13,7 @@ digit-by : (b : Bool) → cond b 0 1 ≤ 1
 digit-by true = omega arith
 digit-by false = omega arith
 
--- so many digits are a number of so many digits
+-- this many digits are a number of this many digits
 pub fraction-below : (n m : ℕ) → fraction n 0 m < 2 ^ n
 unfolding fraction
 fraction-below zero m = omega arith

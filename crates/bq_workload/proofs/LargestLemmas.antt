@@ -5,11 +5,11 @@ use Rattle.std.proofs.lemmas.Bool.{ltb-true, ltb-false}
 use Rattle.bq_workload.specs.declared.processor_state.ProcessorState.{ProcessorState}
 use Rattle.bq_workload.specs.Dues.{HasLargest, IsLargest, larger, size_at}
 
--- what has at most so many has at most more
+-- what has at most this many has at most more
 at_most : (by_processor : List ProcessorState) (count few more : ℕ) → few ≤ more → ((p : ℕ) → p < count → size_at by_processor p ≤ few) → (p : ℕ) → p < count → size_at by_processor p ≤ more
 at_most by_processor count few more grows h p low = omega (arith, grows, h p low)
 
--- what has at most so many has less than more
+-- what has at most this many has less than more
 below_next : (by_processor : List ProcessorState) (count few more : ℕ) → few < more → ((p : ℕ) → p < count → size_at by_processor p ≤ few) → (p : ℕ) → p < count → size_at by_processor p < more
 below_next by_processor count few more grows h p low = omega (arith, grows, h p low)
 
@@ -38,7 +38,7 @@ next_larger by_processor count best true is h =
 next_larger by_processor count best false is h =
     record { within = omega (arith, h.within); several = h.several; most = below_more (λ p. size_at by_processor p ≤ size_at by_processor best) count h.most (ltb-false (size_at by_processor best) (size_at by_processor count) is); first = h.first }
 
--- the largest of so many processors, and then of one more
+-- the largest of this many processors, and then of one more
 pub largest_of_more : (by_processor : List ProcessorState) (count : ℕ) (best : Option ℕ) → HasLargest by_processor count best → HasLargest by_processor (count + 1) (larger by_processor best count)
 largest_of_more by_processor count None h = next_alone by_processor count (nat_lt 1 (size_at by_processor count)) refl h
 largest_of_more by_processor count (Some best) h = next_larger by_processor count best (nat_lt (size_at by_processor best) (size_at by_processor count)) refl h

@@ -52,7 +52,7 @@ squares-by m false e h =
     let passed : 2 ^ 127 ≤ m * m = ltb-false _ _ e in
     record { below = omega arith; near = omega arith; low = omega arith; small = omega arith }
 
--- a mantissa's square is the power of two by its digit, times what is left, but for the part that is cut off
+-- a mantissa's square is the power of two by its digit, times what is left, except for the part that is cut off
 pub squares-of : (m : ℕ) → 2 ^ 63 ≤ m → Squares m (digit m) (squared m)
 squares-of m h = squares-by m _ refl (mul-le-mul h h)
 
@@ -126,7 +126,7 @@ squared-high m h = squared-by m _ refl (mul-lt m m (2 ^ 64) (2 ^ 64) h h)
 some-power : (a n : ℕ) → 0 < (a + 1) ^ n
 some-power a n = one-le-pow n (a + 1) (omega arith)
 
--- the digits and one more are above the logarithm, but for what is cut off
+-- the digits and one more are above the logarithm, except for what is cut off
 pub never-far : (n m : ℕ) → 2 ^ 63 ≤ m → m < 2 ^ 64 → m ^ (2 ^ n) * (2 ^ 63) ^ (2 ^ n) < (2 ^ 63 + 1) ^ (2 ^ n) * 2 ^ (fraction n 0 m + 1 + 63 * 2 ^ n)
 unfolding fraction
 never-far zero m h high = rw (power-of-one m) (omega (arith, high))

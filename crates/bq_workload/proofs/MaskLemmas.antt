@@ -7,7 +7,7 @@ use Rattle.std.proofs.lemmas.List.FromFn.{get_or-range_with_len, length-range_wi
 use Rattle.bq_workload.specs.Soundness.{IsFirstAllowed, allows_one}
 use Rattle.bq_disc.specs.Masks.{allows}
 
--- none of so many processors, and not the next
+-- none of this many processors, and not the next
 pub none-more : (mask count : ℕ) → ((lower : ℕ) → lower < count → allows mask lower ≡ false) → allows mask count ≡ false → (lower : ℕ) → lower < count + 1 → allows mask lower ≡ false
 none-more mask count before next lower low =
     ⊎_elim (λ (l : lower < count). before lower l) (λ (h : count ≤ lower). let same : lower ≡ count = omega (arith, low, h) in subst (λ (n : ℕ). allows mask n ≡ false) (sym same) next) (cases_lt lower count)
@@ -18,7 +18,7 @@ none-from mask first (suc count) h =
     ap (λ (b : Bool). b || list_any (allows mask) (range_with_len (first + 1) count)) (h first (omega arith) (omega arith))
     ∙ none-from mask (first + 1) count (λ p low high. h p (omega (arith, low)) (omega (arith, high)))
 
--- where a mask allows none of so many processors
+-- where a mask allows none of this many processors
 pub none-allowed : (mask processors : ℕ) → ((lower : ℕ) → lower < processors → allows mask lower ≡ false) → allows_one processors mask ≡ false
 none-allowed mask processors h = none-from mask 0 processors (λ p low high. h p (omega (arith, high)))
 

@@ -69,7 +69,7 @@ runs-of end k a l low homes none keeps at =
           ap past runs ∙ ap (λ (o : Option TaskProgress). option_map_or (lacks_more l.since end) o false) home.there ∙ lt-ltb (end + c.got) (l.since + c.due) (omega (arith, kept, late))
     ]
 
--- where by the accounts nothing comes any more it is over just where no task has run past its phase
+-- where by the accounts nothing comes any more it is over exactly when no task has run past its phase
 pub over-where-none : (end : ℕ) (a : Accounts) → end < 2 ^ 48 → HaveHomes a → NothingComes end a → is_over end a ≡ list_all keeps_phase a.by_task
 over-where-none end a low homes none =
     let cs = a.by_task in

@@ -21,15 +21,15 @@ accounts_of r = record { by_task = r.by_task.items; by_processor = r.by_processo
 abbrev pub at_rest : Option ℕ → ProcessorState
 at_rest look = record { run = None; since = 0; size = 0; tick = None; look = look }
 
--- when each of so many processors looks first, by the time between two looks; one alone never looks
+-- when each of this many processors looks first, by the time between two looks; a single one never looks
 abbrev pub first_look : ℕ → ℕ → Option ℕ
 first_look processors balance = if nat_lt processors 2 then None else Some (next_multiple balance 0)
 
--- no task is there, and so many processors run nothing
+-- no task is there, and this many processors run nothing
 abbrev pub opening : ℕ → ℕ → Accounts
 opening processors balance = record { by_task = []; by_processor = replicate processors (at_rest (first_look processors balance)) }
 
--- what stands at a place is changed
+-- what is at a place is changed
 abbrev pub changed_at : {A : Type 0} → (A → A) → List A → ℕ → List A
 changed_at f xs n = option_map_or (λ x. slice_set xs n (f x)) (slice_get xs n) xs
 
@@ -84,7 +84,7 @@ switched processor run now periods a =
 abbrev pub shrunk : ℕ → Accounts → Accounts
 shrunk processor a = of_processor (λ l. record l { size = l.size - 1 }) processor a
 
--- a processor has so many tasks more
+-- a processor has this many tasks more
 abbrev pub grown : ℕ → ℕ → Accounts → Accounts
 grown processor count a = of_processor (λ l. record l { size = l.size + count }) processor a
 
@@ -92,7 +92,7 @@ grown processor count a = of_processor (λ l. record l { size = l.size + count }
 abbrev pub left_by : ℕ → Option ℕ → ℕ → Periods → Accounts → Accounts
 left_by processor run now periods a = switched processor run now periods (shrunk processor a)
 
--- so many tasks have entered a queue
+-- this many tasks have entered a queue
 abbrev pub entered_by : ℕ → ℕ → Option ℕ → ℕ → Periods → Accounts → Accounts
 entered_by processor count run now periods a = switched processor run now periods (grown processor count a)
 

@@ -17,7 +17,7 @@ squared m = if nat_lt (m * m) (2 ^ 127) then m * m / 2 ^ 63 else m * m / 2 ^ 64
 abbrev pub digit : ℕ → ℕ
 digit m = if nat_lt (m * m) (2 ^ 127) then 0 else 1
 
--- so many digits of it, after those that are known
+-- this many digits of it, after those that are known
 unfoldable pub fraction : ℕ → ℕ → ℕ → ℕ
 fraction zero known m = known
 fraction (suc n) known m = fraction n (2 * known + digit m) (squared m)

@@ -48,11 +48,11 @@ pub record IsDropped (due : Due) (old new : List ℕ) : Type 0 where
   pub at : at_place new (place_of due) ≡ never
   pub others : ChangesOnly (place_of due) old new
 
--- when what stands at a place comes due, where so many processors look for a task then
+-- when what is at a place comes due, where this many processors look for a task then
 abbrev pub look_of : ℕ → Option ℕ → ℕ → Option ℕ
 look_of processors time place = if nat_le (place_of (Pull 0)) place && nat_lt place (place_of (Pull processors)) then time else None
 
--- each of so many processors looks for a task then, if ever, and nothing else comes due
+-- each of this many processors looks for a task then, if ever, and nothing else comes due
 abbrev pub AreLooks : ℕ → Option ℕ → List ℕ → Type 0
 AreLooks processors time event_queue = (place : ℕ) → place < 2048 → at_place event_queue place ≡ number_of place (look_of processors time place)
 
@@ -64,19 +64,19 @@ end_of now c = min (now + (c.due - c.got)) (2 ^ 64 - 1)
 abbrev pub size_at : List ProcessorState → ℕ → ℕ
 size_at by_processor processor = option_map_or (λ (processor_state : ProcessorState). processor_state.size) (slice_get by_processor processor) 0
 
--- of so many processors this one has the most tasks, and more than one; of those that have as many it is the first
+-- of this many processors this one has the most tasks, and more than one; of those that have as many it is the first
 pub record IsLargest (by_processor : List ProcessorState) (count processor : ℕ) : Type 0 where
   pub within : processor < count
   pub several : 1 < size_at by_processor processor
   pub most : (other : ℕ) → other < count → size_at by_processor other ≤ size_at by_processor processor
   pub first : (other : ℕ) → other < processor → size_at by_processor other < size_at by_processor processor
 
--- the largest of so many processors; none where no one has more than one task
+-- the largest of this many processors; none where no one has more than one task
 abbrev pub HasLargest : List ProcessorState → ℕ → Option ℕ → Type 0
 HasLargest by_processor count None = (processor : ℕ) → processor < count → size_at by_processor processor ≤ 1
 HasLargest by_processor count (Some processor) = IsLargest by_processor count processor
 
--- the largest of so many processors and the next, where that of the others is known
+-- the largest of this many processors and the next, where that of the others is known
 abbrev pub larger : List ProcessorState → Option ℕ → ℕ → Option ℕ
 larger by_processor None next = if nat_lt 1 (size_at by_processor next) then Some next else None
 larger by_processor (Some best) next = if nat_lt (size_at by_processor best) (size_at by_processor next) then Some next else Some best

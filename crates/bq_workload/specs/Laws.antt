@@ -2,7 +2,7 @@
 use Rattle.std.specs.Prelude.{ℕ, ◌+◌, ◌*◌, ◌^◌, ◌<◌, ◌≤◌}
 use Rattle.bq_workload.specs.Draws.{fraction, exponential}
 
--- So many digits of a mantissa's logarithm to base 2, where the mantissa counts by 2^63: never more than the logarithm, and
+-- This many digits of a mantissa's logarithm to base 2, where the mantissa counts by 2^63: never more than the logarithm, and
 -- less than two units of the last digit below it
 abbrev pub GivesLogarithm : Type 0
 GivesLogarithm =

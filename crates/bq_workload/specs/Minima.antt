@@ -1,4 +1,4 @@
--- A tree of least numbers, written level by level: what stands at k is the less of what stands at 2k and at 2k + 1. The
+-- A tree of least numbers, written level by level: what is at k is the less of what is at 2k and at 2k + 1. The
 -- leaves stand from 2048 on: one for each place of what may come due.
 use Rattle.std.specs.Prelude.{◌≡◌, ◌≢◌, ℕ, ◌+◌, ◌*◌, ◌%◌, ◌<◌, ◌≤◌, ◌⊎◌, List, slice_index, min, Option, Some, None}
 
@@ -37,7 +37,7 @@ ChangesOnly place xs ys = (k : ℕ) → k < 2048 → k ≢ place → at_place ys
 abbrev pub AreNever : List ℕ → Type 0
 AreNever xs = (place : ℕ) → place < 2048 → at_place xs place ≡ never
 
--- what stands at the place is due then, and nothing is due before it
+-- what is at the place is due then, and nothing is due before it
 pub record IsFirst (xs : List ℕ) (time place : ℕ) : Type 0 where
   pub within : place < 2048
   pub taken : at_place xs place ≡ time * 2048 + place

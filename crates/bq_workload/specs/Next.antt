@@ -52,7 +52,7 @@ pub record HasHome (a : Accounts) (task processor : ℕ) : Type 0 where
   pub there : slice_get a.by_task task ≡ Some progress
   pub home : progress.home ≡ processor
 
--- each task that runs somewhere ran there last: so it runs at one processor alone
+-- each task that runs somewhere ran there last: so it runs at only one processor
 abbrev pub HaveHomes : Accounts → Type 0
 HaveHomes a = (processor task : ℕ) (processor_state : ProcessorState) → slice_get a.by_processor processor ≡ Some processor_state → processor_state.run ≡ Some task → HasHome a task processor
 

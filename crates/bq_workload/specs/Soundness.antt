@@ -30,7 +30,7 @@ abbrev pub goes_round : Option ℕ → Bool
 goes_round None = true
 goes_round (Some loops) = nat_le 1 loops
 
--- the name of a kind has at most so many bytes
+-- the name of a kind has at most this many bytes
 abbrev pub has_name : TaskKind → Bool
 has_name kind = nat_le (length (string_bytes kind.name)) LONGEST_NAME
 
@@ -40,17 +40,17 @@ has_numbers kind =
     nat_le 1 kind.count && is_nice kind.nice && nat_le LEAST_SLICE kind.slice && nat_le kind.slice GREATEST_SLICE
     && nat_le kind.start longest && goes_round kind.loops
 
--- a mask allows one of so many processors
+-- a mask allows one of this many processors
 abbrev pub allows_one : ℕ → ℕ → Bool
 allows_one processors mask = list_any (allows mask) (range_with_len 0 processors)
 
--- the first of so many processors that a mask allows
+-- the first of this many processors that a mask allows
 pub record IsFirstAllowed (processors mask first : ℕ) : Type 0 where
   pub within : first < processors
   pub allowed : allows mask first ≡ true
   pub least : (lower : ℕ) → lower < first → allows mask lower ≡ false
 
--- an action has a length in its range, or wakes one of so many kinds
+-- an action has a length in its range, or wakes one of this many kinds
 abbrev pub is_action : ℕ → Action → Bool
 is_action kinds (Run length) = is_length length
 is_action kinds (Sleep length) = is_length length
@@ -69,7 +69,7 @@ flaws_of_actions kinds number place (action ∷ actions) = unless (is_action kin
 abbrev pub flaws_of_doing : ℕ → ℕ → List Action → List Unsound
 flaws_of_doing kinds number actions = flaws_of_actions kinds number 0 actions ++ unless (list_any takes_time actions) (flaw.NoTime number)
 
--- of one of so many kinds, on so many processors
+-- of one of this many kinds, on this many processors
 abbrev pub flaws_of_kind : ℕ → ℕ → ℕ → TaskKind → List Unsound
 flaws_of_kind processors kinds number kind =
     unless (has_name kind) (flaw.Name number) ++ unless (has_numbers kind) (flaw.Kind number) ++ unless (allows_one processors kind.mask) (flaw.Mask number)

@@ -17,7 +17,7 @@ second_word g = (u64_via_u32 pcg32 (u64_via_u32 pcg32 g).1).0
 abbrev pub after_draw : Lcg → Lcg
 after_draw g = (u64_via_u32 pcg32 (u64_via_u32 pcg32 g).1).1
 
--- after so many draws
+-- after this many draws
 unfoldable pub after_draws : ℕ → Lcg → Lcg
 after_draws zero g = g
 after_draws (suc n) g = after_draws n (after_draw g)

@@ -8,7 +8,7 @@ use Rattle.bq_workload.specs.declared.progress.TaskState.TheVariants.{Asleep, Ru
 abbrev pub fresh : ℕ → ℕ → ℕ → TaskProgress
 fresh kind home start = record { kind = kind; action = 0; woken = 0; loops = 0; task_state = Asleep; timer = start; due = 0; got = 0; home = home; has_run = false }
 
--- it has done one of so many actions, and comes to the next; after the last to the first, once more, as far as 64 bits count
+-- it has done one of this many actions, and comes to the next; after the last to the first, again, as far as 64 bits count
 abbrev pub advanced : ℕ → TaskProgress → TaskProgress
 advanced actions c =
     if nat_le actions (c.action + 1) then record c { action = 0; woken = 0; loops = min (c.loops + 1) 18446744073709551615 } else record c { action = c.action + 1; woken = 0 }

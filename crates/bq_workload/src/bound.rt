@@ -6,7 +6,7 @@ use crate::{Action, Workload};
 
 /// How many steps a simulation takes at most, as far as 64 bits count. At one instant each task does each of its actions at
 /// most once, since one of them takes time; a wake takes a step for each task that it comes to, and the end of a task one
-/// more. Each timer comes due at most once, each processor ticks at most once, and looks for a task once, and once more
+/// more. Each timer comes due at most once, each processor ticks at most once, and looks for a task once, and again
 /// each time that it falls idle. There are as many instants as nanoseconds, and one more.
 pub fn most_steps(workload: &Workload) -> u64
     ensures { result ≡ most_steps workload.now }

@@ -9,7 +9,7 @@ use crate::Due;
 use crate::roster::{BrokenInvariant, Roster};
 use bq_disc::limits::PROCESSORS;
 
-/// When each of so many processors looks first for a task to pull; one alone never looks.
+/// When each of this many processors looks first for a task to pull; a single one never looks.
 pub(crate) fn first_look(processors: u8, balance: u64) -> Option<u64>
     ensures { result ≡ first_look processors balance }
 {
@@ -140,7 +140,7 @@ impl Roster {
         best
     }
 
-    /// The largest of so many processors and the next, where that of the others is known.
+    /// The largest of this many processors and the next, where that of the others is known.
     fn larger(&self, best: Option<u8>, next: u8) -> Option<u8>
         ensures { result ≡ larger self.now.by_processor.items best next }
     {

@@ -46,7 +46,7 @@ impl Due {
         }
     }
 
-    /// What stands at a place.
+    /// What is at a place.
     pub fn at(place: u16) -> Option<Due>
         ensures { result ≡ due_at place }
     {

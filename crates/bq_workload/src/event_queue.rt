@@ -11,7 +11,7 @@ const PLACES: usize = 2048;
 /// The number of what is never due.
 const NEVER: u64 = u64::MAX;
 
-/// The time at which what stands at each of 2,048 places is due, if it is. Contracts see a number for each: the time and
+/// The time at which what is at each of 2,048 places is due, if it is. Contracts see a number for each: the time and
 /// the place as one, or `never`.
 ///
 /// The numbers are the leaves of a tree, in which each node has the less of the two below it. So the first is the root.
@@ -41,7 +41,7 @@ impl EventQueue {
         })
     }
 
-    /// What stands at a place is due at this time from now on, or never.
+    /// What is at a place is due at this time from now on, or never.
     pub fn set(&mut self, place: u16, time: Option<u64>)
         requires place { place < 2048 }
         requires time { IfSome time (λ t. t < 2 ^ 48) }

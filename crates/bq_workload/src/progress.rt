@@ -132,7 +132,7 @@ impl TaskProgress {
         u128::from(end) + u128::from(self.got) < u128::from(since) + u128::from(self.due)
     }
 
-    /// Goes on to the next of so many actions; after the last to the first, and it has done them all once more.
+    /// Goes on to the next of this many actions; after the last to the first, and it has done them all again.
     pub fn advance(&mut self, actions: usize)
         ensures { self.new ≡ advanced actions self.old }
     {

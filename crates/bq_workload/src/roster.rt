@@ -17,7 +17,7 @@ use bq_disc::limits::{PROCESSORS, TASKS};
 use std::alloc::{AllocError, Global};
 
 /// A number that stands for no task or processor, a time that does not fit, or a phase that ended too early or too late:
-/// whoever keeps the roster lost count.
+/// the keeper of the roster lost count.
 #[derive(Clone, Copy, Drop)]
 pub struct BrokenInvariant;
 
@@ -40,7 +40,7 @@ pub struct Roster {
 }
 
 impl Roster {
-    /// So many processors that run nothing, and no task. Where there are at least two, each looks for a task to pull at the
+    /// This many processors that run nothing, and no task. Where there are at least two, each looks for a task to pull at the
     /// first multiple of the time between two looks.
     pub fn new(alloc: Global, processors: u8, periods: Periods) -> Result<Roster, AllocError>
         ensures accounts { IfOk result (λ roster. accounts_of roster ≡ opening processors periods.balance) }
@@ -184,7 +184,7 @@ fn until(end: u64, time: u64) -> Option<u64>
     is_seen.then_some(time)
 }
 
-/// Each of so many processors looks for a task to pull then, if ever.
+/// Each of this many processors looks for a task to pull then, if ever.
 fn plan_looks(event_queue: &mut EventQueue, processors: u8, time: Option<u64>)
     requires few { processors ≤ PROCESSORS }
     requires early { IfSome time (λ t. t < 2 ^ 48) }

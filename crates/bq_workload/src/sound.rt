@@ -71,7 +71,7 @@ fn is_time(time: u64) -> bool
     1 <= time && time <= LONGEST
 }
 
-/// Whether tasks of a kind can be followed, as one of so many kinds: first its name, then its numbers, its mask, and what it does.
+/// Whether tasks of a kind can be followed, as one of this many kinds: first its name, then its numbers, its mask, and what it does.
 fn sound_kind(number: usize, kind: &TaskKind, processors: u8, kinds: usize) -> Result<(), Unsound>
     ensures { result_err result ≡ slice_get (flaws_of_kind processors kinds number kind.now) 0 }
 {
@@ -121,7 +121,7 @@ fn sound_actions(number: usize, actions: &[Action], kinds: usize) -> Result<(), 
     Ok(())
 }
 
-/// Whether its length is one, or it wakes one of so many kinds.
+/// Whether its length is one, or it wakes one of this many kinds.
 fn is_action(action: &Action, kinds: usize) -> bool
     ensures { result ≡ is_action kinds action.now }
 {
@@ -132,7 +132,7 @@ fn is_action(action: &Action, kinds: usize) -> bool
     }
 }
 
-/// The least processor of a mask, below so many.
+/// The least processor of a mask, below this many.
 pub fn first_of_mask(mask: u64, processors: u8) -> Option<u8>
     ensures some { IfSome result (IsFirstAllowed processors mask) }
     ensures none { IfNone result (allows_one processors mask ≡ false) }

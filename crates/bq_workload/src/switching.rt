@@ -134,7 +134,7 @@ impl Roster {
         self.switch(processor, run, now)
     }
 
-    /// So many tasks have entered the queue of a processor, where this one runs now.
+    /// This many tasks have entered the queue of a processor, where this one runs now.
     pub fn enter(
         &mut self,
         processor: u8,
@@ -178,7 +178,7 @@ impl Roster {
         Ok(())
     }
 
-    /// A processor has so many tasks more.
+    /// A processor has this many tasks more.
     fn grow(&mut self, processor: u8, count: u32) -> Result<(), BrokenInvariant>
         ensures accounts { OnOk result (accounts_of self.new ≡ grown processor count (accounts_of self.old)) }
         ensures event_queue { self.new.event_queue ≡ self.old.event_queue }

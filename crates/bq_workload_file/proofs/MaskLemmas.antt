@@ -25,7 +25,7 @@ none_allowed mask first (suc count) h =
     let whole : rest % 2 ^ (count + 1) ≡ 0 = mod-pow-add rest count 1 ∙ sum in
     subst (λ (n : ℕ). rest % 2 ^ n ≡ 0) (add-one count) whole
 
--- a mask that has a bit among the first so many
+-- a mask that has a bit among the first bits, this many
 pub one-allowed : (mask processors : ℕ) → (bit_and mask (2 ^ processors - 1) == 0) ≡ false → allows_one processors mask ≡ true
 one-allowed mask processors some =
     true_from_ne_false (allows_one processors mask) (λ none.

@@ -53,6 +53,6 @@ rule_in d = option_and_then rule_of (as_str d)
 abbrev pub size_in : Data → Option ProcessorCount
 size_in d = option_and_then size_numbered (number_in 1 64 d)
 
--- a text with something in it, and with at most so many bytes
+-- a text with something in it, and with at most this many bytes
 abbrev pub name_of : Data → Option (List ℕ)
 name_of d = option_and_then (λ s. if nat_lt 0 (length s) && nat_le (length s) LONGEST_NAME then Some s else None) (as_str d)

@@ -30,12 +30,12 @@ abbrev pub first_unknown : List (List ℕ) → Members → Option (List ℕ)
 first_unknown words no_members = None
 first_unknown words (member key value more) = if is_one_of words key then first_unknown words more else Some key
 
--- the key of which it is told that it means nothing
+-- the key of which it is reported that it means nothing
 abbrev pub unknown_key : Why → Option (List ℕ)
 unknown_key (UnknownKey key known) = Some key.now
 unknown_key why = None
 
--- the same, of what is told with its place
+-- the same, of what is reported with its place
 abbrev pub unknown_there : Trouble → Option (List ℕ)
 unknown_there (At place why) = unknown_key why
 unknown_there OutOfMemory = None

@@ -55,7 +55,7 @@ short_of None sleep = None
 short_of (Some run) None = option_map (λ r. Run r ∷ []) (length_of run)
 short_of (Some run) (Some sleep) = option_and_then (λ r. option_map (λ s. Run r ∷ Sleep s ∷ []) (length_of sleep)) (length_of run)
 
--- what a task does: its `do`, alone, or `run` and `sleep`
+-- what a task does: only its `do`, or `run` and `sleep`
 abbrev pub doing : List (String Global) → Option Data → Option Data → Option Data → Option (List Action)
 doing names None run sleep = short_of run sleep
 doing names (Some list) None None = option_and_then (actions_of names []) (as_array list)

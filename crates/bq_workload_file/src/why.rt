@@ -84,7 +84,7 @@ pub(crate) enum Why<'a> {
     TwoForms,
     /// Nothing in a `do` takes time.
     NoTime,
-    /// None of the machine's processors, which are so many, is among those.
+    /// None of the machine's processors, of which there are this many, is among those.
     NoProcessor {
         value: &'a Value,
         processors: u8,

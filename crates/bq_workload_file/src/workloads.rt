@@ -57,7 +57,7 @@ pub fn read(alloc: Global, text: &str, changes: Changes) -> Result<Workload, Fau
     }
 }
 
-/// The fault that a trouble is told as.
+/// The fault that a trouble is reported as.
 fn told(alloc: Global, trouble: &Trouble<'_>) -> Fault
     ensures { (text : List ℕ) → IsSome (parse_document text) → IsReadFault text result }
 {

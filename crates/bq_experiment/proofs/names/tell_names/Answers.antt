@@ -1,4 +1,4 @@
--- A comment that names a task is told.
+-- A comment that names a task is reported.
 use Rattle.std.proofs.Common.{◌≡◌, ◌++◌, ◌∷◌, [], ℕ, List, String, Global, ap, codes, decimal, get_or, length, map, refl, string_bytes, subst, sym, take, ◌∙◌}
 use Rattle.std.proofs.lemmas.List.{length-map, take_all}
 use Rattle.bq_trace.specs.News.{Told, TakesAll}

@@ -4,6 +4,6 @@ use Rattle.bq_experiment.specs.Names.{comments_from}
 use Rattle.bq_experiment.specs.Traces.{skipped}
 use Rattle.bq_experiment.proofs.names.tell_names.Given as goal
 
--- so many tasks are named
+-- this many tasks are named
 abbrev pub invariant-names : goal.invariant-names
 invariant-names g l = TakesAll g.S.Sink.takes l.initial.sink (map skipped (comments_from 0 (map string_bytes (take l.task-counter l.name-items)))) l.sink

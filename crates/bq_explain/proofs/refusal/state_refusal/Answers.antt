@@ -8,7 +8,6 @@ use Rattle.bq_explain.proofs.refusal.state_refusal.Goals as goal
 pub trail_of-requires-clause-laid : goal.trail_of-requires-clause-laid
 trail_of-requires-clause-laid c = record {
   whole = rw c.in_ok-program.ensures.insns c.args.policy.now.whole;
-  few = rw c.in_ok-program.ensures.shapes c.args.policy.now.few;
   short = rw c.requires.slots (few_slots c.args.policy.now.insns.items c.args.policy.now.whole);
   sound = faultless_sound c.args.policy.now.insns.items c.args.slots.now c.requires.slots (subst (λ (s : List (Option Insn)). IsFaultless s) (sym c.requires.slots) c.requires.faultless);
 }

@@ -15,6 +15,7 @@ returns-in_err-slot_leads_well-clause-err c =
 pub returns-clause-ok : goal.returns-clause-ok
 returns-clause-ok c = record {
   good = c.requires.good;
+  gaps = c.requires.gaps;
   short = c.requires.short;
   leads = λ slot insn here.
       let inside = start_inside c.args.slots.now slot (record { insn = insn; here = here }) in

@@ -24,3 +24,8 @@ returns-in_err-program-clause-unread c =
 pub returns-clause-image : goal.returns-clause-image
 returns-clause-image c =
     rw c.in_ok-program.ensures.items (is_image c.args.bytes.now (spelled_of c.in_ok-header.header) c.in_ok-header.program.now c.in_ok-shapes.shapes.items c.in_ok-header.ensures.ok c.in_ok-shapes.ensures.ok)
+
+pub invariant_of-form : goal.invariant_of-form
+invariant_of-form c = record {
+  few = (is_image c.args.bytes.now (spelled_of c.in_ok-header.header) c.in_ok-header.program.now c.in_ok-shapes.shapes.items c.in_ok-header.ensures.ok c.in_ok-shapes.ensures.ok).framed.header.few;
+}

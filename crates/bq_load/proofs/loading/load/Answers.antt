@@ -3,7 +3,7 @@ use Rattle.std.proofs.lemmas.Result.{err_from_is_err_and}
 use Rattle.bq_load.specs.Headers.{spelled_of}
 use Rattle.bq_load.proofs.FieldLemmas.{AreBytes-fit}
 use Rattle.bq_load.proofs.FramingLemmas.{has_image, is_image}
-use Rattle.bq_load.proofs.LoadLemmas.{fault_is_unloaded, unloaded_program, unloaded_refusal, has_program, accepted_is_loaded, straight_bytes, straight_code, straight_program}
+use Rattle.bq_load.proofs.LoadLemmas.{fault_is_unloaded, unloaded_program, unloaded_refusal, accepted_is_loaded, straight_bytes, straight_code, straight_program}
 use Rattle.bq_load.proofs.loading.load.Goals as goal
 
 pub returns-in_err-header-clause-unloaded : goal.returns-in_err-header-clause-unloaded
@@ -32,16 +32,17 @@ returns-in_err-shapes-clause-unloaded c =
     let p = err_from_is_err_and c.from_residual-in_err-shapes.result c.from_residual-in_err-shapes.ensures.1 in
     rw (p.1, p.2, c.in_err-shapes.ensures.err) (has_image c.args.bytes.now (spelled_of c.in_ok-header.header) c.in_ok-header.program.now c.in_ok-header.ensures.ok)
 
-pub verify-requires-clause-few : goal.verify-requires-clause-few
-verify-requires-clause-few c =
-    (is_image c.args.bytes.now (spelled_of c.in_ok-header.header) c.in_ok-header.program.now c.in_ok-shapes.shapes.items c.in_ok-header.ensures.ok c.in_ok-shapes.ensures.ok).framed.header.few
+pub invariant_of-form : goal.invariant_of-form
+invariant_of-form c = record {
+  few = (is_image c.args.bytes.now (spelled_of c.in_ok-header.header) c.in_ok-header.program.now c.in_ok-shapes.shapes.items c.in_ok-header.ensures.ok c.in_ok-shapes.ensures.ok).framed.header.few;
+}
 
 pub returns-in_err-verified-clause-unloaded : goal.returns-in_err-verified-clause-unloaded
 returns-in_err-verified-clause-unloaded c =
     let p = err_from_is_err_and c.from_residual-in_err-verified.result c.from_residual-in_err-verified.ensures.1 in
     let s = spelled_of c.in_ok-header.header in
-    let made = has_program c.args.bytes.now s c.in_ok-header.program.now c.in_ok-insns.insns.items c.in_ok-header.ensures.ok c.in_ok-insns.ensures.spelled c.in_ok-insns.ensures.well_formed c.in_ok-insns.ensures.numbers in
-    rw (p.1, p.2) (unloaded_refusal c.args.bytes.now s c.in_ok-header.program.now c.in_ok-insns.insns.items c.in_err-verified.field-0.0 c.in_ok-header.ensures.ok made c.in_err-verified.ensures.refused
+    rw (p.1, p.2) (unloaded_refusal c.args.bytes.now s c.in_ok-header.program.now c.in_ok-insns.insns.items c.in_ok-shapes.shapes.items c.in_err-verified.field-0.0 c.in_ok-header.ensures.ok
+    c.in_ok-insns.ensures.spelled c.in_ok-insns.ensures.well_formed c.in_ok-insns.ensures.numbers c.in_ok-shapes.ensures.ok c.in_err-verified.ensures.refused
     (λ straight.
     c.in_err-verified.ensures.accepts
     (straight_program c.args.bytes.now s c.in_ok-header.program.now c.in_ok-insns.insns.items c.in_ok-shapes.shapes.items c.in_ok-header.ensures.ok straight c.in_ok-insns.ensures.spelled c.in_ok-insns.ensures.well_formed c.in_ok-insns.ensures.numbers c.in_ok-shapes.ensures.ok)))

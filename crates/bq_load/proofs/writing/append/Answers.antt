@@ -28,5 +28,5 @@ pub returns-clause-ok : goal.returns-clause-ok
 returns-clause-ok c =
     four_parts c.args.out.now.items c.extend_from_slice.new.self.items c.append_shapes.new.out.items c.extend_from_slice-2.new.self.items c.extend_from_slice-3.new.self.items _ _ _ _ _ _ _ _
     c.in_ok-extend_from_slice.ensures.items c.in_ok-append_shapes.ensures.ok c.in_ok-extend_from_slice-2.ensures.items c.in_ok-extend_from_slice-3.ensures.items
-    (c.opening.ensures ∙ ap (opening c.args.image.now.version c.args.image.now.hook) (c.len-count.ensures ∙ c.args.image.now.shapes.ok.0)) (ap shapes_bytes c.as_slice.ensures.value)
+    (c.opening.ensures ∙ ap (opening c.args.image.now.form.version c.args.image.now.form.hook) (c.len-count.ensures ∙ c.args.image.now.form.shapes.ok.0)) (ap shapes_bytes c.as_slice.ensures.value)
     (c.to_le_bytes.ensures ∙ ap (λ (n : ℕ). to_le_bytes w32 (n / 8)) (c.len.ensures ∙ c.args.image.now.program.ok.0)) c.as_slice-2.ensures.value

@@ -3,18 +3,20 @@ use Rattle.std.proofs.lemmas.Result.{IfErr-at_err, IfOk-weaker}
 use Rattle.bq_verify.specs.Refusals.{IsOutOfMemory}
 use Rattle.bq_insn.specs.Slots.{spread}
 use Rattle.bq_policy_run.specs.Running.{IsProgramOf, RunsPolicy, RunsProgram}
-use Rattle.bq_policy_run.proofs.AcceptedLemmas.{refused_policy, runs_accepted, safe_policy}
+use Rattle.bq_verify.specs.Subjects.{handed_in}
+use Rattle.bq_explain.proofs.VerdictLemmas.{refused_policy, safe_policy}
+use Rattle.bq_policy_run.proofs.AcceptedLemmas.{runs_accepted}
 use Rattle.bq_policy_run.proofs.running.run_policy.Goals as goal
 
 pub returns-in-Ok : goal.returns-in-Ok
 returns-in-Ok g c =
     let of : IsProgramOf c.args.policy.now c.in-Ok.verified = record {
-      slots = c.in-Ok.ensures.slots ∙ ap spread (c.in_ok-from_slice.ensures.items ∙ c.as_slice.ensures.value);
-      shapes = c.in-Ok.ensures.shapes ∙ (c.in_ok-from_slice-2.ensures.items ∙ c.as_slice-2.ensures.value);
-      hook = c.in-Ok.ensures.hook;
-      version = c.in-Ok.ensures.version;
+      slots = c.in-Ok.ensures.slots ∙ ap spread c.in_ok-program.ensures.insns;
+      shapes = c.in-Ok.ensures.shapes ∙ c.in_ok-program.ensures.shapes;
+      hook = c.in-Ok.ensures.hook ∙ c.in_ok-program.ensures.hook;
+      version = c.in-Ok.ensures.version ∙ c.in_ok-program.ensures.version;
     } in
-    let safe = safe_policy c.args.policy.now c.in-Ok.verified of c.in-Ok.ensures.faultless c.in-Ok.ensures.safe c.in-Ok.ensures.budget in
+    let safe = safe_policy c.args.policy.now c.in-Ok.verified of.slots of.shapes of.hook of.version c.in-Ok.ensures.faultless c.in-Ok.ensures.safe c.in-Ok.ensures.budget in
     IfOk-weaker c.run_verified.result (RunsProgram c.args.words.now c.in-Ok.verified) (RunsPolicy c.args.words.now c.args.policy.now)
     (λ answer runs. inr (runs_accepted c.args.words.now c.args.policy.now c.in-Ok.verified answer of safe runs)) c.run_verified.ensures
 
@@ -23,8 +25,8 @@ returns-in_ok-text-in-Err-At g c =
     inl record {
       slot = c.in-Err-At.slot;
       cause = c.in-Err-At.cause;
-      refusal = refused_policy c.args.policy.now _ _ c.in-Err-At.field-0 c.in-Err-At.slot c.in-Err-At.cause (c.in_ok-from_slice.ensures.items ∙ c.as_slice.ensures.value)
-          (c.in_ok-from_slice-2.ensures.items ∙ c.as_slice-2.ensures.value) c.in-Err-At.field-0-is (IfErr-at_err _ c.in-Err-At.is c.verify.ensures.refused)
+      refusal = refused_policy c.args.policy.now (handed_in c.in_ok-program.program) c.in-Err-At.field-0 c.in-Err-At.slot c.in-Err-At.cause c.in_ok-program.ensures.judged
+          c.in-Err-At.field-0-is (IfErr-at_err _ c.in-Err-At.is c.verify.ensures.refused)
           (λ straight. IfErr-at_err IsOutOfMemory c.in-Err-At.is (c.verify.ensures.accepts straight));
       text = c.in_ok-text-in-Err-At.text;
       is = refl;

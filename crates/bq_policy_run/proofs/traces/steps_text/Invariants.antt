@@ -3,7 +3,7 @@ use Rattle.std.specs.String.{string_bytes}
 use Rattle.bq_policy_run.specs.Tracing.{AreSteps}
 use Rattle.bq_policy_run.proofs.traces.steps_text.Given as goal
 
--- what is told so far, before what tells the rest, tells all
+-- what is shown so far, before what tells the rest, tells all
 abbrev pub invariant-loop-rest : goal.invariant-loop-rest
 invariant-loop-rest l = (more : List ℕ) → AreSteps l.verified l.rest more → AreSteps l.verified l.snapshots (string_bytes l.text ++ more)
 

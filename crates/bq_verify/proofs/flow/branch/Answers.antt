@@ -11,28 +11,25 @@ use Rattle.bq_verify.proofs.PassLemmas.{parts_of}
 use Rattle.bq_verify.proofs.flow.branch.Goals as goal
 
 pub returns-clause-parts : goal.returns-clause-parts
-returns-clause-parts c = (
-  c.in_ok-wait_on_side.ensures.kept,
-  λ f s contains.
-      let operand = c.in-Some.ensures.finds f s contains in
-      parts_of f s c.args.state.now c.args.test.width c.args.test.cond c.args.test.dst c.args.test.src c.args.to c.args.next
-      (IsKnown c.wait_on_side.new.pending c.carry_on.new.state c.carry_on.result c.args.next)
-      c.in-Some-known.left c.in-Some.right c.in_ok-yes.yes c.in_ok-no.no c.right_side.result c.right_side-2.result c.in-Some-known.ensures operand.0 operand.1 operand.2
-      c.in_ok-yes.ensures.fits c.in_ok-no.ensures.fits c.right_side.ensures c.right_side-2.ensures
-      (λ t at side. inl (c.in_ok-wait_on_side.ensures.added f t at side))
-      (λ t at side. let on = c.carry_on.ensures.contains f t side in inr (on.0, at, on.1))
-      contains,
-)
+returns-clause-parts c = λ f s contains.
+    let operand = c.in-Some.ensures.finds f s contains in
+    parts_of f s c.args.state.now c.args.test.width c.args.test.cond c.args.test.dst c.args.test.src c.args.to c.args.next
+    (IsKnown c.wait_on_side.new.pending c.carry_on.new.state c.carry_on.result c.args.next)
+    c.in-Some-known.left c.in-Some.right c.in_ok-yes.yes c.in_ok-no.no c.right_side.result c.right_side-2.result c.in-Some-known.ensures operand.0 operand.1 operand.2
+    c.in_ok-yes.ensures.fits c.in_ok-no.ensures.fits c.right_side.ensures c.right_side-2.ensures
+    (λ t at side. inl (c.in_ok-wait_on_side.ensures.added f t at side))
+    (λ t at side. let on = c.carry_on.ensures.contains f t side in inr (on.0, at, on.1))
+    contains
 
 pub returns-clause-sure : goal.returns-clause-sure
-returns-clause-sure c = λ scalar operand x k waits both.
+returns-clause-sure c = λ scalar operand x k waits yes_side no_side.
     let there = known_inside c.args.state.now.registers c.args.test.dst c.in-Some-known.left c.in-Some-known.ensures in
     let left : c.in-Some-known.left.kind ≡ Number = subst (λ (v : Option AbstractValue). Stands Scalar v) (sym c.in-Some-known.ensures) scalar in
     let right : c.in-Some.right.kind ≡ Number = c.in-Some.ensures.scalar operand in
     record {
-      waiting = c.in_ok-wait_on_side.ensures.has x k waits (λ same. let so = both (inl same) in has_on_side x c.args.state.now c.args.test.dst c.in_ok-yes.yes there so.0 so.1 scalar (c.in_ok-yes.ensures.number left right) so.2);
+      waiting = c.in_ok-wait_on_side.ensures.has x k waits (λ same. let so = yes_side same in has_on_side x c.args.state.now c.args.test.dst c.in_ok-yes.yes there so.0 so.1 scalar (c.in_ok-yes.ensures.number left right) so.2);
       transferred = λ live same.
-          let so = both (inr same) in
+          let so = no_side same in
           c.carry_on.ensures.has x (has_on_side x c.args.state.now c.args.test.dst c.in_ok-no.no there so.0 so.1 scalar (c.in_ok-no.ensures.number left right) so.2) live;
     }
 

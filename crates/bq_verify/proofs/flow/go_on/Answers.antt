@@ -7,6 +7,7 @@ use Rattle.bq_transfer.specs.Ready.{IsReady}
 use Rattle.bq_states.specs.Certainty.{Has, Outlasts}
 use Rattle.bq_transfer.specs.Sides.{is_found}
 use Rattle.bq_insn.proofs.OptionLemmas.{some_none}
+use Rattle.bq_verify.specs.Subjects.{judged}
 use Rattle.bq_verify.proofs.SideLemmas.{transferred_if_no_jump, differ_if_goes_on, differ_if_jumps, has_tested, sure_outlasts_test, lasting_after}
 use Rattle.bq_transfer.proofs.CertaintyLemmas.{has_left, not_both}
 use mir.Syntax.{w16, w32}
@@ -29,39 +30,33 @@ returns-in_ok-wait-in-Goto-clause-goes c =
     let distance : c.from.result ≡ c.in-Goto.off = search rules in
     let fits : SFits w16 c.in-Goto.off = search rules in
     let leads : LeadsTo c.args.slot c.in-Goto.off c.target-to.result = omega (arith, ints, c.target-to.ensures.to) in
-    let here : instruction_at c.args.subject.now.slots.now c.args.slot ≡ Some (Goto c.in-Goto.off) = rw c.in-Goto.is at c.requires.here in (
-      c.in_ok-wait-in-Goto.ensures.kept,
-      goes_there c.args.subject.now.slots.now c.args.subject.now.shapes.now c.args.subject.now.context c.args.slot c.args.state.now (IsKnown c.wait.new.pending c.args.state.now false (c.args.slot + 1))
-          c.in-Goto.off c.target-to.result here leads (λ f s at contains. inl (c.in_ok-wait-in-Goto.ensures.added f s at contains)),
-    )
+    let here : instruction_at c.args.subject.now.slots.now c.args.slot ≡ Some (Goto c.in-Goto.off) = rw c.in-Goto.is at c.requires.here in
+    goes_there (judged c.args.subject.now) c.args.slot c.args.state.now (IsKnown c.wait.new.pending c.args.state.now false (c.args.slot + 1))
+    c.in-Goto.off c.target-to.result here leads (λ f s at contains. inl (c.in_ok-wait-in-Goto.ensures.added f s at contains))
 
 pub returns-in_ok-wait-in-Goto32-clause-goes : goal.returns-in_ok-wait-in-Goto32-clause-goes
 returns-in_ok-wait-in-Goto32-clause-goes c =
     let distance : c.from-in-Goto32.result ≡ c.in-Goto32.imm = search rules in
     let fits : SFits w32 c.in-Goto32.imm = search rules in
     let leads : LeadsTo c.args.slot c.in-Goto32.imm c.target-to-in-Goto32.result = omega (arith, ints, c.target-to-in-Goto32.ensures.to) in
-    let here : instruction_at c.args.subject.now.slots.now c.args.slot ≡ Some (Goto32 c.in-Goto32.imm) = rw c.in-Goto32.is at c.requires.here in (
-      c.in_ok-wait-in-Goto32.ensures.kept,
-      goes_far c.args.subject.now.slots.now c.args.subject.now.shapes.now c.args.subject.now.context c.args.slot c.args.state.now (IsKnown c.wait-in-Goto32.new.pending c.args.state.now false (c.args.slot + 1))
-          c.in-Goto32.imm c.target-to-in-Goto32.result here leads (λ f s at contains. inl (c.in_ok-wait-in-Goto32.ensures.added f s at contains)),
-    )
+    let here : instruction_at c.args.subject.now.slots.now c.args.slot ≡ Some (Goto32 c.in-Goto32.imm) = rw c.in-Goto32.is at c.requires.here in
+    goes_far (judged c.args.subject.now) c.args.slot c.args.state.now (IsKnown c.wait-in-Goto32.new.pending c.args.state.now false (c.args.slot + 1))
+    c.in-Goto32.imm c.target-to-in-Goto32.result here leads (λ f s at contains. inl (c.in_ok-wait-in-Goto32.ensures.added f s at contains))
 
 pub wait-requires-in_default : goal.wait-requires-in_default
 wait-requires-in_default c =
     let edge : IsEdge c.args.subject.now.slots.now c.args.slot (c.args.slot + slots_of c.args.insn) =
     record { insn = c.args.insn; here = c.requires.here; leaves = c.in_ok-transfer-in_default.ensures.straight c.args.slot } in
-    let inside : c.args.slot + slots_of c.args.insn < length c.args.subject.now.slots.now = start_inside c.args.subject.now.slots.now _ (c.requires.sound.forward c.args.slot (c.args.slot + slots_of c.args.insn) edge).1 in
+    let inside : c.args.slot + slots_of c.args.insn < length c.args.subject.now.slots.now = start_inside c.args.subject.now.slots.now _ (c.requires.passable.sound.forward c.args.slot (c.args.slot + slots_of c.args.insn) edge).1 in
     record { here = rw (c.slots-count.ensures, c.requires.room) inside }
 
 pub returns-in_ok-wait-in_default : goal.returns-in_ok-wait-in_default
 returns-in_ok-wait-in_default c = record {
   long = search rules;
-  goes = (
-    c.in_ok-wait-in_default.ensures.kept,
-    goes_on c.args.subject.now.slots.now c.args.subject.now.shapes.now c.args.subject.now.context c.args.slot c.args.state.now (IsKnown c.wait-in_default.new.pending c.transfer.new.state false (c.args.slot + 1))
-        c.args.insn c.transfer.new.state c.requires.here c.in_ok-transfer-in_default.ensures.straight c.in_ok-transfer-in_default.ensures.transfers
-        (λ f s at contains. inl (c.in_ok-wait-in_default.ensures.added f s (rw c.slots-count.ensures at) contains)),
-  );
+  kept = c.in_ok-wait-in_default.ensures.kept;
+  goes = goes_on (judged c.args.subject.now) c.args.slot c.args.state.now (IsKnown c.wait-in_default.new.pending c.transfer.new.state false (c.args.slot + 1))
+      c.args.insn c.transfer.new.state c.requires.here c.in_ok-transfer-in_default.ensures.straight c.in_ok-transfer-in_default.ensures.transfers
+      (λ f s at contains. inl (c.in_ok-wait-in_default.ensures.added f s (rw c.slots-count.ensures at) contains));
   obligations = tt;
   accepts = λ ready. tt;
   sure = λ ready x k waits after.
@@ -82,22 +77,18 @@ returns-in-Branch-clause-goes c =
     let leads : LeadsTo c.args.slot c.in-Branch.off c.target-to-in-Branch.result = omega (arith, ints, c.target-to-in-Branch.ensures.to) in
     let here : instruction_at c.args.subject.now.slots.now c.args.slot ≡ Some (Branch c.in-Branch.width c.in-Branch.cond c.in-Branch.dst c.in-Branch.src c.in-Branch.off) = rw c.in-Branch.is at c.requires.here in
     IfOk-weaker c.branch-alloc.result _ _
-    (λ live parts. (
-      parts.0,
-      goes_apart c.args.subject.now.slots.now c.args.subject.now.shapes.now c.args.subject.now.context c.args.slot c.args.state.now (IsKnown c.branch-alloc.new.pending c.branch-alloc.new.state live (c.args.slot + 1))
-          c.in-Branch.width c.in-Branch.cond c.in-Branch.dst c.in-Branch.src c.in-Branch.off c.target-to-in-Branch.result here leads parts.1,
-    ))
+    (λ live parts.
+    goes_apart (judged c.args.subject.now) c.args.slot c.args.state.now (IsKnown c.branch-alloc.new.pending c.branch-alloc.new.state live (c.args.slot + 1))
+    c.in-Branch.width c.in-Branch.cond c.in-Branch.dst c.in-Branch.src c.in-Branch.off c.target-to-in-Branch.result here leads parts)
     c.branch-alloc.ensures.parts
 
 pub returns-then-count-eq1 : goal.returns-then-count-eq1
 returns-then-count-eq1 c = record {
   long = search rules;
-  goes = (
-    λ f s waits. waits,
-    goes_on c.args.subject.now.slots.now c.args.subject.now.shapes.now c.args.subject.now.context c.args.slot c.args.state.now (IsKnown c.args.pending.now c.transfer.new.state true (c.args.slot + 1))
-        c.args.insn c.transfer.new.state c.requires.here c.in_ok-transfer-in_default.ensures.straight c.in_ok-transfer-in_default.ensures.transfers
-        (λ f s at contains. inr (refl, at ∙ ap (λ (n : ℕ). c.args.slot + n) one, contains)),
-  );
+  kept = λ f s waits. waits;
+  goes = goes_on (judged c.args.subject.now) c.args.slot c.args.state.now (IsKnown c.args.pending.now c.transfer.new.state true (c.args.slot + 1))
+      c.args.insn c.transfer.new.state c.requires.here c.in_ok-transfer-in_default.ensures.straight c.in_ok-transfer-in_default.ensures.transfers
+      (λ f s at contains. inr (refl, at ∙ ap (λ (n : ℕ). c.args.slot + n) one, contains));
   obligations = tt;
   accepts = λ ready. tt;
   sure = λ ready x k waits after.
@@ -166,10 +157,8 @@ returns-in-Branch-clause-sure c = λ ready.
           ) in
           on in
           sure x k waits
-          (λ either. elim either [
-            | inl same ↦ left (subst (λ (n : ℕ). IsEdge c.args.subject.now.slots.now c.args.slot n) (sym same) there)
-            | inr same ↦ left (subst (λ (n : ℕ). IsEdge c.args.subject.now.slots.now c.args.slot n) (sym same) next)
-          ]))
+          (λ same. left (subst (λ (n : ℕ). IsEdge c.args.subject.now.slots.now c.args.slot n) (sym same) there))
+          (λ same. left (subst (λ (n : ℕ). IsEdge c.args.subject.now.slots.now c.args.slot n) (sym same) next)))
           (c.branch-alloc.ensures.sure numbers.0 numbers.1)
       | inr check ↦
           IfOk-weaker c.branch-alloc.result _ _
@@ -238,9 +227,6 @@ returns-in-Branch-clause-obligations c =
     rw c.in-Branch.is (IfErr-weaker c.branch-alloc.result _ _ (λ stop obligations. obligations (Branch c.in-Branch.width c.in-Branch.cond c.in-Branch.dst c.in-Branch.src c.in-Branch.off) tt tt) c.branch-alloc.ensures.obligations)
 
 pub returns-in_ok-leave-in-Exit-clause-goes : goal.returns-in_ok-leave-in-Exit-clause-goes
-returns-in_ok-leave-in-Exit-clause-goes c = (
-  λ f s waits. waits,
-  λ f s setting same contains.
-      let got = c.in_ok-leave-in-Exit.ensures.answers f s contains in
-      inl (got.0, record { here = rw (setting.slots_are, same) (rw c.in-Exit.is at c.requires.here); answer_is = got.1; maps_are = refl }),
-)
+returns-in_ok-leave-in-Exit-clause-goes c = λ f s setting same contains.
+    let got = c.in_ok-leave-in-Exit.ensures.answers f s contains in
+    inl (got.0, record { here = rw (setting.slots_are, same) (rw c.in-Exit.is at c.requires.here); answer_is = got.1; maps_are = refl })

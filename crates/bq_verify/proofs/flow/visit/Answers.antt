@@ -3,6 +3,7 @@ use Rattle.std.proofs.lemmas.Bool.{false≢true}
 use Rattle.bq_insn.specs.declared.Insn.{Insn}
 use Rattle.bq_insn.specs.declared.Insn.TheVariants.{Call}
 use Rattle.bq_bpf.specs.Steps.{instruction_at}
+use Rattle.bq_verify.specs.Subjects.{judged}
 use Rattle.bq_verify.specs.Edges.{IsEdge}
 use Rattle.bq_transfer.specs.After.{After}
 use Rattle.bq_transfer.proofs.CertaintyLemmas.{has_answered}
@@ -12,12 +13,10 @@ use Rattle.bq_verify.proofs.PassLemmas.{goes_asking}
 use Rattle.bq_verify.proofs.flow.visit.Goals as goal
 
 pub returns-then-is_counter_call-clause-goes : goal.returns-then-is_counter_call-clause-goes
-returns-then-is_counter_call-clause-goes c = (
-  λ f s waits. waits,
-  goes_asking c.args.subject.now.slots.now c.args.subject.now.shapes.now c.args.subject.now.context c.args.slot c.args.state.now (IsKnown c.args.pending.now c.ask.new.state true (c.args.slot + 1))
-      c.args.insn c.ask.new.state c.requires.here (c.is_counter_call.ensures.is c.if-is_counter_call.true) c.in_ok-ask.ensures.asks
-      (λ f s at contains. inr (refl, at, contains)),
-)
+returns-then-is_counter_call-clause-goes c =
+    goes_asking (judged c.args.subject.now) c.args.slot c.args.state.now (IsKnown c.args.pending.now c.ask.new.state true (c.args.slot + 1))
+    c.args.insn c.ask.new.state c.requires.here (c.is_counter_call.ensures.is c.if-is_counter_call.true) c.in_ok-ask.ensures.asks
+    (λ f s at contains. inr (refl, at, contains))
 
 pub returns-in_err-ask-clause-accepts : goal.returns-in_err-ask-clause-accepts
 returns-in_err-ask-clause-accepts c = λ ready.

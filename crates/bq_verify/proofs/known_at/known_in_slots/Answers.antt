@@ -1,30 +1,22 @@
-use Rattle.std.proofs.Common.{◌≡◌, ◌<◌, List, Option, length, sym, ap, subst, ◌∙◌}
+use Rattle.std.proofs.Common.{◌≡◌, List, Option, sym, ap, subst, ◌∙◌}
 use Rattle.bq_insn.specs.declared.Insn.{Insn}
 use Rattle.bq_insn.specs.Slots.{spread}
 use Rattle.bq_verify.specs.Faults.{IsFaultless}
-use Rattle.bq_verify.proofs.GraphLemmas.{spread_whole, spread_first, faultless_sound}
-use Rattle.bq_verify.proofs.FrameLemmas.{spares_frame}
+use Rattle.bq_verify.proofs.GraphLemmas.{spread_whole}
+use Rattle.bq_verify.proofs.VerdictLemmas.{passable_program}
 use Rattle.bq_verify.specs.declared.refused.Refused.TheVariants.{OutOfMemory}
 use Rattle.bq_verify.proofs.known_at.known_in_slots.Goals as goal
 
 pub check_graph-requires-clause-whole : goal.check_graph-requires-clause-whole
 check_graph-requires-clause-whole c = spread_whole _ _ (c.as_slice-2.ensures.value ∙ c.in_ok-slots.ensures)
 
-pub known_at-requires-clause-sound : goal.known_at-requires-clause-sound
-known_at-requires-clause-sound c =
-    let same = c.as_slice-2.ensures.value ∙ sym c.as_slice-in-Ok.ensures.value in
-    faultless_sound _ _ (c.as_slice-in-Ok.ensures.value ∙ c.in_ok-slots.ensures) (subst (λ (s : List (Option Insn)). IsFaultless s) same c.in-Ok.ensures.ok)
-
-pub known_at-requires-clause-first : goal.known_at-requires-clause-first
-known_at-requires-clause-first c =
-    let same : c.as_slice-in-Ok.result.now ≡ spread c.args.program.now.insns.items = c.as_slice-in-Ok.ensures.value ∙ c.in_ok-slots.ensures ∙ ap spread c.as_slice.ensures.value in
-    spread_first c.args.program.now.insns.items c.as_slice-in-Ok.result.now same (subst (λ (s : List (Option Insn)). 0 < length s) (sym same) c.requires.some)
-
-pub known_at-requires-clause-frame : goal.known_at-requires-clause-frame
-known_at-requires-clause-frame c =
+pub known_at-requires-clause-passable : goal.known_at-requires-clause-passable
+known_at-requires-clause-passable c =
     let same : c.as_slice-in-Ok.result.now ≡ spread c.args.program.now.insns.items = c.as_slice-in-Ok.ensures.value ∙ c.in_ok-slots.ensures ∙ ap spread c.as_slice.ensures.value in
     let faultless = c.as_slice-2.ensures.value ∙ sym c.as_slice-in-Ok.ensures.value in
-    spares_frame c.args.program.now.insns.items c.as_slice-in-Ok.result.now same c.requires.registers (subst (λ (s : List (Option Insn)). IsFaultless s) faultless c.in-Ok.ensures.ok)
+    rw (c.as_slice-in-Ok-2.ensures.value, c.context_length.ensures)
+    (passable_program c.args.program.now.insns.items c.as_slice-in-Ok.result.now c.args.program.now.form same c.requires.registers c.requires.some c.requires.short
+    (subst (λ (s : List (Option Insn)). IsFaultless s) faultless c.in-Ok.ensures.ok))
 
 pub returns-in-Err-At-clause-none : goal.returns-in-Err-At-clause-none
 returns-in-Err-At-clause-none c = λ inside straight.

@@ -1,4 +1,5 @@
 use Rattle.std.proofs.Common.{◌≡◌, ℕ, true, length}
+use Rattle.bq_verify.specs.Subjects.{judged}
 use Rattle.bq_verify.specs.Control.{AreMade, IsKnown, RestIsSafe}
 use Rattle.bq_verify.specs.Straight.{IsStraightProgram}
 use Rattle.bq_verify.specs.Sure.{IsSure}
@@ -7,7 +8,7 @@ use Rattle.bq_verify.proofs.pass.pass.Given as goal
 abbrev pub invariant-loop-slot : goal.invariant-loop-slot
 invariant-loop-slot l = record {
   long : length l.pending ≡ length l.subject.slots.now;
-  rest : (made : ℕ → ℕ) → AreMade l.subject.slots.now made → RestIsSafe l.subject.slots.now l.subject.shapes.now l.subject.context l.heights made l.slot (IsKnown l.pending l.state l.live l.slot)
-      → RestIsSafe l.subject.slots.now l.subject.shapes.now l.subject.context l.heights made 0 (IsKnown l.initial.pending l.initial.state true 0);
-  sure : IsStraightProgram l.subject.slots.now l.subject.shapes.now l.subject.context → IsSure l.subject.slots.now l.initial.pending l.initial.state true 0 → IsSure l.subject.slots.now l.pending l.state l.live l.slot;
+  rest : (made : ℕ → ℕ) → AreMade l.subject.slots.now made → RestIsSafe (judged l.subject) l.heights made l.slot (IsKnown l.pending l.state l.live l.slot)
+      → RestIsSafe (judged l.subject) l.heights made 0 (IsKnown l.initial.pending l.initial.state true 0);
+  sure : IsStraightProgram (judged l.subject) → IsSure l.subject.slots.now l.initial.pending l.initial.state true 0 → IsSure l.subject.slots.now l.pending l.state l.live l.slot;
 }

@@ -1,4 +1,4 @@
-use Rattle.std.proofs.Common.{◌≡◌, ℕ, List, [], ◌∷◌, ◌++◌, length, take, drop, refl, ap, sym, ◌∙◌, subst, arith}
+use Rattle.std.proofs.Common.{◌≡◌, ℕ, List, [], ◌∷◌, ◌++◌, length, take, drop, refl, ap, sym, subst, arith}
 use Rattle.std.specs.List.{slice_index}
 use Rattle.bq_verify.specs.Paths.{IsGreatest, PathOut}
 use Rattle.bq_verify.proofs.program.heights_of.Goals as goal

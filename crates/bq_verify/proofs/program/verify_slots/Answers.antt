@@ -4,9 +4,10 @@ use Rattle.bq_insn.specs.declared.Insn.{Insn}
 use Rattle.bq_insn.specs.Slots.{spread}
 use Rattle.bq_verify.specs.Faults.{IsFaultless}
 use Rattle.bq_verify.specs.Passes.{Measured}
-use Rattle.bq_verify.proofs.GraphLemmas.{spread_whole, spread_first, faultless_sound, heights_are, first_height_is_longest}
+use Rattle.bq_verify.specs.Subjects.{handed_in}
+use Rattle.bq_verify.proofs.GraphLemmas.{spread_whole, faultless_sound, heights_are, first_height_is_longest}
 use Rattle.bq_verify.specs.Control.{AreMade}
-use Rattle.bq_verify.proofs.FrameLemmas.{spares_frame}
+use Rattle.bq_verify.proofs.VerdictLemmas.{passable_program, verdict_of_graph}
 use Rattle.bq_verify.proofs.program.verify_slots.Goals as goal
 
 pub check_graph-requires-clause-whole : goal.check_graph-requires-clause-whole
@@ -17,9 +18,11 @@ heights_of-requires-clause-sound c =
     let same = c.as_slice-2.ensures.value ∙ sym c.as_slice-3.ensures.value in
     faultless_sound _ _ (c.as_slice-3.ensures.value ∙ c.in_ok-slots.ensures) (subst (λ (s : List (Option Insn)). IsFaultless s) same c.in_ok-check_graph.ensures.ok)
 
-pub new-requires-clause-sound : goal.new-requires-clause-sound
-new-requires-clause-sound c =
-    faultless_sound _ _ c.in_ok-slots.ensures (subst (λ (s : List (Option Insn)). IsFaultless s) c.as_slice-2.ensures.value c.in_ok-check_graph.ensures.ok)
+pub new-requires-clause-passable : goal.new-requires-clause-passable
+new-requires-clause-passable c =
+    let same : c.in_ok-slots.slots.items ≡ spread c.args.program.insns.items = c.in_ok-slots.ensures ∙ ap spread c.as_slice.ensures.value in
+    passable_program c.args.program.insns.items c.in_ok-slots.slots.items c.args.program.form same c.requires.registers c.requires.some c.requires.short
+    (subst (λ (s : List (Option Insn)). IsFaultless s) c.as_slice-2.ensures.value c.in_ok-check_graph.ensures.ok)
 
 pub new-requires-clause-heights : goal.new-requires-clause-heights
 new-requires-clause-heights c =
@@ -41,16 +44,6 @@ new-requires-clause-made c =
     let made = c.in_ok-check_graph.ensures.made in
     (made.0, subst (λ (s : List (Option Insn)). AreMade s made.0) c.as_slice-2.ensures.value made.1)
 
-pub new-requires-clause-first : goal.new-requires-clause-first
-new-requires-clause-first c =
-    let same : c.in_ok-slots.slots.items ≡ spread c.args.program.insns.items = c.in_ok-slots.ensures ∙ ap spread c.as_slice.ensures.value in
-    spread_first c.args.program.insns.items c.in_ok-slots.slots.items same (subst (λ (s : List (Option Insn)). 0 < length s) (sym same) c.requires.some)
-
-pub new-requires-clause-frame : goal.new-requires-clause-frame
-new-requires-clause-frame c =
-    let same : c.in_ok-slots.slots.items ≡ spread c.args.program.insns.items = c.in_ok-slots.ensures ∙ ap spread c.as_slice.ensures.value in
-    spares_frame c.args.program.insns.items c.in_ok-slots.slots.items same c.requires.registers (subst (λ (s : List (Option Insn)). IsFaultless s) c.as_slice-2.ensures.value c.in_ok-check_graph.ensures.ok)
-
 pub returns-in_err-slots-clause-refused : goal.returns-in_err-slots-clause-refused
 returns-in_err-slots-clause-refused c =
     let error = err_from_is_err_and c.from_residual.result c.from_residual.ensures.1 in
@@ -64,7 +57,7 @@ returns-in_err-slots-clause-accepts c = λ straight.
 pub returns-in_err-check_graph-clause-refused : goal.returns-in_err-check_graph-clause-refused
 returns-in_err-check_graph-clause-refused c =
     let error = err_from_is_err_and c.from_residual-in_err-check_graph.result c.from_residual-in_err-check_graph.ensures.1 in
-    rw (error.1, error.2) (rw (c.as_slice-2.ensures.value, c.in_ok-slots.ensures, c.as_slice.ensures.value) at c.in_err-check_graph.ensures.refused)
+    rw (error.1, error.2) (verdict_of_graph (handed_in c.args.program) _ (rw (c.as_slice-2.ensures.value, c.in_ok-slots.ensures, c.as_slice.ensures.value) at c.in_err-check_graph.ensures.refused))
 
 pub returns-in-Ok-clause-faultless : goal.returns-in-Ok-clause-faultless
 returns-in-Ok-clause-faultless c = rw c.in-Ok.ensures.slots (rw c.as_slice-2.ensures.value at c.in_ok-check_graph.ensures.ok)
@@ -80,9 +73,6 @@ check_graph-requires-clause-short c = rw (c.as_slice-2.ensures.value, c.in_ok-sl
 
 pub heights_of-requires-clause-short : goal.heights_of-requires-clause-short
 heights_of-requires-clause-short c = rw (c.as_slice-3.ensures.value, c.in_ok-slots.ensures, c.as_slice.ensures.value) c.requires.short
-
-pub new-requires-clause-short : goal.new-requires-clause-short
-new-requires-clause-short c = rw (c.in_ok-slots.ensures, c.as_slice.ensures.value) c.requires.short
 
 pub new-requires-clause-some : goal.new-requires-clause-some
 new-requires-clause-some c = rw (c.in_ok-slots.ensures, c.as_slice.ensures.value) c.requires.some

@@ -1,4 +1,4 @@
--- A key that means nothing is told with its place.
+-- A key that means nothing is reported with its place.
 use Rattle.std.proofs.Common.{◌∙◌}
 use Rattle.std.proofs.lemmas.Result.{err_from_is_err_and}
 use Rattle.bq_workload_file.proofs.KeyLemmas.{unknown_there-same}

@@ -1,4 +1,4 @@
--- A key that means nothing is told.
+-- A key that means nothing is reported.
 use Rattle.std.proofs.Common.{◌∙◌}
 use Rattle.std.proofs.lemmas.Result.{err_from_is_err_and}
 use Rattle.std.specs.Result.{result_err}

@@ -23,10 +23,10 @@ keep-requires-clause-of c = subst (λ (b : List ℕ). IsOfImage (Some b) c.in_ok
 pub returns-clause-taken : goal.returns-clause-taken
 returns-clause-taken c =
     let read = c.in-Ok.read in
-    let free : image_for c.args.self.now.images read.hook ≡ None = not_found (λ (b : Bor (List ℕ)). b.now) c.image_at.result _ c.image_at.ensures (search rules) in
+    let free : image_for c.args.self.now.images read.form.hook ≡ None = not_found (λ (b : Bor (List ℕ)). b.now) c.image_at.result _ c.image_at.ensures (search rules) in
     on_ok_weaker c.keep.result
     (λ adds. (
-      read.hook,
+      read.form.hook,
       record {
         read = read;
         reads = c.in-Ok.ensures.policy;

@@ -5,7 +5,7 @@ use Rattle.bq_verify.proofs.verified.Verified.new.Goals as goal
 pub returns-in_err-judge-clause-stopped : goal.returns-in_err-judge-clause-stopped
 returns-in_err-judge-clause-stopped c =
     let error = err_from_is_err_and c.from_residual.result c.from_residual.ensures.1 in
-    rw (error.1, error.2) (rw c.as_slice.ensures.value at c.in_err-judge.ensures.stopped)
+    rw (error.1, error.2) (rw (c.as_slice.ensures.value, c.as_slice-2.ensures.value, c.context_length.ensures) at c.in_err-judge.ensures.stopped)
 
 pub returns-in_err-judge-clause-accepts : goal.returns-in_err-judge-clause-accepts
 returns-in_err-judge-clause-accepts c = λ straight.
@@ -28,23 +28,11 @@ returns-clause-safe c = rw (c.as_slice.ensures.value, c.as_slice-2.ensures.value
 pub returns-clause-accepts : goal.returns-clause-accepts
 returns-clause-accepts c = λ straight. tt
 
-pub judge-requires-clause-sound : goal.judge-requires-clause-sound
-judge-requires-clause-sound c = rw c.as_slice.ensures.value c.requires.sound
+pub judge-requires-clause-passable : goal.judge-requires-clause-passable
+judge-requires-clause-passable c = rw (c.as_slice.ensures.value, c.as_slice-2.ensures.value, c.context_length.ensures) c.requires.passable
 
 pub judge-requires-clause-heights : goal.judge-requires-clause-heights
 judge-requires-clause-heights c = rw c.as_slice.ensures.value c.requires.heights
 
 pub judge-requires-clause-made : goal.judge-requires-clause-made
 judge-requires-clause-made c = rw c.as_slice.ensures.value c.requires.made
-
-pub judge-requires-clause-first : goal.judge-requires-clause-first
-judge-requires-clause-first c = rw c.as_slice.ensures.value c.requires.first
-
-pub judge-requires-clause-short : goal.judge-requires-clause-short
-judge-requires-clause-short c = rw c.as_slice.ensures.value c.requires.short
-
-pub judge-requires-clause-frame : goal.judge-requires-clause-frame
-judge-requires-clause-frame c = rw c.as_slice.ensures.value c.requires.frame
-
-pub judge-requires-clause-few : goal.judge-requires-clause-few
-judge-requires-clause-few c = rw c.as_slice-2.ensures.value c.requires.few

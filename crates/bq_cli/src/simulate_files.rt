@@ -1,0 +1,202 @@
+//! The files that `simulate` reads: its workload, and the policies at its hooks.
+
+use bq_complain::{TextKind, kind_of_text};
+use bq_console::status::{BAD_INPUT, REFUSED};
+use bq_console::{
+    Name, file_named, name_of, read_input, say_out_of_memory, say_unread, whole_input,
+};
+use bq_experiment::{AttachFault, HookWords, Policies, StudyWords};
+use bq_hooks::Hook;
+use bq_load::LoadFault;
+use bq_policy_file::{Head, fault_text, read_policy};
+use bq_workload::Workload;
+use bq_workload_file::{Changes, Fault, read};
+use std::process::ExitCode;
+use std::str::from_utf8;
+
+/// The policies that the words compare with, if they compare; `none` adds none.
+pub(crate) fn others(
+    rt: &HostRuntime,
+    words: &StudyWords,
+    most: u64,
+) -> Result<Option<Policies>, ExitCode> {
+    if words.against.is_empty() {
+        return Ok(None);
+    }
+    let mut policies = Policies::new(rt.alloc());
+    for path in &words.against {
+        if path.as_str() != "none" {
+            let bytes = policy_bytes(rt, words, most, path)?;
+            let taken = policies.add_as_said(rt.alloc(), bytes.as_slice());
+            attached(rt, path.as_str(), None, taken)?;
+        }
+    }
+    Ok(Some(policies))
+}
+
+/// The workload of the file that the words name.
+pub(crate) fn workload(
+    rt: &HostRuntime,
+    words: &StudyWords,
+    most: u64,
+    changes: Changes,
+) -> Result<Workload, ExitCode> {
+    let name = name_of(&words.shown.file);
+    let bytes = whole_input(rt, &words.shown.file, most)?;
+    let Ok(text) = from_utf8(bytes.as_slice()) else {
+        let what = foreign_text(bytes.as_slice()).unwrap_or("the file is not UTF-8 text");
+        return Err(say_no_workload(rt, name, what));
+    };
+    match read(rt.alloc(), text, changes) {
+        Ok(workload) => Ok(workload),
+        Err(Fault::OutOfMemory) => Err(say_out_of_memory(rt)),
+        Err(fault) => match foreign_text(bytes.as_slice()) {
+            Some(what) => Err(say_no_workload(rt, name, what)),
+            None => {
+                let name = Name(name);
+                let _ = eprintln!(rt; "{name}{fault}");
+                Err(ExitCode::from(BAD_INPUT))
+            }
+        },
+    }
+}
+
+/// Says what a file is that is no workload.
+fn say_no_workload(rt: &HostRuntime, name: &str, what: &str) -> ExitCode {
+    let name = Name(name);
+    let _ = eprintln!(rt; "{name}: {what}");
+    ExitCode::from(BAD_INPUT)
+}
+
+/// What a file is that was given as a workload and is none, and what to do with it, if that can be told.
+fn foreign_text(bytes: &[u8]) -> Option<&'static str> {
+    match kind_of_text(bytes) {
+        TextKind::Policy => Some(
+            "this is a policy, not a workload; give a workload, and this by --place, --preempt or --pull",
+        ),
+        TextKind::C => Some(
+            "this is C, not a workload; docs/POLICIES_IN_C.md makes a policy of it",
+        ),
+        TextKind::Trace => Some("this is a trace, not a workload; bqsim timeline shows it"),
+        TextKind::Workload | TextKind::Other => None,
+    }
+}
+
+/// The policies that the words install at the hooks.
+pub(crate) fn policies(
+    rt: &HostRuntime,
+    words: &StudyWords,
+    most: u64,
+) -> Result<Policies, ExitCode> {
+    let HookWords {
+        place,
+        preempt,
+        pull,
+    } = &words.hooks;
+    let mut policies = Policies::new(rt.alloc());
+    add(rt, words, most, &mut policies, Hook::Place, place)?;
+    add(rt, words, most, &mut policies, Hook::Preempt, preempt)?;
+    add(rt, words, most, &mut policies, Hook::Pull, pull)?;
+    Ok(policies)
+}
+
+/// Adds the policy of a file, unless there is none or it is called `none`.
+fn add(
+    rt: &HostRuntime,
+    words: &StudyWords,
+    most: u64,
+    policies: &mut Policies,
+    hook: Hook,
+    file: &Option<String>,
+) -> Result<(), ExitCode> {
+    let Some(path) = file else {
+        return Ok(());
+    };
+    if path.as_str() == "none" {
+        return Ok(());
+    }
+    let bytes = policy_bytes(rt, words, most, path)?;
+    match policies.add(rt.alloc(), hook, bytes.as_slice()) {
+        Err(AttachFault::Hook) => Err(say_other_hook(rt, path.as_str(), hook, bytes.as_slice())),
+        taken => attached(rt, path.as_str(), Some(hook), taken),
+    }
+}
+
+/// Says that the policy of a file is not for the hook at which it is to stand, but for that which the file says.
+fn say_other_hook(rt: &HostRuntime, path: &str, hook: Hook, file: &[u8]) -> ExitCode {
+    let asked = hook.word();
+    let path = Name(path);
+    match read_policy(rt.alloc(), file, &Head::nothing()) {
+        Ok(policy) => {
+            let own = policy.form.hook.word();
+            let _ = eprintln!(rt;
+                "{path}: the policy is for the hook {own}, not for {asked}; give it by --{own}"
+            );
+        }
+        Err(_) => {
+            let _ = eprintln!(rt; "{path}: the policy is for another hook than {asked}");
+        }
+    }
+    ExitCode::from(BAD_INPUT)
+}
+
+/// The bytes of the file of a policy, or of standard input for `-`, unless the workload is that.
+fn policy_bytes(
+    rt: &HostRuntime,
+    words: &StudyWords,
+    most: u64,
+    path: &String,
+) -> Result<Vec<u8>, ExitCode> {
+    let path = path.as_str();
+    if path != "-" {
+        return match read_input(rt, Some(path), most) {
+            Ok(bytes) => Ok(bytes),
+            Err(error) => Err(say_unread(rt, Some(path), &error)),
+        };
+    }
+    if file_named(&words.shown.file).is_none() {
+        let _ = rt.eprintln("error: standard input is the workload: name the file of the policy");
+        return Err(ExitCode::from(REFUSED));
+    }
+    whole_input(rt, &None, most)
+}
+
+/// Says why a file is no policy for the hook that the words name, or if they name none, for the hook that it says.
+fn attached(
+    rt: &HostRuntime,
+    path: &str,
+    hook: Option<Hook>,
+    taken: Result<(), AttachFault>,
+) -> Result<(), ExitCode> {
+    match taken {
+        Ok(()) => Ok(()),
+        Err(AttachFault::OutOfMemory) => Err(say_out_of_memory(rt)),
+        Err(AttachFault::Program(fault)) => Err(unaccepted(rt, path, hook, fault)),
+        Err(fault) => {
+            let path = Name(path);
+            let _ = eprintln!(rt; "{path}: {fault}");
+            Err(ExitCode::from(BAD_INPUT))
+        }
+    }
+}
+
+/// Says that a file's program is refused, as `check` names it, and which command explains it. That command names the hook if the words
+/// do, since the file may not.
+fn unaccepted(rt: &HostRuntime, path: &str, hook: Option<Hook>, fault: LoadFault) -> ExitCode {
+    let Ok(named) = fault_text(rt.alloc(), fault) else {
+        return say_out_of_memory(rt);
+    };
+    let path = Name(path);
+    match hook {
+        Some(hook) => {
+            let hook = hook.word();
+            let _ = eprintln!(rt;
+                "{path}: refused {named}; bqsim check --explain --hook {hook} {path} says why"
+            );
+        }
+        None => {
+            let _ = eprintln!(rt; "{path}: refused {named}; bqsim check --explain {path} says why");
+        }
+    }
+    ExitCode::from(BAD_INPUT)
+}

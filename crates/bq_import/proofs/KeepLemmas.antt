@@ -1,0 +1,285 @@
+-- What control comes to of a program whose jumps go forward, each instruction once.
+use Rattle.std.proofs.Common.{◌≡◌, ℕ, zero, suc, ◌+◌, ◌-◌, ◌<◌, ◌≤◌, ◌≢◌, Bool, true, false, List, [], ◌∷◌, ◌++◌, length, replicate, Option, Some, None, refl, arith, sym, ap, ◌∙◌, subst, ◌⊎◌, inl, inr, ℤ, reverse}
+use Rattle.std.specs.Prelude.{slice_index, slice_set}
+use Rattle.std.proofs.lemmas.List.{get_or-set_same, get_or-set_other, length-set, length-reverse}
+use Rattle.bq_insn.specs.declared.Insn.{Insn}
+use Rattle.bq_insn.specs.Slots.{slots_of, spread}
+use Rattle.bq_bpf.specs.Steps.{instruction_at}
+use Rattle.bq_bpf.specs.Instructions.{distance_of, goes_on}
+use Rattle.bq_verify.specs.Edges.{IsEdge, IsStart}
+use Rattle.bq_verify.specs.Paths.{Path}
+use Rattle.bq_verify.specs.Passes.{IsOf}
+use Rattle.bq_verify.specs.declared.edges.Targets.{Targets}
+use Rattle.bq_insn.proofs.OptionLemmas.{some_same, some_none}
+use Rattle.bq_insn.proofs.CountLemmas.{slots_positive}
+use Rattle.bq_verify.proofs.EdgeLemmas.{start_inside, IsPath-push, end_of-push}
+use Rattle.bq_verify.proofs.SpreadLemmas.{one_or_two}
+use Rattle.bq_import.specs.Copies.{Stands, IsCopy}
+use Rattle.bq_import.specs.Backward.{IsBuilt, IsFront, IsLengthened, IsOneMore}
+use Rattle.bq_import.specs.Faults.{AllForward, HasGaps, IsFull, IsLinked}
+use Rattle.bq_import.specs.declared.fault.Disorder.{Disorder}
+use Rattle.bq_import.specs.declared.fault.Disorder.TheVariants.{Outside, Ends, Loop, Long, OutOfMemory}
+use Rattle.bq_import.specs.Search.{AreKnown, AreTargets, IsDone, IsReady, is_open, place_at}
+use Rattle.bq_import.specs.Keeping.{AllReached, AreFollowed, AreReached, HasRoom, IsKeeping, IsMarked}
+use Rattle.bq_import.proofs.RoomLemmas.{lies_within}
+
+same_or_not : (a b : ℕ) → (a ≡ b) ⊎ (a ≢ b)
+same_or_not zero zero = inl refl
+same_or_not zero (suc b) = inr (λ e. cc)
+same_or_not (suc a) zero = inr (λ e. cc)
+same_or_not (suc a) (suc b) = elim (same_or_not a b) [ inl e ↦ inl (ap suc e) | inr apart ↦ inr (λ e. apart (omega (arith, e))) ]
+
+at_or_above : (bound k : ℕ) → bound ≤ k → (k ≡ bound) ⊎ (bound + 1 ≤ k)
+at_or_above bound k le = elim (same_or_not k bound) [ inl e ↦ inl e | inr apart ↦ inr (omega (arith, le, apart)) ]
+
+path_further : (slots : List (Option Insn)) (a b c : ℕ) → Path slots a b → IsEdge slots b c → Path slots a c
+path_further slots a b c p edge = record {
+  rest = p.rest ++ c ∷ [];
+  is_path = IsPath-push slots a p.rest c p.is_path (subst (λ (n : ℕ). IsEdge slots n c) (sym p.ends) edge);
+  ends = end_of-push a p.rest c;
+}
+
+-- the first slot is found
+pub first_found : (slots : List (Option Insn)) (blank found : List Bool) → IsStart slots 0 → ((k : ℕ) → is_open blank k ≡ false) → length blank ≡ length slots → IsMarked blank (Some 0) found → AreFollowed slots 0 found
+first_found slots blank found start none room m =
+    let inside = start_inside slots 0 start in
+    let zero_only : (k : ℕ) → is_open found k ≡ true → k ≡ 0 = λ k e. elim (m.only k e) [
+      | inl was ↦ absurd (let no : true ≡ false = sym was ∙ none k in let never : ⊥ = cc in never)
+      | inr is ↦ sym (some_same (Some 0) 0 k refl is)
+    ] in
+    record {
+      room = m.long ∙ room;
+      begins = m.now 0 refl (omega (arith, inside, room));
+      starts = λ k e. subst (λ (n : ℕ). IsStart slots n) (sym (zero_only k e)) start;
+      ways = λ k e. subst (λ (n : ℕ). Path slots 0 n) (sym (zero_only k e)) (record { rest = []; is_path = tt; ends = refl });
+      closed = λ k to lt e edge. absurd (omega (arith, lt));
+    }
+
+-- from a slot that control does not come to nothing is followed
+pub not_followed : (slots : List (Option Insn)) (slot : ℕ) (found : List Bool) → is_open found slot ≡ false → AreFollowed slots slot found → AreFollowed slots (slot + 1) found
+not_followed slots slot found shut p = record {
+  room = p.room;
+  begins = p.begins;
+  starts = p.starts;
+  ways = p.ways;
+  closed = λ k to lt e edge. elim (same_or_not k slot) [
+    | inl same ↦ absurd (let no : true ≡ false = sym e ∙ (ap (λ (n : ℕ). is_open found n) same ∙ shut) in let never : ⊥ = cc in never)
+    | inr apart ↦ p.closed k to (omega (arith, lt, apart)) e edge
+  ];
+}
+
+module _ (slots : List (Option Insn)) (slot : ℕ) (insn : Insn) (targets : Targets) (are : AreTargets slots slot insn targets) (forward : AllForward slots) (found one two : List Bool) (p : AreFollowed slots slot found) (here : is_open found slot ≡ true) (a : IsMarked found targets.next one) (b : IsMarked one targets.jump two) where
+  found_by : (k : ℕ) → is_open two k ≡ true → (is_open found k ≡ true) ⊎ IsOf targets k
+  found_by k e = elim (b.only k e) [
+    | inl was ↦ elim (a.only k was) [ inl first ↦ inl first | inr next ↦ inr (inl next) ]
+    | inr jump ↦ inr (inr jump)
+  ]
+
+  target_found : (to : ℕ) → IsOf targets to → is_open two to ≡ true
+  target_found to of =
+      let inside = start_inside slots to (are.starts to of) in
+      let room = p.room in
+      let long = a.long in
+      elim of [
+        | inl next ↦ b.kept to (a.now to next (omega (arith, inside, room)))
+        | inr jump ↦ b.now to jump (omega (arith, inside, room, long))
+      ]
+
+  pub followed : AreFollowed slots (slot + 1) two
+  followed = record {
+    room = b.long ∙ (a.long ∙ p.room);
+    begins = b.kept 0 (a.kept 0 p.begins);
+    starts = λ k e. elim (found_by k e) [ inl was ↦ p.starts k was | inr of ↦ are.starts k of ];
+    ways = λ k e. elim (found_by k e) [ inl was ↦ p.ways k was | inr of ↦ path_further slots 0 slot k (p.ways slot here) (are.out.only k of) ];
+    closed = λ k to lt e edge. elim (same_or_not k slot) [
+      | inl same ↦ target_found to (are.out.each to (subst (λ (n : ℕ). IsEdge slots n to) same edge))
+      | inr apart ↦ elim (found_by k e) [
+        | inl was ↦ b.kept to (a.kept to (p.closed k to (omega (arith, lt, apart)) was edge))
+        | inr of ↦ let later = forward slot k (are.out.only k of) in absurd (omega (arith, later, lt, apart))
+      ]
+    ];
+  }
+
+-- past the last slot all is followed
+pub all_followed : (slots : List (Option Insn)) (bound : ℕ) (found : List Bool) → length slots ≤ bound → AreFollowed slots bound found → AreReached slots found
+all_followed slots bound found past p = record {
+  room = p.room;
+  begins = p.begins;
+  starts = p.starts;
+  ways = p.ways;
+  closed = λ k to e edge. let inside = start_inside slots k (p.starts k e) in p.closed k to (omega (arith, inside, past)) e edge;
+}
+
+-- before the last instruction
+pub nothing_kept : (maps : ℕ) (old : List (Option Insn)) (found : List Bool) (back : List (Option Insn)) (origins : List ℕ) (places : List (Option ℕ)) → AreReached old found → IsBuilt maps old back origins → back ≡ [] → ((k : ℕ) → place_at places k ≡ None) → length places ≡ length old → IsKeeping maps old found (length old) back origins places
+nothing_kept maps old found back origins places r built empty none room =
+    let blank : length back ≡ 0 = ap length empty in
+    let no_start : (place : ℕ) → IsStart back place → ⊥ = λ place start. let inside = start_inside back place start in omega (arith, inside, blank) in
+    record {
+      built = built;
+      known = λ slot place e. absurd (some_none _ place e (none slot));
+      room = room;
+      done = λ k le e. let inside = start_inside old k (r.starts k e) in absurd (omega (arith, le, inside));
+      above = λ place from s. absurd (no_start place s.start);
+      comes = λ place from s. absurd (no_start place s.start);
+      once = λ place from s. absurd (no_start place s.start);
+      front = λ k le e least. let inside = start_inside old k (r.starts k e) in absurd (omega (arith, le, inside));
+      fits = record { from = length old; above = omega arith; is = inl refl; fits = omega (arith, blank) };
+    }
+
+module _ (maps : ℕ) (old : List (Option Insn)) (found : List Bool) (slot : ℕ) (back : List (Option Insn)) (origins : List ℕ) (places : List (Option ℕ)) (reached : AreReached old found) (at : IsKeeping maps old found (slot + 1) back origins places) where
+  -- what control does not come to is passed over
+  pub passed_over : is_open found slot ≡ false → IsKeeping maps old found slot back origins places
+  passed_over shut =
+      let later : (k : ℕ) → slot ≤ k → is_open found k ≡ true → slot + 1 ≤ k = λ k le e. elim (at_or_above slot k le) [
+        | inl same ↦ absurd (let no : true ≡ false = sym e ∙ (ap (λ (n : ℕ). is_open found n) same ∙ shut) in let never : ⊥ = cc in never)
+        | inr more ↦ more
+      ] in
+      let room = at.fits in
+      let high = room.above in
+      record {
+        built = at.built;
+        known = at.known;
+        room = at.room;
+        done = λ k le e. at.done k (later k le e) e;
+        above = λ place from s. let more = at.above place from s in omega (arith, more);
+        comes = at.comes;
+        once = at.once;
+        front = λ k le e least. at.front k (later k le e) e (λ j above below is. least j (omega (arith, above)) below is);
+        fits = record { from = room.from; above = omega (arith, high); is = room.is; fits = room.fits };
+      }
+
+  module _ (linked : IsLinked old) (forward : AllForward old) (gaps : HasGaps old) (here : is_open found slot ≡ true) (insn : Insn) (begins : instruction_at old slot ≡ Some insn) where
+    -- there is room for it
+    pub enough_room : (length back + slots_of insn + slot ≤ length old)
+    enough_room =
+        let room = at.fits in
+        let high = room.above in
+        let fits = room.fits in
+        let behind : slot + slots_of insn ≤ room.from = elim room.is [
+          | inl end ↦ let within = lies_within old slot insn begins linked in omega (arith, end, within)
+          | inr start ↦ not_within room.from high start
+        ] in
+        omega (arith, fits, behind)
+      where
+        le_or_lt : (a b : ℕ) → (a ≤ b) ⊎ (b < a)
+        le_or_lt zero b = inl (omega arith)
+        le_or_lt (suc a) zero = inr (omega arith)
+        le_or_lt (suc a) (suc b) = elim (le_or_lt a b) [ inl le ↦ inl (omega (arith, le)) | inr lt ↦ inr (omega (arith, lt)) ]
+
+        not_within : (e : ℕ) → slot + 1 ≤ e → IsStart old e → slot + slots_of insn ≤ e
+        not_within e above start = elim (le_or_lt (slot + slots_of insn) e) [
+          | inl le ↦ le
+          | inr lt ↦ absurd (gaps slot insn begins e (omega (arith, above)) lt start)
+        ]
+
+    pub ready_to_keep : IsReady old places slot
+    ready_to_keep to edge =
+        let later = forward slot to edge in
+        at.done to (omega (arith, later)) (reached.closed slot to here edge)
+
+    pub next_in_front : (targets : Targets) → AreTargets old slot insn targets → (n : ℕ) → targets.next ≡ Some n → IsFront back origins n
+    next_in_front targets are n is =
+        let later = are.later n is in
+        let behind = are.behind n is in
+        at.front n (omega (arith, later)) (reached.closed slot n here (are.out.only n (inl is)))
+        (λ j above below e. gaps slot insn begins j (omega (arith, above)) (omega (arith, below, behind)) (reached.starts j e))
+
+    module _ (back' : List (Option Insn)) (origins' : List ℕ) (more : IsLengthened maps old back origins back' origins' slot) (grown : length back' ≡ length back + slots_of insn) (was : IsOneMore back origins back' origins' slot) where
+      place : ℕ
+      place = length back' - 1
+
+      in_places : slot < length places
+      in_places = let inside = start_inside old slot (record { insn = insn; here = begins }) in let room = at.room in omega (arith, inside, room)
+
+      set_here : place_at (slice_set places slot (Some place)) slot ≡ Some place
+      set_here = get_or-set_same places slot (Some place) None in_places
+
+      set_other : (k : ℕ) → k ≢ slot → place_at (slice_set places slot (Some place)) k ≡ place_at places k
+      set_other k apart = get_or-set_other places slot k (Some place) None apart
+
+      front_there : Stands back' origins' place slot
+      unfolding place
+      front_there =
+          let front = more.front in
+          let is = front.place_is in
+          let same : front.place ≡ length back' - 1 = omega (arith, is) in
+          subst (λ (n : ℕ). Stands back' origins' n slot) same front.stands
+
+      known_now : AreKnown back' origins' (slice_set places slot (Some place))
+      known_now k p e = elim (same_or_not k slot) [
+        | inl same ↦
+            let is : place ≡ p = some_same _ place p set_here (ap (λ (n : ℕ). place_at (slice_set places slot (Some place)) n) (sym same) ∙ e) in
+            subst (λ (n : ℕ). Stands back' origins' n k) is (subst (λ (n : ℕ). Stands back' origins' place n) (sym same) front_there)
+        | inr apart ↦ more.keeps p k (at.known k p (sym (set_other k apart) ∙ e))
+      ]
+
+      done_now : (k : ℕ) → slot ≤ k → is_open found k ≡ true → IsDone (slice_set places slot (Some place)) k
+      done_now k le e = elim (same_or_not k slot) [
+        | inl same ↦ (place, ap (λ (n : ℕ). place_at (slice_set places slot (Some place)) n) same ∙ set_here)
+        | inr apart ↦ let done = at.done k (omega (arith, le, apart)) e in (done.0, set_other k apart ∙ done.1)
+      ]
+
+      once_now : (p from : ℕ) → Stands back' origins' p from → place_at (slice_set places slot (Some place)) from ≡ Some p
+      unfolding place
+      once_now p from s = elim (was.only p from s) [
+        | inl old_one ↦
+            let above = at.above p from old_one in
+            set_other from (λ e. omega (arith, above, e)) ∙ at.once p from old_one
+        | inr (last, is) ↦
+            let same : length back' - 1 ≡ p = omega (arith, last) in
+            ap (λ (n : ℕ). place_at (slice_set places slot (Some place)) n) is ∙ (set_here ∙ ap (λ (n : ℕ). Some n) same)
+      ]
+
+      pub one_kept : IsKeeping maps old found slot back' origins' (slice_set places slot (Some (length back' - 1)))
+      unfolding place
+      one_kept =
+          let room = enough_room in
+          record {
+            built = more.built;
+            known = known_now;
+            room = length-set places slot (Some (length back' - 1)) ∙ at.room;
+            done = done_now;
+            above = λ p from s. elim (was.only p from s) [ inl old_one ↦ let above = at.above p from old_one in omega (arith, above) | inr (last, is) ↦ omega (arith, is) ];
+            comes = λ p from s. elim (was.only p from s) [ inl old_one ↦ at.comes p from old_one | inr (last, is) ↦ subst (λ (n : ℕ). is_open found n ≡ true) (sym is) here ];
+            once = once_now;
+            front = λ k le e least. elim (same_or_not k slot) [
+              | inl same ↦ subst (λ (n : ℕ). IsFront back' origins' n) (sym same) more.front
+              | inr apart ↦ absurd (least slot (omega arith) (omega (arith, le, apart)) here)
+            ];
+            fits = record { from = slot; above = omega arith; is = inr (record { insn = insn; here = begins }); fits = omega (arith, room, grown) };
+          }
+
+-- instructions stand one after another: none begins within another
+gap_apart : (n : ℕ) (rest : List (Option Insn)) → HasGaps rest → HasGaps (replicate n None ++ rest)
+gap_apart zero rest gaps slot insn here j lt below start = gaps slot insn here j lt below start
+gap_apart (suc n) rest gaps zero insn here j lt below start = absurd (some_none _ insn here refl)
+gap_apart (suc n) rest gaps (suc slot) insn here zero lt below start = absurd (omega (arith, lt))
+gap_apart (suc n) rest gaps (suc slot) insn here (suc j) lt below start =
+    gap_apart n rest gaps slot insn here j (omega (arith, lt)) (omega (arith, below)) (record { insn = start.insn; here = start.here })
+
+none_in_gap : (n j : ℕ) (rest : List (Option Insn)) → j < n → IsStart (replicate n None ++ rest) j → ⊥
+none_in_gap zero j rest lt start = absurd (omega (arith, lt))
+none_in_gap (suc n) zero rest lt start = absurd (some_none _ start.insn start.here refl)
+none_in_gap (suc n) (suc j) rest lt start = none_in_gap n j rest (omega (arith, lt)) (record { insn = start.insn; here = start.here })
+
+-- in a program laid out by slots no instruction begins inside another
+pub spread_has_gaps : (insns : List Insn) → HasGaps (spread insns)
+spread_has_gaps [] zero insn here j lt below start = absurd (some_none _ insn here refl)
+spread_has_gaps [] (suc slot) insn here j lt below start = absurd (some_none _ insn here refl)
+spread_has_gaps (i ∷ rest) zero insn here zero lt below start = absurd (omega (arith, lt))
+spread_has_gaps (i ∷ rest) zero insn here (suc j) lt below start =
+    let same : i ≡ insn = some_same _ i insn refl here in
+    let long : slots_of i ≡ slots_of insn = ap slots_of same in
+    none_in_gap (slots_of i - 1) j (spread rest) (omega (arith, below, long)) (record { insn = start.insn; here = start.here })
+spread_has_gaps (i ∷ rest) (suc slot) insn here zero lt below start = absurd (omega (arith, lt))
+spread_has_gaps (i ∷ rest) (suc slot) insn here (suc j) lt below start =
+    gap_apart (slots_of i - 1) (spread rest) (spread_has_gaps rest) slot insn here j (omega (arith, lt)) (omega (arith, below)) (record { insn = start.insn; here = start.here })
+
+-- where there is room only memory can be wanted
+pub only_memory : (most : ℕ) (d : Disorder) → most ≤ 4096 → IsFull most d → d ≡ OutOfMemory
+only_memory most (Outside slot) le full = absurd full
+only_memory most (Ends slot) le full = absurd full
+only_memory most (Loop from to) le full = absurd full
+only_memory most Long le full = absurd (omega (arith, le, full))
+only_memory most OutOfMemory le full = refl

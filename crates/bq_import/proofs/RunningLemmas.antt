@@ -1,0 +1,203 @@
+-- A run of instructions that is put in front from its end.
+use Rattle.std.proofs.Common.{◌≡◌, ℕ, zero, suc, ◌+◌, ◌-◌, ◌<◌, ◌≤◌, true, List, length, Option, Some, None, refl, arith, sym, ap, ◌∙◌, subst, ◌⊎◌, inl, inr}
+use Rattle.bq_insn.specs.declared.Insn.{Insn}
+use Rattle.bq_insn.specs.Slots.{slots_of}
+use Rattle.bq_bpf.specs.Steps.{instruction_at}
+use Rattle.bq_bpf.specs.Instructions.{goes_on}
+use Rattle.bq_verify.specs.Edges.{IsEdge, IsStart}
+use Rattle.bq_insn.proofs.OptionLemmas.{some_same, some_none}
+use Rattle.bq_insn.proofs.CountLemmas.{slots_positive}
+use Rattle.bq_verify.proofs.EdgeLemmas.{start_inside}
+use Rattle.bq_verify.specs.declared.edges.Targets.{Targets}
+use Rattle.bq_import.specs.declared.fault.Disorder.{Disorder}
+use Rattle.bq_import.specs.Copies.{Stands}
+use Rattle.bq_import.specs.Backward.{IsBuilt, IsFront, IsLengthened}
+use Rattle.bq_import.specs.Faults.{IsFull, IsLinked}
+use Rattle.bq_import.specs.Search.{AreClosed, AreTargets, IsNext, IsReady, width_at, width_of}
+use Rattle.bq_import.specs.Running.{HasPlace, IsPut, IsPutting, IsRun}
+use Rattle.bq_import.proofs.RoomLemmas.{full_more, lies_within}
+
+-- one number is below another, or equals it, or is above it
+pub order_of : (a b : ℕ) → (a < b) ⊎ ((a ≡ b) ⊎ (b < a))
+order_of zero zero = inr (inl refl)
+order_of zero (suc b) = inl (omega arith)
+order_of (suc a) zero = inr (inr (omega arith))
+order_of (suc a) (suc b) = elim (order_of a b) [ inl lt ↦ inl (omega (arith, lt)) | inr more ↦ elim more [ inl e ↦ inr (inl (ap suc e)) | inr gt ↦ inr (inr (omega (arith, gt))) ] ]
+
+-- the next instruction of targets
+pub next_of : (slots : List (Option Insn)) (slot : ℕ) (insn : Insn) (targets : Targets) (next : ℕ) → instruction_at slots slot ≡ Some insn → AreTargets slots slot insn targets → targets.next ≡ Some next → IsNext slots slot next
+next_of slots slot insn targets next here are is = record { insn = insn; here = here; on = are.on next is; is = are.behind next is }
+
+-- and the other way round
+pub next_is : (slots : List (Option Insn)) (slot : ℕ) (insn : Insn) (targets : Targets) (next : ℕ) → instruction_at slots slot ≡ Some insn → AreTargets slots slot insn targets → IsNext slots slot next → targets.next ≡ Some next
+next_is slots slot insn targets next here are n =
+    let same : n.insn ≡ insn = some_same _ n.insn insn n.here here in
+    are.next (ap goes_on (sym same) ∙ n.on) ∙ ap (λ (k : ℕ). Some k) (sym (n.is ∙ ap (λ (i : Insn). slot + slots_of i) same))
+
+-- an instruction begins at the next slot
+pub next_start : (slots : List (Option Insn)) (slot next : ℕ) → IsLinked slots → IsNext slots slot next → IsStart slots next
+next_start slots slot next linked n = subst (λ (k : ℕ). IsStart slots k) (sym n.is) ((linked.leads slot n.insn n.here).0 n.on)
+
+-- control goes to the next slot
+pub next_edge : (slots : List (Option Insn)) (slot next : ℕ) → IsNext slots slot next → IsEdge slots slot next
+next_edge slots slot next n = record { insn = n.insn; here = n.here; leaves = inl (n.on, n.is) }
+
+-- there is one next instruction
+pub next_same : (slots : List (Option Insn)) (slot a b : ℕ) → IsNext slots slot a → IsNext slots slot b → a ≡ b
+next_same slots slot a b p q =
+    let same : p.insn ≡ q.insn = some_same _ p.insn q.insn p.here q.here in
+    p.is ∙ (ap (λ (i : Insn). slot + slots_of i) same ∙ sym q.is)
+
+-- a run of one instruction
+pub run_of_one : (slots : List (Option Insn)) (places : List (Option ℕ)) (slot : ℕ) → IsStart slots slot → IsReady slots places slot → IsRun slots places slot slot
+run_of_one slots places slot start ready = record {
+  begins = omega arith;
+  start = start;
+  onward = λ j from below s. absurd (omega (arith, from, below));
+  ready = λ j from to s. let same : slot ≡ j = omega (arith, from, to) in subst (λ (n : ℕ). IsReady slots places n) same ready;
+}
+
+-- a run goes on
+pub run_on : (slots : List (Option Insn)) (places : List (Option ℕ)) (slot last next : ℕ) → IsLinked slots → AreClosed slots places → IsRun slots places slot last → IsNext slots last next → IsRun slots places slot next
+run_on slots places slot last next linked closed run n =
+    let begins = run.begins in
+    let is = n.is in
+    let positive = slots_positive n.insn in
+    let done = run.ready last begins (omega arith) run.start next (next_edge slots last next n) in
+    record {
+      begins = omega (arith, begins, is, positive);
+      start = next_start slots last next linked n;
+      onward = λ j from below at. elim (order_of j last) [
+        | inl before ↦ let o = run.onward j from before at in let le = o.2 in (o.0, o.1, omega (arith, le, is))
+        | inr more ↦ elim more [
+          | inl same ↦ (next, subst (λ (k : ℕ). IsNext slots k next) (sym same) n, omega arith)
+          | inr after ↦ absurd (linked.gaps last n.insn n.here j after (omega (arith, below, is)) at)
+        ]
+      ];
+      ready = λ j from to at. elim (order_of last j) [
+        | inl after ↦ elim (order_of j next) [
+          | inl below ↦ absurd (linked.gaps last n.insn n.here j after (omega (arith, below, is)) at)
+          | inr more ↦ elim more [
+            | inl same ↦ subst (λ (k : ℕ). IsReady slots places k) (sym same) (λ to e. closed next to done e)
+            | inr past ↦ absurd (omega (arith, past, to))
+          ]
+        ]
+        | inr more ↦ elim more [
+          | inl same ↦ run.ready j from (omega (arith, same)) at
+          | inr before ↦ run.ready j from (omega (arith, before)) at
+        ]
+      ];
+    }
+
+-- where no instruction begins nothing is put
+pub not_put : (maps : ℕ) (old back : List (Option Insn)) (origins : List ℕ) (slot : ℕ) → instruction_at old slot ≡ None → IsBuilt maps old back origins → IsPut maps old back origins back origins slot
+not_put maps old back origins slot none built =
+    let wide : width_at old slot ≡ 0 = ap width_of none in
+    record {
+      built = built;
+      keeps = λ place from s. s;
+      front = λ start. absurd (some_none _ start.insn start.here none);
+      same = λ no. (refl, refl);
+      grown = omega (arith, wide);
+    }
+
+-- an instruction was put
+pub was_put : (maps : ℕ) (old before : List (Option Insn)) (origins : List ℕ) (after : List (Option Insn)) (origins' : List ℕ) (slot : ℕ) (insn : Insn) → instruction_at old slot ≡ Some insn →
+    IsLengthened maps old before origins after origins' slot → length after ≡ length before + slots_of insn → IsPut maps old before origins after origins' slot
+was_put maps old before origins after origins' slot insn here more grown =
+    let wide : width_at old slot ≡ slots_of insn = ap width_of here in
+    record {
+      built = more.built;
+      keeps = more.keeps;
+      front = λ start. more.front;
+      same = λ no. absurd (no (record { insn = insn; here = here }));
+      grown = omega (arith, grown, wide);
+    }
+
+module _ (maps : ℕ) (old before : List (Option Insn)) (origins : List ℕ) (places : List (Option ℕ)) (linked : IsLinked old) (slot last : ℕ) (run : IsRun old places slot last) where
+  -- the last instruction is in front
+  pub first_put : (after : List (Option Insn)) (origins' : List ℕ) → IsPut maps old before origins after origins' last → IsPutting maps old before origins last last after origins'
+  first_put after origins' put =
+      let within = lies_within old last run.start.insn run.start.here linked in
+      let grown = put.grown in
+      let wide : width_at old last ≡ slots_of run.start.insn = ap width_of run.start.here in
+      record {
+        built = put.built;
+        keeps = put.keeps;
+        front = λ k from to at least. let same : last ≡ k = omega (arith, from, to) in subst (λ (n : ℕ). IsFront after origins' n) same (put.front run.start);
+        room = record { from = last; above = omega arith; start = run.start; fits = omega (arith, within, grown, wide) };
+      }
+
+  -- the last instruction has room
+  pub first_full : (d : Disorder) → IsFull (length before + width_at old last) d → IsFull (length before + (length old - slot)) d
+  first_full d full =
+      let within = lies_within old last run.start.insn run.start.here linked in
+      let begins = run.begins in
+      let wide : width_at old last ≡ slots_of run.start.insn = ap width_of run.start.here in
+      full_more (length before + width_at old last) (length before + (length old - slot)) d (omega (arith, within, begins, wide)) full
+
+  module _ (after : List (Option Insn)) (origins' : List ℕ) (at : ℕ) (from : slot ≤ at) (below : at < last) (p : IsPutting maps old before origins last (at + 1) after origins') where
+    pub next_front : (next : ℕ) → IsNext old at next → IsFront after origins' next
+    next_front next n =
+        let o = run.onward at from below (record { insn = n.insn; here = n.here }) in
+        let same = next_same old at o.0 next o.1 n in
+        let le = o.2 in
+        let is = n.is in
+        let positive = slots_positive n.insn in
+        p.front next (omega (arith, is, positive)) (omega (arith, le, same)) (next_start old at next linked n)
+        (λ j above under s. linked.gaps at n.insn n.here j (omega (arith, above)) (omega (arith, under, is)) s)
+
+    room_at : (o : Option Insn) → instruction_at old at ≡ o → at + width_of o ≤ p.room.from
+    room_at None e = let above = p.room.above in omega (arith, above)
+    room_at (Some insn) e =
+        let above = p.room.above in
+        elim (order_of p.room.from (at + slots_of insn)) [
+          | inl within ↦ absurd (linked.gaps at insn e p.room.from (omega (arith, above)) within p.room.start)
+          | inr more ↦ elim more [ inl same ↦ omega (arith, same) | inr past ↦ omega (arith, past) ]
+        ]
+
+    pub next_full : (d : Disorder) → IsFull (length after + width_at old at) d → IsFull (length before + (length old - slot)) d
+    next_full d full =
+        let inside = start_inside old p.room.from p.room.start in
+        let fits = p.room.fits in
+        let room = room_at (instruction_at old at) refl in
+        full_more (length after + width_at old at) (length before + (length old - slot)) d (omega (arith, inside, fits, room, from)) full
+
+    room_more : (o : Option Insn) (more : List (Option Insn)) → instruction_at old at ≡ o → length more ≡ length after + width_of o → HasPlace old at (length before + length old) more
+    room_more None more e grown =
+        let above = p.room.above in
+        let fits = p.room.fits in
+        record { from = p.room.from; above = omega (arith, above); start = p.room.start; fits = omega (arith, fits, grown) }
+    room_more (Some insn) more e grown =
+        let fits = p.room.fits in
+        let room = room_at (Some insn) e in
+        record { from = at; above = omega arith; start = record { insn = insn; here = e }; fits = omega (arith, fits, room, grown) }
+
+    -- one instruction more is in front
+    pub next_put : (more : List (Option Insn)) (origins'' : List ℕ) → IsPut maps old after origins' more origins'' at → IsPutting maps old before origins last at more origins''
+    next_put more origins'' put = record {
+      built = put.built;
+      keeps = λ place f s. put.keeps place f (p.keeps place f s);
+      front = λ k low to s least. elim (order_of at k) [
+        | inl later ↦
+            let same = put.same (λ start. least at (omega arith) later start) in
+            let front = p.front k (omega (arith, later)) to s (λ j above under start. least j (omega (arith, above)) under start) in
+            subst (λ (xs : List (Option Insn)). IsFront xs origins'' k) (sym same.0) (subst (λ (ys : List ℕ). IsFront after ys k) (sym same.1) front)
+        | inr rest ↦ elim rest [
+          | inl here ↦ subst (λ (n : ℕ). IsFront more origins'' n) here (put.front (subst (λ (n : ℕ). IsStart old n) (sym here) s))
+          | inr before ↦ absurd (omega (arith, before, low))
+        ]
+      ];
+      room = room_more (instruction_at old at) more refl put.grown;
+    }
+
+  -- the whole run is in front
+  pub all_put : (after : List (Option Insn)) (origins' : List ℕ) (bound : ℕ) → bound ≡ slot → IsStart old slot → IsPutting maps old before origins last bound after origins' → IsLengthened maps old before origins after origins' slot
+  all_put after origins' bound is start p = record {
+    built = p.built;
+    keeps = p.keeps;
+    front = p.front slot (omega (arith, is)) run.begins start (λ j above under s. absurd (let never : ⊥ = omega (arith, above, under, is) in never));
+  }
+
+  pub all_fits : (after : List (Option Insn)) (origins' : List ℕ) (bound : ℕ) → bound ≡ slot → IsPutting maps old before origins last bound after origins' → length after + slot ≤ length before + length old
+  all_fits after origins' bound is p = let above = p.room.above in let fits = p.room.fits in omega (arith, above, fits, is)

@@ -1,0 +1,6 @@
+use Rattle.bq_verify.specs.Refusals.{stopped_at}
+use Rattle.bq_verify.specs.Subjects.{judged}
+use Rattle.bq_verify.proofs.refused.refuse.Goals as goal
+
+pub returns-in-Unproven-clause-stopped : goal.returns-in-Unproven-clause-stopped
+returns-in-Unproven-clause-stopped c = λ insn here may. stopped_at (judged c.args.subject.now) c.args.slot c.in-Unproven.obligation (record { insn = insn; here = here; may = rw c.in-Unproven.is at may })

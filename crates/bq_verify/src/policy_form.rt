@@ -1,0 +1,30 @@
+//! What a policy has beside its instructions.
+ghost use Rattle.std.specs.Prelude.{◌≤◌, length};
+ghost use Rattle.bq_bpf.specs.declared.shape.TheConstants.{MAPS};
+
+use bq_bpf::MapShape;
+use bq_hooks::{Hook, Version, context_length};
+
+/// What a policy has beside its instructions: its hook, the version of its image, and the shapes of its maps.
+#[derive(Drop)]
+pub struct PolicyForm {
+    /// The choice that it makes.
+    pub hook: Hook,
+    /// The version of its image. The length of its context depends on it.
+    pub version: Version,
+    /// The shapes of its maps, by their numbers; at most 8.
+    pub shapes: Vec<MapShape>,
+    pub ghost few: { length shapes.items ≤ MAPS },
+}
+
+impl PolicyForm {
+    ghost use Rattle.std.specs.Prelude.{◌≡◌};
+    ghost use Rattle.bq_verify.specs.Subjects.{context_of};
+
+    /// How many bytes its context has.
+    pub fn context_length(&self) -> usize
+        ensures { result ≡ context_of self.now }
+    {
+        context_length(self.hook, self.version)
+    }
+}
