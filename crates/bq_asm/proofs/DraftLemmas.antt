@@ -95,7 +95,7 @@ pub cause_of_label-is : (before : List (List ℕ)) (name : List ℕ) (known : Bo
 cause_of_label-is before name known valid test =
     ap (λ b. if b then (if list_any (bytes_eq name) before then Some LabelTwice else None) else Some Word) valid ∙ ap (λ b. if b then Some LabelTwice else None) test
 
--- a place that the test for something fails is none
+-- a place where the test for something fails is nothing
 pub none_from_is_some : (o : Option ℕ) → is_some o ≡ false → o ≡ None
 none_from_is_some None h = refl
 none_from_is_some (Some n) h = absurd (let e : true ≡ false = h in cc)

@@ -23,11 +23,11 @@ abbrev pub IsReadable : Line → Type 0
 IsReadable (Instruction first operands) = (i : Insn) × (instruction_of first operands (Some (pos 0)) ≡ Ok i)
 IsReadable line = Unit {0}
 
--- the label of the jump at the line of this number, from 0 on, is none of these
+-- the label of the jump at the line of this number, from 0 on, is not one of these
 abbrev pub missing_in : List (List ℕ) → List Line → ℕ → Option Cause
 missing_in labels lines k = option_and_then (cause_of_jump labels) (slice_get lines k)
 
--- where the first line has this number, the first jump whose label is none of these is at that line
+-- where the first line has this number, the first jump whose label is not one of these is at that line
 pub record IsFirstMissing (labels : List (List ℕ)) (lines : List Line) (number line : ℕ) : Type 0 where
   pub index : ℕ
   pub at : line ≡ number + index

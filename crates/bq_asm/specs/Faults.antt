@@ -47,7 +47,7 @@ abbrev pub awaits_label : Result Insn Cause → Bool
 awaits_label (Err LabelMissing) = true
 awaits_label read = false
 
--- the label of a jump is none of these
+-- the label of a jump is not one of these
 abbrev pub cause_of_jump : List (List ℕ) → Line → Option Cause
 cause_of_jump labels (Instruction first operands) =
     if awaits_label (instruction_of first operands None) && not (list_any (bytes_eq (last_word operands)) labels) then Some LabelMissing else None

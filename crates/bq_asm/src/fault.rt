@@ -12,7 +12,7 @@ pub enum Cause {
     /// A1: the first word is unknown, there are too few or too many operands, an operand has another form than
     /// is wanted in its place, or a label is no name.
     Word,
-    /// A2: what stands in a number's place begins as a number, and is none of the range.
+    /// A2: what stands in a number's place begins as a number, and is no number of the range.
     Number,
     /// A3: the label was set before.
     LabelTwice,

@@ -120,7 +120,7 @@ fn look_up(entries: &[(&str, Mnemonic)], word: &[u8]) -> Option<Mnemonic>
     None
 }
 
-/// All first words with what they say. Of two that are as near to a word that is none, the first is the likelier one.
+/// All first words with what they say. Of two that are equally near to an unknown word, the first is the likelier one.
 pub fn mnemonics() -> &'static [(&'static str, Mnemonic)]
     ensures { by_bytes result.now ≡ table }
 {

@@ -18,7 +18,7 @@ pub struct Charge {
 
 impl RunningTask {
     /// The charge of a rise of the clock, which has risen so far since the discipline decided who runs. Under CFS it measures
-    /// from the least of those that wait, and there is none where none does; under EEVDF from the mean, as it is after the
+    /// from the least of those that wait, and if none waits there is no least; under EEVDF from the mean, as it is after the
     /// charge.
     pub fn charge(&self, rule: Rule, rise: u64, since: u64, mean: u64) -> Option<Charge>
         ensures { result ≡ charge_of rule self.now rise since mean }

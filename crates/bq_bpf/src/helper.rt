@@ -69,7 +69,7 @@ impl Helper {
     ghost use Rattle.bq_bpf.specs.declared.helper.Helper.{Helper};
     ghost use Rattle.bq_bpf.specs.Helpers.{number_of_helper};
 
-    /// The helper of a number; `None` where there is none.
+    /// The helper of a number; `None` if no helper has it.
     pub fn of(number: i32) -> Option<Helper>
         ensures { MatchOption result ((h : Helper) → number_of_helper h ≢ number) (λ h. number_of_helper h ≡ number) }
     {

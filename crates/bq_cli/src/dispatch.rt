@@ -25,7 +25,7 @@ use std::thread::Threads;
 const EMPTY: &str = with_first_line!("bqsim: the trace is empty: ", "");
 
 /// Does a command: reads the files that its words name, or standard input, and writes to standard output. A fault says that a value
-/// among the words is none of its kind, and then nothing was read.
+/// among the words is not of its kind, and then nothing was read.
 pub fn execute<T: Threads + Wait + Sync>(
     rt: &HostRuntime,
     threads: &T,

@@ -162,7 +162,7 @@ pub(crate) fn do_simulate<T: Threads + Sync>(
     }
 }
 
-/// The same, of files of at most so many bytes. An error is the exit status of what was refused.
+/// The same, of files of at most that many bytes. An error is the exit status of what was refused.
 fn simulated<T: Threads + Sync>(
     rt: &HostRuntime,
     threads: &T,

@@ -68,7 +68,7 @@ fn say_no_workload(rt: &HostRuntime, name: &str, what: &str) -> ExitCode {
     ExitCode::from(BAD_INPUT)
 }
 
-/// What a file is that was given as a workload and is none, and what to do with it, if that can be told.
+/// What a file is that was given as a workload and is not one, and what to do with it, if that can be told.
 fn foreign_text(bytes: &[u8]) -> Option<&'static str> {
     match kind_of_text(bytes) {
         TextKind::Policy => Some(
@@ -100,7 +100,7 @@ pub(crate) fn policies(
     Ok(policies)
 }
 
-/// Adds the policy of a file, unless there is none or it is called `none`.
+/// Adds the policy of a file, unless no file is given or it is called `none`.
 fn add(
     rt: &HostRuntime,
     words: &StudyWords,
@@ -122,7 +122,7 @@ fn add(
     }
 }
 
-/// Says that the policy of a file is not for the hook at which it is to stand, but for that which the file says.
+/// Says that the policy of a file is for the hook that the file names, not for the one where it is to stand.
 fn say_other_hook(rt: &HostRuntime, path: &str, hook: Hook, file: &[u8]) -> ExitCode {
     let asked = hook.word();
     let path = Name(path);

@@ -56,12 +56,12 @@ abbrev pub AskFor : StudyWords → Option Comparing → Type 0
 AskFor words None = AskForNone words
 AskFor words (Some c) = (¬ AskForNone words) × AskToCompare words c
 
--- the word that the fault names is none of its kind: no number of seeds, no form of a table, or none of what a timeline shows
+-- the word that the fault names is not of its kind: no number of seeds, no form of a table, or none of what a timeline shows
 abbrev pub HasNoWord : StudyWords → ComparingFault → Type 0
 HasNoWord words fault.Seeds = seeds_asked words.seeds ≡ None
 HasNoWord words fault.Form = table_asked words.shown ≡ None
 HasNoWord words (fault.Settings why) = IsNoSettings words.shown why
 
--- a comparison is asked for, and the word that the fault names is none of its kind
+-- a comparison is asked for, and the word that the fault names is not of its kind
 abbrev pub IsNoComparison : StudyWords → ComparingFault → Type 0
 IsNoComparison words why = (¬ AskForNone words) × HasNoWord words why

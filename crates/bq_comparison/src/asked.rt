@@ -52,7 +52,7 @@ pub fn asked_comparison(
     ensures asked { IfOk result (AskFor words.now) }
     ensures bound { IfOk result (λ asked. IfSome asked (λ c. (1 ≤ c.seeds) × (c.seeds ≤ 1000))) }
 
-    // The fault names a word that is none of its kind.
+    // The fault names a word that is not of its kind.
     ensures fault { IfErr result (IsNoComparison words.now) }
 
     // That of the seeds comes exactly when they say another number.

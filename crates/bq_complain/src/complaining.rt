@@ -53,7 +53,7 @@ pub fn assembly_words(
     reason(alloc, text, number, cause)
 }
 
-/// The line of that number, counted from 1; empty where there is none.
+/// The line of that number, counted from 1; empty if there is no such line.
 fn line_numbered(text: &str, number: usize) -> &str {
     let mut at: usize = 0;
     for line in text.lines() {
@@ -65,7 +65,7 @@ fn line_numbered(text: &str, number: usize) -> &str {
     ""
 }
 
-/// Why the assembler refuses the line of that number; where the text is none of the assembler's, what it is.
+/// Why the assembler refuses the line of that number; where the text is not the assembler's, what it is.
 fn reason(alloc: Global, text: &str, number: usize, cause: Cause) -> Result<String, AllocError> {
     match foreign_text(text) {
         Some(what) => String::from_str(alloc, what),

@@ -76,7 +76,7 @@ enum Slip {
     TooFar,
     /// It is a distance that does not fit 32 bits.
     MuchTooFar,
-    /// It is an offset in brackets that is none, or does not fit 16 bits.
+    /// It is an offset in brackets that is no offset, or does not fit 16 bits.
     Offset,
     /// It has a sign, where that is not taken.
     Signed,
@@ -101,7 +101,7 @@ fn slip_at(first: &str, place: usize, word: &str) -> Option<Slip> {
     }
 }
 
-/// What is wrong with a word that begins as a number does, and is none.
+/// What is wrong with a word that begins as a number does, and is not one.
 fn no_number(kind: NumberKind, word: &str) -> Slip {
     match duration(word.as_bytes()) {
         Some(time) if word.ends_with('s') => {

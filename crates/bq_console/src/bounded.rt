@@ -18,7 +18,7 @@ const TOO_LONG: &str = "it has more bytes than --max-bytes allows";
 #[derive(Drop)]
 pub struct Bounded<R> {
     inner: R,
-    /// How many bytes more it may give; no limit where there is none.
+    /// How many bytes more it may give; `None` is no limit.
     left: Option<u64>,
     /// Whether it has given more.
     is_over: bool,

@@ -64,7 +64,7 @@ impl fmt::Display for Lines<'_> {
     }
 }
 
-/// A letter, escaped where it is none that is printed.
+/// A letter, escaped unless it is one that is printed.
 fn write_letter<W: fmt::Write>(f: &mut fmt::Formatter<W>, letter: char) -> fmt::Result {
     if letter == NO_TEXT {
         return f.write_str("\\x");

@@ -27,7 +27,7 @@ pub trait Timeline {
     fn len(&self) -> usize
         ensures { result ≡ length (tasks self.now) };
 
-    /// Puts a task in its place. Of tasks with equal (v, id) there is none.
+    /// Puts a task in its place. No task of the timeline has the same (v, id).
     fn insert(&mut self, node: Box<Node>)
         requires lone { IsLone node.value }
         requires fresh { with_id (task_of node.value).id (tasks self.old) ≡ None }

@@ -73,7 +73,7 @@ pub told_of : (result : Result (Unit {0}) AttachFault) (hook : Option Hook) (ask
 told_of (Ok x) hook asked file old t asks = tt
 told_of (Err e) hook asked file old t asks = fault_told hook asked file old e t asks
 
--- what is reported of a file that is none is why it is not taken
+-- what is reported of a refused file is why it is not taken
 pub none_told : (Reads : PolicySource → Type 0) (Refuses : FileFault → Type 0) (s : Standing) (named : FileFault) (fault : AttachFault) → Refuses named → IsToldOf named fault → IsTold Reads Refuses s fault
 none_told Reads Refuses s (Disagrees key) fault refused is = subst (IsTold Reads Refuses s) (sym is) (key, refused)
 none_told Reads Refuses s named (told.File words) refused is = (named, refused)

@@ -34,7 +34,7 @@ pub record AskForChanges (w : MachineWords) (c : Changes) : Type 0 where
   pub duration : change_asked time_in w.duration ≡ Some c.duration
   pub seed : change_asked decimal_of w.seed ≡ Some c.seed
 
--- the word that the fault names is none of its kind
+-- the word that the fault names is not of its kind
 abbrev pub IsNoChange : MachineWords → AskedFault → Type 0
 IsNoChange w fault.Discipline = change_asked rule_of w.discipline ≡ None
 IsNoChange w fault.Processors = change_asked size_of w.processors ≡ None
@@ -56,7 +56,7 @@ abbrev pub AskToShow : StudyWords → ShownAs → Type 0
 AskToShow w Trace = NamesTrace w × (chooses_part w.shown ≡ false)
 AskToShow w (Timeline settings) = (¬ NamesTrace w) × AsksFor w.shown settings
 
--- the word that the fault names is none of its kind, or a part is chosen of a trace
+-- the word that the fault names is not of its kind, or a part is chosen of a trace
 abbrev pub IsNotShown : StudyWords → AskedFault → Type 0
 IsNotShown w fault.WholeTrace = NamesTrace w × (chooses_part w.shown ≡ true)
 IsNotShown w fault.Form = (¬ NamesTrace w) × (form_asked w.shown ≡ None)

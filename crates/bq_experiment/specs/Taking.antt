@@ -43,7 +43,7 @@ pub record Takes (Reads : PolicySource → Type 0) (hook : Hook) (old new : Stan
 abbrev pub IsSecond : (PolicySource → Type 0) → Standing → Type 0
 IsSecond Reads s = (read : PolicySource) × Reads read × IsSome (image_for s.images read.form.hook)
 
--- where that is asked for, a file is none for this fault
+-- where that is asked for, a file is refused for this fault
 abbrev pub IsNone : Option Hook → List ℕ → FileFault → Type 0
 IsNone hook file named = (asked : Head) × Asks hook asked × IsPolicyFault file asked named
 
@@ -55,7 +55,7 @@ pub record IsUnaccepted (Reads : PolicySource → Type 0) (named : LoadFault) : 
   pub spells : IsImage image read.form.version read.form.hook read.form.shapes.items (spelling read.insns.items)
   pub unloaded : IsUnloaded image named
 
--- Why a file is not taken: it holds a policy for a hook at which an image was, it disagrees with what was asked for, it is none in words,
+-- Why a file is not taken: it holds a policy for a hook at which an image was, it disagrees with what was asked for, it is no policy by its words,
 -- or its program is not accepted. Lack of memory says nothing of it.
 abbrev pub IsTold : (PolicySource → Type 0) → (FileFault → Type 0) → Standing → AttachFault → Type 0
 IsTold Reads Refuses s told.Twice = IsSecond Reads s
@@ -64,7 +64,7 @@ IsTold Reads Refuses s (told.File words) = (named : FileFault) × Refuses named
 IsTold Reads Refuses s (told.Program named) = IsUnaccepted Reads named
 IsTold Reads Refuses s told.OutOfMemory = Unit {0}
 
--- what is reported of a file that is none
+-- what is reported of a refused file
 abbrev pub IsToldOf : FileFault → AttachFault → Type 0
 IsToldOf (Disagrees key) said = said ≡ told.Hook
 IsToldOf named (told.File words) = Unit {0}

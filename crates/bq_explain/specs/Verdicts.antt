@@ -53,7 +53,7 @@ abbrev pub CallsNoOther : Option (List ℤ) → Insn → Type 0
 CallsNoOther (Some helpers) (Call helper) = Contains helpers helper
 CallsNoOther helpers insn = Unit {0}
 
--- the instruction calls that helper, which is none of those
+-- the instruction calls that helper, which is not one of those
 pub record IsBeside (helpers : List ℤ) (insn : Insn) (helper : ℤ) : Type 0 where
   pub calls : insn ≡ Call helper
   pub beside : ¬ (Contains helpers helper)

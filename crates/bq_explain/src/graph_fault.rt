@@ -13,7 +13,7 @@ use std::alloc::{AllocError, Global};
 /// What is wrong with an instruction by the control graph or by itself.
 #[derive(Clone, Copy)]
 pub enum GraphFault {
-    /// It jumps to that slot, which is none of the program's.
+    /// It jumps to that slot, which the program does not have.
     JumpsOut(i64),
     /// It jumps back to that slot, or to itself.
     JumpsBack(i64),

@@ -129,7 +129,7 @@ fn called_against(helpers: &[i32], insns: &[Insn]) -> Option<i32>
     None
 }
 
-/// The helper that the instruction calls, if it is none of these.
+/// The helper that the instruction calls, if it is not one of these.
 fn called_beside(helpers: &[i32], insn: Insn) -> Option<i32>
     ensures { MatchOption result (CallsNoOther (Some helpers.now) insn) (IsBeside helpers.now insn) }
 {

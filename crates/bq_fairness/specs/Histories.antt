@@ -1,4 +1,4 @@
--- Histories of Ticks at one processor where a discipline alone decides who gives way, and what each task is served in them.
+-- Histories of Ticks at one processor where only the discipline decides who gives way, and what each task is served in them.
 use Rattle.std.specs.Prelude.{ℕ, ◌+◌, ◌-◌, ◌*◌, ◌≤◌, ◌^◌, if◌then◌else◌, List, [], ◌∷◌, Option, All}
 use Rattle.std.specs.Option.{option_map_or}
 use Rattle.bq_weights.specs.VirtualTime.{vdelta_of}

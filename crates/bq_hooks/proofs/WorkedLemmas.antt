@@ -23,7 +23,7 @@ preempt : preempt_bytes (record { processor = 0; queue = task 2 1 4294967296 ∷
 unfolding preempt_bytes
 preempt = refl
 
--- of three tasks at processor 0 two may go to processor 1, at which there is none
+-- of three tasks at processor 0 two may go to processor 1, which has no task
 pull : pull_bytes (record { puller = 1; source = 0; puller_size = 0; source_size = 3; movable = task 3 3 4294967296 ∷ task 2 3 4294967296 ∷ []; own = Some 3 }) ≡
     1 ∷ 0 ∷ 0 ∷ 0 ∷ 0 ∷ 0 ∷ 0 ∷ 0 ∷ 0 ∷ 0 ∷ 0 ∷ 0 ∷ 3 ∷ 0 ∷ 0 ∷ 0
     ∷ 2 ∷ 0 ∷ 0 ∷ 0 ∷ 2 ∷ 0 ∷ 0 ∷ 0 ∷ 3 ∷ 0 ∷ 0 ∷ 0 ∷ 0 ∷ 0 ∷ 0 ∷ 0

@@ -85,7 +85,7 @@ place_bytes_first f = place_bytes_below 16 f
 abbrev pub place_bytes_second : PlaceFacts → List ℕ
 place_bytes_second f = place_bytes_below 64 f
 
--- a task's id, weight and v; where there is none, the number given and zeros
+-- a task's id, weight and v; if there is no task, the number given and zeros
 abbrev pub task_bytes : ℕ → Option Task → List ℕ
 task_bytes absent None = u32_bytes absent ++ u32_bytes 0 ++ u64_bytes 0
 task_bytes absent (Some t) = u32_bytes t.id ++ u32_bytes t.weight ++ u64_bytes t.v

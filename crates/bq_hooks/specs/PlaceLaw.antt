@@ -9,7 +9,7 @@ abbrev pub MayUse : ℕ → Task → ℕ → Type 0
 MayUse count t p = (p < count) × (allows t.mask p ≡ true)
 
 -- where a task may use some processor of the machine it has a place of its own; the place is one that it may use, and none of
--- those has less load; of those of equal load it is the previous one, and where that is none of them the least number
+-- those has less load; of those of equal load it is the previous one, and, if that is not one of them, the one of the least number
 pub record IsLawfulPlace (place : ℕ → List ℕ → Task → Option ℕ) : Type 0 where
   pub exists : (count : ℕ) (loads : List ℕ) (t : Task) → HasPlace count t → IsSome (place count loads t)
   pub member : (count : ℕ) (loads : List ℕ) (t : Task) → IfSome (place count loads t) (MayUse count t)

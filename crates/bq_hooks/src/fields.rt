@@ -40,7 +40,7 @@ pub fn put_four(context: &mut [u8], at: usize, first: u32, second: u32, third: u
     put_u32(context, at + 12, fourth);
 }
 
-/// Writes a task's id, weight and v; where there is none, the number given and zeros.
+/// Writes a task's id, weight and v; if there is no task, the number given and zeros.
 #[inline(always)]
 pub fn put_task(context: &mut [u8], at: usize, absent: u32, task: Option<&Node>)
     requires room { at + 16 ≤ length context.old }

@@ -19,7 +19,7 @@ pub fn settled_is_permitted()
 {}
 
 /// A task that may use some processor of the machine has a place of its own. The place is a processor that it may use, none
-/// of those has less load, and of those of equal load it is the previous one, or where that is none of them the least number.
+/// of those has less load, and of those of equal load it is the previous one, or, if that is not one of them, the one of the least number.
 pub fn own_place_is_lawful()
     ensures { OwnPlaceIsLawful }
 {}

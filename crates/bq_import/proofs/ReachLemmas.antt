@@ -92,7 +92,7 @@ distance_cases : (v : Option ℤ) → (v ≡ None) ⊎ ((far : ℤ) × (v ≡ So
 distance_cases None = inl refl
 distance_cases (Some far) = inr (far, refl)
 
--- of a copy control goes to instructions alone, and only to later ones
+-- in a copy control goes to instructions only, and only to later ones
 module _ (maps : ℕ) (old : List (Option Insn)) (insns : List Insn) (origins : List ℕ) (copy : IsCopy maps old (spread insns) origins) (whole : is_well_formed insns ≡ true) (fits : AllFit insns) where
   pub copy_forward : AllForward (spread insns)
   copy_forward from to edge = ((goes_forward maps old (spread insns) origins copy).0 from to edge).0

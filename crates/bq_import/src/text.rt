@@ -172,7 +172,7 @@ fn sources_of<'a>(
     Ok(sources)
 }
 
-/// The line that the original of what stands at the slot of a copy comes from.
+/// The line that the original of the instruction at the slot of a copy comes from.
 fn source_of<'a>(
     ordered: &Ordered,
     lines: &[Option<SourceLine<'a>>],

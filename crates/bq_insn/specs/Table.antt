@@ -137,7 +137,7 @@ jump_form_of W32 code by_register =
     if code == 0 then (if by_register then None else Some Goto32)
     else option_map (λ c. Branch W32 c by_register) (condition_of code)
 
--- loads, by size and mode; a sign-extended load of eight bytes is none
+-- loads, by size and mode; there is no sign-extended load of eight bytes
 abbrev pub load_form_of : Size → ℕ → Option Form
 load_form_of size mode =
     if mode == 3 then Some (Load size false)

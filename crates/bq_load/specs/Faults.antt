@@ -35,7 +35,7 @@ pub record HasMore (bytes : List ℕ) : Type 0 where
   pub bytes_are : bytes ≡ header_bytes header ++ rest
   pub more : 8 * header.slots < length rest
 
--- header and program are there, but the program is none: at that slot it has that fault
+-- header and program are there, but the bytes are no program: at that slot it has that fault
 pub record HasFaultyProgram (bytes : List ℕ) (slot : ℕ) (cause : Cause) : Type 0 where
   pub header : Header
   pub program : List ℕ

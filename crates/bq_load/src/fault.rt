@@ -23,7 +23,7 @@ pub enum LoadFault {
     Cut,
     /// Bytes stand after the program.
     Rest,
-    /// The program is none: the slot of the instruction at fault, counted from 0, and its least cause. The length is
+    /// The bytes are no program: the slot of the instruction at fault, counted from 0, and its least cause. The length is
     /// named at slot 0.
     Decode {
         slot: usize,

@@ -1,4 +1,4 @@
--- What the helpers want of their arguments.
+-- What helpers need their arguments to be.
 use Rattle.std.specs.Prelude.{◌≡◌, ℕ, ℤ, pos, ◌<◌, ◌⊎◌, false, List, Option, Some, None, codes, slice_get}
 use Rattle.bq_bpf.specs.declared.board.TheConstants.{COUNTERS}
 use Rattle.bq_bpf.specs.declared.shape.MapShape.{MapShape}
@@ -37,7 +37,7 @@ abbrev pub IsCounter : Option AbstractValue → Type 0
 IsCounter None = ⊥
 IsCounter (Some k) = (k.kind ≡ Number) × (k.offset.hi < COUNTERS)
 
--- the abstract state gives the argument what the helper wants of it
+-- the abstract state shows the argument to be what the helper needs
 abbrev pub IsGood : PolicySource → AbstractState → Argument → Type 0
 IsGood p state argument.Map = (m : ℕ) × StandsAt (Pointer (Map m) 0) state 1
 IsGood p state argument.Entry = PointsTo p state 2 4

@@ -60,7 +60,7 @@ abbrev pub here_text : ℕ → Option AbstractValue → List ℕ
 here_text r None = codes "nothing is known of r" ++ decimal r
 here_text r (Some k) = codes "r" ++ (decimal r ++ (codes " is " ++ known_text k))
 
--- what a helper wants of an argument, and what is known of that
+-- what a helper needs an argument to be, and what is known of it
 abbrev pub argument_text : AbstractState → ℤ → Wanted → List ℕ
 argument_text state helper a =
     codes "calls helper " ++ (signed_decimal helper ++ (codes ", which wants " ++ (wanted_text a ++ (codes "; here " ++ here_text (register_of a) (known_in state (register_of a))))))

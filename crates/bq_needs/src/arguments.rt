@@ -1,4 +1,4 @@
-//! What the helpers want of their arguments, and which argument of a call is not shown to be that.
+//! What helpers need their arguments to be, and which argument of a call is not shown to be that.
 ghost use Rattle.std.specs.Prelude.{◌≡◌, ◌↔◌, ◌≤◌, ℕ, IfOk, IsTrue, MatchBool, MatchOption, string_bytes};
 ghost use Rattle.bq_states.specs.Certainty.{Exact, Pointer, Scalar, StandsAt};
 ghost use Rattle.bq_needs.specs.Arguments.{GivesHelper, IsBad, IsCounter, IsGood, PointsTo, PointsToValue, Wants, register_of, wanted_text};
@@ -16,7 +16,7 @@ use bq_states::abstract_state::{AbstractState, ValueKind};
 use bq_states::places::shape_of;
 use bq_states::registers::known;
 
-/// What a helper wants of one of its arguments.
+/// What a helper needs one of its arguments to be.
 #[derive(Clone, Copy)]
 pub enum Argument {
     /// Register 1 is the reference of a map.

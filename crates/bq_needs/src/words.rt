@@ -145,7 +145,7 @@ fn map_text(alloc: Global, index: i32, count: usize) -> Result<String, AllocErro
     format!(in alloc; "names map {index}; the program has {count} maps, numbered from 0")
 }
 
-/// What a helper wants of an argument, and what is known of that.
+/// What a helper needs an argument to be, and what is known of it.
 fn argument_text(
     alloc: Global,
     state: &AbstractState,

@@ -17,18 +17,18 @@ one_section headers k a b p q = p.section_is ∙ (ap section_of (one_part header
 pub one_symbol : (entries : List ℕ) (k : ℕ) (a b : Symbol) → IsSymbol entries k a → IsSymbol entries k b → a ≡ b
 one_symbol entries k a b p q = p.symbol_is ∙ (ap symbol_of (one_part entries (k * 24) 24 p.entry q.entry p.entry_is q.entry_is) ∙ sym q.symbol_is)
 
--- where a section of another kind stands there is none of this kind
+-- where a section of another kind stands, no section of this kind stands
 pub other_kind : (headers : List ℕ) (k kind : ℕ) (a b : Section) → IsSection headers k a → a.kind ≢ kind → IsSection headers k b → b.kind ≢ kind
 other_kind headers k kind a b p unlike q = subst (λ (s : Section). s.kind ≢ kind) (one_section headers k a b p q) unlike
 
--- past the last section there is none
+-- past the last section there is no section
 pub no_section : (headers : List ℕ) (k kind : ℕ) (b : Section) → length headers < k * 64 + 64 → IsSection headers k b → b.kind ≢ kind
 no_section headers k kind b past q = let fits = q.header_is.fits in absurd (omega (arith, past, fits))
 
--- where a symbol stands that is not `policy` there is none that is
+-- where a symbol stands that is not `policy`, no symbol `policy` stands
 pub other_symbol : (entries names : List ℕ) (k : ℕ) (a b : Symbol) → IsSymbol entries k a → (IsPolicySymbol names a → ⊥) → IsSymbol entries k b → IsPolicySymbol names b → ⊥
 other_symbol entries names k a b p unlike q is = unlike (subst (λ (s : Symbol). IsPolicySymbol names s) (sym (one_symbol entries k a b p q)) is)
 
--- past the last symbol there is none
+-- past the last symbol there is no symbol
 pub no_symbol : (entries names : List ℕ) (k : ℕ) (b : Symbol) → length entries < k * 24 + 24 → IsSymbol entries k b → IsPolicySymbol names b → ⊥
 no_symbol entries names k b past q is = let fits = q.entry_is.fits in omega (arith, past, fits)

@@ -12,7 +12,7 @@ use Rattle.bq_par.specs.Shifts.{IsShift}
 use Rattle.bq_par.specs.Ticks.{ticks_in}
 use Rattle.bq_par.specs.declared.summary.HistorySummary.{HistorySummary}
 
--- The summary has the history of a machine of so many processors under the discipline, each asked for so many ticks, and its numbers
+-- The summary has the history of a machine of that many processors under the discipline, each asked for that many ticks, and its numbers
 pub record IsSummary (d : Discipline) (processors ticks : ℕ) (s : HistorySummary) : Type 0 where
   pub world : World
   pub callers : List (ℕ × List (Receipt Record))

@@ -27,11 +27,11 @@ pub count_of-append : (id : ℕ) (xs ys : List Task) → count_of id (xs ++ ys) 
 count_of-append id [] ys = omega arith
 count_of-append id (x ∷ xs) ys = omega (arith, count_of-append id xs ys)
 
--- a task that comes is counted once more
+-- a task that comes adds one to its count
 pub count_of-place : (id : ℕ) (t : Task) (xs : List Task) → count_of id (place t xs) ≡ one id t + count_of id xs
 count_of-place id t xs = omega (arith, count_of-tally id (place t xs), count_of-tally id xs, TallyLemmas.tally-place (ones id) t xs)
 
--- what is taken was there once more
+-- what is taken was there one time more
 pub count_of-without : (i j : ℕ) (xs : List Task) (t : Task) → with_id j xs ≡ Some t → count_of i xs ≡ one i t + count_of i (without j xs)
 count_of-without i j xs t h = omega (arith, count_of-tally i (without j xs), count_of-tally i xs, TallyLemmas.tally-without (ones i) j xs t h)
 

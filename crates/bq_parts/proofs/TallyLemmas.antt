@@ -21,7 +21,7 @@ pub tally-append : (g : ℕ → ℕ → ℕ) (xs ys : List Task) → tally g (xs
 tally-append g [] ys = omega arith
 tally-append g (x ∷ xs) ys = omega (arith, tally-append g xs ys)
 
--- a task that comes is counted once more
+-- a task that comes adds one to its count
 pub tally-place : (g : ℕ → ℕ → ℕ) (t : Task) (xs : List Task) → tally g (place t xs) ≡ worth g t + tally g xs
 tally-place g t [] = refl
 tally-place g t (x ∷ xs) =
@@ -36,7 +36,7 @@ without_by_test true g x t xs ys o h rest =
     rw same refl
 without_by_test false g x t xs ys o h rest = omega (arith, rest h)
 
--- a task that is taken was counted once more
+-- a task that is taken was counted one time more
 pub tally-without : (g : ℕ → ℕ → ℕ) (j : ℕ) (xs : List Task) (t : Task) → with_id j xs ≡ Some t → tally g xs ≡ worth g t + tally g (without j xs)
 tally-without g j [] t h = cc
 tally-without g j (x ∷ xs) t h = without_by_test (eqb x.id j) g x t xs (without j xs) (with_id j xs) h (tally-without g j xs t)

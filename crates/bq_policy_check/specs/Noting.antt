@@ -29,12 +29,12 @@ left_text h p =
     (if leaves_maps h p then codes "the text says maps, and the image has none: asm takes them only from --maps; check --image OUT writes the image with them\n" else [])
     ++ (if leaves_format h p then codes "the text says format 2, and the image has version 1: asm takes it only from --format; check --image OUT writes version 2\n" else [])
 
--- the line on a mark that is none, where that is the fault
+-- the line on what is no mark, where that is the fault
 abbrev pub TellsHead : PolicyFault → List ℕ → Type 0
 TellsHead (fault.Head line cause) note = (reason : List ℕ) × (note ≡ reason ++ codes "; asm goes by its options alone\n")
 TellsHead other note = note ≡ []
 
--- of a policy with these words, what they leave out; of a text that is none, the first mark that is none; other bytes have no marks
+-- of a policy with these words, what they leave out; of a text that is no policy, the first that is no mark; other bytes have no marks
 abbrev pub IsNoteBeside : List ℕ → Head → List ℕ → Type 0
 IsNoteBeside bytes h note =
     ((kind_of bytes ≢ Text) × (note ≡ []))

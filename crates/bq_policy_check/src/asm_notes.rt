@@ -8,7 +8,7 @@ use bq_hooks::Version;
 use bq_policy_file::{FileKind, Head, Options, PolicyFault, PolicySource, kind_of, read_policy};
 use std::alloc::{AllocError, Global};
 
-/// Lines on what an image lacks that the marks of its text say, as the options leave it out, or on the first mark that is none. Nothing
+/// Lines on what an image lacks that the marks of its text say, as the options leave it out, or on the first that is no mark. Nothing
 /// where there is nothing to say.
 ///
 /// ```text
@@ -38,7 +38,7 @@ fn note_beside(alloc: Global, given: &Head, text: &[u8]) -> Result<String, Alloc
     }
 }
 
-/// The line on a mark that is none, where that is the fault.
+/// The line on what is no mark, where that is the fault.
 fn head_note(alloc: Global, text: &[u8], fault: PolicyFault) -> Result<String, AllocError>
     ensures { IfOk result (λ note. TellsHead fault (string_bytes note)) }
 {

@@ -21,7 +21,7 @@ use bq_explain::{Explanation, Limits, explain, explanation_text, judge, verdict_
 use bq_policy_file::{Head, PolicyFault, PolicySource, read_policy};
 use std::alloc::{AllocError, Global};
 
-/// The verdict on the policy whose file has that name and these bytes, or why the file is none. Words are refused only where they say
+/// The verdict on the policy whose file has that name and these bytes, or why the file is no policy. Words are refused only where they say
 /// no head or no limits. Standard input has no name.
 pub fn check(
     alloc: Global,

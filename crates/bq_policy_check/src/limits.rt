@@ -97,7 +97,7 @@ fn hooks_of(alloc: Global, text: &str) -> Result<Option<Vec<Hook>>, AllocError>
     Ok(None)
 }
 
-/// Adds the hooks of a text with commas between, up to a part that is none; whether there is no such part.
+/// Adds the hooks of a text with commas between, up to a part that is no hook; whether there is no such part.
 fn push_hooks(hooks: &mut Vec<Hook>, text: &str) -> Result<bool, AllocError>
     requires { hooks.old.items ≡ [] }
     ensures { IfOk result (λ all. MatchBool all (AllZip IsHook (parts 44 text.now) hooks.new.items) ((hooks : List Place) → ¬ AllZip IsHook (parts 44 text.now) hooks)) }
@@ -145,7 +145,7 @@ fn numbers_of(alloc: Global, text: &str) -> Result<Option<Vec<i32>>, AllocError>
     Ok(None)
 }
 
-/// Adds the numbers of a text with commas between, up to a part that is none; whether there is no such part.
+/// Adds the numbers of a text with commas between, up to a part that is no number; whether there is no such part.
 fn push_numbers(numbers: &mut Vec<i32>, text: &str) -> Result<bool, AllocError>
     requires { numbers.old.items ≡ [] }
     ensures { IfOk result (λ all. MatchBool all (AllZip IsHelper (parts 44 text.now) numbers.new.items) ((helpers : List ℤ) → ¬ AllZip IsHelper (parts 44 text.now) helpers)) }

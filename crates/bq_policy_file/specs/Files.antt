@@ -1,4 +1,4 @@
--- What a policy's file is, and why a file is none.
+-- What a policy's file is, and why a file is no policy.
 use Rattle.std.specs.Prelude.{◌≡◌, ◌≢◌, ℕ, ◌+◌, ◌&&◌, nat_le, List, [], ◌∷◌, Option, Some, None, option_map, unwrap_or, if◌then◌else◌, nat_eq}
 use Rattle.std.specs.List.{starts_with}
 use Rattle.std.proofs.Common.{Global}
@@ -139,7 +139,7 @@ pub record IsWhole (bytes : List ℕ) (said : Head) : Type 0 where
   pub insns : List Insn
   pub assembles : Assembles bytes insns
 
--- what is wrong with a text: it is none, else its first bad mark, else the fault of its program, else what differs or is not named
+-- what is wrong with a text: the assembler refuses it, else its first bad mark, else the fault of its program, else what differs or is not named
 abbrev pub IsTextFault : List ℕ → Head → PolicyFault → Type 0
 IsTextFault bytes given fault.Text = ¬ (IsUtf8 bytes)
 IsTextFault bytes given (fault.Head line cause) = IsUtf8 bytes × IsBadAt (lines bytes) line cause

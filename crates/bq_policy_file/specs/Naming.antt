@@ -31,7 +31,7 @@ abbrev pub of_program : DecodeFault → PolicyFault
 of_program (decode.At slot cause) = Program slot cause
 of_program decode.OutOfMemory = OutOfMemory
 
--- why a file is no policy, as it is answered: by the text of the part's fault where it is a part's. Lack of memory is none of
+-- why a file is no policy, as it is answered: by the text of the part's fault where it is a part's. Lack of memory is not one of
 -- the file
 abbrev pub fault_text : PolicyFault → List ℕ
 fault_text Text = codes "text"

@@ -14,7 +14,7 @@ use thiserror::Error;
 pub enum HeadCause {
     /// It is not one of `hook`, `maps` and `format` with one value.
     Unknown,
-    /// The value is none that the key may have.
+    /// The key may not have that value.
     Value(Key),
     /// The key stood in a line before.
     Twice(Key),
@@ -51,7 +51,7 @@ impl From<AllocError> for HeadFault {
 pub enum PolicyFault {
     /// It is neither an image nor hex, and no UTF-8 text.
     Text,
-    /// It begins as hex does, and is none.
+    /// It begins as hex does, and is not hex.
     Hex,
     /// A mark of the text is refused: the line, counted from 1, and why.
     Head {

@@ -22,7 +22,7 @@ pub(crate) fn image_of(
     Ok(bytes)
 }
 
-/// The same once more.
+/// The same again.
 pub(crate) fn copy_of(alloc: Global, form: &PolicyForm) -> Result<PolicyForm, AllocError>
     ensures hook { IfOk result (λ copy. copy.hook ≡ form.now.hook) }
     ensures version { IfOk result (λ copy. copy.version ≡ form.now.version) }

@@ -44,7 +44,7 @@ impl Key {
     }
 }
 
-/// What one line is: no mark, a mark that is none of those known, or a key and its value.
+/// What one line is: no mark, an unknown mark, or a key and its value.
 #[derive(Clone, Copy)]
 pub enum Mark<'a> {
     Nothing,

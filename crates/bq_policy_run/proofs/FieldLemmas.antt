@@ -29,7 +29,7 @@ same_row (row ∷ rows) name = go (bytes_eq row.0.now name) (same_row rows name)
     go true more = refl
     go false more = more
 
--- where no row is found there is none of the definition
+-- where no row is found the definition has no row
 pub none_row : (rows : List FieldRow) (name : List ℕ) (found : Option FieldRow) (fields : List NamedField) → map row_of rows ≡ fields → found ≡ find (λ (r : FieldRow). bytes_eq r.0.now name) rows → IfNone found (row_named fields name ≡ None)
 none_row rows name (Some row) fields table is = tt
 none_row rows name None fields table is =
@@ -100,7 +100,7 @@ none_by_digits hook stem digits none field has =
     let below = has.numbered.below in
     none has.number (omega (arith, few, below)) has.is_number
 
--- where a row has no field of the number there is none
+-- where a row has no field of the number, no field is found
 pub none_by_number : (hook : Hook) (stem digits : List ℕ) (row : NamedField) (number : ℕ) → row_named (fields_of hook) stem ≡ Some row → IsNumber digits number → ((field : Field) → field.at < 2 ^ 64 → ¬ IsNumbered row number field) → (field : Field) → field.at < 2 ^ 64 → ¬ HasNumber hook stem digits field
 none_by_number hook stem digits row number named is none field small has =
     let same : has.row ≡ row = cc (has.named, named) in

@@ -1,4 +1,4 @@
--- A word more of those that make their steps one after another, and one that makes none.
+-- One more word of those that make their steps one after another, and a word that makes no step.
 use Rattle.std.proofs.Common.{◌≡◌, ℕ, zero, suc, ◌+◌, ◌<◌, ◌≤◌, List, [], ◌∷◌, length, get_or, drop, drop-cons, add-one, refl, sym, subst, ap, ◌∙◌, arith}
 use Rattle.std.proofs.lemmas.List.{drop_all}
 use Rattle.bq_console.specs.declared.fault.WordsFault.{WordsFault}

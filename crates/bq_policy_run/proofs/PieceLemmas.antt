@@ -43,7 +43,7 @@ unfolding place_bytes_below place_header
 load_holds limit f k l =
     (inside_piece (place_header limit f) (λ p. u32_bytes (slice_index f.loads p)) 4 limit k 0 4 (40 + k * 4) (λ i. refl) l (omega arith)).1
 
--- the parts of a task that is shown, zeros where there is none
+-- the parts of a task that is shown, zeros if there is no task
 task_read : (o : Option Task) (rest : List ℕ) →
     (take 4 (drop 0 (task_bytes 0 o ++ rest)) ≡ u32_bytes (option_map_or (λ (t : Task). t.id) o 0))
     × (take 4 (drop 4 (task_bytes 0 o ++ rest)) ≡ u32_bytes (option_map_or (λ (t : Task). t.weight) o 0))

@@ -28,7 +28,7 @@ count_shown : (f : PullFacts) → number_at (pull_bytes f) 20 ≡ min (length f.
 unfolding pull_bytes pull_header
 count_shown f = little_number-reads_back 4 (min (length f.movable) 8) [] (omega arith)
 
--- the id of the task, 0 where there is none
+-- the id of the task, 0 for no task
 abbrev id_or_0 : Option Task → ℕ
 id_or_0 o = option_map_or (λ (t : Task). t.id) o 0
 

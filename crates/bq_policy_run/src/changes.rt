@@ -51,7 +51,7 @@ fn write_map(
     Ok(())
 }
 
-/// How many entries the map of that number has; none if there is none of that number.
+/// How many entries the map of that number has; `None` if no map has that number.
 fn entries(maps: &Maps, number: usize) -> u32
     ensures { result ≡ entries_in (slice_get maps.now.shapes number) }
 {

@@ -19,7 +19,7 @@ use bq_verify::{Refused, Verified, verify};
 use std::alloc::{AllocError, Global};
 use std::time::Clock;
 
-/// The one run of the policy whose file has these bytes, on the inputs that the words name, or why there is none. Where they say how
+/// The one run of the policy whose file has these bytes, on the inputs that the words name, or why it was not run. Where they say how
 /// often it is run, the clock tells how long that takes.
 pub fn run<C: Clock>(
     alloc: Global,

@@ -48,7 +48,7 @@ fn in_mask_text(alloc: Global, r0: u64, mask: u64) -> Result<String, AllocError>
     format!(in alloc; "permitted: processor {r0} is in mask 0x{mask:x}")
 }
 
-/// Of a place that is none of this many processors, or none of the mask.
+/// Of a place that is not one of this many processors, or not in the mask.
 fn no_place_text(alloc: Global, r0: u64, count: u32, mask: u64) -> Result<String, AllocError>
     ensures { IfOk result (λ text. TellsWord NotPermitted (string_bytes text)) }
 {

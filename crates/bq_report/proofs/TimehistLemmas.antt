@@ -16,7 +16,7 @@ abbrev pub AddsRunner : Window → NamedTasks → ℕ → ProcessorFigures → L
 AddsRunner w names number p now next =
     (part : Option Start) × IsShownRunner w number p.last p.running part × (next ≡ now ++ runner_text names p.last part)
 
--- before the first processor there is none
+-- before the first processor there is no processor
 pub EndsIn-none : (w : Window) (names : NamedTasks) (s : Figures) (old : List ℕ) → EndsIn w names s 0 old old
 unfolding AreLastLines
 EndsIn-none w names s old = ([], refl, sym (append-nil old))

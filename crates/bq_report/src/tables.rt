@@ -38,7 +38,7 @@ pub fn write_millis(text: &mut String, time: u64) -> Result<(), AllocError>
     write!(text, " {whole:>8}.{decimals}")
 }
 
-/// A latency in microseconds, in 12 columns, so too; `-` where there is none.
+/// A latency in microseconds, in 12 columns, so too; `-` for no latency.
 fn write_latency(text: &mut String, latency: Option<u64>) -> Result<(), AllocError>
     ensures { OnOk result (string_bytes text.new ≡ string_bytes text.old ++ latency_column latency) }
 {

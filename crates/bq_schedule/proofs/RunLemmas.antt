@@ -128,7 +128,7 @@ run-there s s' x j false e inside h =
     let q = processor_read x.processor (processor_of s x.processor) x.now in
     ap (λ (w : Works). w.run) (h.0.at j) ∙ ap (λ (p : ProcessorFigures). p.run) (processor-read_at x.processor x.now j s inside ∙ ap (λ c. cond c q (processor_of s j)) e)
 
--- a slice of another processor is none here
+-- a slice of another processor does not count here
 only-cond : (l : Bool) (processor j id from to : ℕ) (b : Bool) → eqb processor j ≡ b →
     at_only j (cond l (Some (record { processor = processor; task = id; from = from; to = to })) None) ≡ cond b (cond l (Some (record { processor = processor; task = id; from = from; to = to })) None) None
 only-cond true processor j id from to true e = rw e refl

@@ -14,7 +14,7 @@ use Rattle.bq_schedule.specs.Figures.{Figures, processor_of, task_of, with_proce
 abbrev pub reading_at : ℕ → ProcessorFigures → ℕ → ClockReading
 reading_at processor p now = record { processor = processor; from = p.last; to = reading p.last now; is_back = nat_lt now p.last }
 
--- the stretch from one reading to another, of the task that ran; one of no length is none
+-- the stretch from one reading to another, of the task that ran; one of no length does not count
 abbrev pub slice_between : ℕ → ℕ → ℕ → Option Start → Option Slice
 slice_between processor from to None = None
 slice_between processor from to (Some start) =

@@ -14,7 +14,7 @@ use Rattle.bq_schedule.specs.Figures.{Figures, processor_of, task_of, with_proce
 abbrev pub running_task : ProcessorFigures → Option ℕ
 running_task p = option_map (λ (s : Start). s.task) p.running
 
--- what runs is this task, or nothing where there is none
+-- what runs is this task, or nothing if no task is given
 abbrev pub is_run_by : Option Start → Option ℕ → Bool
 is_run_by None None = true
 is_run_by (Some start) (Some id) = start.task == id

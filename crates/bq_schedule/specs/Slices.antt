@@ -54,7 +54,7 @@ abbrev pub runner : ℕ → History → Option ℕ
 runner processor [] = None
 runner processor (m ∷ past) = runner_after processor (runner processor past) (sight_of m.event m.answer)
 
--- the stretch between two readings, of who ran; one of no length is none
+-- the stretch between two readings, of who ran; one of no length does not count
 abbrev pub stretch : ℕ → Option ℕ → ℕ → ℕ → Option Slice
 stretch processor None from to = None
 stretch processor (Some id) from to = if nat_lt from to then Some (record { processor = processor; task = id; from = from; to = to }) else None

@@ -41,7 +41,7 @@ impl Latencies {
     }
 
     /// The least of them that at least this many percent of them are not above, by nearest rank; the greatest beyond 100
-    /// percent; none where there is none. It sorts them.
+    /// percent; `None` if there are none. It sorts them.
     pub fn percentile(&mut self, percent: u8) -> Option<u64>
         ensures none { IsNone result ↔ (self.old ≡ []) }
         ensures value { IfSome result (λ v. v ≡ slice_index self.new (rank percent (length self.new))) }
@@ -60,7 +60,7 @@ impl Latencies {
         self.values.sort_unstable();
     }
 
-    /// The one at the place of a percentile, as they stand; none where there is none.
+    /// The one at the place of a percentile, as they stand; `None` if there are none.
     pub(crate) fn at_rank(&self, percent: u8) -> Option<u64>
         ensures { result ≡ slice_get self.now (rank percent (length self.now)) }
     {

@@ -115,7 +115,7 @@ fn slice_between(processor: u8, from: u64, to: u64, running: Option<Start>) -> O
     }
 }
 
-/// How long a slice is, in nanoseconds; 0 where there is none.
+/// How long a slice is, in nanoseconds; 0 for no slice.
 fn length_of(slice: Option<Slice>) -> u64
     ensures { result ≡ length_of slice }
 {

@@ -142,7 +142,7 @@ impl TaskFigures {
     }
 }
 
-/// Whether what runs is this task, or nothing where there is none.
+/// Whether what runs is this task, or nothing if no task is given.
 fn is_run_by(running: Option<Start>, run: Option<u16>) -> bool
     ensures { result ≡ is_run_by running run }
 {

@@ -35,7 +35,7 @@ impl Compared for Record {
     }
 }
 
-/// Room for a record, where there is none yet.
+/// Room for a record, if there is no room yet.
 #[inline(always)]
 pub fn record_room(alloc: Global, room: &mut Room<Record>) -> Result<(), Refusal>
     ensures memory { IfErr result (λ refusal. refusal ≡ no.OutOfMemory) }
@@ -44,7 +44,7 @@ pub fn record_room(alloc: Global, room: &mut Room<Record>) -> Result<(), Refusal
     room.prepare(alloc).map_err(|_| Refusal::OutOfMemory)
 }
 
-/// Room for the calls of counters of an event, once for its record and once for its receipt, where there is none yet.
+/// Room for the calls of counters of an event, once for its record and once for its receipt, if there is no room yet.
 #[inline(always)]
 pub fn call_rooms(alloc: Global, rooms: &mut Option<CallRooms>) -> Result<(), Refusal>
     ensures memory { IfErr result (λ refusal. refusal ≡ no.OutOfMemory) }

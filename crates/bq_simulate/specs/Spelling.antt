@@ -18,7 +18,7 @@ use Rattle.bq_words.specs.declared.processor_count.ProcessorCount.{ProcessorCoun
 abbrev pub spaced_words : List (List ℕ) → List ℕ
 spaced_words words = join_with_byte 32 words
 
--- the word of an image: its bytes in hex, or `none` where there is none
+-- the word of an image: its bytes in hex, or `none` if there is no image
 abbrev pub image_word : Option (List ℕ) → List ℕ
 image_word None = codes "none"
 image_word (Some bytes) = encode_lower bytes

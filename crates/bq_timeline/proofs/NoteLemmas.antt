@@ -4,7 +4,7 @@ use Rattle.bq_schedule.specs.Figures.{Figures}
 use Rattle.bq_schedule.specs.Runnable.{undrained}
 use Rattle.bq_timeline.specs.Notes.{waiting_note, waiting_notes}
 
--- before the first task there is none
+-- before the first task there is no task
 pub waiting_notes-none : (s : Figures) (old : List ℕ) → old ≡ old ++ waiting_notes s 0
 unfolding waiting_notes
 waiting_notes-none s old = sym (append-nil old)

@@ -140,7 +140,7 @@ RunBackwards w = (from : ℕ) × (to : ℕ) × (from_asked w ≡ Some from) × (
 abbrev pub IsUnheeded : Words → (FormName → Bool) → Option (String Global) → Type 0
 IsUnheeded w heeds word = (form : FormName) × (form_asked w ≡ Some form) × (is_heeded (heeds form) word ≡ false)
 
--- the word that the fault names is none of its kind, or the moments run backwards, or the form does not heed an option; memory may run out
+-- the word that the fault names is not of its kind, or the moments run backwards, or the form does not heed an option; memory may run out
 -- whatever the words are
 abbrev pub IsNoSettings : Words → SettingsFault → Type 0
 IsNoSettings w fault.Form = form_asked w ≡ None

@@ -132,7 +132,7 @@ macro_rules! with_columns {
 impl Settings {
     /// What the words ask for: all of a trace, in a report, unless they say otherwise.
     ///
-    /// A fault other than `OutOfMemory` names a word that is none of its kind (a form, a time, processors, tasks, a width or a theme), or says
+    /// A fault other than `OutOfMemory` names a word that is not of its kind (a form, a time, processors, tasks, a width or a theme), or says
     /// that the first moment is after the last, or names an option that the form does not heed.
     #[tactic(auto, using(crate::proofs::TaskLemmas::runs_backwards, crate::proofs::HeedingLemmas::width_unheeded, crate::proofs::HeedingLemmas::theme_unheeded, crate::proofs::HeedingLemmas::title_unheeded))]
     pub fn of(alloc: Global, words: &Words) -> Result<Settings, SettingsFault>

@@ -78,7 +78,7 @@ rest_after-next last (x ∷ xs) t r d f = next (follows last x) refl f (rest_aft
         let n = skipped last x t (comes_after t.v t.id x) e k refl in
         rw (e, n) (more f)
 
--- after the last there is none
+-- after the last there is no next one
 pub rest_after-end : (last : Option (ℕ × ℕ)) (xs : List Task) → find (follows last) xs ≡ None → rest_after last xs ≡ []
 rest_after-end last [] f = refl
 rest_after-end last (x ∷ xs) f =

@@ -71,7 +71,7 @@ comes_later v id x y p q = grind (arith, nat_tests)
 is_at-after : (v id : ℕ) (x : Task) → comes_after v id x ≡ true → is_at v id x ≡ false
 is_at-after v id x p = grind (arith, nat_tests)
 
--- (v, id) lies before x, and so it is none of the later ones
+-- (v, id) lies before x, and so it is not among the later ones
 absent_later : (v id : ℕ) (x : Task) (xs : List Task) → comes_after v id x ≡ true → NoneRunsBefore x xs → IsAbsent v id xs
 absent_later v id x [] a h = tt
 absent_later v id x (y ∷ xs) a h = (is_at-after v id y (comes_later v id x y a h.0), absent_later v id x xs a h.1)
@@ -79,7 +79,7 @@ absent_later v id x (y ∷ xs) a h = (is_at-after v id y (comes_later v id x y a
 not_at-before : (v id : ℕ) (x y : Task) → comes_after v id x ≡ false → is_at v id x ≡ false → runs_before x y ≡ false → is_at v id y ≡ false
 not_at-before v id x y p q r = grind (arith, nat_tests)
 
--- (v, id) lies after x, and so it is none of the earlier ones
+-- (v, id) lies after x, and so it is not among the earlier ones
 absent_earlier : (v id : ℕ) (x : Task) (xs : List Task) → comes_after v id x ≡ false → is_at v id x ≡ false → RunsBeforeNone x xs → IsAbsent v id xs
 absent_earlier v id x [] a n h = tt
 absent_earlier v id x (y ∷ xs) a n h = (not_at-before v id x y a n h.0, absent_earlier v id x xs a n h.1)

@@ -73,7 +73,7 @@ absent_by_test true v id x o e a h rest =
     absurd (grind (arith, nat_tests))
 absent_by_test false v id x o e a h rest = rest h
 
--- no task is at (v, id), where v is that of the task of that id, if there is one: so there is none
+-- no task is at (v, id), where v is that of the task of that id, if there is one: so no task is there
 pub none_of_id : (v id : ℕ) (xs : List Task) → IsAbsent v id xs → IfSome (with_id id xs) (λ t. t.v ≡ v) → with_id id xs ≡ None
 none_of_id v id [] a h = refl
 none_of_id v id (x ∷ xs) a h = absent_by_test (has_id id x) v id x (with_id id xs) refl a.0 h (none_of_id v id xs a.1)

@@ -41,7 +41,7 @@ heights_are slots heights sound measured = record {
 pub first_height_is_longest : (insns : List Insn) (slots : List (Option Insn)) (heights : List ℕ) → slots ≡ spread insns → 0 < length slots → Measured slots 0 heights → IsGreatest (PathOut slots 0) (slice_index heights 0)
 first_height_is_longest insns slots heights same some measured = measured 0 zero-le (spread_first insns slots same some)
 
--- the number that a pass forwards left, 0 where there is none
+-- the number that a pass forwards left, 0 if it left none
 abbrev pub count_in : Option ℕ → ℕ
 count_in None = 0
 count_in (Some n) = n

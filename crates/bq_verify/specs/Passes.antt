@@ -40,7 +40,7 @@ pub record CountsFollowed (slots : List (Option Insn)) (below : ℕ) (most : Lis
 abbrev pub Measured : List (Option Insn) → ℕ → List ℕ → Type 0
 Measured slots from heights = (k : ℕ) → from ≤ k → IsStart slots k → IsGreatest (PathOut slots k) (slice_index heights k)
 
--- the height at a target, or 0 where there is none
+-- the height at a target, or 0 if it has none yet
 abbrev pub height_to : List ℕ → Option ℕ → ℕ
 height_to heights None = 0
 height_to heights (Some to) = slice_index heights to

@@ -26,7 +26,7 @@ IsApartFrom x dst = Unit {0}
 abbrev pub AfterTest : AbstractState → ℕ → ℕ → Bool → Fact → Type 0
 AfterTest state dst map found x = ((found ≡ true) × (x ≡ AtRegister (Pointer (Entry map) 0) dst)) ⊎ (IsApartFrom x dst × IsLasting x × Has x state)
 
--- what is sure on either side of a test of numbers: what was so, but for the number of the register that was tested
+-- what is sure on either side of a test of numbers: what was so, except the number of the register that was tested
 abbrev pub OutlastsTest : AbstractState → ℕ → Fact → Type 0
 OutlastsTest state dst x = Outlasts x dst × IsLasting x × Has x state
 

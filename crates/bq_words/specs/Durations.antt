@@ -30,7 +30,7 @@ amount_at unit number (Some point) =
 abbrev pub amount_of : ℕ → List ℕ → Option ℕ
 amount_of unit number = amount_at unit number (position is_point number)
 
--- the word cut where its number ends: that number of the unit that is behind it, or of nanoseconds if there is none
+-- the word cut where its number ends: that number of the unit that is behind it, or of nanoseconds if no unit stands there
 abbrev pub duration_at : List ℕ → Option ℕ → Option ℕ
 duration_at word None = amount_of 1 word
 duration_at word (Some end) = option_and_then (λ unit. amount_of unit (take end word)) (unit_of (drop end word))

@@ -56,7 +56,7 @@ AreNames-more [] (m ∷ ns) v n h e = absurd h
 AreNames-more (w ∷ vs) [] v n h e = absurd h
 AreNames-more (w ∷ vs) (m ∷ ns) v n h e = (h.0, AreNames-more vs ns v n h.1 e)
 
--- a name that is none of some, and of others none that is one before it, is none before it in all of them
+-- names that are new each, to those before and to one another, stay so with a new name at their end
 pub AreOthers-more : (before names : List (String Global)) (n : String Global) → AreOthers before names → named_at (before ++ names) (string_bytes n) ≡ None → AreOthers before (names ++ n ∷ [])
 AreOthers-more before [] n h new = (subst (λ (all : List (String Global)). named_at all (string_bytes n) ≡ None) (append-nil before) new, tt)
 AreOthers-more before (x ∷ names) n h new =

@@ -25,7 +25,7 @@ task_keys =
 abbrev pub is_one_of : List (List ℕ) → List ℕ → Bool
 is_one_of words key = list_any (λ word. bytes_eq word key) words
 
--- the first key of a table that is none of these words
+-- the first key of a table that is not one of these words
 abbrev pub first_unknown : List (List ℕ) → Members → Option (List ℕ)
 first_unknown words no_members = None
 first_unknown words (member key value more) = if is_one_of words key then first_unknown words more else Some key

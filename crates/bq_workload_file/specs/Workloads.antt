@@ -133,7 +133,7 @@ pub record IsWorkload (c : Changes) (document : Members) (w : Workload) : Type 0
 abbrev pub Describes : List ℕ → Changes → Workload → Type 0
 Describes text c w = (document : Members) × (parse_document text ≡ Some document) × IsWorkload c document w
 
--- a text is called no TOML only where it is none, at the place of one of its bytes or of its end, and to say no workload only where
+-- a text is called no TOML only if it is not TOML, at the place of one of its bytes or of its end, and to say no workload only where
 -- it is TOML
 abbrev pub IsReadFault : List ℕ → Fault → Type 0
 IsReadFault text (Syntax line column message) = (parse_document text ≡ None) × IsPlace text line column

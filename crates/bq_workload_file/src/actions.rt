@@ -102,7 +102,7 @@ pub(crate) fn place(names: &[String], name: &str) -> Option<usize>
     names.iter().position(|known| known.as_str() == name)
 }
 
-/// The actions of a list, or the number of the first that is none, from 1, and what is wrong with it.
+/// The actions of a list, or the number, from 1, of the first that is no action, and what is wrong with it.
 pub(crate) fn actions<'a>(
     alloc: Global,
     values: &'a [Value],

@@ -31,7 +31,7 @@ pub(crate) fn only(table: &Table) -> Option<(&str, &Value)>
     }
 }
 
-/// Each key is one of the known words; where not, the first that is none is reported.
+/// Each key is one of the known words; where not, the first unknown one is reported.
 pub(crate) fn all_known<'a>(table: &'a Table, known: &'static [&'static str]) -> Result<(), Why<'a>>
     ensures { option_map unknown_key (result_err result) ≡ option_map (λ key. Some key) (first_unknown (map (λ word. word.now) known.now) (table_view table.now)) }
 {

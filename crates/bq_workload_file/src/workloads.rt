@@ -26,8 +26,8 @@ use toml::{Table, Value};
 /// The keys of a document.
 static DOCUMENT: [&str; 2] = ["machine", "task"];
 
-/// The workload that a text describes, on its machine with these changes. A text is called no TOML only where it is none.
-/// The loop can follow it to its end, unless a changed duration is none that a machine may have.
+/// The workload that a text describes, on its machine with these changes. A text is called no TOML only if it is not TOML.
+/// The loop can follow it to its end, unless a machine may not have a changed duration.
 pub fn read(alloc: Global, text: &str, changes: Changes) -> Result<Workload, Fault>
     ensures describes { IfOk result (Describes text.now changes) }
     ensures sound { IfSome changes.duration (λ d. is_long d ≡ true) → IfOk result (λ w. first_flaw w ≡ None) }

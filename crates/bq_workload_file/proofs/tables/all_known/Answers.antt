@@ -1,4 +1,4 @@
--- A key that is one of the words is passed over; one that is none is the first.
+-- A key that is one of the words is passed over; an unknown one is the first.
 use Rattle.std.proofs.Common.{◌≡◌, ℕ, List, Bor, Bool, Option, Some, true, false, cond, ◌∷◌, map, sym, ap, ◌∙◌, option_map, string_bytes, arith}
 use Rattle.std.proofs.lemmas.Grind.{common_steps}
 use Rattle.toml.specs.View.{members_view}
