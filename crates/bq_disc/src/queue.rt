@@ -22,6 +22,16 @@ pub enum Entry {
 }
 
 /// A set of tasks with distinct ids, under a rule. No call takes memory: nodes move.
+///
+/// # Example
+///
+/// ```
+/// let mut queue = CfsQueue::empty();
+/// queue.insert(Box::new(alloc, Node::new(7, 1024, 1, 3_000_000))?);
+/// let Some(7) = queue.choice(None) else {
+///     return Err(Fail::from("another task was chosen"));
+/// };
+/// ```
 pub trait RunQueue {
     type R: Discipline;
 

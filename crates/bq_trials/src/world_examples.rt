@@ -5,6 +5,7 @@ ghost use Rattle.std.specs.Prelude.{◌≡◌};
 use bq_bpf::Plain;
 use bq_cfs::CfsQueue;
 use bq_core::{Core, DynamicCore};
+use bq_disc::{Node, RunQueue};
 use bq_history::Naming;
 use bq_machine::{Clock, Machine};
 use bq_parts::{Event, Reply};
@@ -16,6 +17,18 @@ use std::alloc::Global;
 use std::marker::Brand;
 use std::sync::Wait;
 use std::test::Fail;
+
+/// The example of `RunQueue`.
+#[test]
+fn a_task_is_chosen(rt: HostRuntime) -> Result<(), Fail> {
+    let alloc = rt.alloc();
+    let mut queue = CfsQueue::empty();
+    queue.insert(Box::new(alloc, Node::new(7, 1024, 1, 3_000_000))?);
+    let Some(7) = queue.choice(None) else {
+        return Err(Fail::from("another task was chosen"));
+    };
+    Ok(())
+}
 
 /// The example of `Core::step`.
 #[test]
