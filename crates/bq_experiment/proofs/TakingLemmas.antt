@@ -63,8 +63,8 @@ fault_told : (hook : Option Hook) (asked : Head) (file : List ℕ) (old : Standi
     → IsTold (IsRead hook file) (IsNone hook file) old fault
 fault_told hook asked file old told.Twice (read, reads, there) asks = (read, (asked, asks, reads), there)
 fault_told hook asked file old told.Hook (key, refused) asks = (key, (asked, asks, refused))
-fault_told hook asked file old (told.File words) (named, refused) asks = (named, (asked, asks, refused))
-fault_told hook asked file old (told.Program named) t asks = record { read = t.read; reads = (asked, asks, t.reads); image = t.image; spells = t.spells; unloaded = t.unloaded }
+fault_told hook asked file old (told.File words) (named, refused, other) asks = (named, (asked, asks, refused), other)
+fault_told hook asked file old (told.Program named) t asks = record { read = t.read; reads = (asked, asks, t.reads); image = t.image; spells = t.spells; unloaded = t.unloaded; other = t.other }
 fault_told hook asked file old told.OutOfMemory t asks = tt
 
 -- why a file is not taken is so by what was asked for
@@ -76,14 +76,14 @@ told_of (Err e) hook asked file old t asks = fault_told hook asked file old e t 
 -- what is reported of a refused file is why it is not taken
 pub none_told : (Reads : PolicySource → Type 0) (Refuses : FileFault → Type 0) (s : Standing) (named : FileFault) (fault : AttachFault) → Refuses named → IsToldOf named fault → IsTold Reads Refuses s fault
 none_told Reads Refuses s (Disagrees key) fault refused is = subst (IsTold Reads Refuses s) (sym is) (key, refused)
-none_told Reads Refuses s named (told.File words) refused is = (named, refused)
+none_told Reads Refuses s named (told.File words) refused is = (named, refused, is)
 none_told Reads Refuses s named told.OutOfMemory refused is = tt
 none_told Reads Refuses s named fault refused is = absurd is
 
 -- so is what is reported of an image that is not loaded
 pub image_told : (Reads : PolicySource → Type 0) (Refuses : FileFault → Type 0) (s : Standing) (read : PolicySource) (image : List ℕ) (fault : AttachFault) → Reads read
     → IsImage image read.form.version read.form.hook read.form.shapes.items (spelling read.insns.items) → IsToldOfImage image fault → IsTold Reads Refuses s fault
-image_told Reads Refuses s read image (told.Program named) reads spells is = record { read = read; reads = reads; image = image; spells = spells; unloaded = is }
+image_told Reads Refuses s read image (told.Program named) reads spells is = record { read = read; reads = reads; image = image; spells = spells; unloaded = is.0; other = is.1 }
 image_told Reads Refuses s read image told.OutOfMemory reads spells is = tt
 image_told Reads Refuses s read image fault reads spells is = absurd is
 

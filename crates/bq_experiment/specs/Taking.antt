@@ -1,13 +1,15 @@
 -- What is taken of a file: a policy and its image.
-use Rattle.std.specs.Prelude.{◌≡◌, ℕ, List, Option, Some, None, IsSome}
+use Rattle.std.specs.Prelude.{◌≡◌, ◌≢◌, ℕ, List, Option, Some, None, IsSome}
 use Rattle.bq_hooks.specs.declared.hook.Hook.{Hook}
 use Rattle.bq_insn.specs.Spelling.{spelling}
 use Rattle.bq_load.specs.Answers.{IsUnloaded}
 use Rattle.bq_load.specs.Layout.{IsImage}
 use Rattle.bq_load.specs.declared.fault.LoadFault.{LoadFault}
+use Rattle.bq_load.specs.declared.fault.LoadFault.TheVariants as load
 use Rattle.bq_policy_file.specs.Files.{IsPolicy, IsPolicyFault}
 use Rattle.bq_policy_file.specs.declared.fault.PolicyFault.{PolicyFault as FileFault}
 use Rattle.bq_policy_file.specs.declared.fault.PolicyFault.TheVariants.{Disagrees}
+use Rattle.bq_policy_file.specs.declared.fault.PolicyFault.TheVariants as file
 use Rattle.bq_policy_file.specs.declared.head.Head.{Head}
 use Rattle.bq_policy_file.specs.declared.mark.Key.{Key}
 use Rattle.bq_policy_file.specs.declared.policy_source.PolicySource.{PolicySource}
@@ -54,25 +56,26 @@ pub record IsUnaccepted (Reads : PolicySource → Type 0) (named : LoadFault) : 
   pub image : List ℕ
   pub spells : IsImage image read.form.version read.form.hook read.form.shapes.items (spelling read.insns.items)
   pub unloaded : IsUnloaded image named
+  pub other : named ≢ load.OutOfMemory
 
 -- Why a file is not taken: it holds a policy for a hook at which an image was, it disagrees with what was asked for, it is no policy by its words,
 -- or its program is not accepted. Lack of memory says nothing of it.
 abbrev pub IsTold : (PolicySource → Type 0) → (FileFault → Type 0) → Standing → AttachFault → Type 0
 IsTold Reads Refuses s told.Twice = IsSecond Reads s
 IsTold Reads Refuses s told.Hook = (key : Key) × Refuses (Disagrees key)
-IsTold Reads Refuses s (told.File words) = (named : FileFault) × Refuses named
+IsTold Reads Refuses s (told.File words) = (named : FileFault) × Refuses named × (named ≢ file.OutOfMemory)
 IsTold Reads Refuses s (told.Program named) = IsUnaccepted Reads named
 IsTold Reads Refuses s told.OutOfMemory = Unit {0}
 
 -- what is reported of a refused file
 abbrev pub IsToldOf : FileFault → AttachFault → Type 0
 IsToldOf (Disagrees key) said = said ≡ told.Hook
-IsToldOf named (told.File words) = Unit {0}
+IsToldOf named (told.File words) = named ≢ file.OutOfMemory
 IsToldOf named told.OutOfMemory = Unit {0}
 IsToldOf named said = ⊥
 
 -- what is reported of an image that is not loaded
 abbrev pub IsToldOfImage : List ℕ → AttachFault → Type 0
-IsToldOfImage image (told.Program named) = IsUnloaded image named
+IsToldOfImage image (told.Program named) = IsUnloaded image named × (named ≢ load.OutOfMemory)
 IsToldOfImage image told.OutOfMemory = Unit {0}
 IsToldOfImage image said = ⊥

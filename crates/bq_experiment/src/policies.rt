@@ -12,7 +12,7 @@ use bq_hooks::Hook;
 use bq_installed::Policy;
 use bq_load::{LoadFault, load};
 use bq_policy_check::{HOOK_UNSAID, fault_reason};
-use bq_policy_file::{Head, read_policy};
+use bq_policy_file::{Head, PolicyFault, read_policy};
 use bq_simulate::Images;
 use std::alloc::{AllocError, AllocFailed, Global};
 use std::marker::Model;
@@ -176,14 +176,13 @@ impl<T: Drop> From<AllocFailed<T>> for AttachFault {
 }
 
 /// Why the file is no policy for the hook, in words.
-fn told(alloc: Global, file: &[u8], fault: bq_policy_file::PolicyFault) -> AttachFault
+fn told(alloc: Global, file: &[u8], fault: PolicyFault) -> AttachFault
     ensures { IsToldOf fault result }
 {
-    if let bq_policy_file::PolicyFault::Disagrees(_) = fault {
-        return AttachFault::Hook;
-    }
     let why = match fault {
-        bq_policy_file::PolicyFault::NoHook => String::from_str(alloc, HOOK_UNSAID),
+        PolicyFault::Disagrees(_) => return AttachFault::Hook,
+        PolicyFault::OutOfMemory => return AttachFault::OutOfMemory,
+        PolicyFault::NoHook => String::from_str(alloc, HOOK_UNSAID),
         fault => fault_reason(alloc, file, fault),
     };
     match why {
