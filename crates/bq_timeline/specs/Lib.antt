@@ -1,3 +1,4 @@
+pub mod Called
 pub mod Notes
 pub mod Settings
 pub mod Shown

@@ -1,6 +1,6 @@
 //! The forms by their names.
 ghost use Rattle.std.specs.Prelude.{◌≡◌};
-ghost use Rattle.bq_timeline.specs.Settings.{form_of, has_look, has_width};
+ghost use Rattle.bq_timeline.specs.Settings.{form_of, has_look, has_stretch, has_width};
 ghost use Rattle.bq_timeline.specs.Shown.{is_read_by_lines};
 
 /// A form in which a schedule is shown.
@@ -40,6 +40,13 @@ impl FormName {
             "perfetto" => Some(FormName::Perfetto),
             _ => None,
         }
+    }
+
+    /// Whether it shows a stretch of time. A report and JSON have the figures of the whole.
+    pub fn has_stretch(self) -> bool
+        ensures { result ≡ has_stretch self }
+    {
+        !matches!(self, FormName::Report | FormName::Json)
     }
 
     /// Whether it is as wide as it is asked to be.

@@ -1,11 +1,14 @@
 //! What is written of a trace: the form, with notes on its lines where a person reads it, and what goes to standard error.
-ghost use Rattle.std.specs.Prelude.{◌≡◌, ◌++◌, OnOk, None, Some, string_bytes};
+ghost use Rattle.std.specs.Prelude.{◌≡◌, ◌++◌, ℕ, IfOk, IfSome, OnOk, None, Some, string_bytes};
 ghost use Rattle.std.specs.List.{list_any};
+ghost use Rattle.bq_report.specs.Names.{Learns, name_of};
+ghost use Rattle.bq_timeline.specs.Called.{tasks_for, uncalled_notes};
 ghost use Rattle.bq_timeline.specs.Notes.{absent_notes, lacks_processors, lacks_tasks, last_notes, processors_note, tasks_note, trouble_note, unmade_note, waiting_note, waiting_notes};
 ghost use Rattle.bq_schedule.specs.Figures.{task_of};
-ghost use Rattle.bq_timeline.specs.Shown.{IsAskedFor, is_read_by_lines};
+ghost use Rattle.bq_timeline.specs.Shown.{IsAskedFor, ShowsAsked, is_read_by_lines};
 
 use crate::bounds_table::BoundsTable;
+use crate::called::{add_called, note_uncalled};
 use crate::foreign::foreign_text;
 use crate::settings::Settings;
 use crate::shown::Shown;
@@ -25,13 +28,16 @@ use std::alloc::{AllocError, Global};
 #[derive(Drop)]
 pub struct Screen {
     names: Names,
-    shown: Shown,
+    /// What is asked for, until there is a machine: by then the comments above have named the tasks.
+    asked: Option<Settings>,
+    /// The form, once there is a machine.
+    shown: Option<Shown>,
     has_notes: bool,
     /// The bounds of the rule, once there is a machine, where the form shows them.
     near: Option<BoundsTable>,
     /// The processors that are shown, by bits.
     processors: u64,
-    /// The tasks that are named; none where all are shown.
+    /// The tasks that are shown, once there is a machine; none where all are shown.
     tasks: Vec<u16>,
     /// What goes to the output, since it was cleared last.
     pub text: String,
@@ -42,25 +48,19 @@ pub struct Screen {
 impl Screen {
     /// Nothing is written yet.
     pub fn new(alloc: Global, settings: Settings) -> Screen
-        ensures shown { IsAskedFor settings result.shown }
+        ensures asked { result.asked ≡ Some settings }
+        ensures names { (task : ℕ) → name_of result.names task ≡ None }
         ensures notes { result.has_notes ≡ is_read_by_lines settings.form }
-        ensures named { (result.tasks ≡ settings.named) × (result.processors ≡ settings.window.processors) }
+        ensures processors { result.processors ≡ settings.window.processors }
     {
-        let Settings {
-            form,
-            window,
-            named,
-            width,
-            look,
-        } = settings;
-        let processors = window.processors;
         Screen {
             near: None,
-            processors,
-            tasks: named,
+            processors: settings.window.processors,
+            has_notes: settings.form.has_notes(),
+            tasks: Vec::new(alloc),
             names: Names::new(alloc),
-            shown: Shown::of(alloc, form, window, width, look),
-            has_notes: form.has_notes(),
+            asked: Some(settings),
+            shown: None,
             text: String::new(alloc),
             notes: String::new(alloc),
         }
@@ -75,22 +75,54 @@ impl Screen {
         }
     }
 
-    /// The machine is made, under a rule.
+    /// The machine is made, under a rule. The tasks have the names that came before, and those that are asked for by name are shown.
     pub fn begin(
         &mut self,
         alloc: Global,
         rule: Rule,
         schedule: &Schedule,
-    ) -> Result<(), AllocError> {
-        if let Shown::Report(_) = &self.shown {
+    ) -> Result<(), AllocError>
+        ensures shown { OnOk result (IfSome self.old.asked (λ s. ShowsAsked s self.old.names self.new.shown)) }
+        ensures tasks { OnOk result (IfSome self.old.asked (λ s. self.new.tasks.items ≡ s.window.tasks.items ++ tasks_for self.old.names s.names.items)) }
+        ensures notes { OnOk result (IfSome self.old.asked (λ s. string_bytes self.new.notes ≡ string_bytes self.old.notes ++ uncalled_notes self.old.names s.names.items)) }
+    {
+        let Some(settings) = self.asked.take() else {
+            return Ok(());
+        };
+        let asked = settings.names.as_slice();
+        note_uncalled(alloc, &mut self.notes, asked, &self.names)?;
+        let mut shown = self.form_of(alloc, settings)?;
+        if let Shown::Report(_) = &shown {
             self.near = Some(BoundsTable::new(alloc, rule, schedule.processors())?);
         }
-        self.shown
-            .begin(rule, schedule, &self.names, &mut self.text)
+        shown.begin(rule, schedule, &self.names, &mut self.text)?;
+        self.shown = Some(shown);
+        Ok(())
+    }
+
+    /// The form that is asked for, of the tasks that have the names that are asked for, too.
+    fn form_of(&mut self, alloc: Global, settings: Settings) -> Result<Shown, AllocError>
+        ensures form { IfOk result (IsAskedFor settings self.old.names) }
+        ensures tasks { OnOk result (self.new.tasks.items ≡ settings.window.tasks.items ++ tasks_for self.old.names settings.names.items) }
+        ensures others { (self.new.names ≡ self.old.names) × (self.new.notes ≡ self.old.notes) }
+    {
+        let Settings {
+            form,
+            mut window,
+            names,
+            width,
+            look,
+        } = settings;
+        add_called(alloc, &mut window.tasks, names.as_slice(), &self.names)?;
+        self.tasks = Vec::from_slice(alloc, window.tasks.as_slice())?;
+        Ok(Shown::of(alloc, form, window, width, look))
     }
 
     /// A comment may name a task.
-    pub fn comment(&mut self, line: &[u8]) -> Result<(), AllocError> {
+    pub fn comment(&mut self, line: &[u8]) -> Result<(), AllocError>
+        ensures learned { OnOk result (Learns line.now self.old.names self.new.names) }
+        ensures asked { self.new.asked ≡ self.old.asked }
+    {
         self.names.learn(line)
     }
 
@@ -101,7 +133,7 @@ impl Screen {
         event: &Event,
         machine: &AnyCore,
     ) -> Result<(), AllocError> {
-        if let Shown::Why(form) = &mut self.shown {
+        if let Some(Shown::Why(form)) = &mut self.shown {
             form.comes(number, event, machine)?;
         }
         if let Some(near) = &mut self.near {
@@ -138,7 +170,7 @@ impl Screen {
                 )?;
             }
         }
-        if let Shown::Why(form) = &self.shown {
+        if let Some(Shown::Why(form)) = &self.shown {
             let done = Occurrence {
                 number,
                 event,
@@ -150,11 +182,13 @@ impl Screen {
         if let Some(near) = &mut self.near {
             near.answered(event, reply, machine, change)?;
         }
+        let Some(shown) = &mut self.shown else {
+            return Ok(());
+        };
         if let Event::Admit { task, .. } = event {
-            self.shown.admit(*task)?;
+            shown.admit(*task)?;
         }
-        self.shown
-            .take(change, schedule, &self.names, &mut self.text)
+        shown.take(change, schedule, &self.names, &mut self.text)
     }
 
     /// The word of an image is no hex.
@@ -201,7 +235,9 @@ impl Screen {
         ensures notes { self.new.notes ≡ self.old.notes }
         ensures named { (self.new.tasks ≡ self.old.tasks) × (self.new.processors ≡ self.old.processors) }
     {
-        self.shown.count_missed(wakes);
+        if let Some(shown) = &mut self.shown {
+            shown.count_missed(wakes);
+        }
     }
 
     /// The trace is over. This many lines were bad or refused.
@@ -209,7 +245,9 @@ impl Screen {
         ensures { OnOk result (string_bytes self.new.notes ≡ (string_bytes self.old.notes ++ absent_notes (Some schedule.now) self.old.tasks.items self.old.processors)
             ++ last_notes (Some schedule.now) troubles) }
     {
-        self.shown.end(schedule, &self.names, &mut self.text)?;
+        if let Some(shown) = &mut self.shown {
+            shown.end(schedule, &self.names, &mut self.text)?;
+        }
         if let Some(near) = &self.near {
             near.write(self.processors, &mut self.text)?;
         }

@@ -1,8 +1,8 @@
 //! The sink of a timeline: the schedule that a trace tells, and the form that it is shown in.
 ghost use Rattle.bq_timeline.specs.Notes.{absent_notes, last_notes};
-ghost use Rattle.bq_timeline.specs.Shown.{IsAskedFor};
+ghost use Rattle.bq_report.specs.Names.{name_of};
 ghost use Rattle.bq_timeline.specs.Timelines.{Keeps};
-ghost use Rattle.std.specs.Prelude.{◌≡◌, ◌++◌, OnOk, string_bytes};
+ghost use Rattle.std.specs.Prelude.{◌≡◌, ◌++◌, ℕ, OnOk, string_bytes};
 
 use crate::screen::Screen;
 use crate::settings::Settings;
@@ -27,7 +27,8 @@ impl Viewer {
     pub fn new(alloc: Global, settings: Settings) -> Viewer
         ensures schedule { result.schedule ≡ None }
         ensures troubles { result.troubles ≡ 0 }
-        ensures shown { IsAskedFor settings result.screen.shown }
+        ensures asked { result.screen.asked ≡ Some settings }
+        ensures names { (task : ℕ) → name_of result.screen.names task ≡ None }
     {
         Viewer {
             alloc,
