@@ -30,7 +30,7 @@ pub takes_all : (old new : Viewer) (told : Told) → TakesAll Takes old told new
 takes_all old new [] h = (ap (λ (v : Viewer). v.schedule) h, ap (λ (v : Viewer). v.troubles) h)
 takes_all old new ((n, x) ∷ more) h =
     let rest = takes_all h.0 new more h.2 in
-    (rest.0 ∙ ap (λ s. schedule_after s more) h.1.schedule, rest.1 ∙ ap (λ k. troubles_after k more) h.1.troubles)
+    (rest.0 ∙ ap (λ s. schedule_after s more) h.1.0, rest.1 ∙ ap (λ k. troubles_after k more) h.1.1)
 
 -- what a sink gets, where the viewer is one; what is written and cleared besides changes nothing of it
 pub watches_what_it_gets : (old new then : Viewer) (Holds : Told → Type 0) → Gets Takes old new Holds → then.schedule ≡ new.schedule → then.troubles ≡ new.troubles → Watches old then Holds

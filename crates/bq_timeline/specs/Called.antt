@@ -1,8 +1,9 @@
 -- The tasks that are asked for by their names.
-use Rattle.std.specs.Prelude.{ℕ, zero, suc, ◌^◌, ◌-◌, nat_lt, Bool, false, List, [], ◌∷◌, ◌++◌, length, Option, Some, None, String, if◌then◌else◌, codes, string_bytes}
+use Rattle.std.specs.Prelude.{ℕ, zero, suc, ◌^◌, ◌-◌, nat_le, nat_lt, ◌&&◌, ◌||◌, Bool, false, List, [], ◌∷◌, ◌++◌, length, map, take, Option, Some, None, String, if◌then◌else◌, codes, string_bytes}
 use Rattle.std.specs.Global.{Global}
 use Rattle.std.specs.List.{flat_map}
-use Rattle.std.specs.Str.{bytes_eq}
+use Rattle.std.specs.Str.{bytes_eq, chars}
+use Rattle.std.proofs.Math.Utf8.{encodes}
 use Rattle.bq_report.specs.Names.{NamedTasks, name_of}
 
 -- it is the name, if there is one
@@ -29,10 +30,18 @@ abbrev pub tasks_for : NamedTasks → List (String Global) → List ℕ
 tasks_for named [] = []
 tasks_for named names = all_called named names ++ (2 ^ 16 - 1) ∷ []
 
+-- a character as a message shows it: a control character stands as `?`
+abbrev pub shown_letter : ℕ → ℕ
+shown_letter letter = if nat_lt letter 32 || (nat_le 127 letter && nat_lt letter 160) then 63 else letter
+
+-- a name as a message quotes it: its first 40 characters
+abbrev pub quoted : List ℕ → List ℕ
+quoted name = encodes (map shown_letter (take 40 (chars name)))
+
 -- the note on a name that no task has
 abbrev pub uncalled_note : NamedTasks → List ℕ → List ℕ
 uncalled_note named name =
-    if nat_lt 0 (length (tasks_called named name)) then [] else codes "--tasks: no task is called " ++ (name ++ codes "\n")
+    if nat_lt 0 (length (tasks_called named name)) then [] else codes "--tasks: no task is called " ++ (quoted name ++ codes "\n")
 
 -- the notes on the names that no task has
 abbrev pub uncalled_notes : NamedTasks → List (String Global) → List ℕ

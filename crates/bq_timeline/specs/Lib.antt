@@ -1,3 +1,4 @@
+pub mod Beginning
 pub mod Called
 pub mod Notes
 pub mod Settings

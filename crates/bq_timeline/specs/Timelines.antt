@@ -1,32 +1,20 @@
 -- A timeline of a whole trace.
-use Rattle.std.specs.Prelude.{◌≡◌, ◌==◌, ℕ, List, ◌++◌, Option, None, ⊤, IfSome, string_bytes}
+use Rattle.std.specs.Prelude.{◌≡◌, ◌==◌, ℕ, List, ◌++◌, Option, None, string_bytes}
 use Rattle.std.specs.Io.KnownBytes.{Consumes, IsAtEnd}
 use Rattle.std.specs.Str.Lines.{lines}
-use Rattle.bq_report.specs.Names.{Learns}
-use Rattle.bq_trace.specs.News.{News, Told, Opened, Skipped}
+use Rattle.bq_trace.specs.News.{News, Told}
 use Rattle.bq_trace.specs.Telling.{Story}
 use Rattle.bq_trace.specs.Trace.{start}
 use Rattle.bq_trace.specs.declared.progress.Progress.{Progress}
 use Rattle.bq_timeline.specs.Notes.{last_notes}
-use Rattle.bq_timeline.specs.Shown.{ShowsAsked}
 use Rattle.bq_timeline.specs.Watching.{schedule_after, troubled, troubles_after, watched}
 use Rattle.bq_timeline.specs.declared.showing.Outcome.{Outcome}
 use Rattle.bq_timeline.specs.declared.showing.Showing.{Showing}
-use Rattle.bq_timeline.specs.declared.screen.Screen.{Screen}
 use Rattle.bq_timeline.specs.declared.viewer.Viewer.{Viewer}
 
--- A screen got a trace event: a comment may name a task, and the machine brings the form that is asked for, where tasks have the names
--- that came before.
-abbrev pub Displays : Screen → News → Screen → Type 0
-Displays old (Opened rule size) new = IfSome old.asked (λ s. ShowsAsked s old.names new.shown)
-Displays old (Skipped line) new = Learns line old.names new.names × (new.asked ≡ old.asked)
-Displays old other new = ⊤
-
--- A viewer got a trace event: it has the schedule that goes on by it, has counted it where it is trouble, and displays it.
-pub record Keeps (old : Viewer) (news : News) (new : Viewer) : Type 0 where
-  pub schedule : new.schedule ≡ watched old.schedule news
-  pub troubles : new.troubles ≡ troubled old.troubles news
-  pub screen : Displays old.screen news new.screen
+-- A viewer got a trace event: it has the schedule that goes on by it, and has counted it where it is trouble.
+abbrev pub Keeps : Viewer → News → Viewer → Type 0
+Keeps old news new = (new.schedule ≡ watched old.schedule news) × (new.troubles ≡ troubled old.troubles news)
 
 -- The viewer got trace events of which this holds: it has the schedule that they tell, and the count of those that are trouble.
 pub record Watches (old new : Viewer) (Holds : Told → Type 0) : Type 0 where

@@ -1,7 +1,7 @@
 //! The tasks that are asked for by their names.
 ghost use Rattle.std.specs.Prelude.{◌≡◌, ◌++◌, IfOk, OnOk, option_map, string_bytes};
 ghost use Rattle.bq_report.specs.Names.{name_of};
-ghost use Rattle.bq_timeline.specs.Called.{is_named, tasks_called, tasks_for, uncalled_note, uncalled_notes};
+ghost use Rattle.bq_timeline.specs.Called.{is_named, quoted, shown_letter, tasks_called, tasks_for, uncalled_note, uncalled_notes};
 
 use bq_disc::limits::TASKS;
 use bq_report::Names;
@@ -59,7 +59,31 @@ fn note_name(
     if !called.is_empty() {
         return Ok(());
     }
+    let name = quoted(alloc, name)?;
     write!(notes, "--tasks: no task is called {name}\n")
+}
+
+/// How many characters of a name a message quotes.
+const QUOTED: usize = 40;
+
+/// A name as a message quotes it: its first 40 characters, and `?` for each control character.
+fn quoted(alloc: Global, name: &str) -> Result<String, AllocError>
+    ensures { IfOk result (λ text. string_bytes text ≡ quoted name.now) }
+{
+    let mut text = String::new(alloc);
+    for letter in name.chars().take(QUOTED) {
+        text.push(shown_letter(letter))?;
+    }
+    Ok(text)
+}
+
+fn shown_letter(letter: char) -> char
+    ensures { result ≡ shown_letter letter }
+{
+    match letter {
+        '\u{0}'..='\u{1f}' | '\u{7f}'..='\u{9f}' => '?',
+        other => other,
+    }
 }
 
 /// The tasks that have the name, in order.

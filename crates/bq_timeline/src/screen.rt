@@ -1,11 +1,12 @@
 //! What is written of a trace: the form, with notes on its lines where a person reads it, and what goes to standard error.
-ghost use Rattle.std.specs.Prelude.{◌≡◌, ◌++◌, ℕ, IfOk, IfSome, OnOk, None, Some, string_bytes};
+ghost use Rattle.std.specs.Prelude.{◌≡◌, ◌++◌, ℕ, IfOk, OnOk, None, Some, string_bytes};
 ghost use Rattle.std.specs.List.{list_any};
 ghost use Rattle.bq_report.specs.Names.{Learns, name_of};
-ghost use Rattle.bq_timeline.specs.Called.{tasks_for, uncalled_notes};
+ghost use Rattle.bq_timeline.specs.Called.{tasks_for};
+ghost use Rattle.bq_timeline.specs.Beginning.{Begins, BeginsForm};
 ghost use Rattle.bq_timeline.specs.Notes.{absent_notes, lacks_processors, lacks_tasks, last_notes, processors_note, tasks_note, trouble_note, unmade_note, waiting_note, waiting_notes};
 ghost use Rattle.bq_schedule.specs.Figures.{task_of};
-ghost use Rattle.bq_timeline.specs.Shown.{IsAskedFor, ShowsAsked, is_read_by_lines};
+ghost use Rattle.bq_timeline.specs.Shown.{IsAskedFor, is_read_by_lines};
 
 use crate::bounds_table::BoundsTable;
 use crate::called::{add_called, note_uncalled};
@@ -28,16 +29,18 @@ use std::alloc::{AllocError, Global};
 #[derive(Drop)]
 pub struct Screen {
     names: Names,
-    /// What is asked for, until there is a machine: by then the comments above have named the tasks.
+    /// What is asked for, until the form begins: by then the comments above have named the tasks.
     asked: Option<Settings>,
-    /// The form, once there is a machine.
+    /// The rule of the machine, once there is one.
+    rule: Option<Rule>,
+    /// The form, once it has begun.
     shown: Option<Shown>,
     has_notes: bool,
     /// The bounds of the rule, once there is a machine, where the form shows them.
     near: Option<BoundsTable>,
     /// The processors that are shown, by bits.
     processors: u64,
-    /// The tasks that are shown, once there is a machine; none where all are shown.
+    /// The tasks that are shown, once the form has begun; none where all are shown.
     tasks: Vec<u16>,
     /// What goes to the output, since it was cleared last.
     pub text: String,
@@ -60,6 +63,7 @@ impl Screen {
             tasks: Vec::new(alloc),
             names: Names::new(alloc),
             asked: Some(settings),
+            rule: None,
             shown: None,
             text: String::new(alloc),
             notes: String::new(alloc),
@@ -75,20 +79,38 @@ impl Screen {
         }
     }
 
-    /// The machine is made, under a rule. The tasks have the names that came before, and those that are asked for by name are shown.
-    pub fn begin(
+    /// The machine is made, under a rule.
+    pub fn opened(&mut self, rule: Rule)
+        ensures rule { self.new.rule ≡ Some rule }
+        ensures kept { (self.new.asked ≡ self.old.asked) × (self.new.names ≡ self.old.names) }
+    {
+        self.rule = Some(rule);
+    }
+
+    /// The form begins under the rule of the machine, if it has not: the one that is asked for, of the tasks that are asked for, those of
+    /// the names too that have come so far.
+    pub fn begin(&mut self, alloc: Global, schedule: &Schedule) -> Result<(), AllocError>
+        ensures { OnOk result (Begins self.old self.new) }
+    {
+        let Some(rule) = self.rule else {
+            return Ok(());
+        };
+        match self.asked.take() {
+            Some(settings) => self.begin_form(alloc, rule, settings, schedule),
+            None => Ok(()),
+        }
+    }
+
+    /// The form of these settings begins.
+    fn begin_form(
         &mut self,
         alloc: Global,
         rule: Rule,
+        settings: Settings,
         schedule: &Schedule,
     ) -> Result<(), AllocError>
-        ensures shown { OnOk result (IfSome self.old.asked (λ s. ShowsAsked s self.old.names self.new.shown)) }
-        ensures tasks { OnOk result (IfSome self.old.asked (λ s. self.new.tasks.items ≡ s.window.tasks.items ++ tasks_for self.old.names s.names.items)) }
-        ensures notes { OnOk result (IfSome self.old.asked (λ s. string_bytes self.new.notes ≡ string_bytes self.old.notes ++ uncalled_notes self.old.names s.names.items)) }
+        ensures { OnOk result (BeginsForm settings self.old self.new) }
     {
-        let Some(settings) = self.asked.take() else {
-            return Ok(());
-        };
         let asked = settings.names.as_slice();
         note_uncalled(alloc, &mut self.notes, asked, &self.names)?;
         let mut shown = self.form_of(alloc, settings)?;
@@ -104,7 +126,9 @@ impl Screen {
     fn form_of(&mut self, alloc: Global, settings: Settings) -> Result<Shown, AllocError>
         ensures form { IfOk result (IsAskedFor settings self.old.names) }
         ensures tasks { OnOk result (self.new.tasks.items ≡ settings.window.tasks.items ++ tasks_for self.old.names settings.names.items) }
-        ensures others { (self.new.names ≡ self.old.names) × (self.new.notes ≡ self.old.notes) }
+        ensures names { self.new.names ≡ self.old.names }
+        ensures notes { self.new.notes ≡ self.old.notes }
+        ensures processors { self.new.processors ≡ self.old.processors }
     {
         let Settings {
             form,

@@ -69,7 +69,7 @@ const TASKS: &str = with_tasks!(
 
 /// Why a form shows no stretch of time.
 const WHOLE: &str =
-    "a report and JSON are of the whole trace; say --as map, timehist, why, svg, perfetto or csv";
+    "a report and JSON have the figures of the whole; say --as map, timehist, why, svg, perfetto or csv";
 
 /// What a word for the theme has to be.
 const THEMES: &str = with_themes!("--theme: a theme is light, ");
