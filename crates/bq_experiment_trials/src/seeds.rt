@@ -178,7 +178,15 @@ static REFUSED: [(&[&str], ComparingFault); 6] = [
         ComparingFault::WholeRuns,
     ),
     (
-        &["simulate", "--against", "none", "--as", "csv", "--to", "1ms"],
+        &[
+            "simulate",
+            "--against",
+            "none",
+            "--as",
+            "csv",
+            "--to",
+            "1ms",
+        ],
         ComparingFault::WholeRuns,
     ),
 ];

@@ -1,5 +1,5 @@
 -- The form in which a schedule is shown.
-use Rattle.std.specs.Prelude.{◌≡◌, Bool, true, false, ◌++◌, Option, Some, None, IfSome, ⊥}
+use Rattle.std.specs.Prelude.{◌≡◌, Bool, true, false, ◌++◌, Option, Some, None, IfSome}
 use Rattle.bq_report.specs.Names.{NamedTasks}
 use Rattle.bq_report.specs.declared.window.Window.{Window}
 use Rattle.bq_timeline.specs.Called.{tasks_for}

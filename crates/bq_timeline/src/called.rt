@@ -12,6 +12,7 @@ use std::alloc::{AllocError, Global};
 pub const NO_TASK: u16 = u16::MAX;
 
 /// Adds the tasks that have the names that are asked for, and `NO_TASK`. Where no name is asked for, nothing is added.
+#[tactic(auto, using(crate::proofs::CalledLemmas::tasks_for_some))]
 pub fn add_called(
     alloc: Global,
     tasks: &mut Vec<u16>,
@@ -47,12 +48,7 @@ pub fn note_uncalled(
 }
 
 /// Notes a name, if no task has it.
-fn note_name(
-    alloc: Global,
-    notes: &mut String,
-    name: &str,
-    names: &Names,
-) -> Result<(), AllocError>
+fn note_name(alloc: Global, notes: &mut String, name: &str, names: &Names) -> Result<(), AllocError>
     ensures { OnOk result (string_bytes notes.new ≡ string_bytes notes.old ++ uncalled_note names.now name.now) }
 {
     let called = tasks_called(alloc, name, names)?;
@@ -87,6 +83,7 @@ fn shown_letter(letter: char) -> char
 }
 
 /// The tasks that have the name, in order.
+#[tactic(auto, using(crate::proofs::CalledLemmas::called_none, crate::proofs::CalledLemmas::called_on, crate::proofs::CalledLemmas::called_off))]
 fn tasks_called(alloc: Global, name: &str, names: &Names) -> Result<Vec<u16>, AllocError>
     ensures { IfOk result (λ tasks. tasks.items ≡ tasks_called names.now name.now) }
 {
@@ -101,7 +98,7 @@ fn tasks_called(alloc: Global, name: &str, names: &Names) -> Result<Vec<u16>, Al
 
 /// Whether it is the name, if there is one.
 fn is_named(name: &str, other: Option<&str>) -> bool
-    ensures { result ≡ is_named name.now (option_map (λ o. o.now) other) }
+    ensures { result ≡ is_named name.now (option_map (λ o. o.now) other.entry) }
 {
     match other {
         Some(other) => other == name,

@@ -24,6 +24,14 @@ macro_rules! with_forms {
     };
 }
 
+/// A text that ends with the names of the forms that show a stretch of time.
+#[macro_export]
+macro_rules! with_stretches {
+    ($before:literal) => {
+        concat!($before, "map, timehist, why, svg, perfetto or csv")
+    };
+}
+
 impl FormName {
     /// The form of that name.
     pub fn of_word(word: &str) -> Option<FormName>

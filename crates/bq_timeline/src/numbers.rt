@@ -17,7 +17,7 @@ pub const GREATEST_WIDTH: u64 = 10_000;
 /// The tasks that a word names by their numbers: numbers and ranges with commas between them, as `1-3,9`. Names may stand among them,
 /// as in `1-3,editor`: a part that begins with no digit is a name.
 ///
-/// None where a part between commas is none of these, or a range runs backwards.
+/// None where a part between commas is something else, or a range runs backwards.
 #[tactic(auto, using(crate::proofs::TaskLemmas::tasks_on, crate::proofs::TaskLemmas::tasks_none, crate::proofs::TaskLemmas::tasks_done))]
 pub fn tasks(alloc: Global, word: &str) -> Result<Option<Vec<u16>>, AllocError>
     ensures { IfOk result (λ tasks. option_map (λ t. t.items) tasks ≡ tasks_of word.now) }

@@ -102,6 +102,7 @@ impl Screen {
     }
 
     /// The form of these settings begins.
+    #[tactic(auto, using(crate::proofs::ShownLemmas::stays_asked))]
     fn begin_form(
         &mut self,
         alloc: Global,

@@ -8,7 +8,7 @@ ghost use Rattle.bq_timeline.specs.declared.settings.SettingsFault.TheVariants.{
 
 use crate::form_names::FormName;
 use crate::numbers::{GREATEST_WIDTH, LEAST_WIDTH};
-use crate::{numbers, with_forms};
+use crate::{numbers, with_forms, with_stretches};
 use bq_disc::limits::LAST_PROCESSOR;
 use bq_drawing::{Look, Theme, with_themes};
 use bq_report::Window;
@@ -68,8 +68,7 @@ const TASKS: &str = with_tasks!(
 );
 
 /// Why a form shows no stretch of time.
-const WHOLE: &str =
-    "a report and JSON have the figures of the whole; say --as map, timehist, why, svg, perfetto or csv";
+const WHOLE: &str = with_stretches!("a report and JSON have the figures of the whole; say --as ");
 
 /// What a word for the theme has to be.
 const THEMES: &str = with_themes!("--theme: a theme is light, ");

@@ -67,7 +67,8 @@ impl Viewer {
         ensures notes { OnOk result (Ends self.old self.new) }
     {
         self.begin()?;
-        self.close()
+        self.close()?;
+        Ok(())
     }
 
     /// The trace is over, and its form has begun.

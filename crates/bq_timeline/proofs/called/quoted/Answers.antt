@@ -5,9 +5,6 @@ use Rattle.std.proofs.lemmas.Iterator.Consumers.{YieldsList-end}
 use Rattle.bq_timeline.specs.Called.{shown_letter}
 use Rattle.bq_timeline.proofs.called.quoted.Goals as goal
 
-pub loop-letter-preserved : goal.loop-letter-preserved
-loop-letter-preserved c = ?
-
 pub returns : goal.returns
 returns c =
     let end = YieldsList-end (YieldsList-from_take 40 (YieldsList-from_chars c.args.name.now c.utf8.name cc) cc) c.loop-letter.yielded _ c.loop-letter.yielded_by _ _ c.in-None.is c.next.ensures.steps in
