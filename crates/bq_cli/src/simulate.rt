@@ -176,7 +176,7 @@ fn simulated<T: Threads + Sync>(
         Shown::Run(shown) => show_run(rt, &workload, &policies, shown),
         Shown::Figures(asked) => {
             let others = others(rt, words, most)?;
-            show_figures(rt, threads, &workload, &policies, others.as_ref(), &asked)
+            show_figures(rt, threads, &workload, &policies, others.as_ref(), asked)
         }
     }
 }
@@ -209,11 +209,15 @@ fn show_figures<T: Threads + Sync>(
     workload: &Workload,
     ours: &Policies,
     others: Option<&Policies>,
-    asked: &Comparing,
+    mut asked: Comparing,
 ) -> Result<ExitCode, ExitCode> {
-    match tabled(rt, threads, workload, ours, others, asked) {
+    let Ok(notes) = asked.add_called(rt.alloc(), workload) else {
+        return Err(say_out_of_memory(rt));
+    };
+    match tabled(rt, threads, workload, ours, others, &asked) {
         Ok(text) => {
-            say_absent(rt, workload, asked);
+            let _ = eprint!(rt; "{notes}");
+            say_absent(rt, workload, &asked);
             Ok(written(rt, text.as_str(), ExitCode::SUCCESS))
         }
         Err(SeedsFault::OutOfMemory) => Err(say_out_of_memory(rt)),

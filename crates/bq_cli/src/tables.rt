@@ -121,10 +121,10 @@ const TIMELINE_OPTIONS: &[OptionText] = options! {
 
 /// The part of a schedule that is shown.
 const PART_OPTIONS: &[OptionText] = options! {
-    ("from", Once("TIME"), "Shows only what happens from this time on, as 1500us, 1.5ms or 2s; the figures of report and json stay those of the whole"),
-    ("to", Once("TIME"), "Shows only what happens up to this time; the figures of report and json stay those of the whole"),
+    ("from", Once("TIME"), "Shows only what happens from this time on, as 1500us, 1.5ms or 2s; refused with report and json, whose figures are those of the whole"),
+    ("to", Once("TIME"), "Shows only what happens up to this time; refused with report and json, whose figures are those of the whole"),
     ("cpus", Once("LIST"), "Shows only these processors, as in 0-3,8"),
-    ("tasks", Once("LIST"), "Shows only these tasks, as in 1-3,9"),
+    ("tasks", Once("LIST"), "Shows only these tasks, as in 1-3,editor: numbers, ranges and names; a name begins with no digit"),
     ("width", Once("COLUMNS"), with_columns!("How wide a map is, ", " without it")),
     ("theme", Once("THEME"), with_themes!("How an svg looks: light (without it), ")),
     ("title", Once("TEXT"), "The title above an svg")

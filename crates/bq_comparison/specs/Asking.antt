@@ -1,5 +1,5 @@
 -- What the words of a comparison ask for.
-use Rattle.std.specs.Prelude.{◌≡◌, ℕ, ◌&&◌, nat_le, List, [], Option, Some, None, IsNone, String, if◌then◌else◌, option_and_then, string_bytes}
+use Rattle.std.specs.Prelude.{◌≡◌, ℕ, Bool, true, false, ◌&&◌, ◌||◌, is_some, nat_le, List, [], Option, Some, None, IsNone, String, if◌then◌else◌, option_and_then, string_bytes}
 use Rattle.std.specs.Global.{Global}
 use Rattle.bq_words.specs.Quantities.{decimal_of}
 use Rattle.bq_timeline.specs.Settings.{AsksFor, IsNoSettings, form_asked}
@@ -43,12 +43,19 @@ table_asked w = option_and_then table_of (form_asked w)
 abbrev pub AskForNone : StudyWords → Type 0
 AskForNone words = IsNone words.seeds × (words.against.items ≡ [])
 
--- the words ask for this many seeds, and for a table of that form that shows the window that they ask for
+-- the words name a stretch of time
+abbrev pub names_stretch : Words → Bool
+names_stretch w = is_some w.from || is_some w.to
+
+-- the words ask for this many seeds, and for a table of that form that shows the window and the names that they ask for; they name no
+-- stretch of time, since the figures are of whole runs
 pub record AskToCompare (words : StudyWords) (c : Comparing) : Type 0 where
   pub seeds : seeds_asked words.seeds ≡ Some c.seeds
   pub settings : Settings
   pub shown : AsksFor words.shown settings
+  pub whole : names_stretch words.shown ≡ false
   pub window : c.window ≡ settings.window
+  pub names : c.names ≡ settings.names
   pub form : table_of settings.form ≡ Some c.form
 
 -- nothing where neither is asked for, and else this comparison
@@ -56,10 +63,12 @@ abbrev pub AskFor : StudyWords → Option Comparing → Type 0
 AskFor words None = AskForNone words
 AskFor words (Some c) = (¬ AskForNone words) × AskToCompare words c
 
--- the word that the fault names is not of its kind: no number of seeds, no form of a table, or none of what a timeline shows
+-- the word that the fault names is not of its kind: no number of seeds, no form of a table, or none of what a timeline shows; or a stretch
+-- of time is named
 abbrev pub HasNoWord : StudyWords → ComparingFault → Type 0
 HasNoWord words fault.Seeds = seeds_asked words.seeds ≡ None
 HasNoWord words fault.Form = table_asked words.shown ≡ None
+HasNoWord words fault.WholeRuns = names_stretch words.shown ≡ true
 HasNoWord words (fault.Settings why) = IsNoSettings words.shown why
 
 -- a comparison is asked for, and the word that the fault names is not of its kind

@@ -14,7 +14,7 @@ pub mod running;
 pub mod words;
 
 pub use asked::{AskedFault, ShownAs, asked_changes};
-pub use names::{shown_name, task_names};
+pub use names::{shown_name, task_names, workload_names};
 pub use policies::{AttachFault, Policies};
 pub use running::{Written, run_as};
 pub use words::{HookWords, MachineWords, StudyWords};

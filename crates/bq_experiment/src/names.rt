@@ -4,6 +4,7 @@ ghost use Rattle.bq_trace.specs.News.{TakesAll};
 ghost use Rattle.bq_experiment.specs.Names.{comments_of, name_in, names_in, names_of, plain_name, plain_of};
 ghost use Rattle.bq_experiment.specs.Traces.{skipped};
 
+use bq_report::Names;
 use bq_timeline::screen::Screen;
 use bq_trace::Sink;
 use bq_workload::{TaskKind, Workload};
@@ -66,14 +67,30 @@ pub(crate) fn show_names(
     workload: &Workload,
     screen: &mut Screen,
 ) -> Result<u64, AllocError> {
-    let names = task_names(alloc, workload)?;
-    let count = names.len() as u64;
-    for (task, name) in names.iter().enumerate() {
-        let name = shown_name(alloc, name.as_str())?;
-        let line = format!(in alloc; "# task {task} {name}")?;
-        screen.comment(line.as_bytes())?;
+    let comments = shown_comments(alloc, workload)?;
+    for comment in &comments {
+        screen.comment(comment.as_bytes())?;
     }
-    Ok(count)
+    Ok(comments.len() as u64)
+}
+
+/// The names of a workload's tasks, as a screen has them of one run.
+pub fn workload_names(alloc: Global, workload: &Workload) -> Result<Names, AllocError> {
+    let mut names = Names::new(alloc);
+    for comment in &shown_comments(alloc, workload)? {
+        names.learn(comment.as_bytes())?;
+    }
+    Ok(names)
+}
+
+/// The comments that name the tasks on a screen, a task a comment.
+fn shown_comments(alloc: Global, workload: &Workload) -> Result<Vec<String>, AllocError> {
+    let mut comments = Vec::new(alloc);
+    for (task, name) in task_names(alloc, workload)?.iter().enumerate() {
+        let name = shown_name(alloc, name.as_str())?;
+        comments.push(format!(in alloc; "# task {task} {name}")?)?;
+    }
+    Ok(comments)
 }
 
 /// The name as a form shows it: a control character stands as `?`.

@@ -116,7 +116,7 @@ const JSON: &str = concat!(
 );
 
 /// Words of options, and what is written. A word of `--against` stands for the policy.
-static WRITTEN: [(&[&str], &str); 5] = [
+static WRITTEN: [(&[&str], &str); 6] = [
     (
         &[
             "simulate",
@@ -132,6 +132,11 @@ static WRITTEN: [(&[&str], &str); 5] = [
         CSV,
     ),
     (&["simulate", "--seeds", "2", "--tasks", "9"], REPORT),
+    // task 1 is called b
+    (
+        &["simulate", "--against", "p", "--tasks", "b", "--cpus", "1"],
+        WIDE_REPORT,
+    ),
     (
         &["simulate", "--against", "p", "--tasks", "1", "--cpus", "1"],
         WIDE_REPORT,
@@ -157,7 +162,7 @@ static WRITTEN: [(&[&str], &str); 5] = [
 ];
 
 /// Words that are refused, and why.
-static REFUSED: [(&[&str], ComparingFault); 4] = [
+static REFUSED: [(&[&str], ComparingFault); 6] = [
     (&["simulate", "--seeds", "0"], ComparingFault::Seeds),
     (&["simulate", "--seeds", "1001"], ComparingFault::Seeds),
     (
@@ -168,6 +173,22 @@ static REFUSED: [(&[&str], ComparingFault); 4] = [
         &["simulate", "--against", "none", "--as", "trace"],
         ComparingFault::Form,
     ),
+    (
+        &["simulate", "--seeds", "2", "--from", "1ms"],
+        ComparingFault::WholeRuns,
+    ),
+    (
+        &[
+            "simulate",
+            "--against",
+            "none",
+            "--as",
+            "csv",
+            "--to",
+            "1ms",
+        ],
+        ComparingFault::WholeRuns,
+    ),
 ];
 
 /// What is written of the workload under no policy, beside others.
@@ -175,10 +196,11 @@ fn compared<T: Threads + Sync>(
     threads: &T,
     alloc: Global,
     workload: &Workload,
-    asked: &Comparing,
+    asked: &mut Comparing,
     others: Option<&Policies>,
 ) -> Result<String, Fail> {
     let none = Policies::new(alloc);
+    let _notes = asked.add_called(alloc, workload)?;
     match compare(threads, alloc, workload, &none, others, asked.seeds) {
         Ok(sides) => Ok(comparison_text(alloc, workload, &sides, asked)?),
         Err(_) => Err(Fail::from("it does not run")),
@@ -189,7 +211,7 @@ fn compared<T: Threads + Sync>(
 fn compared_here<T: Threads + Sync>(
     threads: &T,
     alloc: Global,
-    asked: &Comparing,
+    asked: &mut Comparing,
     others: Option<&Policies>,
 ) -> Result<String, Fail> {
     match read(alloc, WORKLOAD, Changes::NONE) {
@@ -211,7 +233,7 @@ fn to_the_end(alloc: Global) -> Result<Policies, Fail> {
 fn shown_beside<T: Threads + Sync>(
     threads: &T,
     alloc: Global,
-    asked: &Comparing,
+    asked: &mut Comparing,
     is_alone: bool,
 ) -> Result<String, Fail> {
     if is_alone {
@@ -228,7 +250,7 @@ fn shown<T: Threads + Sync>(
     words: &StudyWords,
 ) -> Result<String, Fail> {
     match asked_comparison(alloc, words) {
-        Ok(Some(asked)) => shown_beside(threads, alloc, &asked, words.against.is_empty()),
+        Ok(Some(mut asked)) => shown_beside(threads, alloc, &mut asked, words.against.is_empty()),
         _ => Err(Fail::from("nothing is compared")),
     }
 }
@@ -257,7 +279,7 @@ fn tables_written(rt: HostRuntime) -> Result<(), Fail> {
 }
 
 /// Words that ask for one run, and as what it is shown, or why it is not.
-static SHOWN: [(&[&str], &str); 9] = [
+static SHOWN: [(&[&str], &str); 11] = [
     (&["simulate", "--as", "trace"], "trace"),
     (
         &["simulate", "--as", "trace", "--to", "1ms"],
@@ -279,6 +301,14 @@ static SHOWN: [(&[&str], &str); 9] = [
         "timeline",
     ),
     // an option that the form does not heed
+    (
+        &["simulate", "--from", "1ms"],
+        "--from: a report and JSON have the figures of the whole; say --as map, timehist, why, svg, perfetto or csv",
+    ),
+    (
+        &["simulate", "--as", "json", "--to", "1ms"],
+        "--to: a report and JSON have the figures of the whole; say --as map, timehist, why, svg, perfetto or csv",
+    ),
     (
         &["simulate", "--width", "100"],
         "--width: only a map has a width; say --as map too",

@@ -2,7 +2,7 @@
 
 use crate::cases::holds;
 use bq_streams::Counted;
-use bq_timeline::numbers::{tasks, width};
+use bq_timeline::numbers::{names, tasks, width};
 use bq_timeline::{Settings, Words, show};
 use bq_why::faults::why_bad;
 use bq_words::duration;
@@ -462,11 +462,26 @@ fn words_are_times_sets_and_widths(rt: HostRuntime) -> Result<(), Fail> {
     Ok(())
 }
 
+/// A part that begins with no digit is a name.
+#[test]
+fn names_among_tasks(rt: HostRuntime) -> Result<(), Fail> {
+    let word = "1,editor,-4,4";
+    let is = are_one_and_four(&tasks(rt.alloc(), word)?);
+    holds(&rt, is, "other tasks", word);
+    let mut found = String::new(rt.alloc());
+    for name in &names(rt.alloc(), word)? {
+        found.push_str(name.as_str())?;
+        found.push_str(" ")?;
+    }
+    holds(&rt, found.as_str() == "editor -4 ", found.as_str(), word);
+    Ok(())
+}
+
 /// Words that name no tasks.
-static NO_TASKS: [&str; 5] = ["1,,4", "4-1", "1-", "-4", "65536"];
+static NO_TASKS: [&str; 6] = ["1,,4", "4-1", "1-", "1--4", "65536", "a,"];
 
 /// The words of `--from`, `--cpus` and `--tasks`, a trace, and what is noted of it or why the words are refused.
-static NOTED: [(Option<&str>, Option<&str>, Option<&str>, &str, &str); 9] = [
+static NOTED: [(Option<&str>, Option<&str>, Option<&str>, &str, &str); 12] = [
     // the last moment is 1 ms
     (
         Some("2ms"),
@@ -485,6 +500,22 @@ static NOTED: [(Option<&str>, Option<&str>, Option<&str>, &str, &str); 9] = [
         "--tasks: the trace has none of these tasks\n",
     ),
     (None, None, Some("2-9"), EEVDF, ""),
+    // task 1 is called long, and task 2 short
+    (None, None, Some("long"), EEVDF, ""),
+    (
+        None,
+        None,
+        Some("2,long,lon\u{7}"),
+        EEVDF,
+        "--tasks: no task is called lon?\n",
+    ),
+    (
+        None,
+        None,
+        Some("other"),
+        EEVDF,
+        "--tasks: no task is called other\n--tasks: the trace has none of these tasks\n",
+    ),
     // one processor is there
     (
         None,

@@ -1,9 +1,9 @@
 -- Tasks that words name, part by part and number by number, and moments that run backwards.
-use Rattle.std.proofs.Common.{◌≡◌, ℕ, suc, ◌+◌, ◌-◌, ◌<◌, ◌≤◌, List, [], ◌∷◌, ◌++◌, refl, sym, ap, ◌∙◌, append_assoc, append-nil, arith, Some, None, Option}
+use Rattle.std.proofs.Common.{◌≡◌, ℕ, suc, ◌+◌, ◌-◌, ◌<◌, ◌≤◌, List, [], ◌∷◌, ◌++◌, refl, sym, ap, ◌∙◌, append_assoc, append-nil, arith, Some, None, Option, true}
 use Rattle.std.specs.Prelude.{option_and_then, option_map}
 use Rattle.std.specs.List.{range_with_len, slice_split}
 use Rattle.bq_words.specs.ProcessorSets.{is_comma}
-use Rattle.bq_timeline.specs.Settings.{AddsPart, RunBackwards, from_asked, tasks_in, tasks_of_part, to_asked}
+use Rattle.bq_timeline.specs.Settings.{AddsPart, RunBackwards, from_asked, is_name, tasks_in, tasks_of_part, to_asked}
 use Rattle.bq_timeline.specs.declared.settings.Words.{Words}
 
 -- a range begins with its first number
@@ -48,6 +48,10 @@ pub tasks_done : (old new rest : List ℕ) (word : Option (List ℕ)) → slice_
 tasks_done old new rest word split adds so_far =
     ap (λ l. Some l) (adds.2 ∙ ap (λ l. old ++ l) (sym (append-nil adds.0)))
     ∙ ap (λ o. option_map (λ l. old ++ l) o) (sym (parts_in rest rest [] (Some adds.0) split adds.1)) ∙ so_far
+
+-- a name adds no task by its number
+pub name_adds : (part old : List ℕ) → is_name part ≡ true → AddsPart part old old
+name_adds part old name = ([], rw name refl, sym (append-nil old))
 
 -- the last moment that the words name is before the first
 pub runs_backwards : (w : Words) (from to : ℕ) → from_asked w ≡ Some from → to_asked w ≡ Some to → to < from → RunBackwards w

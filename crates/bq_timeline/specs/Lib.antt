@@ -1,3 +1,5 @@
+pub mod Beginning
+pub mod Called
 pub mod Notes
 pub mod Settings
 pub mod Shown

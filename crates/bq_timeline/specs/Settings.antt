@@ -1,6 +1,7 @@
 -- What the words of a timeline's options ask for.
-use Rattle.std.specs.Prelude.{◌≡◌, ◌<◌, ◌≤◌, ℕ, Bool, true, false, not, ◌+◌, ◌*◌, ◌/◌, ◌-◌, ◌^◌, ◌&&◌, ◌||◌, ◌==◌, nat_le, nat_lt, List, [], ◌∷◌, ◌++◌, length, take, drop, position, Option, Some, None, ⊤, String, if◌then◌else◌, codes, option_and_then, option_map, string_bytes}
+use Rattle.std.specs.Prelude.{◌≡◌, ◌<◌, ◌≤◌, ℕ, Bool, true, false, not, filter, map, ◌+◌, ◌*◌, ◌/◌, ◌-◌, ◌^◌, ◌&&◌, ◌||◌, ◌==◌, nat_le, nat_lt, List, [], ◌∷◌, ◌++◌, length, take, drop, position, Option, Some, None, ⊤, String, if◌then◌else◌, codes, option_and_then, option_map, string_bytes}
 use Rattle.std.specs.Global.{Global}
+use Rattle.std.specs.Char.{is_ascii_digit}
 use Rattle.std.specs.List.{list_all, range_with_len, slice_split}
 use Rattle.std.specs.Str.{bytes_eq}
 use Rattle.bq_words.specs.Durations.{duration_of}
@@ -39,22 +40,31 @@ abbrev pub tasks_at : List ℕ → Option ℕ → Option (List ℕ)
 tasks_at part None = option_map (λ only. only ∷ []) (task_of part)
 tasks_at part (Some dash) = option_and_then (λ first. option_and_then (tasks_between first) (task_of (drop (dash + 1) part))) (task_of (take dash part))
 
--- the tasks that one part names
+-- a part is the name of a task: it is not empty, and does not begin with a digit
+abbrev pub is_name : List ℕ → Bool
+is_name [] = false
+is_name (byte ∷ bytes) = not (is_ascii_digit byte)
+
+-- the tasks that one part names by their numbers; a name is no number
 abbrev pub tasks_of_part : List ℕ → Option (List ℕ)
-tasks_of_part part = tasks_at part (position is_dash part)
+tasks_of_part part = if is_name part then Some [] else tasks_at part (position is_dash part)
 
 -- the tasks that the part names stand behind those that were there
 abbrev pub AddsPart : List ℕ → List ℕ → List ℕ → Type 0
 AddsPart part old new = (more : List ℕ) × (tasks_of_part part ≡ Some more) × (new ≡ old ++ more)
 
--- the tasks that parts name, one part after another: none where one of them names none
+-- the tasks that parts name by their numbers, one part after another: none where one of them is neither a number, a range nor a name
 abbrev pub tasks_in : List (List ℕ) → Option (List ℕ)
 tasks_in [] = Some []
 tasks_in (part ∷ parts) = option_and_then (λ some. option_map (λ more. some ++ more) (tasks_in parts)) (tasks_of_part part)
 
--- the tasks that the parts between commas name
+-- the tasks that the parts between commas name by their numbers
 abbrev pub tasks_of : List ℕ → Option (List ℕ)
 tasks_of word = tasks_in (slice_split is_comma word)
+
+-- the names of tasks among the parts between commas
+abbrev pub names_in : List ℕ → List (List ℕ)
+names_in word = filter is_name (slice_split is_comma word)
 
 -- this many columns, if they are from 20 to 10,000, the least and the greatest width
 abbrev pub as_width : ℕ → Option ℕ
@@ -85,9 +95,18 @@ to_asked w = asked_or (2 ^ 64 - 1) duration_of w.to
 abbrev pub processors_asked : Words → Option ℕ
 processors_asked w = asked_or (2 ^ 64 - 1) processors_of w.cpus
 
--- the tasks; where no word names any the list is empty, and stands for all
+-- the tasks that are named by their numbers; where no word names any task the list is empty, and stands for all
 abbrev pub tasks_asked : Words → Option (List ℕ)
 tasks_asked w = asked_or [] tasks_of w.tasks
+
+-- the names in a word, none where there is no word
+abbrev pub names_given : Option (String Global) → List (List ℕ)
+names_given None = []
+names_given (Some word) = names_in (string_bytes word)
+
+-- the tasks that are named by their names
+abbrev pub names_asked : Words → List (List ℕ)
+names_asked w = names_given w.tasks
 
 -- the columns of a map, 80 where no width is named
 abbrev pub width_asked : Words → Option ℕ
@@ -100,6 +119,12 @@ theme_asked w = asked_or Light theme_of w.theme
 -- the text of a word, where there is one
 abbrev pub text_of : Option (String Global) → Option (List ℕ)
 text_of word = option_map (λ (t : String Global). string_bytes t) word
+
+-- the form shows a stretch of time: a report and JSON have the figures of the whole
+abbrev pub has_stretch : FormName → Bool
+has_stretch Report = false
+has_stretch Json = false
+has_stretch other = true
 
 -- the form is as wide as it is asked to be
 abbrev pub has_width : FormName → Bool
@@ -116,6 +141,14 @@ abbrev pub is_heeded : Bool → Option (String Global) → Bool
 is_heeded heeds None = true
 is_heeded heeds (Some word) = heeds
 
+-- the form heeds each option that is given; every form heeds the processors and the tasks
+pub record HeedsAll (form : FormName) (w : Words) : Type 0 where
+  pub from : is_heeded (has_stretch form) w.from ≡ true
+  pub to : is_heeded (has_stretch form) w.to ≡ true
+  pub width : is_heeded (has_width form) w.width ≡ true
+  pub theme : is_heeded (has_look form) w.theme ≡ true
+  pub title : is_heeded (has_look form) w.title ≡ true
+
 -- the words ask for these settings, and for no option that their form does not heed
 pub record AsksFor (w : Words) (s : Settings) : Type 0 where
   pub form : form_asked w ≡ Some s.form
@@ -124,21 +157,28 @@ pub record AsksFor (w : Words) (s : Settings) : Type 0 where
   pub ordered : s.window.from ≤ s.window.to
   pub processors : processors_asked w ≡ Some s.window.processors
   pub tasks : tasks_asked w ≡ Some s.window.tasks.items
-  pub named : s.named.items ≡ s.window.tasks.items
+  pub names : map string_bytes s.names.items ≡ names_asked w
   pub width : width_asked w ≡ Some s.width
   pub theme : theme_asked w ≡ Some s.look.theme
   pub title : text_of s.look.title ≡ text_of w.title
-  pub width_heeded : is_heeded (has_width s.form) w.width ≡ true
-  pub theme_heeded : is_heeded (has_look s.form) w.theme ≡ true
-  pub title_heeded : is_heeded (has_look s.form) w.title ≡ true
+  pub heeded : HeedsAll s.form w
 
 -- both moments are named, and the last is before the first
 abbrev pub RunBackwards : Words → Type 0
 RunBackwards w = (from : ℕ) × (to : ℕ) × (from_asked w ≡ Some from) × (to_asked w ≡ Some to) × (to < from)
 
--- the form that is asked for does not heed the option, which is given
-abbrev pub IsUnheeded : Words → (FormName → Bool) → Option (String Global) → Type 0
-IsUnheeded w heeds word = (form : FormName) × (form_asked w ≡ Some form) × (is_heeded (heeds form) word ≡ false)
+-- the fault names an option that is given, and that the form does not heed
+abbrev pub IsUnheeded : FormName → Words → SettingsFault → Type 0
+IsUnheeded form w fault.FromUnused = is_heeded (has_stretch form) w.from ≡ false
+IsUnheeded form w fault.ToUnused = is_heeded (has_stretch form) w.to ≡ false
+IsUnheeded form w fault.WidthUnused = is_heeded (has_width form) w.width ≡ false
+IsUnheeded form w fault.ThemeUnused = is_heeded (has_look form) w.theme ≡ false
+IsUnheeded form w fault.TitleUnused = is_heeded (has_look form) w.title ≡ false
+IsUnheeded form w other = ⊥
+
+-- so it is for the form that is asked for
+abbrev pub IsUnused : Words → SettingsFault → Type 0
+IsUnused w why = (form : FormName) × (form_asked w ≡ Some form) × IsUnheeded form w why
 
 -- the word that the fault names is not of its kind, or the moments run backwards, or the form does not heed an option; memory may run out
 -- whatever the words are
@@ -151,7 +191,5 @@ IsNoSettings w fault.Processors = processors_asked w ≡ None
 IsNoSettings w fault.Tasks = tasks_asked w ≡ None
 IsNoSettings w fault.Width = width_asked w ≡ None
 IsNoSettings w fault.Theme = theme_asked w ≡ None
-IsNoSettings w fault.WidthUnused = IsUnheeded w has_width w.width
-IsNoSettings w fault.ThemeUnused = IsUnheeded w has_look w.theme
-IsNoSettings w fault.TitleUnused = IsUnheeded w has_look w.title
 IsNoSettings w fault.OutOfMemory = ⊤
+IsNoSettings w unused = IsUnused w unused

@@ -1,6 +1,8 @@
 -- The form in which a schedule is shown.
-use Rattle.std.specs.Prelude.{◌≡◌, Bool, true, false, Option, Some, None, IfSome}
+use Rattle.std.specs.Prelude.{◌≡◌, Bool, true, false, ◌++◌, Option, Some, None, IfSome}
+use Rattle.bq_report.specs.Names.{NamedTasks}
 use Rattle.bq_report.specs.declared.window.Window.{Window}
+use Rattle.bq_timeline.specs.Called.{tasks_for}
 use Rattle.bq_timeline.specs.declared.form_names.FormName.{FormName}
 use Rattle.bq_timeline.specs.declared.form_names.FormName.TheVariants as named
 use Rattle.bq_timeline.specs.declared.settings.Settings.{Settings}
@@ -40,6 +42,23 @@ pub record IsShown (form : FormName) (window : Window) (shown : Shown) : Type 0 
   pub form_is : name_of shown ≡ form
   pub window_is : IfSome (window_of_rows shown) (λ w. w ≡ window)
 
--- It is the form that the settings ask for, of the window that they ask for.
-abbrev pub IsAskedFor : Settings → Shown → Type 0
-IsAskedFor s shown = IsShown s.form s.window shown
+-- It is the window that the settings ask for, with the tasks that have the names that they ask for.
+pub record IsWindowOf (s : Settings) (named : NamedTasks) (window : Window) : Type 0 where
+  pub from : window.from ≡ s.window.from
+  pub to : window.to ≡ s.window.to
+  pub processors : window.processors ≡ s.window.processors
+  pub tasks : window.tasks.items ≡ s.window.tasks.items ++ tasks_for named s.names.items
+
+-- It is the form that the settings ask for, of the window that they ask for, where tasks have these names.
+abbrev pub IsAskedFor : Settings → NamedTasks → Shown → Type 0
+IsAskedFor s named shown = (window : Window) × IsWindowOf s named window × IsShown s.form window shown
+
+-- There is a form, and it is that.
+abbrev pub ShowsAsked : Settings → NamedTasks → Option Shown → Type 0
+ShowsAsked s named None = ⊥
+ShowsAsked s named (Some shown) = IsAskedFor s named shown
+
+-- It is a form of the same name, and its rows or lines, where it has some, are those of the same window.
+pub record StaysShown (old new : Shown) : Type 0 where
+  pub form_is : name_of new ≡ name_of old
+  pub window_is : window_of_rows new ≡ window_of_rows old

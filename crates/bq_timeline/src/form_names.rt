@@ -1,6 +1,6 @@
 //! The forms by their names.
 ghost use Rattle.std.specs.Prelude.{◌≡◌};
-ghost use Rattle.bq_timeline.specs.Settings.{form_of, has_look, has_width};
+ghost use Rattle.bq_timeline.specs.Settings.{form_of, has_look, has_stretch, has_width};
 ghost use Rattle.bq_timeline.specs.Shown.{is_read_by_lines};
 
 /// A form in which a schedule is shown.
@@ -24,6 +24,14 @@ macro_rules! with_forms {
     };
 }
 
+/// A text that ends with the names of the forms that show a stretch of time.
+#[macro_export]
+macro_rules! with_stretches {
+    ($before:literal) => {
+        concat!($before, "map, timehist, why, svg, perfetto or csv")
+    };
+}
+
 impl FormName {
     /// The form of that name.
     pub fn of_word(word: &str) -> Option<FormName>
@@ -40,6 +48,13 @@ impl FormName {
             "perfetto" => Some(FormName::Perfetto),
             _ => None,
         }
+    }
+
+    /// Whether it shows a stretch of time. A report and JSON have the figures of the whole.
+    pub fn has_stretch(self) -> bool
+        ensures { result ≡ has_stretch self }
+    {
+        !matches!(self, FormName::Report | FormName::Json)
     }
 
     /// Whether it is as wide as it is asked to be.

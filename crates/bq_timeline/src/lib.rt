@@ -5,6 +5,7 @@
 #![tactic(auto)]
 
 pub mod bounds_table;
+pub mod called;
 mod foreign;
 pub mod form_names;
 pub mod numbers;

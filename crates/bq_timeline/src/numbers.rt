@@ -1,7 +1,7 @@
 //! Tasks and widths as words.
-ghost use Rattle.std.specs.Prelude.{◌≡◌, ◌<◌, ◌≤◌, ◌+◌, ◌-◌, ◌++◌, IfOk, IfSome, MatchBool, None, OnOk, length, option_map, position};
+ghost use Rattle.std.specs.Prelude.{◌≡◌, ◌<◌, ◌≤◌, ◌+◌, ◌-◌, ◌++◌, IfOk, IfSome, MatchBool, None, OnOk, length, map, option_map, position, string_bytes};
 ghost use Rattle.std.specs.List.{range_with_len};
-ghost use Rattle.bq_timeline.specs.Settings.{AddsPart, tasks_of, tasks_of_part, width_of};
+ghost use Rattle.bq_timeline.specs.Settings.{AddsPart, is_name, names_in, tasks_at, tasks_of, tasks_of_part, width_of};
 ghost use Rattle.bq_words.specs.ProcessorSets.{is_dash};
 
 use bq_words::processor_sets::first_part;
@@ -14,9 +14,10 @@ pub const LEAST_WIDTH: u64 = 20;
 /// The most columns of a map.
 pub const GREATEST_WIDTH: u64 = 10_000;
 
-/// The tasks that a word names: numbers and ranges with commas between them, as `1-3,9`.
+/// The tasks that a word names by their numbers: numbers and ranges with commas between them, as `1-3,9`. Names may stand among them,
+/// as in `1-3,editor`: a part that begins with no digit is a name.
 ///
-/// None where a part between commas is neither, or a range runs backwards.
+/// None where a part between commas is something else, or a range runs backwards.
 #[tactic(auto, using(crate::proofs::TaskLemmas::tasks_on, crate::proofs::TaskLemmas::tasks_none, crate::proofs::TaskLemmas::tasks_done))]
 pub fn tasks(alloc: Global, word: &str) -> Result<Option<Vec<u16>>, AllocError>
     ensures { IfOk result (λ tasks. option_map (λ t. t.items) tasks ≡ tasks_of word.now) }
@@ -35,10 +36,37 @@ pub fn tasks(alloc: Global, word: &str) -> Result<Option<Vec<u16>>, AllocError>
     Ok(Some(tasks))
 }
 
-/// Adds the tasks that a part names, a number or a range; whether it names some.
+/// The names of tasks in a word: the parts between commas that are not empty and begin with no digit.
+pub fn names(alloc: Global, word: &str) -> Result<Vec<String>, AllocError>
+    ensures { IfOk result (λ names. map string_bytes names.items ≡ names_in word.now) }
+{
+    let mut names = Vec::new(alloc);
+    for part in word.split(',') {
+        if is_name(part.as_bytes()) {
+            names.push(String::from_str(alloc, part)?)?;
+        }
+    }
+    Ok(names)
+}
+
+/// Whether a part is the name of a task.
+fn is_name(part: &[u8]) -> bool
+    ensures { result ≡ is_name part.now }
+{
+    match part.first() {
+        Some(byte) => !byte.is_ascii_digit(),
+        None => false,
+    }
+}
+
+/// Adds the tasks that a part names by their numbers; whether it is a number, a range or a name.
+#[tactic(auto, using(crate::proofs::TaskLemmas::name_adds))]
 fn push_tasks(tasks: &mut Vec<u16>, part: &[u8]) -> Result<bool, AllocError>
     ensures { IfOk result (λ named. MatchBool named (AddsPart part.now tasks.old.items tasks.new.items) (tasks_of_part part.now ≡ None)) }
 {
+    if is_name(part) {
+        return Ok(true);
+    }
     match ends(part) {
         Some((first, last)) => {
             push_range(tasks, first, last)?;
@@ -63,9 +91,9 @@ fn push_range(tasks: &mut Vec<u16>, first: u16, last: u16) -> Result<(), AllocEr
     Ok(())
 }
 
-/// The first and the last task that a part names: the same of a number, and in order. None where it names none.
+/// The first and the last task of a number or a range: the same of a number, and in order. None where the part is neither.
 fn ends(part: &[u8]) -> Option<(u16, u16)>
-    ensures tasks { option_map (λ e. range_with_len e.0 (e.1 + 1 - e.0)) result ≡ tasks_of_part part.now }
+    ensures tasks { option_map (λ e. range_with_len e.0 (e.1 + 1 - e.0)) result ≡ tasks_at part.now (position is_dash part.now) }
     ensures order { IfSome result (λ e. e.0 ≤ e.1) }
 {
     match dash(part) {

@@ -1,11 +1,15 @@
 //! What is written of a trace: the form, with notes on its lines where a person reads it, and what goes to standard error.
-ghost use Rattle.std.specs.Prelude.{◌≡◌, ◌++◌, OnOk, None, Some, string_bytes};
+ghost use Rattle.std.specs.Prelude.{◌≡◌, ◌++◌, ℕ, IfOk, OnOk, None, Some, string_bytes};
 ghost use Rattle.std.specs.List.{list_any};
+ghost use Rattle.bq_report.specs.Names.{Learns, name_of};
+ghost use Rattle.bq_timeline.specs.Called.{tasks_for};
+ghost use Rattle.bq_timeline.specs.Beginning.{Begins, BeginsForm};
 ghost use Rattle.bq_timeline.specs.Notes.{absent_notes, lacks_processors, lacks_tasks, last_notes, processors_note, tasks_note, trouble_note, unmade_note, waiting_note, waiting_notes};
 ghost use Rattle.bq_schedule.specs.Figures.{task_of};
 ghost use Rattle.bq_timeline.specs.Shown.{IsAskedFor, is_read_by_lines};
 
 use crate::bounds_table::BoundsTable;
+use crate::called::{add_called, note_uncalled};
 use crate::foreign::foreign_text;
 use crate::settings::Settings;
 use crate::shown::Shown;
@@ -25,13 +29,18 @@ use std::alloc::{AllocError, Global};
 #[derive(Drop)]
 pub struct Screen {
     names: Names,
-    shown: Shown,
+    /// What is asked for, until the form begins: by then the comments above have named the tasks.
+    asked: Option<Settings>,
+    /// The rule of the machine, once there is one.
+    rule: Option<Rule>,
+    /// The form, once it has begun.
+    shown: Option<Shown>,
     has_notes: bool,
     /// The bounds of the rule, once there is a machine, where the form shows them.
     near: Option<BoundsTable>,
     /// The processors that are shown, by bits.
     processors: u64,
-    /// The tasks that are named; none where all are shown.
+    /// The tasks that are shown, once the form has begun; none where all are shown.
     tasks: Vec<u16>,
     /// What goes to the output, since it was cleared last.
     pub text: String,
@@ -42,25 +51,20 @@ pub struct Screen {
 impl Screen {
     /// Nothing is written yet.
     pub fn new(alloc: Global, settings: Settings) -> Screen
-        ensures shown { IsAskedFor settings result.shown }
+        ensures asked { result.asked ≡ Some settings }
+        ensures names { (task : ℕ) → name_of result.names task ≡ None }
         ensures notes { result.has_notes ≡ is_read_by_lines settings.form }
-        ensures named { (result.tasks ≡ settings.named) × (result.processors ≡ settings.window.processors) }
+        ensures processors { result.processors ≡ settings.window.processors }
     {
-        let Settings {
-            form,
-            window,
-            named,
-            width,
-            look,
-        } = settings;
-        let processors = window.processors;
         Screen {
             near: None,
-            processors,
-            tasks: named,
+            processors: settings.window.processors,
+            has_notes: settings.form.has_notes(),
+            tasks: Vec::new(alloc),
             names: Names::new(alloc),
-            shown: Shown::of(alloc, form, window, width, look),
-            has_notes: form.has_notes(),
+            asked: Some(settings),
+            rule: None,
+            shown: None,
             text: String::new(alloc),
             notes: String::new(alloc),
         }
@@ -76,21 +80,74 @@ impl Screen {
     }
 
     /// The machine is made, under a rule.
-    pub fn begin(
+    pub fn opened(&mut self, rule: Rule)
+        ensures rule { self.new.rule ≡ Some rule }
+        ensures kept { (self.new.asked ≡ self.old.asked) × (self.new.names ≡ self.old.names) }
+    {
+        self.rule = Some(rule);
+    }
+
+    /// The form begins under the rule of the machine, if it has not: the one that is asked for, of the tasks that are asked for, those of
+    /// the names too that have come so far.
+    pub fn begin(&mut self, alloc: Global, schedule: &Schedule) -> Result<(), AllocError>
+        ensures { OnOk result (Begins self.old self.new) }
+    {
+        let Some(rule) = self.rule else {
+            return Ok(());
+        };
+        match self.asked.take() {
+            Some(settings) => self.begin_form(alloc, rule, settings, schedule),
+            None => Ok(()),
+        }
+    }
+
+    /// The form of these settings begins.
+    #[tactic(auto, using(crate::proofs::ShownLemmas::stays_asked))]
+    fn begin_form(
         &mut self,
         alloc: Global,
         rule: Rule,
+        settings: Settings,
         schedule: &Schedule,
-    ) -> Result<(), AllocError> {
-        if let Shown::Report(_) = &self.shown {
+    ) -> Result<(), AllocError>
+        ensures { OnOk result (BeginsForm settings self.old self.new) }
+    {
+        let asked = settings.names.as_slice();
+        note_uncalled(alloc, &mut self.notes, asked, &self.names)?;
+        let mut shown = self.form_of(alloc, settings)?;
+        if let Shown::Report(_) = &shown {
             self.near = Some(BoundsTable::new(alloc, rule, schedule.processors())?);
         }
-        self.shown
-            .begin(rule, schedule, &self.names, &mut self.text)
+        shown.begin(rule, schedule, &self.names, &mut self.text)?;
+        self.shown = Some(shown);
+        Ok(())
+    }
+
+    /// The form that is asked for, of the tasks that have the names that are asked for, too.
+    fn form_of(&mut self, alloc: Global, settings: Settings) -> Result<Shown, AllocError>
+        ensures form { IfOk result (IsAskedFor settings self.old.names) }
+        ensures tasks { OnOk result (self.new.tasks.items ≡ settings.window.tasks.items ++ tasks_for self.old.names settings.names.items) }
+        ensures names { self.new.names ≡ self.old.names }
+        ensures notes { self.new.notes ≡ self.old.notes }
+        ensures processors { self.new.processors ≡ self.old.processors }
+    {
+        let Settings {
+            form,
+            mut window,
+            names,
+            width,
+            look,
+        } = settings;
+        add_called(alloc, &mut window.tasks, names.as_slice(), &self.names)?;
+        self.tasks = Vec::from_slice(alloc, window.tasks.as_slice())?;
+        Ok(Shown::of(alloc, form, window, width, look))
     }
 
     /// A comment may name a task.
-    pub fn comment(&mut self, line: &[u8]) -> Result<(), AllocError> {
+    pub fn comment(&mut self, line: &[u8]) -> Result<(), AllocError>
+        ensures learned { OnOk result (Learns line.now self.old.names self.new.names) }
+        ensures asked { self.new.asked ≡ self.old.asked }
+    {
         self.names.learn(line)
     }
 
@@ -101,7 +158,7 @@ impl Screen {
         event: &Event,
         machine: &AnyCore,
     ) -> Result<(), AllocError> {
-        if let Shown::Why(form) = &mut self.shown {
+        if let Some(Shown::Why(form)) = &mut self.shown {
             form.comes(number, event, machine)?;
         }
         if let Some(near) = &mut self.near {
@@ -138,7 +195,7 @@ impl Screen {
                 )?;
             }
         }
-        if let Shown::Why(form) = &self.shown {
+        if let Some(Shown::Why(form)) = &self.shown {
             let done = Occurrence {
                 number,
                 event,
@@ -150,11 +207,13 @@ impl Screen {
         if let Some(near) = &mut self.near {
             near.answered(event, reply, machine, change)?;
         }
+        let Some(shown) = &mut self.shown else {
+            return Ok(());
+        };
         if let Event::Admit { task, .. } = event {
-            self.shown.admit(*task)?;
+            shown.admit(*task)?;
         }
-        self.shown
-            .take(change, schedule, &self.names, &mut self.text)
+        shown.take(change, schedule, &self.names, &mut self.text)
     }
 
     /// The word of an image is no hex.
@@ -201,7 +260,9 @@ impl Screen {
         ensures notes { self.new.notes ≡ self.old.notes }
         ensures named { (self.new.tasks ≡ self.old.tasks) × (self.new.processors ≡ self.old.processors) }
     {
-        self.shown.count_missed(wakes);
+        if let Some(shown) = &mut self.shown {
+            shown.count_missed(wakes);
+        }
     }
 
     /// The trace is over. This many lines were bad or refused.
@@ -209,7 +270,9 @@ impl Screen {
         ensures { OnOk result (string_bytes self.new.notes ≡ (string_bytes self.old.notes ++ absent_notes (Some schedule.now) self.old.tasks.items self.old.processors)
             ++ last_notes (Some schedule.now) troubles) }
     {
-        self.shown.end(schedule, &self.names, &mut self.text)?;
+        if let Some(shown) = &mut self.shown {
+            shown.end(schedule, &self.names, &mut self.text)?;
+        }
         if let Some(near) = &self.near {
             near.write(self.processors, &mut self.text)?;
         }

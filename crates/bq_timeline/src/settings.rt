@@ -1,14 +1,14 @@
 //! What a timeline is to show, by the words of its options.
-ghost use Rattle.std.specs.Prelude.{◌≡◌, IfErr, IfOk};
+ghost use Rattle.std.specs.Prelude.{◌≡◌, IfErr, IfOk, OnOk, map, string_bytes};
 ghost use Rattle.bq_words.specs.Durations.{duration_of};
 ghost use Rattle.bq_words.specs.ProcessorSets.{processors_of};
 ghost use Rattle.bq_drawing.specs.Themes.{theme_of};
-ghost use Rattle.bq_timeline.specs.Settings.{AsksFor, IsNoSettings, asked_or, form_of, is_heeded, text_of, width_of};
+ghost use Rattle.bq_timeline.specs.Settings.{AsksFor, HeedsAll, IsNoSettings, IsUnheeded, asked_or, form_of, is_heeded, names_given, text_of, width_of};
 ghost use Rattle.bq_timeline.specs.declared.settings.SettingsFault.TheVariants.{OutOfMemory};
 
 use crate::form_names::FormName;
 use crate::numbers::{GREATEST_WIDTH, LEAST_WIDTH};
-use crate::{numbers, with_forms};
+use crate::{numbers, with_forms, with_stretches};
 use bq_disc::limits::LAST_PROCESSOR;
 use bq_drawing::{Look, Theme, with_themes};
 use bq_report::Window;
@@ -30,7 +30,7 @@ pub struct Words {
     pub to: Option<String>,
     /// The processors, from 0 to 63, as `0-3,8`; all where none is named.
     pub cpus: Option<String>,
-    /// The tasks, from 0 to 65535, as `1-3,9`; all where none is named.
+    /// The tasks, from 0 to 65535 or by their names, as `1-3,9,editor`; all where none is named.
     pub tasks: Option<String>,
     /// The columns of a map, from 20 to 10,000; 80 where none are named.
     pub width: Option<String>,
@@ -45,10 +45,10 @@ pub struct Words {
 pub struct Settings {
     /// In which form.
     pub form: FormName,
-    /// Which stretch of time, processors and tasks.
+    /// Which stretch of time, which processors, and which tasks by their numbers.
     pub window: Window,
-    /// A copy of the tasks of the window, for a note where a trace has none of them.
-    pub named: Vec<u16>,
+    /// The names of the tasks that are asked for by name.
+    pub names: Vec<String>,
     /// The columns of a map, from 20 to 10,000.
     pub width: usize,
     /// How a picture looks, and what it is called.
@@ -64,8 +64,11 @@ const TIME: &str = with_units!("a time is a number and ", ", as 1500us, 1.5ms or
 /// What a word for tasks has to be.
 const TASKS: &str = with_tasks!(
     "--tasks: tasks are numbers from ",
-    " and ranges, as 1-3 or 1,4"
+    ", ranges and names, as 1-3 or 1,editor; a name begins with no digit"
 );
+
+/// Why a form shows no stretch of time.
+const WHOLE: &str = with_stretches!("a report and JSON have the figures of the whole; say --as ");
 
 /// What a word for the theme has to be.
 const THEMES: &str = with_themes!("--theme: a theme is light, ");
@@ -97,6 +100,12 @@ pub enum SettingsFault {
     /// No theme has that name.
     #[error("{words}", words = THEMES)]
     Theme,
+    /// A first moment is said, and the form shows no stretch of time.
+    #[error("--from: {words}", words = WHOLE)]
+    FromUnused,
+    /// A last moment is said, and the form shows no stretch of time.
+    #[error("--to: {words}", words = WHOLE)]
+    ToUnused,
     /// A width is said, and the form is no map.
     #[error("--width: only a map has a width; say --as map too")]
     WidthUnused,
@@ -134,7 +143,7 @@ impl Settings {
     ///
     /// A fault other than `OutOfMemory` names a word that is not of its kind (a form, a time, processors, tasks, a width or a theme), or says
     /// that the first moment is after the last, or names an option that the form does not heed.
-    #[tactic(auto, using(crate::proofs::TaskLemmas::runs_backwards, crate::proofs::HeedingLemmas::width_unheeded, crate::proofs::HeedingLemmas::theme_unheeded, crate::proofs::HeedingLemmas::title_unheeded))]
+    #[tactic(auto, using(crate::proofs::TaskLemmas::runs_backwards, crate::proofs::HeedingLemmas::unheeded))]
     pub fn of(alloc: Global, words: &Words) -> Result<Settings, SettingsFault>
         ensures asked { IfOk result (AsksFor words.now) }
         ensures refused { IfErr result (IsNoSettings words.now) }
@@ -152,27 +161,42 @@ impl Settings {
         if let Some(word) = &words.tasks {
             window.tasks = numbers::tasks(alloc, word.as_str())?.ok_or(SettingsFault::Tasks)?;
         }
-        let named = Vec::from_slice(alloc, window.tasks.as_slice())?;
+        let names = names_or_none(alloc, &words.tasks)?;
         let width = width_or(&words.width, COLUMNS).ok_or(SettingsFault::Width)?;
         let theme = theme_or(&words.theme, Theme::Light).ok_or(SettingsFault::Theme)?;
         let title = copied(alloc, &words.title)?;
-        if !is_heeded(form.has_width(), &words.width) {
-            return Err(SettingsFault::WidthUnused);
-        }
-        if !is_heeded(form.has_look(), &words.theme) {
-            return Err(SettingsFault::ThemeUnused);
-        }
-        if !is_heeded(form.has_look(), &words.title) {
-            return Err(SettingsFault::TitleUnused);
-        }
+        heed_all(form, words)?;
         Ok(Settings {
             form,
             window,
-            named,
+            names,
             width,
             look: Look { theme, title },
         })
     }
+}
+
+/// That the form heeds each option that is given, or the first that it does not heed.
+fn heed_all(form: FormName, words: &Words) -> Result<(), SettingsFault>
+    ensures all { OnOk result (HeedsAll form words.now) }
+    ensures fault { IfErr result (IsUnheeded form words.now) }
+{
+    if !is_heeded(form.has_stretch(), &words.from) {
+        return Err(SettingsFault::FromUnused);
+    }
+    if !is_heeded(form.has_stretch(), &words.to) {
+        return Err(SettingsFault::ToUnused);
+    }
+    if !is_heeded(form.has_width(), &words.width) {
+        return Err(SettingsFault::WidthUnused);
+    }
+    if !is_heeded(form.has_look(), &words.theme) {
+        return Err(SettingsFault::ThemeUnused);
+    }
+    if !is_heeded(form.has_look(), &words.title) {
+        return Err(SettingsFault::TitleUnused);
+    }
+    Ok(())
 }
 
 /// Whether an option is not given, or the form heeds it.
@@ -212,6 +236,16 @@ fn processors_or(word: &Option<String>, default: u64) -> Option<u64>
     match word {
         Some(word) => processors(word.as_bytes()),
         None => Some(default),
+    }
+}
+
+/// The names of tasks in a word; none where there is no word.
+fn names_or_none(alloc: Global, word: &Option<String>) -> Result<Vec<String>, AllocError>
+    ensures { IfOk result (λ names. map string_bytes names.items ≡ names_given word.now) }
+{
+    match word {
+        Some(word) => numbers::names(alloc, word.as_str()),
+        None => Ok(Vec::new(alloc)),
     }
 }
 

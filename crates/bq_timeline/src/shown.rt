@@ -1,5 +1,5 @@
 //! The forms, behind one name.
-ghost use Rattle.bq_timeline.specs.Shown.{IsShown};
+ghost use Rattle.bq_timeline.specs.Shown.{IsShown, StaysShown};
 
 use crate::form_names::FormName;
 use bq_drawing::{Look, Perfetto, Svg};
@@ -47,7 +47,9 @@ impl Shown {
         schedule: &Schedule,
         names: &Names,
         text: &mut String,
-    ) -> Result<(), AllocError> {
+    ) -> Result<(), AllocError>
+        ensures { StaysShown self.old self.new }
+    {
         match self {
             Shown::Report(form) => form.begin(schedule, names, text),
             Shown::Map(form) => form.begin(schedule, names, text),

@@ -1,8 +1,9 @@
 //! The sink of a timeline: the schedule that a trace tells, and the form that it is shown in.
 ghost use Rattle.bq_timeline.specs.Notes.{absent_notes, last_notes};
-ghost use Rattle.bq_timeline.specs.Shown.{IsAskedFor};
+ghost use Rattle.bq_report.specs.Names.{name_of};
+ghost use Rattle.bq_timeline.specs.Beginning.{BeginsWith, Ends};
 ghost use Rattle.bq_timeline.specs.Timelines.{Keeps};
-ghost use Rattle.std.specs.Prelude.{◌≡◌, ◌++◌, OnOk, string_bytes};
+ghost use Rattle.std.specs.Prelude.{◌≡◌, ◌++◌, ℕ, OnOk, string_bytes};
 
 use crate::screen::Screen;
 use crate::settings::Settings;
@@ -27,7 +28,8 @@ impl Viewer {
     pub fn new(alloc: Global, settings: Settings) -> Viewer
         ensures schedule { result.schedule ≡ None }
         ensures troubles { result.troubles ≡ 0 }
-        ensures shown { IsAskedFor settings result.screen.shown }
+        ensures asked { result.screen.asked ≡ Some settings }
+        ensures names { (task : ℕ) → name_of result.screen.names task ≡ None }
     {
         Viewer {
             alloc,
@@ -46,8 +48,31 @@ impl Viewer {
         self.screen.count_missed(wakes);
     }
 
+    /// The form begins, if there is a machine and it has not: at the first line below the machine's that is no comment.
+    fn begin(&mut self) -> Result<(), AllocError>
+        ensures schedule { self.new.schedule ≡ self.old.schedule }
+        ensures troubles { self.new.troubles ≡ self.old.troubles }
+        ensures form { OnOk result (BeginsWith self.old.schedule self.old.screen self.new.screen) }
+    {
+        match &self.schedule {
+            Some(schedule) => self.screen.begin(self.alloc, schedule),
+            None => Ok(()),
+        }
+    }
+
     /// The trace is over.
     pub fn end(&mut self) -> Result<(), AllocError>
+        ensures schedule { self.new.schedule ≡ self.old.schedule }
+        ensures troubles { self.new.troubles ≡ self.old.troubles }
+        ensures notes { OnOk result (Ends self.old self.new) }
+    {
+        self.begin()?;
+        self.close()?;
+        Ok(())
+    }
+
+    /// The trace is over, and its form has begun.
+    fn close(&mut self) -> Result<(), AllocError>
         ensures schedule { self.new.schedule ≡ self.old.schedule }
         ensures troubles { self.new.troubles ≡ self.old.troubles }
         ensures notes { OnOk result (string_bytes self.new.screen.notes
@@ -66,7 +91,7 @@ impl Sink for Viewer {
 
     fn opened(&mut self, _number: u64, rule: Rule, size: ProcessorCount) -> Result<(), AllocError> {
         let schedule = Schedule::new(self.alloc, size.processors())?;
-        self.screen.begin(self.alloc, rule, &schedule)?;
+        self.screen.opened(rule);
         self.schedule = Some(schedule);
         Ok(())
     }
@@ -76,6 +101,7 @@ impl Sink for Viewer {
     }
 
     fn comes(&mut self, number: u64, event: &Event, machine: &AnyCore) -> Result<(), AllocError> {
+        self.begin()?;
         self.screen.comes(number, event, machine)
     }
 
@@ -98,16 +124,19 @@ impl Sink for Viewer {
     }
 
     fn unspelled(&mut self, number: u64) -> Result<(), AllocError> {
+        self.begin()?;
         self.troubles = self.troubles.saturating_add(1);
         self.screen.unspelled(number)
     }
 
     fn unloaded(&mut self, number: u64, fault: LoadFault) -> Result<(), AllocError> {
+        self.begin()?;
         self.troubles = self.troubles.saturating_add(1);
         self.screen.unloaded(number, fault)
     }
 
     fn shown(&mut self, number: u64, processor: u8, machine: &AnyCore) -> Result<(), AllocError> {
+        self.begin()?;
         if machine.seen(processor).is_none() {
             self.troubles = self.troubles.saturating_add(1);
             self.screen.not_there(number, processor)?;
@@ -120,6 +149,7 @@ impl Sink for Viewer {
     }
 
     fn bad(&mut self, number: u64, line: Option<&[u8]>) -> Result<(), AllocError> {
+        self.begin()?;
         self.troubles = self.troubles.saturating_add(1);
         self.screen.bad(number, line, self.schedule.is_some())
     }

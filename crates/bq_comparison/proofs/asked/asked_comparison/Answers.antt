@@ -8,7 +8,9 @@ returns-clause-asked c = (
     seeds = search rules;
     settings = c.in-Ok.settings;
     shown = c.in-Ok.ensures.asked;
+    whole = search rules;
     window = refl;
+    names = refl;
     form = search rules;
   },
 )

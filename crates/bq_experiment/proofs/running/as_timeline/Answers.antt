@@ -7,11 +7,11 @@ pub returns-clause-written : goal.returns-clause-written
 returns-clause-written c =
     let viewer = c.in_ok-viewer.viewer in
     let viewed = c.in_ok-viewer.ensures.viewed in
-    let screen = viewer.screen in
-    let before = string_bytes screen.notes ++ absent_notes viewer.schedule screen.tasks.items screen.processors in
+    let ends = c.in_ok-end.ensures.notes in
+    let before = string_bytes ends.begun.notes ++ absent_notes viewer.schedule ends.begun.tasks.items ends.begun.processors in
     record {
       viewer = viewer;
       viewed = viewed;
       before = before;
-      whole = c.in_ok-end.ensures.notes ∙ ap (λ n. before ++ last_notes viewer.schedule n) viewed.clean;
+      whole = ends.notes ∙ ap (λ n. before ++ last_notes viewer.schedule n) viewed.clean;
     }

@@ -16,15 +16,14 @@ returns-clause-told g c = λ begun stands.
     let w : Watches old.viewer new (λ told. Story old.position.progress (lines begun) told c.end.new.self.progress) =
     watches_what_it_gets old.viewer new new (λ told. Story old.position.progress (lines begun) told c.end.new.self.progress) (c.in_ok-end.ensures begun stands) refl refl
     in
-    let screen = new.screen in
-    let absent = λ (s : Option Figures). string_bytes screen.notes ++ absent_notes s screen.tasks.items screen.processors in
-    let before = absent new.schedule in
+    let ends = c.in_ok-end-2.ensures.notes in
+    let before = string_bytes ends.begun.notes ++ absent_notes new.schedule ends.begun.tasks.items ends.begun.processors in
     record {
       told = w.told;
       final = c.end.new.self.progress;
       story = w.holds;
       clean = ap (λ k. k == 0) (c.end-2.ensures.troubles ∙ w.troubles);
       before = before;
-      notes = c.in_ok-notes.ensures.cases ∙ c.in_ok-end-2.ensures.notes ∙ ap (λ (s : Option Figures). before ++ last_notes s new.troubles) w.schedule
+      notes = c.in_ok-notes.ensures.cases ∙ ends.notes ∙ ap (λ (s : Option Figures). before ++ last_notes s new.troubles) w.schedule
           ∙ ap (λ (k : ℕ). before ++ last_notes (schedule_after old.viewer.schedule w.told) k) w.troubles;
     }

@@ -1,0 +1,45 @@
+-- The form begins once the comments above have named the tasks.
+use Rattle.std.specs.Prelude.{◌≡◌, ◌++◌, Option, Some, None, string_bytes}
+use Rattle.bq_schedule.specs.Figures.{Figures}
+use Rattle.bq_words.specs.declared.rule.Rule.{Rule}
+use Rattle.bq_timeline.specs.Called.{tasks_for, uncalled_notes}
+use Rattle.bq_timeline.specs.Notes.{absent_notes, last_notes}
+use Rattle.bq_timeline.specs.Shown.{ShowsAsked}
+use Rattle.bq_timeline.specs.declared.screen.Screen.{Screen}
+use Rattle.bq_timeline.specs.declared.settings.Settings.{Settings}
+use Rattle.bq_timeline.specs.declared.viewer.Viewer.{Viewer}
+
+-- The form that the settings ask for is shown, where tasks have the names that have come, and the names that no task has are noted.
+pub record BeginsForm (s : Settings) (old new : Screen) : Type 0 where
+  pub shown : ShowsAsked s old.names new.shown
+  pub tasks : new.tasks.items ≡ s.window.tasks.items ++ tasks_for old.names s.names.items
+  pub processors : new.processors ≡ old.processors
+  pub notes : string_bytes new.notes ≡ string_bytes old.notes ++ uncalled_notes old.names s.names.items
+
+-- Nothing begins.
+pub record Stays (old new : Screen) : Type 0 where
+  pub shown : new.shown ≡ old.shown
+  pub tasks : new.tasks ≡ old.tasks
+  pub processors : new.processors ≡ old.processors
+  pub notes : new.notes ≡ old.notes
+
+-- It begins where there is a machine and it has not begun, that is where something is still asked for.
+abbrev pub BeginsBy : Option Rule → Option Settings → Screen → Screen → Type 0
+BeginsBy (Some rule) (Some s) old new = BeginsForm s old new
+BeginsBy rule asked old new = Stays old new
+
+abbrev pub Begins : Screen → Screen → Type 0
+Begins old new = BeginsBy old.rule old.asked old new
+
+-- the same, with the schedule that begins with the machine
+abbrev pub BeginsWith : Option Figures → Screen → Screen → Type 0
+BeginsWith None old new = Stays old new
+BeginsWith (Some s) old new = Begins old new
+
+-- The trace is over: the form begins, if it has not, and the notes on what is named and not there and the last notes stand behind those
+-- that were there then.
+pub record Ends (old new : Viewer) : Type 0 where
+  pub begun : Screen
+  pub begins : BeginsWith old.schedule old.screen begun
+  pub notes : string_bytes new.screen.notes
+      ≡ (string_bytes begun.notes ++ absent_notes old.schedule begun.tasks.items begun.processors) ++ last_notes old.schedule old.troubles

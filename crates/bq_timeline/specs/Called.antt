@@ -1,0 +1,48 @@
+-- The tasks that are asked for by their names.
+use Rattle.std.specs.Prelude.{ℕ, zero, suc, ◌^◌, ◌-◌, nat_le, nat_lt, ◌&&◌, ◌||◌, Bool, false, List, [], ◌∷◌, ◌++◌, length, map, take, Option, Some, None, String, if◌then◌else◌, codes, string_bytes}
+use Rattle.std.specs.Global.{Global}
+use Rattle.std.specs.List.{flat_map}
+use Rattle.std.specs.Str.{bytes_eq, chars}
+use Rattle.std.proofs.Math.Utf8.{encodes}
+use Rattle.bq_report.specs.Names.{NamedTasks, name_of}
+
+-- it is the name, if there is one
+abbrev pub is_named : List ℕ → Option (List ℕ) → Bool
+is_named name None = false
+is_named name (Some other) = bytes_eq other name
+
+-- the tasks below a number that have the name, in order
+unfoldable pub called_below : NamedTasks → List ℕ → ℕ → List ℕ
+called_below named name zero = []
+called_below named name (suc task) = called_below named name task ++ (if is_named name (name_of named task) then task ∷ [] else [])
+
+-- the tasks that have the name, of the 1,024 that there can be
+abbrev pub tasks_called : NamedTasks → List ℕ → List ℕ
+tasks_called named name = called_below named name 1024
+
+-- the tasks that have these names, name after name
+abbrev pub all_called : NamedTasks → List (String Global) → List ℕ
+all_called named names = flat_map (λ name. tasks_called named (string_bytes name)) names
+
+-- What names add to the tasks that are shown: those that have them, and a number that no task has. Without it no task at all would be
+-- left of names that no task has, and that stands for every task.
+abbrev pub tasks_for : NamedTasks → List (String Global) → List ℕ
+tasks_for named [] = []
+tasks_for named names = all_called named names ++ (2 ^ 16 - 1) ∷ []
+
+-- a character as a message shows it: a control character stands as `?`
+abbrev pub shown_letter : ℕ → ℕ
+shown_letter letter = if nat_lt letter 32 || (nat_le 127 letter && nat_lt letter 160) then 63 else letter
+
+-- a name as a message quotes it: its first 40 characters
+abbrev pub quoted : List ℕ → List ℕ
+quoted name = encodes (map shown_letter (take 40 (chars name)))
+
+-- the note on a name that no task has
+abbrev pub uncalled_note : NamedTasks → List ℕ → List ℕ
+uncalled_note named name =
+    if nat_lt 0 (length (tasks_called named name)) then [] else codes "--tasks: no task is called " ++ (quoted name ++ codes "\n")
+
+-- the notes on the names that no task has
+abbrev pub uncalled_notes : NamedTasks → List (String Global) → List ℕ
+uncalled_notes named names = flat_map (λ name. uncalled_note named (string_bytes name)) names

@@ -1,0 +1,107 @@
+//! The tasks that are asked for by their names.
+ghost use Rattle.std.specs.Prelude.{◌≡◌, ◌++◌, IfOk, OnOk, option_map, string_bytes};
+ghost use Rattle.bq_report.specs.Names.{name_of};
+ghost use Rattle.bq_timeline.specs.Called.{is_named, quoted, shown_letter, tasks_called, tasks_for, uncalled_note, uncalled_notes};
+
+use bq_disc::limits::TASKS;
+use bq_report::Names;
+use std::alloc::{AllocError, Global};
+
+/// A number that no task can have: tasks are 0 to 1023. It stands behind the tasks that have some names, since no task at all would
+/// stand for every task.
+pub const NO_TASK: u16 = u16::MAX;
+
+/// Adds the tasks that have the names that are asked for, and `NO_TASK`. Where no name is asked for, nothing is added.
+#[tactic(auto, using(crate::proofs::CalledLemmas::tasks_for_some))]
+pub fn add_called(
+    alloc: Global,
+    tasks: &mut Vec<u16>,
+    asked: &[String],
+    names: &Names,
+) -> Result<(), AllocError>
+    ensures { OnOk result (tasks.new.items ≡ tasks.old.items ++ tasks_for names.now asked.now) }
+{
+    if asked.is_empty() {
+        return Ok(());
+    }
+    for name in asked {
+        let called = tasks_called(alloc, name.as_str(), names)?;
+        tasks.extend_from_slice(called.as_slice())?;
+    }
+    tasks.push(NO_TASK)?;
+    Ok(())
+}
+
+/// Notes the names that no task has.
+pub fn note_uncalled(
+    alloc: Global,
+    notes: &mut String,
+    asked: &[String],
+    names: &Names,
+) -> Result<(), AllocError>
+    ensures { OnOk result (string_bytes notes.new ≡ string_bytes notes.old ++ uncalled_notes names.now asked.now) }
+{
+    for name in asked {
+        note_name(alloc, notes, name.as_str(), names)?;
+    }
+    Ok(())
+}
+
+/// Notes a name, if no task has it.
+fn note_name(alloc: Global, notes: &mut String, name: &str, names: &Names) -> Result<(), AllocError>
+    ensures { OnOk result (string_bytes notes.new ≡ string_bytes notes.old ++ uncalled_note names.now name.now) }
+{
+    let called = tasks_called(alloc, name, names)?;
+    if !called.is_empty() {
+        return Ok(());
+    }
+    let name = quoted(alloc, name)?;
+    write!(notes, "--tasks: no task is called {name}\n")
+}
+
+/// How many characters of a name a message quotes.
+const QUOTED: usize = 40;
+
+/// A name as a message quotes it: its first 40 characters, and `?` for each control character.
+fn quoted(alloc: Global, name: &str) -> Result<String, AllocError>
+    ensures { IfOk result (λ text. string_bytes text ≡ quoted name.now) }
+{
+    let mut text = String::new(alloc);
+    for letter in name.chars().take(QUOTED) {
+        text.push(shown_letter(letter))?;
+    }
+    Ok(text)
+}
+
+fn shown_letter(letter: char) -> char
+    ensures { result ≡ shown_letter letter }
+{
+    match letter {
+        '\u{0}'..='\u{1f}' | '\u{7f}'..='\u{9f}' => '?',
+        other => other,
+    }
+}
+
+/// The tasks that have the name, in order.
+#[tactic(auto, using(crate::proofs::CalledLemmas::called_none, crate::proofs::CalledLemmas::called_on, crate::proofs::CalledLemmas::called_off))]
+fn tasks_called(alloc: Global, name: &str, names: &Names) -> Result<Vec<u16>, AllocError>
+    ensures { IfOk result (λ tasks. tasks.items ≡ tasks_called names.now name.now) }
+{
+    let mut tasks = Vec::new(alloc);
+    for task in 0..TASKS {
+        if is_named(name, names.of(task)) {
+            tasks.push(task)?;
+        }
+    }
+    Ok(tasks)
+}
+
+/// Whether it is the name, if there is one.
+fn is_named(name: &str, other: Option<&str>) -> bool
+    ensures { result ≡ is_named name.now (option_map (λ o. o.now) other.entry) }
+{
+    match other {
+        Some(other) => other == name,
+        None => false,
+    }
+}
