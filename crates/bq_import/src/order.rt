@@ -1,5 +1,5 @@
 //! A program in an order in which every jump goes forward.
-ghost use Rattle.std.specs.Prelude.{◌≡◌, ◌≤◌, ◌<◌, ℕ, List, Option, length, true, filter_map, reverse, OnOk, IfOk, IfErr};
+ghost use Rattle.std.specs.Prelude.{◌≡◌, ◌≤◌, ◌<◌, ◌⊎◌, ℕ, List, Option, length, true, filter_map, reverse, OnOk, IfOk, IfErr};
 ghost use Rattle.bq_insn.specs.declared.Insn.{Insn};
 ghost use Rattle.bq_insn.specs.Slots.{spread};
 ghost use Rattle.bq_insn.specs.Spelling.{is_well_formed};
@@ -10,8 +10,8 @@ ghost use Rattle.bq_import.specs.Backward.{IsBuilt, IsFront, insns_of};
 ghost use Rattle.bq_import.specs.Faults.{AllForward, IsDisorder, IsLinked, IsSearchFault};
 ghost use Rattle.bq_import.specs.Keeping.{AllReached};
 ghost use Rattle.bq_import.specs.declared.fault.Disorder.TheVariants.{OutOfMemory};
-ghost use Rattle.bq_import.specs.Search.{IsDone};
-ghost use Rattle.bq_import.specs.Searching.{IsDoneWith};
+ghost use Rattle.bq_import.specs.Search.{AreLandings, IsDone};
+ghost use Rattle.bq_import.specs.Searching.{IsDoneWith, IsWithin};
 
 use crate::backward::Backward;
 use crate::fault::Disorder;
@@ -114,6 +114,8 @@ impl Search {
         requires few { maps ≤ 8 }
         requires first { IsStart old.now 0 }
         requires done { IsDoneWith maps old.now self.old }
+        requires within { IsWithin old.now self.old 0 }
+        requires landings { AreLandings old.now landings.now }
         ensures built { OnOk result (IsBuilt maps old.now self.new.copy.slots.items self.new.copy.origins.items) }
         ensures front { OnOk result (IsFront self.new.copy.slots.items self.new.copy.origins.items 0) }
         ensures err { IfErr result (IsSearchFault old.now) }
@@ -137,7 +139,10 @@ impl Search {
         requires linked { IsLinked old.now }
         requires few { maps ≤ 8 }
         requires done { IsDoneWith maps old.now self.old }
+        requires within { IsWithin old.now self.old 0 }
+        requires landings { AreLandings old.now landings.now }
         ensures ok { OnOk result (IsDoneWith maps old.now self.new) }
+        ensures within { OnOk result (IsWithin old.now self.new 0) }
         ensures err { IfErr result (IsSearchFault old.now) }
     {
         if slot >= landings.len() || !landings[slot] {
@@ -156,6 +161,7 @@ impl Search {
         requires first { IsStart old.now 0 }
         requires at { IsDoneWith maps old.now self.old }
         requires done { IsDone self.old.places.items 0 }
+        requires within { IsFront self.old.copy.slots.items self.old.copy.origins.items 0 ⊎ IsWithin old.now self.old 0 }
         ensures built { OnOk result (IsBuilt maps old.now self.new.copy.slots.items self.new.copy.origins.items) }
         ensures front { OnOk result (IsFront self.new.copy.slots.items self.new.copy.origins.items 0) }
         ensures err { IfErr result (IsSearchFault old.now) }
