@@ -1,21 +1,21 @@
 -- What is kept for the slots that were begun, and what the copy may have in all.
-use Rattle.std.proofs.Common.{◌≡◌, ℕ, zero, suc, ◌+◌, ◌-◌, ◌<◌, ◌≤◌, ◌≢◌, ◌⊎◌, inl, inr, Bool, true, false, List, [], ◌∷◌, ◌++◌, reverse, length, take, get_or, Option, Some, None, refl, arith, sym, ap, ◌∙◌, subst}
+use Rattle.std.proofs.Common.{◌≡◌, ℕ, ◌+◌, ◌-◌, ◌<◌, ◌≤◌, ◌⊎◌, inl, inr, Bool, true, false, List, [], ◌∷◌, ◌++◌, reverse, length, take, get_or, Option, Some, None, refl, arith, sym, ap, ◌∙◌, subst}
 use Rattle.std.specs.Prelude.{if◌then◌else◌, slice_index, slice_set, sum_by}
-use Rattle.std.proofs.lemmas.List.{get_or-append-add, get_or-set_other, get_or-set_same, get_or-take, get_or_append_left, length-append, length-reverse, length-take, reverse-append, reverse-reverse, take_all, take_more}
+use Rattle.std.proofs.lemmas.List.{get_or-append-add, get_or-set_other, get_or-set_same, get_or-take, get_or_append_left, length-append, length-take, reverse-append, reverse-reverse, take_all, take_more}
 use Rattle.std.proofs.lemmas.List.Sums.{sum_by-cons, sum_by-le-sum_by}
 use Rattle.bq_insn.specs.declared.Insn.{Insn}
 use Rattle.bq_insn.specs.Slots.{slots_of}
 use Rattle.bq_insn.proofs.OptionLemmas.{some_none, some_same}
 use Rattle.bq_bpf.specs.Steps.{instruction_at}
 use Rattle.bq_verify.specs.declared.edges.Targets.{Targets}
-use Rattle.bq_verify.specs.Edges.{IsEdge, IsStart}
+use Rattle.bq_verify.specs.Edges.{IsEdge}
 use Rattle.bq_import.specs.declared.fault.Disorder.{Disorder}
 use Rattle.bq_import.specs.declared.fault.Disorder.TheVariants.{Outside, Ends, Loop, Long, OutOfMemory}
 use Rattle.bq_import.specs.Backward.{IsFront}
-use Rattle.bq_import.specs.Budgets.{AreKeptFor, HasBudget, IsBottom, IsKept, IsKeptFor, IsKeptForLast, IsShared, waiting}
+use Rattle.bq_import.specs.Budgets.{AreKeptFor, HasBudget, IsBottom, IsKept, waiting}
 use Rattle.bq_import.specs.Faults.{IsFull, IsLinked, IsSearchFault}
-use Rattle.bq_import.specs.Lengths.{HasLandings, IsIn, IsLanding, IsTooLong, run_at}
-use Rattle.bq_import.specs.Search.{AreTargets, IsDone, IsLastOf, IsMissing, IsReady, IsTop, Suffices, is_open, place_at, width_at, width_of}
+use Rattle.bq_import.specs.Lengths.{IsIn, IsLanding, run_at}
+use Rattle.bq_import.specs.Search.{AreTargets, IsDone, IsLastOf, IsMissing, IsTop, Suffices, is_open, place_at, width_at, width_of}
 use Rattle.bq_import.proofs.LengthLemmas.{run_next}
 use Rattle.bq_import.proofs.RunningLemmas.{next_of}
 use Rattle.bq_import.proofs.StackLemmas.{equal_or_not}
@@ -135,7 +135,7 @@ module _ (old back : List (Option Insn)) (origins : List ℕ) (places : List (Op
         };
       }
 
--- what is kept for slots below stays so once more is in place
+-- what is kept for slots below is kept when more is in place
 kept_still : (old : List (Option Insn)) (places after : List (Option ℕ)) (above : ℕ) (xs : List ℕ) (kept : ℕ) → ((s : ℕ) → IsDone places s → IsDone after s) → AreKeptFor old places above xs kept → AreKeptFor old after above xs kept
 kept_still old places after above [] kept still is = tt
 kept_still old places after above (slot ∷ rest) kept still is = record {
@@ -221,7 +221,7 @@ module _ (old back : List (Option Insn)) (origins : List ℕ) (places : List (Op
       fits = λ landings has. let before = budget.fits landings has in let all = kept_top.all in omega (arith, grown, before, all);
     }
 
--- a copy that is full of a program within its budget: it is too long
+-- a program is too long whose copy is full within its budget
 pub full_within : (old back : List (Option Insn)) (origins : List ℕ) (places : List (Option ℕ)) (opens : List Bool) (stack : List ℕ) (extra own most : ℕ) (d : Disorder) → IsLinked old →
     (budget : HasBudget old back origins places opens stack extra) → own + extra ≤ budget.kept + run_at old 0 → most ≤ length back + own → IsFull most d → IsSearchFault old d
 full_within old back origins places opens stack extra own most (Outside slot) linked budget le fits full = absurd full
@@ -273,7 +273,7 @@ front_same back origins a b p q =
     let same : p.place ≡ q.place = omega (arith, one, two) in
     sym p.stands.origin_is ∙ (ap (λ (n : ℕ). slice_index origins n) same ∙ q.stands.origin_is)
 
--- more slots are as well
+-- what stays within some slots stays within more
 pub budget_more : (old back : List (Option Insn)) (origins : List ℕ) (places : List (Option ℕ)) (opens : List Bool) (stack : List ℕ) (a b : ℕ) → a ≤ b → HasBudget old back origins places opens stack a → HasBudget old back origins places opens stack b
 budget_more old back origins places opens stack a b le budget = record {
   kept = budget.kept;

@@ -1,23 +1,21 @@
 -- How long the run is from a slot, and when a program is too long.
-use Rattle.std.proofs.Common.{◌≡◌, ℕ, zero, suc, ◌+◌, ◌*◌, ◌<◌, ◌≤◌, ◌⊎◌, inl, inr, Bool, true, false, List, [], ◌∷◌, drop, length, Option, Some, None, refl, arith, sym, ap, ◌∙◌, subst}
+use Rattle.std.proofs.Common.{◌≡◌, ℕ, zero, suc, ◌+◌, ◌*◌, ◌<◌, ◌≤◌, ◌⊎◌, inl, inr, Bool, true, false, List, [], ◌∷◌, drop, length, Option, Some, None, refl, arith, ap, ◌∙◌}
 use Rattle.std.specs.Prelude.{if◌then◌else◌, sum_by}
 use Rattle.std.proofs.lemmas.List.{at_drop_more, length-drop}
 use Rattle.std.proofs.lemmas.List.Sums.{sum_by-cons}
-use Rattle.std.proofs.lemmas.Nat.{mul-le}
 use Rattle.bq_insn.specs.declared.Insn.{Insn}
-use Rattle.bq_insn.specs.declared.Insn.TheVariants.{Imm64, MapRef}
 use Rattle.bq_insn.specs.Slots.{slots_of}
 use Rattle.bq_bpf.specs.Steps.{instruction_at}
 use Rattle.bq_bpf.specs.Instructions.{goes_on}
-use Rattle.bq_insn.proofs.OptionLemmas.{some_same}
 use Rattle.bq_verify.specs.Edges.{IsStart}
 use Rattle.bq_verify.proofs.EdgeLemmas.{leads_same, start_inside}
+use Rattle.bq_verify.proofs.SpreadLemmas.{one_or_two}
 use Rattle.bq_import.specs.Faults.{IsLinked}
-use Rattle.bq_import.specs.Lengths.{HasLandings, IsIn, IsLanding, IsTooLong, run_at, run_of}
+use Rattle.bq_import.specs.Lengths.{IsIn, IsLanding, IsTooLong, run_at, run_of}
 use Rattle.bq_import.specs.Search.{IsNext, width_at, width_of}
 use Rattle.bq_import.proofs.RoomLemmas.{enough, one_slot}
 
--- the run from an instruction
+-- the run, by what stands at its first slot
 run_here : (slots : List (Option Insn)) (slot : ℕ) (o : Option Insn) → slot < length slots → instruction_at slots slot ≡ o → run_at slots slot ≡ run_of (o ∷ drop (slot + 1) slots)
 run_here slots slot o inside here = at_drop_more run_of slots slot None inside ∙ ap (λ (v : Option Insn). run_of (v ∷ drop (slot + 1) slots)) here
 
@@ -26,11 +24,6 @@ run_on_from : (slots : List (Option Insn)) (slot : ℕ) (insn : Insn) → instru
 run_on_from slots slot insn here on =
     run_here slots slot (Some insn) (start_inside slots slot (record { insn = insn; here = here })) here
     ∙ ap (λ (b : Bool). if b then 1 + run_of (drop (slot + 1) slots) else 1) on
-
-one_or_two : (insn : Insn) → (slots_of insn ≡ 1) ⊎ (slots_of insn ≡ 2)
-one_or_two (Imm64 d v) = inr refl
-one_or_two (MapRef d i) = inr refl
-one_or_two _ = inl refl
 
 -- the run ends where that from the next instruction ends
 pub run_next : (slots : List (Option Insn)) (slot next : ℕ) → IsLinked slots → IsNext slots slot next → next + run_at slots next ≡ slot + run_at slots slot

@@ -26,5 +26,5 @@ abbrev pub IsWithin : List (Option Insn) → Search → ℕ → Type 0
 IsWithin old search extra = HasBudget old search.copy.slots.items search.copy.origins.items search.places.items search.opens.items search.stack.items extra
 
 -- so it does after, if it did before
-abbrev pub StaysWithin : List (Option Insn) → Search → Search → Type 0
-StaysWithin old before after = (extra : ℕ) → IsWithin old before extra → IsWithin old after extra
+abbrev pub KeepsBudget : List (Option Insn) → Search → Search → Type 0
+KeepsBudget old before after = (extra : ℕ) → IsWithin old before extra → IsWithin old after extra

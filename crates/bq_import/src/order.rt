@@ -39,7 +39,8 @@ pub struct Ordered {
 ///
 /// An instruction may stand several times, where control comes to it from several sides: its original is known for each slot.
 /// Instructions that control never comes to are left out. A wide number that is the reference of a map is that reference.
-/// Where there is no such order the answer is a loop, by its two slots.
+/// If there is no such order the answer is a loop, by its two slots. The answer is `Long` only if some jump goes back and `IsTooLong` holds:
+/// a run is copied at most once for each slot that a jump leads to.
 pub fn order(alloc: Global, insns: &[Insn], maps: usize) -> Result<Ordered, Disorder>
     requires whole { is_well_formed insns.now ≡ true }
     requires numbers { AllFit insns.now }

@@ -7,7 +7,7 @@ ghost use Rattle.bq_import.specs.Backward.{IsFront};
 ghost use Rattle.bq_import.specs.Faults.{IsSearchFault, IsLinked};
 ghost use Rattle.bq_import.specs.Lengths.{IsLanding, run_at};
 ghost use Rattle.bq_import.specs.Search.{IsDone, IsLastOf, IsMissing, IsReady, IsTop, place_at, is_open};
-ghost use Rattle.bq_import.specs.Searching.{IsAt, IsDoneWith, IsWithin, StaysWithin, WentOn};
+ghost use Rattle.bq_import.specs.Searching.{IsAt, IsDoneWith, IsWithin, KeepsBudget, WentOn};
 
 use crate::backward::Backward;
 use crate::fault::Disorder;
@@ -76,7 +76,7 @@ impl Search {
         requires within { IsWithin old.now self.old (run_at old.now 0) }
         requires top { IsTop self.old.stack.items slot }
         ensures ok { OnOk result (WentOn maps old.now self.old self.new) }
-        ensures within { OnOk result (StaysWithin old.now self.old self.new) }
+        ensures within { OnOk result (KeepsBudget old.now self.old self.new) }
         ensures err { IfErr result (IsSearchFault old.now) }
     {
         let Some(insn) = instruction(old, slot) else {
@@ -127,7 +127,7 @@ impl Search {
         requires new { place_at self.old.places.items to ≡ None }
         requires way { IsLanding old.now to ⊎ IsLastOf old.now self.old.places.items from to }
         ensures ok { OnOk result (WentOn maps old.now self.old self.new) }
-        ensures within { OnOk result (StaysWithin old.now self.old self.new) }
+        ensures within { OnOk result (KeepsBudget old.now self.old self.new) }
         ensures err { IfErr result (IsSearchFault old.now) }
     {
         if self.is_open(to) {
@@ -146,8 +146,8 @@ impl Search {
         ensures ok { OnOk result (WentOn maps old.now self.old self.new) }
         ensures opened { OnOk result (is_open self.new.opens.items slot ≡ true) }
         ensures top { OnOk result (self.new.stack.items ≡ self.old.stack.items ++ (slot ∷ [])) }
-        ensures landing { OnOk result (IsLanding old.now slot → StaysWithin old.now self.old self.new) }
-        ensures next { OnOk result ((top : ℕ) → IsTop self.old.stack.items top → IsLastOf old.now self.old.places.items top slot → StaysWithin old.now self.old self.new) }
+        ensures landing { OnOk result (IsLanding old.now slot → KeepsBudget old.now self.old self.new) }
+        ensures next { OnOk result ((top : ℕ) → IsTop self.old.stack.items top → IsLastOf old.now self.old.places.items top slot → KeepsBudget old.now self.old self.new) }
         ensures more { OnOk result ((extra : ℕ) → IsWithin old.now self.old extra → IsWithin old.now self.new (extra + run_at old.now slot)) }
         ensures err { IfErr result (IsSearchFault old.now) }
     {
@@ -165,7 +165,7 @@ impl Search {
         requires top { IsTop self.old.stack.items slot }
         requires ready { IsReady old.now self.old.places.items slot }
         ensures ok { OnOk result (WentOn maps old.now self.old self.new) }
-        ensures within { OnOk result (StaysWithin old.now self.old self.new) }
+        ensures within { OnOk result (KeepsBudget old.now self.old self.new) }
         ensures err { IfErr result (IsSearchFault old.now) }
     {
         self.copy.place(old, maps, self.places.as_slice(), slot)?;

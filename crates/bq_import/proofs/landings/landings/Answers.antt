@@ -1,4 +1,4 @@
-use Rattle.std.proofs.Common.{◌≡◌, ◌∙◌, Bool, true, ap, sym, inl, inr}
+use Rattle.std.proofs.Common.{◌∙◌, ap, sym, inl, inr}
 use Rattle.bq_import.specs.Search.{is_open}
 use Rattle.bq_import.proofs.landings.landings.Goals as goal
 

@@ -1,4 +1,3 @@
-use Rattle.std.proofs.Common.{sym}
 use Rattle.bq_import.proofs.backward.Backward.missing_front.Goals as goal
 
 pub returns-in_default-clause-some : goal.returns-in_default-clause-some

@@ -1,4 +1,4 @@
-use Rattle.std.proofs.Common.{◌≡◌, ◌+◌, ◌++◌, ◌∷◌, [], ◌⊎◌, inl, inr, ℕ, List, length, ap, arith, subst, sym}
+use Rattle.std.proofs.Common.{◌≡◌, ◌+◌, inl, inr, ℕ, List, ap, arith, subst, sym}
 use Rattle.bq_import.specs.Budgets.{IsBottom}
 use Rattle.bq_import.specs.Lengths.{run_at}
 use Rattle.bq_import.specs.Searching.{IsWithin}
