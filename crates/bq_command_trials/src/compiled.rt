@@ -1,6 +1,6 @@
 // Programs as the bytes of a text section, with their texts: orders, distances and slots were worked out by hand.
 
-use crate::done::holds;
+use crate::done::{holds, repeated};
 use bq_cli::import::import_settings;
 use bq_cli::{Command, job};
 use bq_import::{ImportSettings, imported};
@@ -185,6 +185,43 @@ fn a_long_program(rt: HostRuntime) -> Result<(), Fail> {
     hex.push_str("05009dff00000000\n")?;
     listing.push_str("ja +0\nexit\n")?;
     is_imported(&rt, alloc, hex.as_bytes(), listing.as_str())
+}
+
+/// A jump over exits; jumps to each slot of a run; and the run, from each slot of which a jump goes back to an exit of its own. So
+/// each slot of the run has a copy of all behind it. There are so many exits and jumps of each kind, whose hex is given.
+fn crossed(
+    alloc: Global,
+    count: usize,
+    over: &str,
+    into: &str,
+    back: &str,
+) -> Result<String, Fail> {
+    let exit = "9500000000000000\n";
+    let exits = repeated(alloc, over, exit, count, "")?;
+    let jumps = repeated(alloc, exits.as_str(), into, count, "")?;
+    Ok(repeated(alloc, jumps.as_str(), back, count, exit)?)
+}
+
+/// The runs have 1 slot from slot 0, 2 * count + 1 from slot count + 1, 1 from each exit, and 2 to count + 1 from the slots of the run. With 86
+/// these are 4087 slots together, with 88 they are 4270.
+#[test]
+fn runs_of_4096_slots(rt: HostRuntime) -> Result<(), Fail> {
+    let alloc = rt.alloc();
+    let over = "0500560000000000\n";
+    let into = "1602550000000000\n";
+    // a distance counts from the slot behind the jump: -173 from slot 172 + k to slot k
+    let back = "160253ff00000000\n";
+    let program = crossed(alloc, 86, over, into, back)?;
+    let text = said_of(alloc, program.as_bytes())?;
+    holds(&rt, is_policy(alloc, text.as_str()), text.as_str(), "a policy");
+    let over = "0500580000000000\n";
+    let into = "1602570000000000\n";
+    let back = "16024fff00000000\n";
+    let program = crossed(alloc, 88, over, into, back)?;
+    let text = said_of(alloc, program.as_bytes())?;
+    let words = "the program takes more than 4096 slots once every jump goes forward; make it shorter";
+    holds(&rt, text.as_str() == words, text.as_str(), words);
+    Ok(())
 }
 
 #[test]

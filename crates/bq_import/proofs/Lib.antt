@@ -10,6 +10,8 @@ pub mod ProgramLemmas
 pub mod TurningLemmas
 pub mod AddressLemmas
 pub mod RoomLemmas
+pub mod LengthLemmas
+pub mod BudgetLemmas
 pub mod RefusalLemmas
 pub mod NotedLemmas
 pub mod KeepLemmas

@@ -24,6 +24,7 @@ use Rattle.bq_import.specs.declared.fault.Disorder.TheVariants.{Outside, Ends, L
 use Rattle.bq_import.proofs.OrderLemmas.{is_copy, stands_here}
 use Rattle.bq_import.proofs.PathLemmas.{copy_has_shape, goes_forward, path_ahead}
 use Rattle.bq_import.proofs.KeepLemmas.{spread_has_gaps}
+use Rattle.bq_import.proofs.LengthLemmas.{long_enough}
 use Rattle.bq_import.proofs.ProgramLemmas.{are_good}
 
 -- where no instruction begins control goes nowhere
@@ -55,7 +56,7 @@ pub wrong_by_search : (slots : List (Option Insn)) (d : Disorder) → (AllForwar
 wrong_by_search slots (Outside slot) back wrong = absurd wrong
 wrong_by_search slots (Ends slot) back wrong = absurd wrong
 wrong_by_search slots (Loop from to) back wrong = wrong
-wrong_by_search slots Long back wrong = (wrong.0, back, wrong.1)
+wrong_by_search slots Long back wrong = (wrong.0, back, wrong.1, long_enough slots wrong.0 wrong.1)
 wrong_by_search slots OutOfMemory back wrong = tt
 
 -- that memory runs out is wrong with no program

@@ -1,7 +1,5 @@
--- How long a copy may become: for each slot that is done at most as many slots as the program has.
-use Rattle.std.proofs.Common.{◌≡◌, ◌⊎◌, inl, inr, ℕ, zero, suc, ◌+◌, ◌*◌, ◌<◌, ◌≤◌, Bool, true, false, List, [], ◌∷◌, length, Option, Some, refl, arith, subst}
-use Rattle.std.specs.Prelude.{sum_by}
-use Rattle.std.proofs.lemmas.List.Sums.{sum_by-cons}
+-- Numbers of slots, and that an instruction lies within its program.
+use Rattle.std.proofs.Common.{◌≡◌, ◌⊎◌, inl, inr, ℕ, zero, suc, ◌+◌, ◌*◌, ◌<◌, ◌≤◌, Bool, true, false, List, length, Option, Some, refl, arith}
 use Rattle.std.proofs.lemmas.Nat.{mul-le}
 use Rattle.bq_insn.specs.declared.Insn.{Insn}
 use Rattle.bq_insn.specs.declared.Insn.TheVariants.{Imm64, MapRef}
@@ -11,33 +9,7 @@ use Rattle.bq_bpf.specs.Instructions.{goes_on}
 use Rattle.bq_verify.proofs.EdgeLemmas.{start_inside}
 use Rattle.bq_import.specs.declared.fault.Disorder.{Disorder}
 use Rattle.bq_import.specs.declared.fault.Disorder.TheVariants.{Outside, Ends, Loop, Long, OutOfMemory}
-use Rattle.bq_import.specs.Faults.{IsSearchFault, IsFull, IsLinked}
-use Rattle.bq_import.specs.Search.{unopened}
-
--- at most all slots are not begun
-pub few_unopened : (opens : List Bool) → sum_by unopened opens ≤ length opens
-few_unopened [] = omega arith
-few_unopened (true ∷ opens) =
-    let rest = few_unopened opens in
-    let more = sum_by-cons unopened true opens in
-    omega (arith, rest, more)
-few_unopened (false ∷ opens) =
-    let rest = few_unopened opens in
-    let more = sum_by-cons unopened false opens in
-    omega (arith, rest, more)
-
--- before the first slot
-pub size_first : (x k s m n : ℕ) → x ≡ 0 → s ≡ 0 → k ≤ m → m ≡ n → x + (k + s) * n ≤ n * n
-size_first x k s m n none empty few same =
-    let all : (k + s) * n ≤ n * n = mul-le (k + s) n n n (omega (arith, few, same, empty)) (omega arith) in
-    omega (arith, none, all)
-
--- one slot more is done
-pub size_left : (x y k l n total : ℕ) → y ≤ x + n → k ≡ suc l → x + k * n ≤ total → y + l * n ≤ total
-size_left x y k l n total grown one fits =
-    let before : x + suc l * n ≤ total = subst (λ (m : ℕ). x + m * n ≤ total) one fits in
-    let times : suc l * n ≡ l * n + n = omega arith in
-    omega (arith, before, times, grown)
+use Rattle.bq_import.specs.Faults.{IsFull, IsLinked}
 
 -- a copy of more slots may be too long as well
 pub full_more : (a b : ℕ) (d : Disorder) → a ≤ b → IsFull a d → IsFull b d
@@ -52,22 +24,16 @@ le_or zero b = inl (omega arith)
 le_or (suc a) zero = inr (omega arith)
 le_or (suc a) (suc b) = elim (le_or a b) [ inl le ↦ inl (omega (arith, le)) | inr lt ↦ inr (omega (arith, lt)) ]
 
-enough : (n most : ℕ) → 4096 < most → most ≤ n * n + n → 64 ≤ n
+-- where a square and its side are over 4096, the side is 64 or more
+pub enough : (n most : ℕ) → 4096 < most → most ≤ n * n + n → 64 ≤ n
 enough n most full le =
     elim (le_or 64 n) [
       | inl many ↦ many
       | inr lt ↦ let small = mul-le n n 63 n (omega (arith, lt)) (omega arith) in absurd (omega (arith, small, full, le, lt))
     ]
 
--- a program whose copy is too long has 64 slots or more
-pub too_long : (slots : List (Option Insn)) (most : ℕ) (d : Disorder) → IsLinked slots → most ≤ length slots * length slots + length slots → IsFull most d → IsSearchFault slots d
-too_long slots most (Outside slot) linked le full = absurd full
-too_long slots most (Ends slot) linked le full = absurd full
-too_long slots most (Loop from to) linked le full = absurd full
-too_long slots most Long linked le full = (linked, enough (length slots) most full le)
-too_long slots most OutOfMemory linked le full = tt
-
-one_slot : (insn : Insn) → goes_on insn ≡ false → slots_of insn ≡ 1
+-- an instruction from which control does not go on has one slot
+pub one_slot : (insn : Insn) → goes_on insn ≡ false → slots_of insn ≡ 1
 one_slot (Imm64 d v) e = absurd (let no : ⊥ = cc in no)
 one_slot (MapRef d i) e = absurd (let no : ⊥ = cc in no)
 one_slot _ e = refl

@@ -1,5 +1,5 @@
 -- A run of instructions that is put in front from its end.
-use Rattle.std.proofs.Common.{◌≡◌, ℕ, zero, suc, ◌+◌, ◌-◌, ◌<◌, ◌≤◌, true, List, length, Option, Some, None, refl, arith, sym, ap, ◌∙◌, subst, ◌⊎◌, inl, inr}
+use Rattle.std.proofs.Common.{◌≡◌, ℕ, zero, suc, ◌+◌, ◌<◌, ◌≤◌, true, List, length, Option, Some, None, refl, arith, sym, ap, ◌∙◌, subst, ◌⊎◌, inl, inr}
 use Rattle.bq_insn.specs.declared.Insn.{Insn}
 use Rattle.bq_insn.specs.Slots.{slots_of}
 use Rattle.bq_bpf.specs.Steps.{instruction_at}
@@ -7,15 +7,15 @@ use Rattle.bq_bpf.specs.Instructions.{goes_on}
 use Rattle.bq_verify.specs.Edges.{IsEdge, IsStart}
 use Rattle.bq_insn.proofs.OptionLemmas.{some_same, some_none}
 use Rattle.bq_insn.proofs.CountLemmas.{slots_positive}
-use Rattle.bq_verify.proofs.EdgeLemmas.{start_inside}
 use Rattle.bq_verify.specs.declared.edges.Targets.{Targets}
 use Rattle.bq_import.specs.declared.fault.Disorder.{Disorder}
 use Rattle.bq_import.specs.Copies.{Stands}
 use Rattle.bq_import.specs.Backward.{IsBuilt, IsFront, IsLengthened}
 use Rattle.bq_import.specs.Faults.{IsFull, IsLinked}
-use Rattle.bq_import.specs.Search.{AreClosed, AreTargets, IsNext, IsReady, width_at, width_of}
+use Rattle.bq_import.specs.Search.{AreClosed, AreTargets, IsNext, IsReady, Suffices, width_at, width_of}
 use Rattle.bq_import.specs.Running.{HasPlace, IsPut, IsPutting, IsRun}
-use Rattle.bq_import.proofs.RoomLemmas.{full_more, lies_within}
+use Rattle.bq_import.proofs.LengthLemmas.{run_has, run_next}
+use Rattle.bq_import.proofs.RoomLemmas.{full_more}
 
 -- one number is below another, or equals it, or is above it
 pub order_of : (a b : ℕ) → (a < b) ⊎ ((a ≡ b) ⊎ (b < a))
@@ -55,6 +55,7 @@ run_of_one slots places slot start ready = record {
   start = start;
   onward = λ j from below s. absurd (omega (arith, from, below));
   ready = λ j from to s. let same : slot ≡ j = omega (arith, from, to) in subst (λ (n : ℕ). IsReady slots places n) same ready;
+  ends = refl;
 }
 
 -- a run goes on
@@ -87,6 +88,7 @@ run_on slots places slot last next linked closed run n =
           | inr before ↦ run.ready j from (omega (arith, before)) at
         ]
       ];
+      ends = run_next slots last next linked n ∙ run.ends;
     }
 
 -- where no instruction begins nothing is put
@@ -118,23 +120,25 @@ module _ (maps : ℕ) (old before : List (Option Insn)) (origins : List ℕ) (pl
   -- the last instruction is in front
   pub first_put : (after : List (Option Insn)) (origins' : List ℕ) → IsPut maps old before origins after origins' last → IsPutting maps old before origins last last after origins'
   first_put after origins' put =
-      let within = lies_within old last run.start.insn run.start.here linked in
       let grown = put.grown in
-      let wide : width_at old last ≡ slots_of run.start.insn = ap width_of run.start.here in
       record {
         built = put.built;
         keeps = put.keeps;
         front = λ k from to at least. let same : last ≡ k = omega (arith, from, to) in subst (λ (n : ℕ). IsFront after origins' n) same (put.front run.start);
-        room = record { from = last; above = omega arith; start = run.start; fits = omega (arith, within, grown, wide) };
+        room = record { from = last; above = omega arith; start = run.start; fits = omega (arith, grown) };
       }
 
+  -- what suffices for the slot suffices for the run
+  pub fits_in : ((next : ℕ) → IsNext old slot next → IsFront before origins next → last ≡ slot) → (most : ℕ) → Suffices old before origins slot most → last + width_at old last ≤ slot + most
+  fits_in short most (inl le) = let ends = run.ends in let has = run_has old last linked run.start in omega (arith, le, ends, has)
+  fits_in short most (inr (next, n, front, wide)) =
+      let same = short next n front in
+      let here : width_at old last ≡ width_at old slot = ap (width_at old) same in
+      omega (arith, same, here, wide)
+
   -- the last instruction has room
-  pub first_full : (d : Disorder) → IsFull (length before + width_at old last) d → IsFull (length before + (length old - slot)) d
-  first_full d full =
-      let within = lies_within old last run.start.insn run.start.here linked in
-      let begins = run.begins in
-      let wide : width_at old last ≡ slots_of run.start.insn = ap width_of run.start.here in
-      full_more (length before + width_at old last) (length before + (length old - slot)) d (omega (arith, within, begins, wide)) full
+  pub first_full : (most : ℕ) (d : Disorder) → last + width_at old last ≤ slot + most → IsFull (length before + width_at old last) d → IsFull (length before + most) d
+  first_full most d fits full = let begins = run.begins in full_more (length before + width_at old last) (length before + most) d (omega (arith, fits, begins)) full
 
   module _ (after : List (Option Insn)) (origins' : List ℕ) (at : ℕ) (from : slot ≤ at) (below : at < last) (p : IsPutting maps old before origins last (at + 1) after origins') where
     pub next_front : (next : ℕ) → IsNext old at next → IsFront after origins' next
@@ -156,14 +160,13 @@ module _ (maps : ℕ) (old before : List (Option Insn)) (origins : List ℕ) (pl
           | inr more ↦ elim more [ inl same ↦ omega (arith, same) | inr past ↦ omega (arith, past) ]
         ]
 
-    pub next_full : (d : Disorder) → IsFull (length after + width_at old at) d → IsFull (length before + (length old - slot)) d
-    next_full d full =
-        let inside = start_inside old p.room.from p.room.start in
+    pub next_full : (most : ℕ) (d : Disorder) → last + width_at old last ≤ slot + most → IsFull (length after + width_at old at) d → IsFull (length before + most) d
+    next_full most d enough full =
         let fits = p.room.fits in
         let room = room_at (instruction_at old at) refl in
-        full_more (length after + width_at old at) (length before + (length old - slot)) d (omega (arith, inside, fits, room, from)) full
+        full_more (length after + width_at old at) (length before + most) d (omega (arith, enough, fits, room, from)) full
 
-    room_more : (o : Option Insn) (more : List (Option Insn)) → instruction_at old at ≡ o → length more ≡ length after + width_of o → HasPlace old at (length before + length old) more
+    room_more : (o : Option Insn) (more : List (Option Insn)) → instruction_at old at ≡ o → length more ≡ length after + width_of o → HasPlace old at (length before + (last + width_at old last)) more
     room_more None more e grown =
         let above = p.room.above in
         let fits = p.room.fits in
@@ -199,5 +202,5 @@ module _ (maps : ℕ) (old before : List (Option Insn)) (origins : List ℕ) (pl
     front = p.front slot (omega (arith, is)) run.begins start (λ j above under s. absurd (let never : ⊥ = omega (arith, above, under, is) in never));
   }
 
-  pub all_fits : (after : List (Option Insn)) (origins' : List ℕ) (bound : ℕ) → bound ≡ slot → IsPutting maps old before origins last bound after origins' → length after + slot ≤ length before + length old
+  pub all_fits : (after : List (Option Insn)) (origins' : List ℕ) (bound : ℕ) → bound ≡ slot → IsPutting maps old before origins last bound after origins' → length after + slot ≤ length before + (last + width_at old last)
   all_fits after origins' bound is p = let above = p.room.above in let fits = p.room.fits in omega (arith, above, fits, is)

@@ -17,6 +17,7 @@ use Rattle.bq_insn.proofs.CountLemmas.{slots_positive}
 use Rattle.bq_verify.proofs.EdgeLemmas.{leads_same, leads_out}
 use Rattle.bq_import.specs.Copies.{Stands}
 use Rattle.bq_import.specs.Backward.{JumpsBack, IsFront, IsLengthened, MayStand}
+use Rattle.bq_import.specs.Lengths.{IsJump}
 use Rattle.bq_import.specs.Search.{AreTargets, JumpsTo}
 
 module _ (slots : List (Option Insn)) (slot : ℕ) (insn : Insn) (here : instruction_at slots slot ≡ Some insn) (linked : IsLinked slots) (targets : Targets) where
@@ -30,6 +31,12 @@ module _ (slots : List (Option Insn)) (slot : ℕ) (insn : Insn) (here : instruc
   jump_there (Some to) is some none far e =
       let same : some.0 ≡ far = some_same _ some.0 far some.1 e in
       (to, subst (λ (z : ℤ). LeadsTo slot z to) same some.2, is)
+
+  jump_from : (v : Option ℕ) → targets.jump ≡ v → IfSome v (λ to. (far : ℤ) × (distance_of insn ≡ Some far) × LeadsTo slot far to) → (to : ℕ) → targets.jump ≡ Some to → IsJump slots slot to
+  jump_from None is some to e = absurd (some_none _ to e is)
+  jump_from (Some at) is some to e =
+      let same : at ≡ to = some_same _ at to is e in
+      record { insn = insn; here = here; distance = some.0; jumps = some.1; leads = subst (λ (n : ℕ). LeadsTo slot some.0 n) same some.2 }
 
   starts_at : LeadsOut slots slot targets → (to : ℕ) → IsOf targets to → IsStart slots to
   starts_at out to of =
@@ -65,6 +72,7 @@ module _ (slots : List (Option Insn)) (slot : ℕ) (insn : Insn) (here : instruc
         out = out;
         next = λ on. next_there (goes_on insn) on next;
         jump = jump_there targets.jump refl some none;
+        jumps = jump_from targets.jump refl some;
         starts = starts_at out;
         later = next_later (goes_on insn) next;
         behind = next_behind (goes_on insn) next;

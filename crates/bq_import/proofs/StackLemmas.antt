@@ -1,6 +1,6 @@
 -- The stack of the search, and what is done.
-use Rattle.std.proofs.Common.{◌≡◌, ℕ, zero, suc, ◌+◌, ◌-◌, ◌*◌, ◌<◌, ◌≤◌, ◌≢◌, Bool, true, false, List, [], ◌∷◌, ◌++◌, length, take, get_or, Option, Some, None, refl, arith, sym, ap, ◌∙◌, subst, ◌⊎◌, inl, inr, length-append, length-take}
-use Rattle.std.specs.Prelude.{slice_index, slice_set, sum_by}
+use Rattle.std.proofs.Common.{◌≡◌, ℕ, zero, suc, ◌+◌, ◌-◌, ◌<◌, ◌≤◌, ◌≢◌, Bool, true, false, List, [], ◌∷◌, ◌++◌, length, take, get_or, Option, Some, None, refl, arith, sym, ap, ◌∙◌, subst, ◌⊎◌, inl, inr, length-append, length-take}
+use Rattle.std.specs.Prelude.{slice_index, slice_set}
 use Rattle.std.proofs.lemmas.List.{get_or_append_left, get_or-append-add, get_or-take, get_or-set_same, get_or-set_other, length-set}
 use Rattle.std.proofs.lemmas.List.Sums.{sum_by-set}
 use Rattle.bq_insn.specs.declared.Insn.{Insn}
@@ -9,15 +9,26 @@ use Rattle.bq_verify.specs.Paths.{Path}
 use Rattle.bq_insn.proofs.OptionLemmas.{some_same, some_none}
 use Rattle.bq_verify.proofs.EdgeLemmas.{start_inside, IsPath-push, end_of-push}
 use Rattle.bq_import.specs.Copies.{Stands}
-use Rattle.bq_import.proofs.RoomLemmas.{few_unopened, size_first, size_left}
 use Rattle.bq_import.specs.Backward.{IsBuilt, IsLengthened}
 use Rattle.bq_import.specs.Search.{place_at, IsDone, AreKnown, AreClosed, IsReady, is_open, unopened, IsOn, IsTop, IsSearching, KeepsOpen, left_of}
 
-equal_or_not : (a b : ℕ) → (a ≡ b) ⊎ (a ≢ b)
+-- two numbers are equal or not
+pub equal_or_not : (a b : ℕ) → (a ≡ b) ⊎ (a ≢ b)
 equal_or_not zero zero = inl refl
 equal_or_not zero (suc b) = inr (λ e. cc)
 equal_or_not (suc a) zero = inr (λ e. cc)
 equal_or_not (suc a) (suc b) = elim (equal_or_not a b) [ inl e ↦ inl (ap suc e) | inr apart ↦ inr (λ e. apart (omega (arith, e))) ]
+
+-- the slot that was put at a place is there
+pub now_set : (places : List (Option ℕ)) (slot place : ℕ) → slot < length places → IsDone (slice_set places slot (Some place)) slot
+now_set places slot place inside = (place, get_or-set_same places slot (Some place) None inside)
+
+-- and what was in place is still
+pub still_set : (places : List (Option ℕ)) (slot place : ℕ) → slot < length places → (s : ℕ) → IsDone places s → IsDone (slice_set places slot (Some place)) s
+still_set places slot place inside s done = elim (equal_or_not s slot) [
+  | inl e ↦ subst (λ (n : ℕ). IsDone (slice_set places slot (Some place)) n) (sym e) (now_set places slot place inside)
+  | inr apart ↦ (done.0, get_or-set_other places slot s (Some place) None apart ∙ done.1)
+]
 
 -- a path and one edge more
 path_on : (slots : List (Option Insn)) (a b c : ℕ) → Path slots a b → IsEdge slots b c → Path slots a c
@@ -84,16 +95,8 @@ module _ (maps : ℕ) (old back : List (Option Insn)) (origins : List ℕ) (plac
           | inr e ↦ subst (λ (n : ℕ). IsStart old n) (sym (ap (λ (n : ℕ). slice_index (stack ++ slot ∷ []) n) e ∙ last_on)) start
         ]
 
-    size_open : length back + (sum_by unopened (slice_set opens slot true) + length (stack ++ slot ∷ [])) * length old ≤ length old * length old
-    size_open =
-        let sum = sum_by-set unopened opens slot true false slot_inside in
-        let one : unopened (get_or opens slot false) ≡ 1 = ap unopened new in
-        let long = length-append stack (slot ∷ []) in
-        let same : sum_by unopened opens + length stack ≡ sum_by unopened (slice_set opens slot true) + length (stack ++ slot ∷ []) = omega (arith, sum, one, long) in
-        subst (λ (k : ℕ). length back + k * length old ≤ length old * length old) same at.size
-
     pub after_open : IsSearching maps old back origins places (slice_set opens slot true) (stack ++ slot ∷ [])
-    after_open = record { ordered = at.ordered; room = length-set opens slot true ∙ at.room; opened = opened_more; ways = ways_more; starts = starts_more; size = size_open }
+    after_open = record { ordered = at.ordered; room = length-set opens slot true ∙ at.room; opened = opened_more; ways = ways_more; starts = starts_more }
 
     pub open_now : is_open (slice_set opens slot true) slot ≡ true
     open_now = get_or-set_same opens slot true false slot_inside
@@ -111,7 +114,7 @@ module _ (maps : ℕ) (old back : List (Option Insn)) (origins : List ℕ) (plac
         let long = length-append stack (slot ∷ []) in
         omega (arith, sum, one, long)
 
-  module _ (top : IsTop stack slot) (ready : IsReady old places slot) (back' : List (Option Insn)) (origins' : List ℕ) (more : IsLengthened maps old back origins back' origins' slot) (grown : length back' + slot ≤ length back + length old) where
+  module _ (top : IsTop stack slot) (ready : IsReady old places slot) (back' : List (Option Insn)) (origins' : List ℕ) (more : IsLengthened maps old back origins back' origins' slot) where
     place : ℕ
     place = length back' - 1
 
@@ -123,13 +126,10 @@ module _ (maps : ℕ) (old back : List (Option Insn)) (origins : List ℕ) (plac
         omega (arith, inside, room)
 
     done_now : IsDone (slice_set places slot (Some place)) slot
-    done_now = (place, get_or-set_same places slot (Some place) None on_stack)
+    done_now = now_set places slot place on_stack
 
     done_still : (s : ℕ) → IsDone places s → IsDone (slice_set places slot (Some place)) s
-    done_still s done = elim (equal_or_not s slot) [
-      | inl e ↦ subst (λ (n : ℕ). IsDone (slice_set places slot (Some place)) n) (sym e) done_now
-      | inr apart ↦ (done.0, get_or-set_other places slot s (Some place) None apart ∙ done.1)
-    ]
+    done_still = still_set places slot place on_stack
 
     known_more : AreKnown back' origins' (slice_set places slot (Some place))
     unfolding place
@@ -185,13 +185,6 @@ module _ (maps : ℕ) (old back : List (Option Insn)) (origins : List ℕ) (plac
         let lt' : i < length stack - 1 = omega (arith, lt, taken) in
         subst (λ (n : ℕ). IsStart old n) (sym (taken_index i lt')) (at.starts i (omega (arith, lt')))
 
-    size_less : length back' + (sum_by unopened opens + length (take (length stack - 1) stack)) * length old ≤ length old * length old
-    size_less =
-        let taken = taken_long in
-        let long = top.long in
-        let one : sum_by unopened opens + length stack ≡ suc (sum_by unopened opens + length (take (length stack - 1) stack)) = omega (arith, taken, long) in
-        size_left (length back) (length back') (sum_by unopened opens + length stack) _ (length old) (length old * length old) (omega (arith, grown)) one at.size
-
     pub after_leave : IsSearching maps old back' origins' (slice_set places slot (Some (length back' - 1))) opens (take (length stack - 1) stack)
     unfolding place
     after_leave = record {
@@ -200,7 +193,6 @@ module _ (maps : ℕ) (old back : List (Option Insn)) (origins : List ℕ) (plac
       opened = opened_less;
       ways = ways_less;
       starts = starts_less;
-      size = size_less;
     }
 
     pub less_leave : left_of opens (take (length stack - 1) stack) < left_of opens stack
@@ -211,7 +203,6 @@ pub nothing_begun : (maps : ℕ) (old back : List (Option Insn)) (origins : List
     IsBuilt maps old back origins → back ≡ [] → ((k : ℕ) → place_at places k ≡ None) → length places ≡ length old → ((k : ℕ) → is_open opens k ≡ false) → length opens ≡ length old → stack ≡ [] →
     IsSearching maps old back origins places opens stack
 nothing_begun maps old back origins places opens stack built nothing none room shut room' empty =
-    let blank : length back ≡ 0 = ap length nothing in
     let short : length stack ≡ 0 = ap length empty in
     record {
       ordered = record {
@@ -224,7 +215,6 @@ nothing_begun maps old back origins places opens stack built nothing none room s
       opened = λ slot e. absurd (let never : true ≡ false = sym e ∙ shut slot in true_false never);
       ways = λ i j le lt. absurd (omega (arith, lt, short));
       starts = λ i lt. absurd (omega (arith, lt, short));
-      size = size_first (length back) (sum_by unopened opens) (length stack) (length opens) (length old) blank short (few_unopened opens) room';
     }
   where
     true_false : true ≡ false → ⊥

@@ -8,6 +8,7 @@ use Rattle.bq_verify.specs.Edges.{IsEdge, IsStart}
 use Rattle.bq_verify.specs.Paths.{Path}
 use Rattle.bq_verify.specs.Faults.{RunsOut}
 use Rattle.bq_import.specs.Backward.{AreGood}
+use Rattle.bq_import.specs.Lengths.{IsTooLong}
 use Rattle.bq_import.specs.declared.fault.Disorder.{Disorder}
 use Rattle.bq_import.specs.declared.fault.Disorder.TheVariants.{Outside, Ends, Loop, Long, OutOfMemory}
 
@@ -59,19 +60,19 @@ IsWrongAt slots slot d = ⊥
 abbrev pub AllForward : List (Option Insn) → Type 0
 AllForward slots = (from to : ℕ) → IsEdge slots from to → from < to
 
--- what is wrong with the program: what is wrong at the first slot where something is; where nothing is, there is a loop, or
--- the copy becomes too long, of a program in which some jump goes back and which has 64 slots or more
+-- what is wrong with the program: what is wrong at the first slot where something is; where nothing is, there is a loop, or some
+-- jump goes back and the program is too long (a program of fewer than 64 slots never is)
 abbrev pub IsDisorder : List (Option Insn) → Disorder → Type 0
 IsDisorder slots (Ends slot) = RunsOut slots slot × WellBefore slots slot
 IsDisorder slots (Outside slot) = LeadsNowhere slots slot × (RunsOut slots slot → ⊥) × WellBefore slots slot
 IsDisorder slots (Loop from to) = IsLinked slots × IsLoop slots from to
-IsDisorder slots Long = IsLinked slots × (AllForward slots → ⊥) × (64 ≤ length slots)
+IsDisorder slots Long = IsLinked slots × (AllForward slots → ⊥) × IsTooLong slots × (64 ≤ length slots)
 IsDisorder slots OutOfMemory = Unit {0}
 
--- why the search ends early: a loop, or a copy that becomes too long
+-- why the search ends early: a loop, or a program that is too long
 abbrev pub IsSearchFault : List (Option Insn) → Disorder → Type 0
 IsSearchFault slots (Loop from to) = IsLinked slots × IsLoop slots from to
-IsSearchFault slots Long = IsLinked slots × (64 ≤ length slots)
+IsSearchFault slots Long = IsLinked slots × IsTooLong slots
 IsSearchFault slots OutOfMemory = Unit {0}
 IsSearchFault slots d = ⊥
 

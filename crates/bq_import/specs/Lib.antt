@@ -1,8 +1,10 @@
 pub mod Copies
 pub mod Laws
 pub mod Backward
+pub mod Lengths
 pub mod Faults
 pub mod Search
+pub mod Budgets
 pub mod Searching
 pub mod Reasons
 pub mod Importing

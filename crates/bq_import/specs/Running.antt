@@ -4,6 +4,7 @@ use Rattle.bq_insn.specs.declared.Insn.{Insn}
 use Rattle.bq_verify.specs.Edges.{IsStart}
 use Rattle.bq_import.specs.Copies.{Stands}
 use Rattle.bq_import.specs.Backward.{IsBuilt, IsFront, IsLengthened, Keeps}
+use Rattle.bq_import.specs.Lengths.{run_at}
 use Rattle.bq_import.specs.Search.{IsNext, IsReady, width_at}
 
 -- control goes on from the slot to the next instruction, and so on to the last one; all to which it may go from them is in place
@@ -12,6 +13,7 @@ pub record IsRun (slots : List (Option Insn)) (places : List (Option ℕ)) (slot
   pub start : IsStart slots last
   pub onward : (j : ℕ) → slot ≤ j → j < last → IsStart slots j → (next : ℕ) × IsNext slots j next × (next ≤ last)
   pub ready : (j : ℕ) → slot ≤ j → j ≤ last → IsStart slots j → IsReady slots places j
+  pub ends : last + run_at slots last ≡ slot + run_at slots slot
 
 -- the instruction that begins at the slot, if one does, was put in front
 pub record IsPut (maps : ℕ) (old before : List (Option Insn)) (origins : List ℕ) (after : List (Option Insn)) (origins' : List ℕ) (slot : ℕ) : Type 0 where
@@ -33,4 +35,4 @@ pub record IsPutting (maps : ℕ) (old before : List (Option Insn)) (origins : L
   pub built : IsBuilt maps old after origins'
   pub keeps : Keeps before origins after origins'
   pub front : (k : ℕ) → bound ≤ k → k ≤ last → IsStart old k → ((j : ℕ) → bound ≤ j → j < k → IsStart old j → ⊥) → IsFront after origins' k
-  pub room : HasPlace old bound (length before + length old) after
+  pub room : HasPlace old bound (length before + (last + width_at old last)) after

@@ -9,13 +9,15 @@ use Rattle.bq_verify.specs.Paths.{Path}
 use Rattle.bq_verify.specs.Passes.{LeadsOut, IsOf}
 use Rattle.bq_verify.specs.declared.edges.Targets.{Targets}
 use Rattle.bq_import.specs.Copies.{Stands}
-use Rattle.bq_import.specs.Backward.{IsBuilt}
+use Rattle.bq_import.specs.Backward.{IsBuilt, IsFront}
+use Rattle.bq_import.specs.Lengths.{IsJump, IsLanding, run_at}
 
 -- where control may go from the instruction: on, and where it jumps to
 pub record AreTargets (slots : List (Option Insn)) (slot : ℕ) (insn : Insn) (targets : Targets) : Type 0 where
   pub out : LeadsOut slots slot targets
   pub next : goes_on insn ≡ true → targets.next ≡ Some (slot + slots_of insn)
   pub jump : (far : ℤ) → distance_of insn ≡ Some far → (to : ℕ) × LeadsTo slot far to × (targets.jump ≡ Some to)
+  pub jumps : (to : ℕ) → targets.jump ≡ Some to → IsJump slots slot to
   pub starts : (to : ℕ) → IsOf targets to → IsStart slots to
   pub later : (to : ℕ) → targets.next ≡ Some to → slot < to
   pub behind : (to : ℕ) → targets.next ≡ Some to → to ≡ slot + slots_of insn
@@ -51,6 +53,12 @@ AreKnown back origins places = (slot place : ℕ) → place_at places slot ≡ S
 abbrev pub AreClosed : List (Option Insn) → List (Option ℕ) → Type 0
 AreClosed old places = (from to : ℕ) → IsDone places from → IsEdge old from to → IsDone places to
 
+-- the slot is a target that is not in place; all others are, or it is that of the jump
+abbrev pub IsMissing : List (Option ℕ) → Targets → ℕ → Type 0
+IsMissing places targets to =
+    (place_at places to ≡ None)
+    × ((targets.jump ≡ Some to) ⊎ ((targets.next ≡ Some to) × ((other : ℕ) → targets.jump ≡ Some other → IsDone places other)))
+
 -- a jump in front of the copy so far that goes on over this number of slots goes to a copy of that slot
 pub record JumpsTo (back : List (Option Insn)) (origins : List ℕ) (distance : ℤ) (to : ℕ) : Type 0 where
   pub landing : ℕ
@@ -73,6 +81,10 @@ pub record IsOrdered (maps : ℕ) (old back : List (Option Insn)) (origins : Lis
 abbrev pub is_open : List Bool → ℕ → Bool
 is_open opens slot = slice_index_or opens slot false
 
+-- a jump leads to each slot that is marked
+abbrev pub AreLandings : List (Option Insn) → List Bool → Type 0
+AreLandings slots marks = (slot : ℕ) → is_open marks slot ≡ true → IsLanding slots slot
+
 -- the slot stands on the stack
 pub record IsOn (stack : List ℕ) (slot : ℕ) : Type 0 where
   pub index : ℕ
@@ -90,14 +102,13 @@ abbrev pub unopened : Bool → ℕ
 unopened true = 0
 unopened false = 1
 
--- the stack is a path of slots that were opened and are not done; for each slot that is done the copy has at most as many slots as the program
+-- the stack is a path of slots that were opened and are not done
 pub record IsSearching (maps : ℕ) (old back : List (Option Insn)) (origins : List ℕ) (places : List (Option ℕ)) (opens : List Bool) (stack : List ℕ) : Type 0 where
   pub ordered : IsOrdered maps old back origins places
   pub room : length opens ≡ length old
   pub opened : (slot : ℕ) → is_open opens slot ≡ true → IsDone places slot ⊎ IsOn stack slot
   pub ways : (i j : ℕ) → i ≤ j → j < length stack → Path old (slice_index stack i) (slice_index stack j)
   pub starts : (i : ℕ) → i < length stack → IsStart old (slice_index stack i)
-  pub size : length back + (sum_by unopened opens + length stack) * length old ≤ length old * length old
 
 abbrev pub KeepsOpen : List Bool → List Bool → Type 0
 KeepsOpen before after = (slot : ℕ) → is_open before slot ≡ true → is_open after slot ≡ true
@@ -105,3 +116,13 @@ KeepsOpen before after = (slot : ℕ) → is_open before slot ≡ true → is_op
 -- how much is left to do
 abbrev pub left_of : List Bool → List ℕ → ℕ
 left_of opens stack = 2 * sum_by unopened opens + length stack
+
+-- this many slots are enough to put the slot in front: those of its run, or its own if the next instruction is in front
+abbrev pub Suffices : List (Option Insn) → List (Option Insn) → List ℕ → ℕ → ℕ → Type 0
+Suffices old back origins slot most =
+    (run_at old slot ≤ most) ⊎ ((next : ℕ) × IsNext old slot next × IsFront back origins next × (width_at old slot ≤ most))
+
+-- control goes on from the one slot to the other, and all else to which it may go from there is in place
+pub record IsLastOf (old : List (Option Insn)) (places : List (Option ℕ)) (from to : ℕ) : Type 0 where
+  pub next : IsNext old from to
+  pub others : (other : ℕ) → IsEdge old from other → (other ≡ to) ⊎ IsDone places other

@@ -1,7 +1,9 @@
 -- A search on its way, and one that has come to its end.
-use Rattle.std.specs.Prelude.{◌≡◌, ℕ, ◌<◌, [], List, Option}
+use Rattle.std.specs.Prelude.{◌≡◌, ℕ, ◌<◌, ◌⊎◌, [], List, Option}
 use Rattle.bq_insn.specs.declared.Insn.{Insn}
 use Rattle.bq_import.specs.declared.search.Search.{Search}
+use Rattle.bq_import.specs.Backward.{IsFront}
+use Rattle.bq_import.specs.Budgets.{HasBudget, IsBottom}
 use Rattle.bq_import.specs.Search.{IsSearching, KeepsOpen, left_of}
 
 abbrev pub IsAt : ℕ → List (Option Insn) → Search → Type 0
@@ -16,4 +18,13 @@ pub record IsDoneWith (maps : ℕ) (old : List (Option Insn)) (search : Search) 
 pub record WentOn (maps : ℕ) (old : List (Option Insn)) (before after : Search) : Type 0 where
   pub at : IsAt maps old after
   pub keeps : KeepsOpen before.opens.items after.opens.items
+  pub bottom : (root : ℕ) → IsBottom before.stack.items root → IsBottom after.stack.items root ⊎ ((after.stack.items ≡ []) × IsFront after.copy.slots.items after.copy.origins.items root)
   pub less : left_of after.opens.items after.stack.items < left_of before.opens.items before.stack.items
+
+-- the search writes no more than all runs from landings and this many slots
+abbrev pub IsWithin : List (Option Insn) → Search → ℕ → Type 0
+IsWithin old search extra = HasBudget old search.copy.slots.items search.copy.origins.items search.places.items search.opens.items search.stack.items extra
+
+-- so it does after, if it did before
+abbrev pub KeepsBudget : List (Option Insn) → Search → Search → Type 0
+KeepsBudget old before after = (extra : ℕ) → IsWithin old before extra → IsWithin old after extra

@@ -1,5 +1,5 @@
 //! A copy of a program, written from its end: what is written is never moved, so that a jump's distance is known at once.
-ghost use Rattle.std.specs.Prelude.{◌≡◌, ◌<◌, ◌≤◌, ◌+◌, ◌-◌, ◌++◌, [], ◌∷◌, ℕ, List, length, replicate, OnOk, IfErr, IfSome, Option, Some, None};
+ghost use Rattle.std.specs.Prelude.{◌≡◌, ◌<◌, ◌≤◌, ◌+◌, ◌-◌, ◌++◌, [], ◌∷◌, ℕ, List, length, replicate, OnOk, IfErr, IfNone, IfSome, Option, Some, None};
 ghost use Rattle.bq_insn.specs.Slots.{slots_of};
 ghost use Rattle.bq_insn.specs.declared.Insn.{Insn};
 ghost use Rattle.bq_import.specs.Copies.{copied, is_reference, wide_copy};
@@ -83,7 +83,8 @@ impl Backward {
     /// The slot of which the first instruction so far is a copy.
     pub fn front(&self) -> Option<usize>
         requires { (maps : ℕ) × (old : List (Option Insn)) × IsBuilt maps old self.now.slots.items self.now.origins.items }
-        ensures { IfSome result (IsFront self.now.slots.items self.now.origins.items) }
+        ensures some { IfSome result (IsFront self.now.slots.items self.now.origins.items) }
+        ensures none { IfNone result ((n : ℕ) → ¬ IsFront self.now.slots.items self.now.origins.items n) }
     {
         self.origins.last().copied()
     }

@@ -1,6 +1,9 @@
-//! Where jumps lead, of those that control may come to. It decides how good an order is, not whether it is right.
-ghost use Rattle.std.specs.Prelude.{◌<◌};
+//! Where jumps lead, of those that control may come to. It decides how good an order is, not whether it is right: a slot that is
+//! marked is only known to be where a jump leads.
+ghost use Rattle.std.specs.Prelude.{◌≡◌, ◌<◌, ◌⊎◌, ℕ, Some, true, IfOk};
 ghost use Rattle.bq_import.specs.Faults.{IsLinked};
+ghost use Rattle.bq_import.specs.Lengths.{IsJump};
+ghost use Rattle.bq_import.specs.Search.{AreLandings, is_open};
 
 use crate::linked::targets;
 use bq_insn::Insn;
@@ -21,6 +24,7 @@ struct Walk {
 /// Marks the slots that jumps lead to from where control may come.
 pub fn landings(alloc: Global, slots: &[Option<Insn>]) -> Result<Vec<bool>, AllocError>
     requires { IsLinked slots.now }
+    ensures { IfOk result (λ landings. AreLandings slots.now landings.items) }
 {
     let mut walk = Walk {
         landings: vec![in alloc; false; slots.len()]?,
@@ -42,7 +46,9 @@ pub fn landings(alloc: Global, slots: &[Option<Insn>]) -> Result<Vec<bool>, Allo
 
 impl Walk {
     /// Queues the slot, unless it was.
-    fn find(&mut self, slot: Option<usize>) -> Result<(), AllocError> {
+    fn find(&mut self, slot: Option<usize>) -> Result<(), AllocError>
+        ensures { self.new.landings ≡ self.old.landings }
+    {
         let Some(slot) = slot else {
             return Ok(());
         };
@@ -55,7 +61,9 @@ impl Walk {
     }
 
     /// Marks the slot, if there is one.
-    fn land(&mut self, slot: Option<usize>) {
+    fn land(&mut self, slot: Option<usize>)
+        ensures { (k : ℕ) → is_open self.new.landings.items k ≡ true → (is_open self.old.landings.items k ≡ true) ⊎ (slot ≡ Some k) }
+    {
         let Some(slot) = slot else {
             return;
         };
@@ -68,6 +76,7 @@ impl Walk {
 /// Where control may go from the slot; nowhere where no instruction begins there.
 fn targets_of(slots: &[Option<Insn>], slot: usize) -> Targets
     requires { IsLinked slots.now }
+    ensures { (to : ℕ) → result.jump ≡ Some to → IsJump slots.now slot to }
 {
     if slot >= slots.len() {
         return NOWHERE;

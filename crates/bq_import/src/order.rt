@@ -1,5 +1,5 @@
 //! A program in an order in which every jump goes forward.
-ghost use Rattle.std.specs.Prelude.{◌≡◌, ◌≤◌, ◌<◌, ℕ, List, Option, length, true, filter_map, reverse, OnOk, IfOk, IfErr};
+ghost use Rattle.std.specs.Prelude.{◌≡◌, ◌≤◌, ◌<◌, ◌⊎◌, ℕ, List, Option, length, true, filter_map, reverse, OnOk, IfOk, IfErr};
 ghost use Rattle.bq_insn.specs.declared.Insn.{Insn};
 ghost use Rattle.bq_insn.specs.Slots.{spread};
 ghost use Rattle.bq_insn.specs.Spelling.{is_well_formed};
@@ -10,8 +10,8 @@ ghost use Rattle.bq_import.specs.Backward.{IsBuilt, IsFront, insns_of};
 ghost use Rattle.bq_import.specs.Faults.{AllForward, IsDisorder, IsLinked, IsSearchFault};
 ghost use Rattle.bq_import.specs.Keeping.{AllReached};
 ghost use Rattle.bq_import.specs.declared.fault.Disorder.TheVariants.{OutOfMemory};
-ghost use Rattle.bq_import.specs.Search.{IsDone};
-ghost use Rattle.bq_import.specs.Searching.{IsDoneWith};
+ghost use Rattle.bq_import.specs.Search.{AreLandings, IsDone};
+ghost use Rattle.bq_import.specs.Searching.{IsDoneWith, IsWithin};
 
 use crate::backward::Backward;
 use crate::fault::Disorder;
@@ -39,7 +39,8 @@ pub struct Ordered {
 ///
 /// An instruction may stand several times, where control comes to it from several sides: its original is known for each slot.
 /// Instructions that control never comes to are left out. A wide number that is the reference of a map is that reference.
-/// Where there is no such order the answer is a loop, by its two slots.
+/// If there is no such order the answer is a loop, by its two slots. The answer is `Long` only if some jump goes back and `IsTooLong` holds:
+/// a run is copied at most once for each slot that a jump leads to.
 pub fn order(alloc: Global, insns: &[Insn], maps: usize) -> Result<Ordered, Disorder>
     requires whole { is_well_formed insns.now ≡ true }
     requires numbers { AllFit insns.now }
@@ -114,6 +115,8 @@ impl Search {
         requires few { maps ≤ 8 }
         requires first { IsStart old.now 0 }
         requires done { IsDoneWith maps old.now self.old }
+        requires within { IsWithin old.now self.old 0 }
+        requires landings { AreLandings old.now landings.now }
         ensures built { OnOk result (IsBuilt maps old.now self.new.copy.slots.items self.new.copy.origins.items) }
         ensures front { OnOk result (IsFront self.new.copy.slots.items self.new.copy.origins.items 0) }
         ensures err { IfErr result (IsSearchFault old.now) }
@@ -137,7 +140,10 @@ impl Search {
         requires linked { IsLinked old.now }
         requires few { maps ≤ 8 }
         requires done { IsDoneWith maps old.now self.old }
+        requires within { IsWithin old.now self.old 0 }
+        requires landings { AreLandings old.now landings.now }
         ensures ok { OnOk result (IsDoneWith maps old.now self.new) }
+        ensures within { OnOk result (IsWithin old.now self.new 0) }
         ensures err { IfErr result (IsSearchFault old.now) }
     {
         if slot >= landings.len() || !landings[slot] {
@@ -156,6 +162,7 @@ impl Search {
         requires first { IsStart old.now 0 }
         requires at { IsDoneWith maps old.now self.old }
         requires done { IsDone self.old.places.items 0 }
+        requires within { IsFront self.old.copy.slots.items self.old.copy.origins.items 0 ⊎ IsWithin old.now self.old 0 }
         ensures built { OnOk result (IsBuilt maps old.now self.new.copy.slots.items self.new.copy.origins.items) }
         ensures front { OnOk result (IsFront self.new.copy.slots.items self.new.copy.origins.items 0) }
         ensures err { IfErr result (IsSearchFault old.now) }

@@ -7,7 +7,7 @@ ghost use Rattle.bq_verify.specs.Edges.{IsStart};
 ghost use Rattle.bq_import.specs.Backward.{IsBuilt, IsFront, IsLengthened, IsOneMore};
 ghost use Rattle.bq_import.specs.Faults.{IsFull, IsLinked};
 ghost use Rattle.bq_import.specs.Running.{IsPut, IsRun};
-ghost use Rattle.bq_import.specs.Search.{AreClosed, AreTargets, AreKnown, IsDone, IsNext, IsReady, JumpsTo, place_at, width_at};
+ghost use Rattle.bq_import.specs.Search.{AreClosed, AreTargets, AreKnown, IsDone, IsNext, IsReady, JumpsTo, Suffices, place_at, width_at};
 
 use crate::backward::Backward;
 use crate::fault::Disorder;
@@ -19,7 +19,7 @@ impl Backward {
     /// What has to stand in front of the next instruction and does not.
     pub fn missing_front(&self, next: Option<usize>) -> Option<usize>
         requires { (maps : ℕ) × (old : List (Option Insn)) × IsBuilt maps old self.now.slots.items self.now.origins.items }
-        ensures some { IfSome result (λ n. next ≡ Some n) }
+        ensures some { IfSome result (λ n. (next ≡ Some n) × ¬ IsFront self.now.slots.items self.now.origins.items n) }
         ensures none { IfNone result ((n : ℕ) → next ≡ Some n → IsFront self.now.slots.items self.now.origins.items n) }
     {
         let next = next?;
@@ -89,8 +89,8 @@ impl Backward {
         requires start { IsStart old.now slot }
         requires ready { IsReady old.now places.now slot }
         ensures ok { OnOk result (IsLengthened maps old.now self.old.slots.items self.old.origins.items self.new.slots.items self.new.origins.items slot) }
-        ensures grown { OnOk result (length self.new.slots.items + slot ≤ length self.old.slots.items + length old.now) }
-        ensures full { IfErr result (IsFull (length self.old.slots.items + (length old.now - slot))) }
+        ensures grown { OnOk result ((most : ℕ) → Suffices old.now self.old.slots.items self.old.origins.items slot most → length self.new.slots.items ≤ length self.old.slots.items + most) }
+        ensures full { IfErr result (λ e. (most : ℕ) → Suffices old.now self.old.slots.items self.old.origins.items slot most → IsFull (length self.old.slots.items + most) e) }
     {
         let last = self.run_end(old, places, slot);
         self.put_at(old, maps, places, last)?;
@@ -109,6 +109,7 @@ impl Backward {
         requires ready { IsReady old.now places.now slot }
         ensures run { IsRun old.now places.now slot result }
         ensures ends { (next : ℕ) → IsNext old.now result next → IsFront self.now.slots.items self.now.origins.items next }
+        ensures short { (next : ℕ) → IsNext old.now slot next → IsFront self.now.slots.items self.now.origins.items next → result ≡ slot }
     {
         let mut last = slot;
         while let Some(next) = self.next_missing(old, last) {
@@ -122,7 +123,7 @@ impl Backward {
         requires built { (maps : ℕ) × IsBuilt maps old.now self.now.slots.items self.now.origins.items }
         requires linked { IsLinked old.now }
         requires start { IsStart old.now slot }
-        ensures some { IfSome result (IsNext old.now slot) }
+        ensures some { IfSome result (λ next. IsNext old.now slot next × ¬ IsFront self.now.slots.items self.now.origins.items next) }
         ensures none { IfNone result ((next : ℕ) → IsNext old.now slot next → IsFront self.now.slots.items self.now.origins.items next) }
     {
         let Some(insn) = instruction(old, slot) else {

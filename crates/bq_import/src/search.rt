@@ -1,11 +1,13 @@
 //! The search that puts each slot in place after all to which control may go from it, and finds a loop where that cannot be.
-ghost use Rattle.std.specs.Prelude.{◌≡◌, ◌<◌, ◌≤◌, ℕ, true, false, Option, length, OnOk, IfOk, IfErr, IfSome, IfNone, Some, None, slice_index_or};
+ghost use Rattle.std.specs.Prelude.{◌≡◌, ◌<◌, ◌≤◌, ◌+◌, ◌++◌, ◌∷◌, ◌⊎◌, [], ℕ, true, false, Option, length, OnOk, IfOk, IfErr, IfSome, IfNone, Some, None, slice_index_or};
 ghost use Rattle.bq_insn.specs.declared.Insn.{Insn};
 ghost use Rattle.bq_verify.specs.Edges.{IsEdge, IsStart};
 ghost use Rattle.bq_verify.specs.Passes.{IsOf};
+ghost use Rattle.bq_import.specs.Backward.{IsFront};
 ghost use Rattle.bq_import.specs.Faults.{IsSearchFault, IsLinked};
-ghost use Rattle.bq_import.specs.Search.{IsDone, IsReady, IsTop, place_at, is_open};
-ghost use Rattle.bq_import.specs.Searching.{IsAt, WentOn, IsDoneWith};
+ghost use Rattle.bq_import.specs.Lengths.{IsLanding, run_at};
+ghost use Rattle.bq_import.specs.Search.{IsDone, IsLastOf, IsMissing, IsReady, IsTop, place_at, is_open};
+ghost use Rattle.bq_import.specs.Searching.{IsAt, IsDoneWith, IsWithin, KeepsBudget, WentOn};
 
 use crate::backward::Backward;
 use crate::fault::Disorder;
@@ -30,7 +32,8 @@ pub struct Search {
 impl Search {
     /// The search before its first slot.
     pub fn new(alloc: Global, old: &[Option<Insn>]) -> Result<Search, AllocError>
-        ensures { IfOk result (λ search. (maps : ℕ) → IsDoneWith maps old.now search) }
+        ensures done { IfOk result (λ search. (maps : ℕ) → IsDoneWith maps old.now search) }
+        ensures within { IfOk result (λ search. IsWithin old.now search 0) }
     {
         Ok(Search {
             copy: Backward::new(alloc),
@@ -45,9 +48,14 @@ impl Search {
         requires linked { IsLinked old.now }
         requires few { maps ≤ 8 }
         requires start { IsStart old.now root }
+        requires root { IsLanding old.now root ⊎ (root ≡ 0) }
         requires done { IsDoneWith maps old.now self.old }
+        requires within { IsWithin old.now self.old 0 }
         ensures ok { OnOk result (IsDoneWith maps old.now self.new) }
         ensures root { OnOk result (IsDone self.new.places.items root) }
+        ensures landing { OnOk result (IsLanding old.now root → IsWithin old.now self.new 0) }
+        ensures again { OnOk result (is_open self.old.opens.items root ≡ true → IsWithin old.now self.new 0) }
+        ensures front { OnOk result (is_open self.old.opens.items root ≡ false → IsFront self.new.copy.slots.items self.new.copy.origins.items root) }
         ensures err { IfErr result (IsSearchFault old.now) }
     {
         if self.is_open(root) {
@@ -65,8 +73,10 @@ impl Search {
         requires linked { IsLinked old.now }
         requires few { maps ≤ 8 }
         requires at { IsAt maps old.now self.old }
+        requires within { IsWithin old.now self.old (run_at old.now 0) }
         requires top { IsTop self.old.stack.items slot }
         ensures ok { OnOk result (WentOn maps old.now self.old self.new) }
+        ensures within { OnOk result (KeepsBudget old.now self.old self.new) }
         ensures err { IfErr result (IsSearchFault old.now) }
     {
         let Some(insn) = instruction(old, slot) else {
@@ -81,7 +91,7 @@ impl Search {
 
     /// A target that is not in place: that of the jump first, so that the next instruction comes to stand in front.
     fn missing(&self, targets: Targets) -> Option<usize>
-        ensures some { IfSome result (λ to. IsOf targets to × (place_at self.now.places.items to ≡ None)) }
+        ensures some { IfSome result (IsMissing self.now.places.items targets) }
         ensures none { IfNone result ((to : ℕ) → IsOf targets to → IsDone self.now.places.items to) }
     {
         if let Some(to) = self.not_done(targets.jump) {
@@ -115,7 +125,9 @@ impl Search {
         requires top { IsTop self.old.stack.items from }
         requires edge { IsEdge old.now from to }
         requires new { place_at self.old.places.items to ≡ None }
+        requires way { IsLanding old.now to ⊎ IsLastOf old.now self.old.places.items from to }
         ensures ok { OnOk result (WentOn maps old.now self.old self.new) }
+        ensures within { OnOk result (KeepsBudget old.now self.old self.new) }
         ensures err { IfErr result (IsSearchFault old.now) }
     {
         if self.is_open(to) {
@@ -126,12 +138,17 @@ impl Search {
 
     /// Begins a slot.
     fn open(&mut self, old: &[Option<Insn>], maps: usize, slot: usize) -> Result<(), Disorder>
+        requires linked { IsLinked old.now }
         requires at { IsAt maps old.now self.old }
         requires start { IsStart old.now slot }
         requires new { is_open self.old.opens.items slot ≡ false }
-        requires edge { (top : ℕ) → IsTop self.old.stack.items top → IsEdge old.now top slot }
+        requires edge { (top : ℕ) → IsTop self.old.stack.items top → IsEdge old.now top slot × (place_at self.old.places.items slot ≡ None) }
         ensures ok { OnOk result (WentOn maps old.now self.old self.new) }
         ensures opened { OnOk result (is_open self.new.opens.items slot ≡ true) }
+        ensures top { OnOk result (self.new.stack.items ≡ self.old.stack.items ++ (slot ∷ [])) }
+        ensures landing { OnOk result (IsLanding old.now slot → KeepsBudget old.now self.old self.new) }
+        ensures next { OnOk result ((top : ℕ) → IsTop self.old.stack.items top → IsLastOf old.now self.old.places.items top slot → KeepsBudget old.now self.old self.new) }
+        ensures more { OnOk result ((extra : ℕ) → IsWithin old.now self.old extra → IsWithin old.now self.new (extra + run_at old.now slot)) }
         ensures err { IfErr result (IsSearchFault old.now) }
     {
         self.opens[slot] = true;
@@ -144,9 +161,11 @@ impl Search {
         requires linked { IsLinked old.now }
         requires few { maps ≤ 8 }
         requires at { IsAt maps old.now self.old }
+        requires within { IsWithin old.now self.old (run_at old.now 0) }
         requires top { IsTop self.old.stack.items slot }
         requires ready { IsReady old.now self.old.places.items slot }
         ensures ok { OnOk result (WentOn maps old.now self.old self.new) }
+        ensures within { OnOk result (KeepsBudget old.now self.old self.new) }
         ensures err { IfErr result (IsSearchFault old.now) }
     {
         self.copy.place(old, maps, self.places.as_slice(), slot)?;

@@ -1,0 +1,296 @@
+-- What is kept for the slots that were begun, and what the copy may have in all.
+use Rattle.std.proofs.Common.{◌≡◌, ℕ, ◌+◌, ◌-◌, ◌<◌, ◌≤◌, ◌⊎◌, inl, inr, Bool, true, false, List, [], ◌∷◌, ◌++◌, reverse, length, take, get_or, Option, Some, None, refl, arith, sym, ap, ◌∙◌, subst}
+use Rattle.std.specs.Prelude.{if◌then◌else◌, slice_index, slice_set, sum_by}
+use Rattle.std.proofs.lemmas.List.{get_or-append-add, get_or-set_other, get_or-set_same, get_or-take, get_or_append_left, length-append, length-take, reverse-append, reverse-reverse, take_all, take_more}
+use Rattle.std.proofs.lemmas.List.Sums.{sum_by-cons, sum_by-le-sum_by}
+use Rattle.bq_insn.specs.declared.Insn.{Insn}
+use Rattle.bq_insn.specs.Slots.{slots_of}
+use Rattle.bq_insn.proofs.OptionLemmas.{some_none, some_same}
+use Rattle.bq_bpf.specs.Steps.{instruction_at}
+use Rattle.bq_verify.specs.declared.edges.Targets.{Targets}
+use Rattle.bq_verify.specs.Edges.{IsEdge}
+use Rattle.bq_import.specs.declared.fault.Disorder.{Disorder}
+use Rattle.bq_import.specs.declared.fault.Disorder.TheVariants.{Outside, Ends, Loop, Long, OutOfMemory}
+use Rattle.bq_import.specs.Backward.{IsFront}
+use Rattle.bq_import.specs.Budgets.{AreKeptFor, HasBudget, IsBottom, IsKept, waiting}
+use Rattle.bq_import.specs.Faults.{IsFull, IsLinked, IsSearchFault}
+use Rattle.bq_import.specs.Lengths.{IsIn, IsLanding, run_at}
+use Rattle.bq_import.specs.Search.{AreTargets, IsDone, IsLastOf, IsMissing, IsTop, Suffices, is_open, place_at, width_at, width_of}
+use Rattle.bq_import.proofs.LengthLemmas.{run_next}
+use Rattle.bq_import.proofs.RunningLemmas.{next_of}
+use Rattle.bq_import.proofs.StackLemmas.{equal_or_not}
+
+-- what was put on top comes first
+reverse_push : (stack : List ℕ) (slot : ℕ) → reverse (stack ++ slot ∷ []) ≡ slot ∷ reverse stack
+reverse_push stack slot = reverse-append stack (slot ∷ [])
+
+-- the top comes first
+reverse_top : (stack : List ℕ) (slot : ℕ) → IsTop stack slot → reverse stack ≡ slot ∷ reverse (take (length stack - 1) stack)
+reverse_top stack slot top =
+    let long = top.long in
+    let one : length stack - 1 + 1 ≡ length stack = omega (arith, long) in
+    let below : length stack - 1 ≡ top.below = omega (arith, long) in
+    let last : get_or stack (length stack - 1) 0 ≡ slot = ap (λ (n : ℕ). get_or stack n 0) below ∙ top.slot_is in
+    let whole : take (length stack - 1 + 1) stack ≡ stack = take_all (length stack - 1 + 1) stack (omega (arith, one)) in
+    let parts : take (length stack - 1 + 1) stack ≡ take (length stack - 1) stack ++ get_or stack (length stack - 1) 0 ∷ [] = take_more stack (length stack - 1) 0 (omega (arith, long)) in
+    ap reverse (sym whole ∙ parts ∙ ap (λ (n : ℕ). take (length stack - 1) stack ++ (n ∷ [])) last) ∙ reverse_push (take (length stack - 1) stack) slot
+
+-- what comes first is the top
+top_of : (stack : List ℕ) (top : ℕ) (rest : List ℕ) → reverse stack ≡ top ∷ rest → IsTop stack top
+top_of stack top rest is =
+    let stack_is : stack ≡ reverse rest ++ top ∷ [] = sym (reverse-reverse stack) ∙ (ap reverse is ∙ reverse-append (top ∷ []) rest) in
+    subst (λ (s : List ℕ). IsTop s top) (sym stack_is) (record {
+      below = length (reverse rest);
+      long = let long = length-append (reverse rest) (top ∷ []) in omega (arith, long);
+      slot_is = ap (λ (n : ℕ). get_or (reverse rest ++ top ∷ []) n 0) (let e : length (reverse rest) ≡ length (reverse rest) + 0 = omega arith in e) ∙ get_or-append-add (reverse rest) (top ∷ []) 0 0;
+    })
+
+module _ (old : List (Option Insn)) (opens : List Bool) where
+  waiting_is : (slot : ℕ) → waiting old opens slot ≤ run_at old slot
+  waiting_is slot = by (is_open opens slot)
+    where
+      by : (b : Bool) → (if b then 0 else run_at old slot) ≤ run_at old slot
+      by true = omega arith
+      by false = omega arith
+
+  -- no more than all runs wait
+  pub all_wait : (landings : List ℕ) → sum_by (waiting old opens) landings ≤ sum_by (run_at old) landings
+  all_wait landings = sum_by-le-sum_by (waiting old opens) (run_at old) landings waiting_is
+
+  module _ (slot : ℕ) (inside : slot < length opens) where
+    waits_less : (k : ℕ) → waiting old (slice_set opens slot true) k ≤ waiting old opens k
+    waits_less k = elim (equal_or_not k slot) [
+      | inl e ↦
+          let now : waiting old (slice_set opens slot true) k ≡ 0 =
+          ap (λ (b : Bool). if b then 0 else run_at old k) (ap (is_open (slice_set opens slot true)) e ∙ get_or-set_same opens slot true false inside) in
+          omega (arith, now)
+      | inr apart ↦
+          let same : waiting old (slice_set opens slot true) k ≡ waiting old opens k =
+          ap (λ (b : Bool). if b then 0 else run_at old k) (get_or-set_other opens slot k true false apart) in
+          omega (arith, same)
+    ]
+
+    -- as much waits as before, or less
+    pub still_wait : (landings : List ℕ) → sum_by (waiting old (slice_set opens slot true)) landings ≤ sum_by (waiting old opens) landings
+    still_wait landings = sum_by-le-sum_by (waiting old (slice_set opens slot true)) (waiting old opens) landings waits_less
+
+    -- the run of a landing that is begun waits no longer
+    pub wait_less : (landings : List ℕ) → is_open opens slot ≡ false → IsIn landings slot → sum_by (waiting old (slice_set opens slot true)) landings + run_at old slot ≤ sum_by (waiting old opens) landings
+    wait_less [] new at = absurd at
+    wait_less (first ∷ rest) new (inl e) =
+        let now : waiting old (slice_set opens slot true) slot ≡ 0 = ap (λ (b : Bool). if b then 0 else run_at old slot) (get_or-set_same opens slot true false inside) in
+        let before : waiting old opens slot ≡ run_at old slot = ap (λ (b : Bool). if b then 0 else run_at old slot) new in
+        let now' : waiting old (slice_set opens slot true) first ≡ 0 = ap (waiting old (slice_set opens slot true)) (sym e) ∙ now in
+        let before' : waiting old opens first ≡ run_at old slot = ap (waiting old opens) (sym e) ∙ before in
+        let others = still_wait rest in
+        let all = sum_by-cons (waiting old (slice_set opens slot true)) first rest in
+        let all' = sum_by-cons (waiting old opens) first rest in
+        omega (arith, now', before', others, all, all')
+    wait_less (first ∷ rest) new (inr more) =
+        let others = wait_less rest new more in
+        let here = waits_less first in
+        let all = sum_by-cons (waiting old (slice_set opens slot true)) first rest in
+        let all' = sum_by-cons (waiting old opens) first rest in
+        omega (arith, others, here, all, all')
+
+module _ (old back : List (Option Insn)) (origins : List ℕ) (places : List (Option ℕ)) where
+  -- what is kept for the last slot is kept for it below another one
+  below_new : (slot : ℕ) (xs : List ℕ) (kept : ℕ) → ((top : ℕ) (rest : List ℕ) → xs ≡ top ∷ rest → IsEdge old top slot × (place_at places slot ≡ None)) → IsKept old back origins places xs kept → AreKeptFor old places slot xs kept
+  below_new slot [] kept edge is = tt
+  below_new slot (top ∷ rest) kept edge is = record {
+    own = is.own;
+    more = is.more;
+    all = is.all;
+    enough = elim is.enough [
+      | inl run ↦ inl run
+      | inr (ready, suffices) ↦ let e = edge top rest refl in let done = ready slot e.0 in absurd (some_none _ done.0 done.1 e.1)
+    ];
+    rest = is.rest;
+  }
+
+  -- what is kept for a slot whose next one is begun is shared with that
+  below_next : (linked : IsLinked old) (slot top : ℕ) (rest : List ℕ) (kept : ℕ) → place_at places slot ≡ None → IsLastOf old places top slot → IsKept old back origins places (top ∷ rest) kept → IsKept old back origins places (slot ∷ top ∷ rest) kept
+  below_next linked slot top rest kept away last is =
+      let ends = run_next old top slot linked last.next in
+      let at = last.next.is in
+      let wide : width_at old top ≡ slots_of last.next.insn = ap width_of last.next.here in
+      let whole : run_at old top ≤ is.own = elim is.enough [
+        | inl run ↦ run
+        | inr (ready, suffices) ↦
+            let done = ready slot (record { insn = last.next.insn; here = last.next.here; leaves = inl (last.next.on, last.next.is) }) in
+            absurd (some_none _ done.0 done.1 away)
+      ] in
+      let all = is.all in
+      record {
+        own = run_at old slot;
+        more = is.own - run_at old slot + is.more;
+        all = omega (arith, all, whole, ends, at);
+        enough = inl (omega arith);
+        rest = record {
+          own = is.own - run_at old slot;
+          more = is.more;
+          all = refl;
+          enough = inr (omega (arith, whole, ends, at, wide), last);
+          rest = is.rest;
+        };
+      }
+
+-- what is kept for slots below is kept when more is in place
+kept_still : (old : List (Option Insn)) (places after : List (Option ℕ)) (above : ℕ) (xs : List ℕ) (kept : ℕ) → ((s : ℕ) → IsDone places s → IsDone after s) → AreKeptFor old places above xs kept → AreKeptFor old after above xs kept
+kept_still old places after above [] kept still is = tt
+kept_still old places after above (slot ∷ rest) kept still is = record {
+  own = is.own;
+  more = is.more;
+  all = is.all;
+  enough = elim is.enough [
+    | inl run ↦ inl run
+    | inr (wide, last) ↦ inr (wide, record { next = last.next; others = λ other e. elim (last.others other e) [ inl same ↦ inl same | inr done ↦ inr (still other done) ] })
+  ];
+  rest = kept_still old places after slot rest is.more still is.rest;
+}
+
+-- once a slot is in front, what is kept for the one from which it was begun is enough
+kept_left : (old after : List (Option Insn)) (origins' : List ℕ) (places places' : List (Option ℕ)) (slot : ℕ) (xs : List ℕ) (kept : ℕ) → ((s : ℕ) → IsDone places s → IsDone places' s) → IsDone places' slot → IsFront after origins' slot →
+    AreKeptFor old places slot xs kept → IsKept old after origins' places' xs kept
+kept_left old after origins' places places' slot [] kept still done front is = tt
+kept_left old after origins' places places' slot (top ∷ rest) kept still done front is = record {
+  own = is.own;
+  more = is.more;
+  all = is.all;
+  enough = elim is.enough [
+    | inl run ↦ inl run
+    | inr (wide, last) ↦ inr (
+      λ to edge. elim (last.others to edge) [ inl same ↦ subst (λ (n : ℕ). IsDone places' n) (sym same) done | inr before ↦ still to before ],
+      inr (slot, last.next, front, wide),
+    )
+  ];
+  rest = kept_still old places places' top rest is.more still is.rest;
+}
+
+module _ (old back : List (Option Insn)) (origins : List ℕ) (places : List (Option ℕ)) (opens : List Bool) (stack : List ℕ) (extra : ℕ) (budget : HasBudget old back origins places opens stack extra) (slot : ℕ) where
+  module _ (inside : slot < length opens) (edge : (top : ℕ) → IsTop stack top → IsEdge old top slot × (place_at places slot ≡ None)) where
+    kept_new : (kept : ℕ) → kept ≡ run_at old slot + budget.kept → IsKept old back origins places (reverse (stack ++ slot ∷ [])) kept
+    kept_new kept is = subst (λ (xs : List ℕ). IsKept old back origins places xs kept) (sym (reverse_push stack slot)) (record {
+      own = run_at old slot;
+      more = budget.kept;
+      all = is;
+      enough = inl (omega arith);
+      rest = below_new old back origins places slot (reverse stack) budget.kept (λ top rest e. edge top (top_of stack top rest e)) budget.is_kept;
+    })
+
+    -- a landing is begun
+    pub begun_landing : is_open opens slot ≡ false → IsLanding old slot → HasBudget old back origins places (slice_set opens slot true) (stack ++ slot ∷ []) extra
+    begun_landing new landing = record {
+      kept = run_at old slot + budget.kept;
+      is_kept = kept_new (run_at old slot + budget.kept) refl;
+      fits = λ landings has. let less = wait_less old opens slot inside landings new (has slot landing) in let before = budget.fits landings has in omega (arith, less, before);
+    }
+
+    -- another slot is begun
+    pub begun_more : HasBudget old back origins places (slice_set opens slot true) (stack ++ slot ∷ []) (extra + run_at old slot)
+    begun_more = record {
+      kept = run_at old slot + budget.kept;
+      is_kept = kept_new (run_at old slot + budget.kept) refl;
+      fits = λ landings has. let still = still_wait old opens slot inside landings in let before = budget.fits landings has in omega (arith, still, before);
+    }
+
+    -- the next slot of the last one is begun
+    pub begun_next : IsLinked old → (top : ℕ) → IsTop stack top → IsLastOf old places top slot → HasBudget old back origins places (slice_set opens slot true) (stack ++ slot ∷ []) extra
+    begun_next linked top is_top last = record {
+      kept = budget.kept;
+      is_kept = subst (λ (xs : List ℕ). IsKept old back origins places xs budget.kept) (sym (reverse_push stack slot ∙ ap (λ (xs : List ℕ). slot ∷ xs) (reverse_top stack top is_top)))
+          (below_next old back origins places linked slot top (reverse (take (length stack - 1) stack)) budget.kept (edge top is_top).1 last
+          (subst (λ (xs : List ℕ). IsKept old back origins places xs budget.kept) (reverse_top stack top is_top) budget.is_kept));
+      fits = λ landings has. let still = still_wait old opens slot inside landings in let before = budget.fits landings has in omega (arith, still, before);
+    }
+
+  module _ (top : IsTop stack slot) where
+    pub kept_top : IsKept old back origins places (slot ∷ reverse (take (length stack - 1) stack)) budget.kept
+    kept_top = subst (λ (xs : List ℕ). IsKept old back origins places xs budget.kept) (reverse_top stack slot top) budget.is_kept
+
+    -- what is kept for the last slot suffices to put it in front
+    pub suffices : Suffices old back origins slot kept_top.own
+    suffices = elim kept_top.enough [ inl run ↦ inl run | inr (ready, enough) ↦ enough ]
+
+    -- the last slot is in front
+    pub left_budget : (back' : List (Option Insn)) (origins' : List ℕ) (places' : List (Option ℕ)) → ((s : ℕ) → IsDone places s → IsDone places' s) → IsDone places' slot → IsFront back' origins' slot →
+        length back' ≤ length back + kept_top.own → HasBudget old back' origins' places' opens (take (length stack - 1) stack) extra
+    left_budget back' origins' places' still done front grown = record {
+      kept = kept_top.more;
+      is_kept = kept_left old back' origins' places places' slot (reverse (take (length stack - 1) stack)) kept_top.more still done front kept_top.rest;
+      fits = λ landings has. let before = budget.fits landings has in let all = kept_top.all in omega (arith, grown, before, all);
+    }
+
+-- a program is too long whose copy is full within its budget
+pub full_within : (old back : List (Option Insn)) (origins : List ℕ) (places : List (Option ℕ)) (opens : List Bool) (stack : List ℕ) (extra own most : ℕ) (d : Disorder) → IsLinked old →
+    (budget : HasBudget old back origins places opens stack extra) → own + extra ≤ budget.kept + run_at old 0 → most ≤ length back + own → IsFull most d → IsSearchFault old d
+full_within old back origins places opens stack extra own most (Outside slot) linked budget le fits full = absurd full
+full_within old back origins places opens stack extra own most (Ends slot) linked budget le fits full = absurd full
+full_within old back origins places opens stack extra own most (Loop from to) linked budget le fits full = absurd full
+full_within old back origins places opens stack extra own most Long linked budget le fits full = (linked, λ landings has. let within = budget.fits landings has in omega (arith, within, le, fits, full))
+full_within old back origins places opens stack extra own most OutOfMemory linked budget le fits full = tt
+
+-- before the first slot
+pub nothing_written : (old back : List (Option Insn)) (origins : List ℕ) (places : List (Option ℕ)) (opens : List Bool) (stack : List ℕ) → back ≡ [] → stack ≡ [] → HasBudget old back origins places opens stack 0
+nothing_written old back origins places opens stack nothing empty = record {
+  kept = 0;
+  is_kept = subst (λ (s : List ℕ). IsKept old back origins places (reverse s) 0) (sym empty) tt;
+  fits = λ landings has. let all = all_wait old opens landings in let none : length back ≡ 0 = ap length nothing in omega (arith, all, none);
+}
+
+-- the first slot that was begun stays the first one
+pub bottom_open : (stack : List ℕ) (slot root : ℕ) → IsBottom stack root → IsBottom (stack ++ slot ∷ []) root
+bottom_open stack slot root bottom = record {
+  long = let long = bottom.long in let more = length-append stack (slot ∷ []) in omega (arith, long, more);
+  is = get_or_append_left stack (slot ∷ []) 0 0 bottom.long ∙ bottom.is;
+}
+
+-- the first slot that was begun is left last
+pub bottom_left : (stack : List ℕ) (slot root : ℕ) → IsTop stack slot → IsBottom stack root → IsBottom (take (length stack - 1) stack) root ⊎ ((take (length stack - 1) stack ≡ []) × (slot ≡ root))
+bottom_left stack slot root top bottom = elim (equal_or_not top.below 0) [
+  | inl none ↦
+      let long = top.long in
+      let zero_is : length stack - 1 ≡ 0 = omega (arith, long, none) in
+      inr (ap (λ (n : ℕ). take n stack) zero_is, sym top.slot_is ∙ (ap (λ (n : ℕ). slice_index stack n) none ∙ bottom.is))
+  | inr some ↦
+      let long = top.long in
+      let least = length-take (length stack - 1) stack in
+      inl (record {
+        long = omega (arith, long, least, some);
+        is = get_or-take (length stack - 1) stack 0 0 (omega (arith, long, some)) ∙ bottom.is;
+      })
+]
+
+-- a slot that was begun as the only one is the first
+pub bottom_alone : (stack : List ℕ) (slot : ℕ) → stack ≡ [] → IsBottom (stack ++ slot ∷ []) slot
+bottom_alone stack slot empty = subst (λ (s : List ℕ). IsBottom (s ++ slot ∷ []) slot) (sym empty) (record { long = omega arith; is = refl })
+
+-- one slot is in front
+pub front_same : (back : List (Option Insn)) (origins : List ℕ) (a b : ℕ) → IsFront back origins a → IsFront back origins b → a ≡ b
+front_same back origins a b p q =
+    let one = p.place_is in
+    let two = q.place_is in
+    let same : p.place ≡ q.place = omega (arith, one, two) in
+    sym p.stands.origin_is ∙ (ap (λ (n : ℕ). slice_index origins n) same ∙ q.stands.origin_is)
+
+-- what stays within some slots stays within more
+pub budget_more : (old back : List (Option Insn)) (origins : List ℕ) (places : List (Option ℕ)) (opens : List Bool) (stack : List ℕ) (a b : ℕ) → a ≤ b → HasBudget old back origins places opens stack a → HasBudget old back origins places opens stack b
+budget_more old back origins places opens stack a b le budget = record {
+  kept = budget.kept;
+  is_kept = budget.is_kept;
+  fits = λ landings has. let before = budget.fits landings has in omega (arith, le, before);
+}
+
+-- how control comes to a target that is not in place: by a jump, or else all others are
+pub missing_way : (old : List (Option Insn)) (places : List (Option ℕ)) (slot : ℕ) (insn : Insn) (targets : Targets) (to : ℕ) → instruction_at old slot ≡ Some insn → AreTargets old slot insn targets → IsMissing places targets to →
+    IsLanding old to ⊎ IsLastOf old places slot to
+missing_way old places slot insn targets to here are missing = elim missing.1 [
+  | inl jump ↦ inl (slot, are.jumps to jump)
+  | inr (next, done) ↦ inr (record {
+    next = next_of old slot insn targets to here are next;
+    others = λ other edge. elim (are.out.each other edge) [
+      | inl on ↦ inl (some_same _ other to on next)
+      | inr jump ↦ inr (done other jump)
+    ];
+  })
+]

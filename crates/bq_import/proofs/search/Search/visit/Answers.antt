@@ -1,0 +1,26 @@
+use Rattle.std.proofs.Common.{◌≡◌, ◌+◌, inl, inr, ℕ, List, ap, arith, subst, sym}
+use Rattle.bq_import.specs.Budgets.{IsBottom}
+use Rattle.bq_import.specs.Lengths.{run_at}
+use Rattle.bq_import.specs.Searching.{IsWithin}
+use Rattle.bq_import.proofs.BudgetLemmas.{bottom_alone, budget_more}
+use Rattle.bq_import.proofs.search.Search.visit.Goals as goal
+
+pub loop-slot-init : goal.loop-slot-init
+loop-slot-init c =
+    let old = c.args.old.now in
+    let root = c.args.root in
+    let opened = c.in_ok-open.ensures in
+    let now = c.open.new.self in (
+      opened.ok.at,
+      opened.opened,
+      elim c.requires.root [
+        | inl landing ↦
+            budget_more old now.copy.slots.items now.copy.origins.items now.places.items now.opens.items now.stack.items 0 (run_at old 0) (omega arith) (opened.landing landing 0 c.requires.within)
+        | inr first ↦
+            let same : run_at old root ≡ run_at old 0 = ap (run_at old) first in
+            let all : 0 + run_at old root ≡ run_at old 0 = omega (arith, same) in
+            subst (λ (n : ℕ). IsWithin c.args.old.now c.open.new.self n) all (opened.more 0 c.requires.within)
+      ],
+      λ landing. opened.landing landing 0 c.requires.within,
+      inl (subst (λ (s : List ℕ). IsBottom s c.args.root) (sym opened.top) (bottom_alone c.args.self.now.stack.items root c.requires.done.none)),
+    )
