@@ -114,7 +114,7 @@ fn unknown(alloc: Global, word: &str) -> Result<String, AllocError> {
     }
 }
 
-/// The first word of the line that looks as a register does, and is none: `r` and a number above 10.
+/// The first word of the line that names a register which does not exist: `r` and a number above 10.
 fn no_register(said: &str) -> Option<&str> {
     for word in said.split(is_outside) {
         if let Some(digits) = word.strip_prefix('r') {

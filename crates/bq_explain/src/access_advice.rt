@@ -1,4 +1,6 @@
 //! What helps where an access is not shown to be within what its pointer points to.
+ghost use Rattle.bq_explain.specs.Advising.{IsOn};
+
 use crate::advice::Advice;
 use crate::trail::Trail;
 use bq_bpf::shape::GREATEST_SIZE;
@@ -34,10 +36,12 @@ pub(crate) fn access_advice(
     pointer: AbstractValue,
     lack: Lack,
     trail: &Trail,
-) -> Advice {
+) -> Advice
+    ensures { IsOn access.register result }
+{
     match lack {
         Lack::Number => number_advice(access.register, pointer, trail),
-        Lack::Answer => test_advice(access.register, pointer),
+        Lack::Answer | Lack::MovedAnswer => test_advice(access.register, pointer),
         Lack::Reference => Advice::LookUp,
         Lack::WritesContext => Advice::WriteElsewhere,
         Lack::BeyondContext => Advice::ReadContext(Reach {
@@ -52,7 +56,9 @@ pub(crate) fn access_advice(
 }
 
 /// What helps where the pointer is a number: where it is 0 and was the answer of a look-up, the access stands on the wrong side of the test.
-fn number_advice(register: u8, pointer: AbstractValue, trail: &Trail) -> Advice {
+fn number_advice(register: u8, pointer: AbstractValue, trail: &Trail) -> Advice
+    ensures { IsOn register result }
+{
     if pointer.offset.hi > 0 {
         return Advice::UsePointer;
     }
@@ -73,7 +79,9 @@ fn is_answer(known: Option<AbstractValue>) -> bool {
 }
 
 /// What helps where the register is the answer of a look-up: a test, unless a number was added to it.
-pub(crate) fn test_advice(register: u8, answer: AbstractValue) -> Advice {
+pub(crate) fn test_advice(register: u8, answer: AbstractValue) -> Advice
+    ensures { IsOn register result }
+{
     if is_answer_itself(answer) {
         Advice::Test(register)
     } else {

@@ -1,4 +1,9 @@
 //! What helps against each cause, as a value.
+ghost use Rattle.std.specs.Prelude.{◌≡◌};
+ghost use Rattle.bq_explain.specs.Advising.{GoesBy, IsOn};
+ghost use Rattle.bq_explain.specs.declared.advice.Advice.TheVariants.{Know};
+ghost use Rattle.bq_explain.specs.declared.advice.Missing.{Missing as Lacking};
+
 use crate::access_advice::{Reach, Room, access_advice, is_answer_itself, test_advice};
 use crate::graph_fault::GraphFault;
 use crate::refusal::Finding;
@@ -17,8 +22,8 @@ pub enum Advice {
     JumpForward,
     /// Count the slots of wide instructions.
     CountSlots,
-    /// Put an instruction behind the label that is jumped to.
-    PutBehindLabel,
+    /// Put an instruction where the program ends.
+    PutThere,
     /// End with an exit.
     End,
     /// Take the instruction out.
@@ -79,7 +84,7 @@ pub enum Advice {
     GiveValue(u16),
     /// Give a helper that argument.
     Give(Argument),
-    /// Answer a number, where the answer is such a pointer.
+    /// Answer a number, where the answer is of that kind, or a number on some way only.
     Answer(ValueKind),
     /// Read how the verifier works.
     Read,
@@ -96,11 +101,11 @@ pub struct Missing {
     pub mixed: Registers,
 }
 
-/// What helps where something is wrong with the control graph, of a jump to a label or another instruction.
-pub(crate) fn graph_advice(fault: GraphFault, names_label: bool) -> Advice {
+/// What helps where something is wrong with the control graph of a program of this many slots.
+pub(crate) fn graph_advice(fault: GraphFault, count: usize) -> Advice {
     match fault {
         GraphFault::JumpsBack(_) => Advice::JumpForward,
-        GraphFault::JumpsOut(_) if names_label => Advice::PutBehindLabel,
+        GraphFault::JumpsOut(to) if usize::try_from(to) == Ok(count) => Advice::PutThere,
         GraphFault::JumpsOut(_) | GraphFault::JumpsInside(_) => Advice::CountSlots,
         GraphFault::RunsOut => Advice::End,
         GraphFault::Unreached => Advice::TakeOut,
@@ -141,9 +146,18 @@ fn need_advice(
         Need::Number(pointer) => pointer_advice(insn, pointer, state),
         Need::Map(index) => map_advice(policy, index),
         Need::Argument { argument, .. } => argument_advice(policy, state, argument, trail),
-        Need::Answer(Some(answer)) => Advice::Answer(answer.kind),
-        Need::Answer(None) => unknown_advice(&only(0), trail),
+        Need::Answer(Some(answer)) => answer_advice(answer),
+        Need::Answer(None) if trail.unset[0] => unknown_advice(&only(0), trail),
+        Need::Answer(None) => Advice::Answer(ValueKind::Number),
         Need::Unshown => Advice::Read,
+    }
+}
+
+/// What helps where the answer is a pointer: one that was moved before its test can't be followed.
+fn answer_advice(answer: AbstractValue) -> Advice {
+    match answer.kind {
+        ValueKind::EntryOrNull(_) if !is_answer_itself(answer) => Advice::Answer(ValueKind::Number),
+        kind => Advice::Answer(kind),
     }
 }
 
@@ -157,7 +171,9 @@ pub(crate) fn only(register: u8) -> Registers {
 }
 
 /// What helps where nothing is known of these registers: a call left one unset, no instruction sets it on some way, or it is of two kinds.
-fn unknown_advice(registers: &Registers, trail: &Trail) -> Advice {
+fn unknown_advice(registers: &Registers, trail: &Trail) -> Advice
+    ensures { (missing : Lacking) × (result ≡ Know missing) }
+{
     let mut missing = Missing {
         called: [false; 11],
         unset: [false; 11],
@@ -190,7 +206,9 @@ fn argument_advice(
     state: &AbstractState,
     argument: Argument,
     trail: &Trail,
-) -> Advice {
+) -> Advice
+    ensures { GoesBy argument result }
+{
     let register = argument.register();
     let at = usize::from(register);
     let is_mixed = at < 11 && !trail.called[at] && !trail.unset[at];
@@ -205,7 +223,9 @@ fn argument_advice(
 }
 
 /// What helps where the value of an update is not shown to be good: as many bytes as a value of the map has that r1 names.
-fn value_advice(policy: &PolicySource, state: &AbstractState) -> Advice {
+fn value_advice(policy: &PolicySource, state: &AbstractState) -> Advice
+    ensures { GoesBy Argument.Value result }
+{
     let Some(named) = known(state, 1) else {
         return Advice::Give(Argument::Value);
     };
@@ -219,7 +239,9 @@ fn value_advice(policy: &PolicySource, state: &AbstractState) -> Advice {
 }
 
 /// What helps where the instruction works on a pointer.
-fn pointer_advice(insn: Insn, pointer: Pointer, state: &AbstractState) -> Advice {
+fn pointer_advice(insn: Insn, pointer: Pointer, state: &AbstractState) -> Advice
+    ensures { IsOn pointer.register result }
+{
     match insn {
         Insn::StoreReg { .. } => Advice::StoreWhole,
         Insn::Branch { .. } => comparison_advice(pointer),
@@ -235,7 +257,9 @@ fn pointer_advice(insn: Insn, pointer: Pointer, state: &AbstractState) -> Advice
 }
 
 /// What helps where it compares one: only the answer of a look-up is compared, as it came, with 0.
-fn comparison_advice(pointer: Pointer) -> Advice {
+fn comparison_advice(pointer: Pointer) -> Advice
+    ensures { IsOn pointer.register result }
+{
     match pointer.known.kind {
         ValueKind::EntryOrNull(_) => {
             if is_answer_itself(pointer.known) {
@@ -249,7 +273,9 @@ fn comparison_advice(pointer: Pointer) -> Advice {
 }
 
 /// What helps where it calculates with one.
-fn arithmetic_advice(insn: Insn, pointer: Pointer, state: &AbstractState) -> Advice {
+fn arithmetic_advice(insn: Insn, pointer: Pointer, state: &AbstractState) -> Advice
+    ensures { IsOn pointer.register result }
+{
     if adds_pointers(insn, state) {
         return Advice::AddNumber;
     }

@@ -47,7 +47,7 @@ pub fn advice_text(
 fn register_text(alloc: Global, advice: Advice) -> Result<String, AllocError> {
     match advice {
         Advice::OtherSide(register) => format!(in alloc;
-            "here r{register} is 0, as nothing was found: use it on the other side of its test, where it is an entry"
+            "here r{register} is 0: use it on the other side of its test, where it is an entry"
         ),
         Advice::Test(register) => format!(in alloc;
             "test it first: jeq64 r{register}, 0, label, and use it on the other side"
@@ -194,8 +194,10 @@ fn answer_words(kind: ValueKind) -> &'static str {
         ValueKind::EntryOrNull(_) => {
             "set r0 to a number on each way to the exit; a pointer is no answer, what it points to may be loaded after a test: jeq64 r0, 0, label"
         }
-        _ =>
-            "set r0 to a number on each way to the exit; a pointer is no answer, what it points to may be loaded",
+        ValueKind::Number => "set r0 to a number on each way to the exit; a pointer is no answer",
+        ValueKind::Context | ValueKind::Stack | ValueKind::Entry(_) => {
+            "set r0 to a number on each way to the exit; a pointer is no answer, what it points to may be loaded"
+        }
     }
 }
 
@@ -208,7 +210,7 @@ fn plain_text(advice: Advice) -> &'static str {
         Advice::CountSlots => {
             "jump to a label, or count again: a wide instruction (lddw, ldmap) has two slots"
         }
-        Advice::PutBehindLabel => "put an instruction behind the label, as exit",
+        Advice::PutThere => "put an instruction there, as exit: the program ends before it",
         Advice::End => "end with exit, or jump to one",
         Advice::TakeOut => "take the instruction out, or let a branch lead to it",
         Advice::CallAnother => with_helpers!("call one of these: "),

@@ -83,7 +83,7 @@ fn graph_refusal(
 {
     let fault = graph_fault(slots.len(), place.slot, place.insn, named);
     let label = label_of(alloc, file, place, named)?;
-    let advice = graph_advice(fault, label.is_some());
+    let advice = graph_advice(fault, slots.len());
     Ok(Refusal {
         place,
         cause: Cause::Graph(named),

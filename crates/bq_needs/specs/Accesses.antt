@@ -71,6 +71,7 @@ pub record IsShown (p : PolicySource) (state : AbstractState) (a : Access) (k : 
 abbrev pub Lacks : PolicySource → AbstractState → Access → AbstractValue → Lack → Type 0
 Lacks p state a k lack.Number = k.kind ≡ kind.Number
 Lacks p state a k lack.Answer = (map : ℕ) × (k.kind ≡ kind.EntryOrNull map)
+Lacks p state a k lack.MovedAnswer = ((map : ℕ) × (k.kind ≡ kind.EntryOrNull map)) × (0 < k.offset.hi)
 Lacks p state a k lack.Reference = (map : ℕ) × (k.kind ≡ kind.Map map)
 Lacks p state a k lack.WritesContext = (k.kind ≡ kind.Context) × (a.writes ≡ true)
 Lacks p state a k lack.BeyondContext = (k.kind ≡ kind.Context) × (a.writes ≡ false) × GoesBeyond a k.offset (context_of p.form)
@@ -82,6 +83,7 @@ Lacks p state a k lack.InNoMap = (map : ℕ) × (k.kind ≡ kind.Entry map) × (
 abbrev pub lack_text : PolicySource → Lack → List ℕ
 lack_text p lack.Number = codes "a number is no address"
 lack_text p lack.Answer = codes "test it first"
+lack_text p lack.MovedAnswer = codes "an answer to which a number was added can't be tested"
 lack_text p lack.Reference = codes "the reference of a map is no address of its values"
 lack_text p lack.WritesContext = codes "the context is only read"
 lack_text p lack.BeyondContext = codes "the context of " ++ (hook_word p.form.hook ++ (codes ", version " ++ (decimal (version_number p.form.version) ++ (codes ", has " ++ (decimal (context_of p.form) ++ codes " bytes")))))

@@ -49,12 +49,13 @@ moves insn r = false
 -- what may be done with a pointer of the kind
 abbrev pub kind_rule : ValueKind → List ℕ
 kind_rule (kind.Map map) = codes "the reference of a map may be copied by mov64, and nothing may be added to it or taken from it"
+kind_rule (kind.EntryOrNull map) = codes "the answer of a look-up may be copied by mov64; before its test no number may be added to it"
 kind_rule other = codes "a pointer may be copied by mov64; a number may be added to it by add64, or taken from it by sub64"
 
--- what may be done with a pointer, where the instruction does another thing: a test of an answer helps where it is moved
+-- what may be done with a pointer, where the instruction does another thing: a test of an answer helps where it is moved for the first time
 abbrev pub other_rule : Insn → Pointer → List ℕ
 other_rule insn p =
-    if may_be_null p.known.kind && moves insn p.register then codes "test it first" else kind_rule p.known.kind
+    if may_be_null p.known.kind && (p.known.offset.hi == 0 && moves insn p.register) then codes "test it first" else kind_rule p.known.kind
 
 abbrev pub pointer_rule : Insn → Pointer → List ℕ
 pointer_rule (StoreReg size dst off src) p = codes "a pointer is stored whole by stxdw, on the stack, at a multiple of 8 below r10"

@@ -146,7 +146,8 @@ fn pointer_rule(insn: Insn, pointer: Pointer) -> &'static str
 fn other_rule(insn: Insn, pointer: Pointer) -> &'static str
     ensures { result.now ≡ other_rule insn pointer }
 {
-    if may_be_null(pointer.known.kind) && moves(insn, pointer.register) {
+    let is_first = pointer.known.offset.hi == 0 && moves(insn, pointer.register);
+    if may_be_null(pointer.known.kind) && is_first {
         "test it first"
     } else {
         kind_rule(pointer.known.kind)
@@ -180,6 +181,9 @@ fn kind_rule(kind: ValueKind) -> &'static str
     match kind {
         ValueKind::Map(_) => {
             "the reference of a map may be copied by mov64, and nothing may be added to it or taken from it"
+        }
+        ValueKind::EntryOrNull(_) => {
+            "the answer of a look-up may be copied by mov64; before its test no number may be added to it"
         }
         _ =>
             "a pointer may be copied by mov64; a number may be added to it by add64, or taken from it by sub64",

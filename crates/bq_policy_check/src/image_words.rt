@@ -35,7 +35,7 @@ pub(crate) fn spelling_words(cause: Spelling) -> &'static str {
             "a field that the instruction does not use is not 0, in its first slot or in its second",
         Spelling::Offset =>
             "the offset names no form of the instruction, or the source field no kind of call or wide load",
-        Spelling::Imm => "the immediate of a byte order is not 16, 32 or 64",
+        Spelling::Imm => "the immediate is no width that a byte order has (docs/INSTRUCTIONS.md)",
         Spelling::WideCut => "a wide instruction stands in the last slot, and has no second one",
     }
 }
