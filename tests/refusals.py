@@ -17,6 +17,7 @@ A row begins with its name in brackets. Its lines begin with a word:
     refused   what follows `refused ` in the answer
     says, helps, knows, trail    pieces, in their order, of what is wrong, of the advice, of what is known, of where registers come from
     unhelped  a piece that the advice does not have
+    untold    a piece that stands neither in what is known nor in where registers come from
     follows, given, then         a text in which the advice was followed, options, and its answer
 
 The last line is `N passed, M failed`; the exit status is 1 where one failed.
@@ -37,7 +38,7 @@ SHORT = {
     "KEY": ["stw [r10-4], 0", "mov64 r2, r10", "add64 r2, -4"],
     "VALUE": ["stdw [r10-16], 0", "mov64 r3, r10", "add64 r3, -16"],
 }
-KEYS = {"for", "text", "hex", "words", "refused", "says", "helps", "knows", "trail", "unhelped", "follows", "given", "then"}
+KEYS = {"for", "text", "hex", "words", "refused", "says", "helps", "knows", "trail", "unhelped", "untold", "follows", "given", "then"}
 
 # docs/JSON.md
 CAUSES = {
@@ -380,6 +381,9 @@ class Checks:
         between = "\n".join(told[2:-1])
         for pieces in row.all("knows") + row.all("trail"):
             self.has("explanation", between, pieces)
+        for piece in row.all("untold"):
+            if piece in between:
+                self.wrong.append(f"explanation: {between!r} has {piece!r}")
 
 
 def main():

@@ -15,7 +15,7 @@ pub(crate) fn form_of(alloc: Global, word: &str, mnemonic: Mnemonic) -> Result<S
             alloc,
             with_helpers!("call 1; helpers go by their numbers: "),
         ),
-        Mnemonic::Exit => String::from_str(alloc, "exit, alone on its line"),
+        Mnemonic::Exit => String::from_str(alloc, "exit, alone on its line; r0 is the answer"),
         _ => memory_form(alloc, word, mnemonic),
     }
 }
@@ -26,7 +26,9 @@ fn memory_form(alloc: Global, word: &str, mnemonic: Mnemonic) -> Result<String, 
         Mnemonic::StoreImm(_) => format!(in alloc; "{word} [r10-8], 0"),
         Mnemonic::StoreReg(_) => format!(in alloc; "{word} [r10-8], r4"),
         Mnemonic::Imm64 => format!(in alloc; "{word} r1, 4294967295"),
-        Mnemonic::MapRef => format!(in alloc; "{word} r1, 0"),
+        Mnemonic::MapRef => {
+            format!(in alloc; "{word} r1, 0; maps go by their numbers, and the first is 0")
+        }
         _ => format!(in alloc; "{word} r2, [r1+8]"),
     }
 }

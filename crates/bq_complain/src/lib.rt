@@ -10,4 +10,5 @@ mod text_kind;
 mod vocabulary;
 
 pub use complaining::{assembly_words, complaint};
+pub use line_reason::with_nul_shown;
 pub use text_kind::{TextKind, kind_of_text};

@@ -9,6 +9,8 @@ use std::alloc::{AllocError, Global};
 
 /// Why the assembler refuses the line, for that cause.
 pub(crate) fn line_reason(alloc: Global, line: &str, cause: Cause) -> Result<String, AllocError> {
+    let shown = with_nul_shown(alloc, line)?;
+    let line = shown.as_str();
     match cause {
         Cause::Word => word_reason(alloc, line),
         Cause::Number => number_reason(alloc, without_comment(line).trim()),
@@ -24,6 +26,20 @@ pub(crate) fn line_reason(alloc: Global, line: &str, cause: Cause) -> Result<Str
         }
         Cause::Slots => format!(in alloc; "the program has more than {SLOTS} slots"),
     }
+}
+
+/// The text with `\0` in place of each byte 0, as messages show it.
+pub fn with_nul_shown(alloc: Global, text: &str) -> Result<String, AllocError> {
+    let mut shown = String::new(alloc);
+    let mut is_first = true;
+    for part in text.split('\0') {
+        if !is_first {
+            shown.push_str("\\0")?;
+        }
+        is_first = false;
+        shown.push_str(part)?;
+    }
+    Ok(shown)
 }
 
 fn without_comment(line: &str) -> &str {
@@ -51,6 +67,10 @@ fn word_reason(alloc: Global, line: &str) -> Result<String, AllocError> {
     let Some(mnemonic) = named(first.as_bytes()) else {
         return unknown(alloc, first);
     };
+    if let Some(register) = no_register(said) {
+        let register = Quoted(register);
+        return format!(in alloc; "there is no register {register}: the registers are r0 to r10");
+    }
     let form = form_of(alloc, first, mnemonic)?;
     let said = Quoted(said);
     format!(in alloc; "\"{said}\" has other operands than {first} takes; write it as {form}")
@@ -92,6 +112,29 @@ fn unknown(alloc: Global, word: &str) -> Result<String, AllocError> {
             "unknown word \"{word}\"; docs/ASSEMBLER.md has those that there are"
         ),
     }
+}
+
+/// The first word of the line that names a register which does not exist: `r` and a number above 10.
+fn no_register(said: &str) -> Option<&str> {
+    for word in said.split(is_outside) {
+        if let Some(digits) = word.strip_prefix('r') {
+            let is_number = !digits.is_empty() && digits.bytes().all(|byte| byte.is_ascii_digit());
+            if is_number && !is_register(digits) {
+                return Some(word);
+            }
+        }
+    }
+    None
+}
+
+/// Whether these digits are a register's number.
+fn is_register(digits: &str) -> bool {
+    digits == "10" || digits.len() == 1
+}
+
+/// Whether the letter stands between words, brackets and signs of an offset among them.
+fn is_outside(letter: char) -> bool {
+    is_between(letter) || letter == '[' || letter == ']' || letter == '+' || letter == '-'
 }
 
 /// How other languages begin a comment.

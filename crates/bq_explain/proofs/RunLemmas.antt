@@ -36,7 +36,7 @@ all_told set byte past text whole most are =
     subst (λ (n : ℕ). AreRuns set n text) same are
 
 -- no run is reported
-pub none_written : (set : List Bool) (runs text : List ℕ) → AreRuns set 512 runs → runs ≡ [] → text ≡ codes " stack: nothing written\n" → IsStackText set text
+pub none_written : (set : List Bool) (runs text : List ℕ) → AreRuns set 512 runs → runs ≡ [] → text ≡ codes " stack: nothing known to be written\n" → IsStackText set text
 none_written set runs text are none is = (runs, are, is ∙ sym (ap stack_text none))
 
 -- what is said of runs

@@ -1,3 +1,4 @@
+pub mod Advising
 pub mod Beginnings
 pub mod Explained
 pub mod Makers

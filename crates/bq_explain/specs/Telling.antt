@@ -27,7 +27,7 @@ pub data TellsRuns : State → List ℕ → Type 0 where
 
 abbrev pub TellsStack : State → List ℕ → Type 0
 TellsStack s text =
-    (text ≡ codes " stack: nothing written\n") ⊎ ((runs : List ℕ) × (text ≡ codes " stack:" ++ (runs ++ codes " written\n")) × TellsRuns s runs)
+    (text ≡ codes " stack: nothing known to be written\n") ⊎ ((runs : List ℕ) × (text ≡ codes " stack:" ++ (runs ++ codes " written\n")) × TellsRuns s runs)
 
 -- lines, each of which tells the word in eight bytes of the state's stack
 pub data TellsKept : Setting → State → List ℕ → Type 0 where

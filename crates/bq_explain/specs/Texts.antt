@@ -63,7 +63,7 @@ pub data AreRuns : List Bool → ℕ → List ℕ → Type 0 where
 
 -- runs, or that it runs none
 abbrev pub stack_text : List ℕ → List ℕ
-stack_text [] = codes " stack: nothing written\n"
+stack_text [] = codes " stack: nothing known to be written\n"
 stack_text (first ∷ rest) = codes " stack:" ++ ((first ∷ rest) ++ codes " written\n")
 
 -- the bytes of the stack that are set: all runs of them, or that none is

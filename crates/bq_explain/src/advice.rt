@@ -1,43 +1,49 @@
-//! What helps against each cause, as a value and in words.
+//! What helps against each cause, as a value.
+ghost use Rattle.std.specs.Prelude.{◌≡◌};
+ghost use Rattle.bq_explain.specs.Advising.{GoesBy, IsOn};
+ghost use Rattle.bq_explain.specs.declared.advice.Advice.TheVariants.{Know};
+ghost use Rattle.bq_explain.specs.declared.advice.Missing.{Missing as Lacking};
+
+use crate::access_advice::{Reach, Room, access_advice, is_answer_itself, test_advice};
 use crate::graph_fault::GraphFault;
 use crate::refusal::Finding;
 use crate::trail::Trail;
-use bq_bpf::{with_counters, with_helper, with_helpers, with_stack_size};
-use bq_hooks::{Hook, Version, context_length, with_longer_context};
-use bq_insn::{Insn, Size};
-use bq_needs::{Access, Argument, Lack, Need, Pointer, Registers};
+use bq_bpf::shape::MAPS;
+use bq_insn::{Insn, Operation, Source, Width};
+use bq_needs::{Argument, Need, Pointer, Registers, moves};
 use bq_policy_file::PolicySource;
 use bq_states::abstract_state::{AbstractState, AbstractValue, ValueKind};
 use bq_states::registers::known;
-use std::alloc::{AllocError, Global};
 
 /// What helps.
 #[derive(Clone, Copy)]
 pub enum Advice {
-    /// Jump to a later label.
+    /// Jump to a later instruction.
     JumpForward,
     /// Count the slots of wide instructions.
     CountSlots,
+    /// Put an instruction where the program ends.
+    PutThere,
     /// End with an exit.
     End,
     /// Take the instruction out.
     TakeOut,
     /// Call another helper.
-    CallByNumber,
+    CallAnother,
     /// Copy r10 first.
     CopyFrame,
     /// Call counters less often.
     FewerCalls,
-    /// Set that register on each way.
-    Set(u8),
-    /// Keep that register over a call, or set it again.
-    Keep(u8),
-    /// Make that register one kind of word on both ways.
-    OneKind(u8),
+    /// Let something be known of registers.
+    Know(Missing),
     /// Use a pointer.
     UsePointer,
+    /// Use that register on the other side of its test.
+    OtherSide(u8),
     /// Test that register for null.
     Test(u8),
+    /// Use that register before its ways meet: an answer to which a number was added can't be tested.
+    UseBefore(u8),
     /// Look an entry up.
     LookUp,
     /// Write elsewhere than to the context.
@@ -48,43 +54,62 @@ pub enum Advice {
     StayOnStack,
     /// Write these bytes of the stack first.
     WriteFirst,
-    /// Stay in the value, by a smaller offset.
-    SmallerOffset,
-    /// Stay in the value, by a smaller mask or a test.
-    SmallerMask,
+    /// Stay in the value.
+    StayInValue(Room),
     /// Store a pointer whole.
     StoreWhole,
-    /// Compare a look-up's answer with 0 only.
-    CompareAnswer,
+    /// Compare that register, a look-up's answer, with 0.
+    Compare(u8),
+    /// Compare no pointer.
+    LeaveComparison,
+    /// Copy a whole pointer.
+    CopyWhole { to: u8, from: u8 },
+    /// Add nothing to the reference of a map.
+    AddNothing,
+    /// Add a number to a pointer, and no other pointer.
+    AddNumber,
     /// Calculate with numbers.
     Calculate,
-    /// Say the maps.
-    SayMaps,
+    /// Count maps from 0.
+    CountMaps,
+    /// Do with the maps that there may be.
+    FewMaps,
+    /// Say the maps of a text, this many.
+    SayMaps(usize),
+    /// Make an image with its maps, this many.
+    MakeWithMaps(usize),
+    /// Say a map, and give it to the helper.
+    GiveFirstMap,
+    /// Give the helper a value of this many bytes.
+    GiveValue(u16),
     /// Give a helper that argument.
     Give(Argument),
-    /// Answer a number.
-    Answer,
+    /// Answer a number, where the answer is of that kind, or a number on some way only.
+    Answer(ValueKind),
     /// Read how the verifier works.
     Read,
 }
 
-/// How far a load reaches beyond the context.
+/// The registers of which nothing is known, by why.
 #[derive(Clone, Copy)]
-pub struct Reach {
-    /// Whether its pointer may be one of several.
-    pub is_range: bool,
-    /// Whether the longer context of format 2 has what it loads.
-    pub is_in_second: bool,
+pub struct Missing {
+    /// A call leaves them unset on some way.
+    pub called: Registers,
+    /// No instruction sets them on some way from the start.
+    pub unset: Registers,
+    /// They are of different kinds where ways meet.
+    pub mixed: Registers,
 }
 
-/// What helps where something is wrong with the control graph.
-pub(crate) fn graph_advice(fault: GraphFault) -> Advice {
+/// What helps where something is wrong with the control graph of a program of this many slots.
+pub(crate) fn graph_advice(fault: GraphFault, count: usize) -> Advice {
     match fault {
         GraphFault::JumpsBack(_) => Advice::JumpForward,
+        GraphFault::JumpsOut(to) if usize::try_from(to) == Ok(count) => Advice::PutThere,
         GraphFault::JumpsOut(_) | GraphFault::JumpsInside(_) => Advice::CountSlots,
         GraphFault::RunsOut => Advice::End,
         GraphFault::Unreached => Advice::TakeOut,
-        GraphFault::Helper(_) => Advice::CallByNumber,
+        GraphFault::Helper(_) => Advice::CallAnother,
         GraphFault::Frame => Advice::CopyFrame,
         GraphFault::Calls => Advice::FewerCalls,
     }
@@ -111,231 +136,175 @@ fn need_advice(
     trail: &Trail,
 ) -> Advice {
     match need {
-        Need::Unknown(registers) => unknown_advice(first_of(&registers), trail),
-        Need::Address(access) => unknown_advice(access.register, trail),
+        Need::Unknown(registers) => unknown_advice(&registers, trail),
+        Need::Address(access) => unknown_advice(&only(access.register), trail),
         Need::Access {
             access,
             pointer,
             lack,
-        } => access_advice(policy, insn, access, pointer, lack),
-        Need::Number(pointer) => pointer_advice(insn, pointer),
-        Need::Map(_) => Advice::SayMaps,
-        Need::Argument { argument, .. } => argument_advice(state, argument, trail),
-        Need::Answer(Some(_)) => Advice::Answer,
-        Need::Answer(None) => unknown_advice(0, trail),
+        } => access_advice(policy, access, pointer, lack, trail),
+        Need::Number(pointer) => pointer_advice(insn, pointer, state),
+        Need::Map(index) => map_advice(policy, index),
+        Need::Argument { argument, .. } => argument_advice(policy, state, argument, trail),
+        Need::Answer(Some(answer)) => answer_advice(answer),
+        Need::Answer(None) if trail.unset[0] => unknown_advice(&only(0), trail),
+        Need::Answer(None) => Advice::Answer(ValueKind::Number),
         Need::Unshown => Advice::Read,
     }
 }
 
-/// The first of the registers.
-fn first_of(registers: &Registers) -> u8 {
-    for register in 0..11u8 {
-        if registers[usize::from(register)] {
-            return register;
-        }
+/// What helps where the answer is a pointer: one that was moved before its test can't be followed.
+fn answer_advice(answer: AbstractValue) -> Advice {
+    match answer.kind {
+        ValueKind::EntryOrNull(_) if !is_answer_itself(answer) => Advice::Answer(ValueKind::Number),
+        kind => Advice::Answer(kind),
     }
-    0
 }
 
-/// What helps where nothing is known of the register: a call left it unset, no instruction sets it on some way, or it is of two kinds.
-fn unknown_advice(register: u8, trail: &Trail) -> Advice {
-    for made in trail.made.as_slice() {
-        if made.register == register && made.is_unset() {
-            return Advice::Keep(register);
-        }
+/// That register.
+pub(crate) fn only(register: u8) -> Registers {
+    let mut registers = [false; 11];
+    if register < 11 {
+        registers[usize::from(register)] = true;
     }
-    if trail.unset.as_slice().get(usize::from(register)).copied() == Some(true) {
-        return Advice::Set(register);
+    registers
+}
+
+/// What helps where nothing is known of these registers: a call left one unset, no instruction sets it on some way, or it is of two kinds.
+fn unknown_advice(registers: &Registers, trail: &Trail) -> Advice
+    ensures { (missing : Lacking) × (result ≡ Know missing) }
+{
+    let mut missing = Missing {
+        called: [false; 11],
+        unset: [false; 11],
+        mixed: [false; 11],
+    };
+    for at in 0..11usize {
+        let is_asked = registers[at];
+        let is_called = trail.called[at];
+        let is_unset = trail.unset[at];
+        missing.called[at] = is_asked && is_called;
+        missing.unset[at] = is_asked && is_unset && !is_called;
+        missing.mixed[at] = is_asked && !is_unset && !is_called;
     }
-    Advice::OneKind(register)
+    Advice::Know(missing)
+}
+
+/// What helps where a map does not exist.
+fn map_advice(policy: &PolicySource, index: i32) -> Advice {
+    match usize::try_from(index) {
+        Err(_) => Advice::CountMaps,
+        Ok(number) if number >= MAPS => Advice::FewMaps,
+        Ok(number) if policy.lines.is_empty() => Advice::MakeWithMaps(number.saturating_add(1)),
+        Ok(number) => Advice::SayMaps(number.saturating_add(1)),
+    }
 }
 
 /// What helps where an argument of a helper is not what it wants; a register of two kinds is reported as such.
-fn argument_advice(state: &AbstractState, argument: Argument, trail: &Trail) -> Advice {
+fn argument_advice(
+    policy: &PolicySource,
+    state: &AbstractState,
+    argument: Argument,
+    trail: &Trail,
+) -> Advice
+    ensures { GoesBy argument result }
+{
     let register = argument.register();
-    if known(state, register).is_some() {
-        return Advice::Give(argument);
+    let at = usize::from(register);
+    let is_mixed = at < 11 && !trail.called[at] && !trail.unset[at];
+    if known(state, register).is_none() && is_mixed {
+        return unknown_advice(&only(register), trail);
     }
-    match unknown_advice(register, trail) {
-        Advice::OneKind(register) => Advice::OneKind(register),
+    match argument {
+        Argument::Map if policy.form.shapes.is_empty() => Advice::GiveFirstMap,
+        Argument::Value => value_advice(policy, state),
         _ => Advice::Give(argument),
     }
 }
 
-/// What helps where an access is not shown to be within what its pointer points to.
-fn access_advice(
-    policy: &PolicySource,
-    insn: Insn,
-    access: Access,
-    pointer: AbstractValue,
-    lack: Lack,
-) -> Advice {
-    match lack {
-        Lack::Number => Advice::UsePointer,
-        Lack::Answer => Advice::Test(access.register),
-        Lack::Reference => Advice::LookUp,
-        Lack::WritesContext => Advice::WriteElsewhere,
-        Lack::BeyondContext => Advice::ReadContext(Reach {
-            is_range: is_range(pointer),
-            is_in_second: is_in_second(policy, pointer, insn),
-        }),
-        Lack::BeyondStack => Advice::StayOnStack,
-        Lack::ReadsUnset => Advice::WriteFirst,
-        Lack::BeyondValue(_, _) | Lack::InNoMap => {
-            if is_range(pointer) {
-                Advice::SmallerMask
-            } else {
-                Advice::SmallerOffset
-            }
-        }
+/// What helps where the value of an update is not shown to be good: as many bytes as a value of the map has that r1 names.
+fn value_advice(policy: &PolicySource, state: &AbstractState) -> Advice
+    ensures { GoesBy Argument.Value result }
+{
+    let Some(named) = known(state, 1) else {
+        return Advice::Give(Argument::Value);
+    };
+    let ValueKind::Map(map) = named.kind else {
+        return Advice::Give(Argument::Value);
+    };
+    match policy.form.shapes.as_slice().get(usize::from(map)) {
+        Some(shape) => Advice::GiveValue(shape.value_size),
+        None => Advice::Give(Argument::Value),
     }
-}
-
-/// Whether the pointer may be one of several.
-fn is_range(pointer: AbstractValue) -> bool {
-    pointer.offset.lo != pointer.offset.hi
-}
-
-/// Whether format 2 helps: all bytes of the load are in the context of its place policies, with each address that the pointer may have.
-fn is_in_second(policy: &PolicySource, pointer: AbstractValue, insn: Insn) -> bool {
-    match (policy.form.hook, policy.form.version, insn) {
-        (Hook::Place, Version::First, Insn::Load { size, off, .. }) => is_within(
-            pointer, size, off,
-        ),
-        _ => false,
-    }
-}
-
-fn is_within(pointer: AbstractValue, size: Size, off: i16) -> bool {
-    let further = i64::from(off).cast_unsigned();
-    let lo = pointer.offset.lo.wrapping_add(further);
-    let hi = pointer.offset.hi.wrapping_add(further);
-    let past = hi.saturating_add(size.bytes() as u64);
-    lo <= hi && past <= context_length(Hook::Place, Version::Second) as u64
 }
 
 /// What helps where the instruction works on a pointer.
-fn pointer_advice(insn: Insn, pointer: Pointer) -> Advice {
-    match (insn, pointer.known.kind) {
-        (Insn::StoreReg { .. }, _) => Advice::StoreWhole,
-        (Insn::Branch { .. }, _) => Advice::CompareAnswer,
-        (_, ValueKind::EntryOrNull(_)) => Advice::Test(pointer.register),
+fn pointer_advice(insn: Insn, pointer: Pointer, state: &AbstractState) -> Advice
+    ensures { IsOn pointer.register result }
+{
+    match insn {
+        Insn::StoreReg { .. } => Advice::StoreWhole,
+        Insn::Branch { .. } => comparison_advice(pointer),
+        Insn::MovSx { dst, src, .. } => Advice::CopyWhole { to: dst, from: src },
+        Insn::Alu {
+            op: Operation::Mov,
+            dst,
+            src: Source::Reg(src),
+            ..
+        } => Advice::CopyWhole { to: dst, from: src },
+        _ => arithmetic_advice(insn, pointer, state),
+    }
+}
+
+/// What helps where it compares one: only the answer of a look-up is compared, as it came, with 0.
+fn comparison_advice(pointer: Pointer) -> Advice
+    ensures { IsOn pointer.register result }
+{
+    match pointer.known.kind {
+        ValueKind::EntryOrNull(_) => {
+            if is_answer_itself(pointer.known) {
+                Advice::Compare(pointer.register)
+            } else {
+                Advice::UseBefore(pointer.register)
+            }
+        }
+        _ => Advice::LeaveComparison,
+    }
+}
+
+/// What helps where it calculates with one.
+fn arithmetic_advice(insn: Insn, pointer: Pointer, state: &AbstractState) -> Advice
+    ensures { IsOn pointer.register result }
+{
+    if adds_pointers(insn, state) {
+        return Advice::AddNumber;
+    }
+    match pointer.known.kind {
+        ValueKind::EntryOrNull(_) if moves(insn, pointer.register) => {
+            test_advice(pointer.register, pointer.known)
+        }
+        ValueKind::Map(_) => Advice::AddNothing,
         _ => Advice::Calculate,
     }
 }
 
-/// The advice in words.
-pub fn advice_text(alloc: Global, advice: Advice) -> Result<String, AllocError> {
-    match advice {
-        Advice::Set(register) => format!(in alloc;
-            "set r{register} on each way that leads here, as by mov64 before the first branch"
-        ),
-        Advice::Keep(register) => format!(in alloc;
-            "a call leaves r1 to r5 unset: keep what is needed later in r6 to r9, as by mov64 r6, r{register} before it, or set r{register} again"
-        ),
-        Advice::OneKind(register) => format!(in alloc;
-            "use r{register} on each way before the ways meet, or make it one kind of word on both"
-        ),
-        Advice::Test(register) => format!(in alloc;
-            "test it first: jeq64 r{register}, 0, label, and use it on the other side"
-        ),
-        Advice::ReadContext(reach) => String::from_str(alloc, reach_text(reach)),
-        Advice::Give(argument) => String::from_str(alloc, argument_words(argument)),
-        other => String::from_str(alloc, plain_text(other)),
+/// Whether it adds one pointer to another or takes it from it, in 64 bits.
+fn adds_pointers(insn: Insn, state: &AbstractState) -> bool {
+    match insn {
+        Insn::Alu {
+            width: Width::W64,
+            op: Operation::Add | Operation::Sub,
+            dst,
+            src: Source::Reg(src),
+        } => is_pointer(known(state, dst)) && is_pointer(known(state, src)),
+        _ => false,
     }
 }
 
-/// What helps where a load reaches beyond the context.
-fn reach_text(reach: Reach) -> &'static str {
-    match (reach.is_range, reach.is_in_second) {
-        (true, true) => with_longer_context!(
-            "a smaller mask or a test (jgt64) before the address is made, or format 2, whose context has ",
-            " bytes; docs/CONTEXTS.md has the fields"
-        ),
-        (true, false) => {
-            "a smaller mask or a test (jgt64) before the address is made; docs/CONTEXTS.md has the fields of each hook"
-        }
-        (false, true) => with_longer_context!(
-            "a field that this context has, or format 2, whose context has ",
-            " bytes; docs/CONTEXTS.md has the fields"
-        ),
-        (false, false) => {
-            "a field that this context has; docs/CONTEXTS.md has the fields of each hook"
-        }
-    }
-}
-
-/// How an argument is made what a helper wants.
-fn argument_words(argument: Argument) -> &'static str {
-    match argument {
-        Argument::Map => {
-            "ldmap r1, 0 just before the call; a call leaves r1 to r5 unset, so set them again before the next"
-        }
-        Argument::Entry => {
-            "store the entry's number and point r2 to it: stw [r10-4], 0, mov64 r2, r10, add64 r2, -4"
-        }
-        Argument::Value => {
-            "write a whole value to the stack and point r3 to it: stdw [r10-16], 0, mov64 r3, r10, add64 r3, -16"
-        }
-        Argument::Zero => "mov64 r4, 0",
-        Argument::Counter => with_counters!(
-            "put a counter's number, ",
-            ", into r1, as by mov64 r1, 3; mask or test one that was loaded"
-        ),
-        Argument::Amount => "put a number into r2, as by mov64 r2, 1",
-    }
-}
-
-/// An advice that names no register.
-fn plain_text(advice: Advice) -> &'static str {
-    match advice {
-        Advice::JumpForward => {
-            "jump to a later label, and write a loop out as often as it may run"
-        }
-        Advice::CountSlots => {
-            "jump to a label; in a jump's number a wide instruction (lddw, ldmap) counts as two slots"
-        }
-        Advice::End => "end with exit, or jump to one",
-        Advice::TakeOut => "take the instruction out, or let a branch lead to it",
-        Advice::CallByNumber => with_helpers!("call by number: "),
-        Advice::CopyFrame => "copy it first: mov64 r2, r10, and change r2",
-        Advice::FewerCalls => "call counters on fewer ways, or add larger amounts at once",
-        Advice::UsePointer => {
-            "use a pointer: at the start r1 points to the context, r10 to the end of the stack"
-        }
-        Advice::LookUp => with_helper!(LOOKUP, "look an entry up first, by helper ", ""),
-        _ => more_text(advice),
-    }
-}
-
-/// The rest of these.
-fn more_text(advice: Advice) -> &'static str {
-    match advice {
-        Advice::WriteElsewhere => {
-            "write to the stack, at r10 - 8 or below, or to an entry of a map, which stays for the next call"
-        }
-        Advice::StayOnStack => with_stack_size!(
-            "stay on the stack: it is the ",
-            " bytes below r10, the last of them at r10 - 1"
-        ),
-        Advice::WriteFirst => {
-            "write all of these bytes first, on each way, at the same distance from r10"
-        }
-        Advice::SmallerOffset => "a smaller offset, or a map of larger values",
-        Advice::SmallerMask => {
-            "a smaller mask or a test (jgt64) before the address is made, or a map of larger values"
-        }
-        Advice::StoreWhole => "store it by stxdw at r10 - 8, r10 - 16 or so on",
-        Advice::CompareAnswer => {
-            "compare a look-up's answer with the number 0 at once: jeq64 r0, 0, label"
-        }
-        Advice::Calculate => {
-            "do arithmetic on numbers, and add the result to the pointer by add64; for a shift write lsh64 or rsh64, not div64 or mul64 of a pointer"
-        }
-        Advice::SayMaps => { "say the maps: a line ;@ maps 8:1 in the text's head, or --maps 8:1" }
-        Advice::Answer => {
-            "set r0 to a number on each way to the exit; a pointer is no answer, what it points to may be loaded"
-        }
-        _ => "see docs/VERIFIER.md",
+/// Whether it is known to be no number.
+fn is_pointer(known: Option<AbstractValue>) -> bool {
+    match known {
+        Some(word) => !matches!(word.kind, ValueKind::Number),
+        None => false,
     }
 }

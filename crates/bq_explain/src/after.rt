@@ -1,5 +1,6 @@
 //! What is known of registers and stack after an instruction, on the way to one of the slots behind it.
-ghost use Rattle.std.specs.Prelude.{◌≡◌, ◌<◌, ◌≤◌, ◌^◌, IsTrue, length};
+ghost use Rattle.std.specs.Prelude.{◌≡◌, ◌<◌, ◌≤◌, ◌^◌, IsTrue, length, true};
+ghost use Rattle.bq_insn.specs.Spelling.{is_well_formed};
 ghost use Rattle.bq_bpf.specs.Steps.{IsCounterCall};
 ghost use Rattle.bq_transfer.specs.Ready.{IsTransferred, WritesBelowFrame};
 ghost use Rattle.bq_explain.specs.Makers.{IsLaidOut};
@@ -63,23 +64,50 @@ fn comes(
     match insn {
         Insn::Exit => false,
         Insn::Goto { .. } | Insn::Goto32 { .. } => true,
-        Insn::Branch {
-            width,
-            cond,
-            dst,
-            src,
-            ..
-        } => {
-            let test = Test {
-                width,
-                cond,
-                dst,
-                src,
-            };
-            passes(state, test, !is_next)
-        }
+        Insn::Branch { .. } => match test_of(insn) {
+            Some(test) => passes(state, test, !is_next),
+            None => false,
+        },
         _ => goes_on(state, shapes, context, insn),
     }
+}
+
+/// Which sides of a branch a run may take.
+#[derive(Clone, Copy)]
+pub(crate) struct Sides {
+    /// On to the next instruction.
+    pub next: bool,
+    /// Over the jump.
+    pub jump: bool,
+}
+
+/// The sides that a run may take of the branch at the slot; of another instruction, both, as far as it has them.
+pub(crate) fn sides_of(
+    alloc: Global,
+    program: &Program,
+    slot: usize,
+    insn: Insn,
+) -> Result<Sides, AllocError>
+    requires { is_well_formed program.now.insns.items ≡ true }
+{
+    let Some(test) = test_of(insn) else {
+        return Ok(Sides {
+            next: true,
+            jump: true,
+        });
+    };
+    let Some(state) = state_at(alloc, program, slot)? else {
+        return Ok(Sides {
+            next: false,
+            jump: false,
+        });
+    };
+    let mut taken = state;
+    let mut passed = state;
+    Ok(Sides {
+        next: passes(&mut passed, test, false),
+        jump: passes(&mut taken, test, true),
+    })
 }
 
 /// What a branch asks.
@@ -89,6 +117,25 @@ struct Test {
     cond: Condition,
     dst: u8,
     src: Source,
+}
+
+/// What the instruction asks, if it is a branch.
+fn test_of(insn: Insn) -> Option<Test> {
+    match insn {
+        Insn::Branch {
+            width,
+            cond,
+            dst,
+            src,
+            ..
+        } => Some(Test {
+            width,
+            cond,
+            dst,
+            src,
+        }),
+        _ => None,
+    }
 }
 
 /// Whether a run may pass the test that way; if so, the state is the one behind it.

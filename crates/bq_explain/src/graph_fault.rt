@@ -139,8 +139,8 @@ fn target_text(
 
 /// A helper that does not exist.
 fn called_text(alloc: Global, helper: i32) -> Result<String, AllocError> {
-    let numbers = with_helper_numbers!("there are ");
-    format!(in alloc; "calls helper {helper}, which there is not; {numbers}")
+    let numbers = with_helper_numbers!("the helpers are ");
+    format!(in alloc; "calls helper {helper}, which does not exist; {numbers}")
 }
 
 /// A fault that names no number.

@@ -4,7 +4,9 @@
 //! that, and what helps. What is said of registers and stack is what `state_at` knows, which holds in every run that comes to the slot.
 #![tactic(auto)]
 
+mod access_advice;
 mod advice;
+mod advice_words;
 mod after;
 mod explanation;
 mod graph_fault;
@@ -19,8 +21,11 @@ mod summary;
 mod text;
 mod trail;
 mod verdict;
+mod ways;
 
-pub use advice::{Advice, Reach, advice_text};
+pub use access_advice::{Reach, Room};
+pub use advice::{Advice, Missing};
+pub use advice_words::advice_text;
 pub use explanation::{Detail, Explanation, explain};
 pub use graph_fault::GraphFault;
 pub use limits::{Limits, Over};

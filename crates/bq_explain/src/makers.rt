@@ -5,6 +5,7 @@ ghost use Rattle.bq_explain.specs.Makers.{AreLeading, AreOnTrail, IsMaker, IsOnT
 ghost use Rattle.bq_explain.specs.declared.makers.Maker.{Maker as Named};
 ghost use Rattle.bq_verify.specs.Straight.{spares};
 
+use crate::ways::{Ways, is_marked, reaching};
 use bq_bpf::instruction::destination;
 use bq_insn::{Insn, SLOTS};
 use bq_needs::{Registers, read_registers};
@@ -24,7 +25,7 @@ enum Part {
 }
 
 /// Whether the instruction writes the register; a call answers in r0 and ends what r1 to r5 held.
-fn writes(insn: Insn, register: u8) -> bool
+pub(crate) fn writes(insn: Insn, register: u8) -> bool
     ensures { MatchBool result (spares register (Some insn) ≡ false) (spares register (Some insn) ≡ true) }
 {
     match insn {
@@ -76,22 +77,6 @@ pub(crate) fn makers(
 {
     let mut leading = vec![in alloc; false; slots.len()]?;
     swept(alloc, slots, register, slot, leading.as_mut_slice())
-}
-
-/// For each slot, whether a way leads from it to that one on which no instruction writes the register.
-pub(crate) fn leading_to(
-    alloc: Global,
-    slots: &[Option<Insn>],
-    register: u8,
-    slot: usize,
-) -> Result<Vec<bool>, AllocError>
-    requires inside { slot < length slots.now }
-    requires short { length slots.now ≤ SLOTS }
-    requires sound { IsSound slots.now }
-{
-    let mut leading = vec![in alloc; false; slots.len()]?;
-    swept(alloc, slots, register, slot, leading.as_mut_slice())?;
-    Ok(leading)
 }
 
 /// The same, over a list of the slots from which a way that spares the register leads to the slot; none is found yet.
@@ -156,10 +141,12 @@ pub struct Maker {
 /// The most makers that a trail names.
 const MOST: usize = 6;
 
-/// The instructions that made the registers for the slot, the nearest first, and then those that made what these read.
+/// The instructions that made the registers for the slot, the nearest first, and then those that made what these read; each on a way
+/// that a run may take.
 pub(crate) fn trail(
     alloc: Global,
     slots: &[Option<Insn>],
+    ways: &Ways,
     slot: usize,
     asked: &Registers,
 ) -> Result<Vec<Maker>, AllocError>
@@ -169,11 +156,11 @@ pub(crate) fn trail(
     ensures { IfOk result (λ trail. AreOnTrail slots.now slot asked.now trail.items) }
 {
     let mut trail = Vec::new(alloc);
-    push_makers(alloc, slots, slot, asked, &mut trail)?;
+    push_makers(alloc, slots, ways, slot, asked, &mut trail)?;
     for at in 0..MOST {
         if at < trail.len() {
             let maker = trail[at];
-            push_operands(alloc, slots, maker, &mut trail)?;
+            push_operands(alloc, slots, ways, maker, &mut trail)?;
         }
     }
     Ok(trail)
@@ -183,6 +170,7 @@ pub(crate) fn trail(
 fn push_operands(
     alloc: Global,
     slots: &[Option<Insn>],
+    ways: &Ways,
     maker: Maker,
     trail: &mut Vec<Maker>,
 ) -> Result<(), AllocError>
@@ -196,13 +184,14 @@ fn push_operands(
     let Some(insn) = instruction(slots, maker.slot) else {
         return Ok(());
     };
-    push_makers(alloc, slots, maker.slot, &read_registers(insn), trail)
+    push_makers(alloc, slots, ways, maker.slot, &read_registers(insn), trail)
 }
 
 /// The instructions that made the registers for the slot, as long as there is room.
 fn push_makers(
     alloc: Global,
     slots: &[Option<Insn>],
+    ways: &Ways,
     slot: usize,
     asked: &Registers,
     trail: &mut Vec<Maker>,
@@ -215,14 +204,20 @@ fn push_makers(
     for register in 0..11u8 {
         if asked[usize::from(register)] {
             let made = makers(alloc, slots, register, slot)?;
-            push_named(register, made.as_slice(), trail)?;
+            let reaching = reaching(alloc, slots, ways, register, slot)?;
+            push_named(register, made.as_slice(), reaching.as_slice(), trail)?;
         }
     }
     Ok(())
 }
 
-/// These makers of the register, those that are on the trail already aside, as long as there is room.
-fn push_named(register: u8, made: &[usize], trail: &mut Vec<Maker>) -> Result<(), AllocError>
+/// Those of the makers of the register from which a run may come and that are not on the trail yet, as long as there is room.
+fn push_named(
+    register: u8,
+    made: &[usize],
+    reaching: &[bool],
+    trail: &mut Vec<Maker>,
+) -> Result<(), AllocError>
     ensures { OnOk result ((maker : Named) → Contains trail.new.items maker → Contains trail.old.items maker ⊎ ((maker.register ≡ register) × Contains made.now maker.slot)) }
 {
     for slot in made {
@@ -230,14 +225,15 @@ fn push_named(register: u8, made: &[usize], trail: &mut Vec<Maker>) -> Result<()
             slot: *slot,
             register,
         };
-        if trail.len() < MOST && !is_named(trail.as_slice(), maker) {
+        if trail.len() < MOST && !is_left_out(trail.as_slice(), reaching, maker) {
             trail.push(maker)?;
         }
     }
     Ok(())
 }
 
-/// Whether the maker is one of these.
-fn is_named(trail: &[Maker], maker: Maker) -> bool {
-    trail.iter().any(|named| named.slot == maker.slot && named.register == maker.register)
+/// Whether the maker is one of these, or no run comes from it.
+fn is_left_out(trail: &[Maker], reaching: &[bool], maker: Maker) -> bool {
+    !is_marked(reaching, maker.slot)
+        || trail.iter().any(|named| named.slot == maker.slot && named.register == maker.register)
 }

@@ -5,8 +5,8 @@ ghost use Rattle.bq_verify.specs.Passes.{IsSound};
 ghost use Rattle.bq_explain.specs.Makers.{IsLaidOut};
 
 use crate::after::known_after;
-use crate::makers::leading_to;
 use crate::place::{Place, place_at};
+use crate::ways::{Ways, is_marked, reaching, spares};
 use bq_insn::{Insn, SLOTS};
 use bq_policy_file::PolicySource;
 use bq_states::abstract_state::AbstractValue;
@@ -46,17 +46,20 @@ pub(crate) fn meeting_of(
     policy: &PolicySource,
     program: &Program,
     slots: &[Option<Insn>],
+    ways: &Ways,
     register: u8,
     slot: usize,
 ) -> Result<Option<Meeting>, AllocError>
     requires laid { IsLaidOut program.now slots.now }
     requires inside { slot < length slots.now }
 {
-    let leading = leading_to(alloc, slots, register, slot)?;
+    let reaching = reaching(alloc, slots, ways, register, slot)?;
     let mut tried: usize = 0;
     for back in 0..slot {
         let here = slot - back;
-        if tried < TRIED && leading.as_slice().get(here).copied() == Some(true) {
+        let is_on_way = here == slot
+            || (is_marked(reaching.as_slice(), here) && spares(slots, register, here));
+        if tried < TRIED && is_on_way {
             let from = before(alloc, slots, here)?;
             if from.len() > 1 {
                 tried = tried.saturating_add(1);

@@ -8,7 +8,7 @@ ghost use Rattle.bq_policy_file.specs.declared.policy_source.PolicySource.{Polic
 ghost use Rattle.bq_explain.specs.Explained.{AreMade, IsFinding, IsOfState, IsRefusalOf};
 ghost use Rattle.bq_explain.specs.Verdicts.{IsRefusedPolicy};
 
-use crate::advice::{Advice, graph_advice, state_advice};
+use crate::advice::{Advice, graph_advice, only, state_advice};
 use crate::graph_fault::{GraphFault, graph_fault, label_on};
 use crate::place::{Place, place_at};
 use crate::trail::{Trail, no_trail, trail_of};
@@ -83,13 +83,14 @@ fn graph_refusal(
 {
     let fault = graph_fault(slots.len(), place.slot, place.insn, named);
     let label = label_of(alloc, file, place, named)?;
+    let advice = graph_advice(fault, slots.len());
     Ok(Refusal {
         place,
         cause: Cause::Graph(named),
         finding: Finding::Graph(fault),
         label,
         trail: no_trail(alloc),
-        advice: graph_advice(fault),
+        advice,
     })
 }
 
@@ -179,13 +180,4 @@ fn asked_by(need: Need) -> Registers {
         Need::Answer(_) => only(0),
         Need::Map(_) | Need::Unshown => [false; 11],
     }
-}
-
-/// That register.
-fn only(register: u8) -> Registers {
-    let mut registers = [false; 11];
-    if register < 11 {
-        registers[usize::from(register)] = true;
-    }
-    registers
 }

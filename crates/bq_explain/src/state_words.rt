@@ -111,7 +111,7 @@ fn stack_line(alloc: Global, state: &AbstractState) -> Result<String, AllocError
 {
     let runs = runs_text(alloc, state)?;
     if runs.is_empty() {
-        return String::from_str(alloc, " stack: nothing written\n");
+        return String::from_str(alloc, " stack: nothing known to be written\n");
     }
     format!(in alloc; " stack:{runs} written\n")
 }

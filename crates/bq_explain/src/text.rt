@@ -5,7 +5,7 @@ ghost use Rattle.bq_explain.specs.Beginnings.{accepted_words, first_words};
 ghost use Rattle.bq_explain.specs.Explained.{TellsDetail, TellsFinding};
 ghost use Rattle.bq_explain.specs.Verdicts.{is_accepted};
 
-use crate::advice::advice_text;
+use crate::advice_words::advice_text;
 use crate::explanation::{Detail, Explanation};
 use crate::graph_fault::graph_text;
 use crate::limits::Over;
@@ -125,7 +125,7 @@ fn refusal_text(
     ensures tells { IfOk result (λ text. TellsFinding policy.now refusal.now.place.insn refusal.now.finding (string_bytes text)) }
 {
     let at = instruction_line(alloc, name, &refusal.place)?;
-    let after = after_text(alloc, refusal)?;
+    let after = after_text(alloc, policy, refusal)?;
     match refusal.finding {
         Finding::Graph(fault) => {
             let need = graph_text(alloc, policy, fault, refusal.label.as_deref())?;
@@ -156,9 +156,13 @@ pub fn need_words(
 }
 
 /// Where the registers come from, and what helps.
-fn after_text(alloc: Global, refusal: &Refusal) -> Result<String, AllocError> {
+fn after_text(
+    alloc: Global,
+    policy: &PolicySource,
+    refusal: &Refusal,
+) -> Result<String, AllocError> {
     let trail = trail_text(alloc, &refusal.trail)?;
-    let help = advice_text(alloc, refusal.advice)?;
+    let help = advice_text(alloc, policy, refusal.advice)?;
     format!(in alloc; "{trail}  helps: {help}\n")
 }
 

@@ -4,9 +4,10 @@ ghost use Rattle.bq_verify.specs.Passes.{IsSound};
 ghost use Rattle.bq_explain.specs.Explained.{AreMade, AreOf, IsOf};
 ghost use Rattle.bq_explain.specs.Makers.{IsLaidOut};
 
-use crate::makers::{Maker, leading_to, makers, trail};
+use crate::makers::{Maker, makers, trail};
 use crate::meeting::{Meeting, known_behind, meeting_of};
 use crate::place::{Place, place_at};
+use crate::ways::{Ways, is_marked, reaching, spares, ways_before};
 use bq_insn::{Insn, SLOTS};
 use bq_needs::{Registers, read_registers};
 use bq_policy_file::PolicySource;
@@ -22,8 +23,10 @@ const MEETINGS: usize = 3;
 pub struct Trail {
     /// The instructions that made them, the nearest first, and then those that made what these read; six at most.
     pub made: Vec<Made>,
-    /// Those of them that no instruction sets on some way from the start.
+    /// Those of the registers that no instruction sets on some way from the start.
     pub unset: Registers,
+    /// Those of them that a call leaves unset on some way.
+    pub called: Registers,
     /// Where ways meet that bring different words into one of them, or into what a maker reads; three at most.
     pub meetings: Vec<Meeting>,
 }
@@ -40,8 +43,13 @@ pub struct Made {
 impl Made {
     /// Whether it is a call, which left the register unset.
     pub fn is_unset(&self) -> bool {
-        matches!(self.place.insn, Insn::Call { .. }) && self.register != 0
+        leaves_unset(self.place.insn, self.register)
     }
+}
+
+/// Whether the instruction is a call that leaves the register unset, if it writes that.
+fn leaves_unset(insn: Insn, register: u8) -> bool {
+    matches!(insn, Insn::Call { .. }) && register != 0
 }
 
 /// Of nothing.
@@ -51,6 +59,7 @@ pub(crate) fn no_trail(alloc: Global) -> Trail
     Trail {
         made: Vec::new(alloc),
         unset: [false; 11],
+        called: [false; 11],
         meetings: Vec::new(alloc),
     }
 }
@@ -68,18 +77,21 @@ pub(crate) fn trail_of(
     requires inside { slot < length slots.now }
     ensures { IfOk result (λ trail. AreMade slots.now slot asked.now trail.made.items) }
 {
-    let makers = trail(alloc, slots, slot, asked)?;
+    let ways = ways_before(alloc, program, slots, slot)?;
+    let makers = trail(alloc, slots, &ways, slot, asked)?;
     let made = made_by(alloc, policy, program, slots, makers.as_slice())?;
-    let unset = unset_from_start(alloc, slots, slot, asked)?;
+    let unset = unset_from_start(alloc, slots, &ways, slot, asked)?;
+    let called = left_by_calls(alloc, slots, &ways, slot, asked)?;
     let asked = Asked {
         slot,
         registers: *asked,
         makers: 0,
     };
-    let meetings = meetings(alloc, policy, program, slots, asked, made.as_slice())?;
+    let meetings = meetings(alloc, policy, program, slots, &ways, asked, made.as_slice())?;
     Ok(Trail {
         made,
         unset,
+        called,
         meetings,
     })
 }
@@ -131,6 +143,27 @@ fn made_of(
 fn unset_from_start(
     alloc: Global,
     slots: &[Option<Insn>],
+    ways: &Ways,
+    slot: usize,
+    asked: &Registers,
+) -> Result<Registers, AllocError> {
+    let mut unset = [false; 11];
+    for register in 0..11u8 {
+        let at = usize::from(register);
+        if asked[at] && register != 1 && register != 10 {
+            let reaching = reaching(alloc, slots, ways, register, slot)?;
+            unset[at] = slot == 0
+                || (is_marked(reaching.as_slice(), 0) && spares(slots, register, 0));
+        }
+    }
+    Ok(unset)
+}
+
+/// Those of the registers that a call leaves unset on some way to the slot.
+fn left_by_calls(
+    alloc: Global,
+    slots: &[Option<Insn>],
+    ways: &Ways,
     slot: usize,
     asked: &Registers,
 ) -> Result<Registers, AllocError>
@@ -138,15 +171,26 @@ fn unset_from_start(
     requires short { length slots.now ≤ SLOTS }
     requires sound { IsSound slots.now }
 {
-    let mut unset = [false; 11];
+    let mut called = [false; 11];
     for register in 0..11u8 {
         let at = usize::from(register);
-        if asked[at] && register != 1 && register != 10 {
-            let leading = leading_to(alloc, slots, register, slot)?;
-            unset[at] = leading.as_slice().first().copied() == Some(true);
+        if asked[at] {
+            let made = makers(alloc, slots, register, slot)?;
+            let reaching = reaching(alloc, slots, ways, register, slot)?;
+            called[at] = made.as_slice().iter().any(|maker| {
+                is_marked(reaching.as_slice(), *maker) && is_call(slots, register, *maker)
+            });
         }
     }
-    Ok(unset)
+    Ok(called)
+}
+
+/// Whether the instruction of the slot is a call that leaves the register unset.
+fn is_call(slots: &[Option<Insn>], register: u8, slot: usize) -> bool {
+    match slots.get(slot).copied() {
+        Some(Some(insn)) => leaves_unset(insn, register),
+        _ => false,
+    }
 }
 
 /// Where ways meet that bring different words: into the registers that are asked at the slot, and into what the makers read.
@@ -155,20 +199,21 @@ fn meetings(
     policy: &PolicySource,
     program: &Program,
     slots: &[Option<Insn>],
+    ways: &Ways,
     asked: Asked,
     made: &[Made],
 ) -> Result<Vec<Meeting>, AllocError>
     requires laid { IsLaidOut program.now slots.now }
 {
     let mut meetings = Vec::new(alloc);
-    push_meetings(alloc, policy, program, slots, asked, &mut meetings)?;
+    push_meetings(alloc, policy, program, slots, ways, asked, &mut meetings)?;
     for one in made {
         let operands = Asked {
             slot: one.place.slot,
             registers: read_registers(one.place.insn),
             makers: 2,
         };
-        push_meetings(alloc, policy, program, slots, operands, &mut meetings)?;
+        push_meetings(alloc, policy, program, slots, ways, operands, &mut meetings)?;
     }
     Ok(meetings)
 }
@@ -187,6 +232,7 @@ fn push_meetings(
     policy: &PolicySource,
     program: &Program,
     slots: &[Option<Insn>],
+    ways: &Ways,
     asked: Asked,
     meetings: &mut Vec<Meeting>,
 ) -> Result<(), AllocError>
@@ -199,7 +245,7 @@ fn push_meetings(
         if asked.registers[usize::from(register)] && meetings.len() < MEETINGS {
             let made = makers(alloc, slots, register, asked.slot)?;
             if made.len() >= asked.makers {
-                let met = meeting_of(alloc, policy, program, slots, register, asked.slot)?;
+                let met = meeting_of(alloc, policy, program, slots, ways, register, asked.slot)?;
                 push_new(met, meetings)?;
             }
         }

@@ -22,6 +22,7 @@ use Rattle.bq_needs.specs.declared.operands.Access.{Access}
 pub lacks_not_shown : (p : PolicySource) (state : AbstractState) (a : Access) (k : AbstractValue) (why : Lack) → Lacks p state a k why → IsShown p state a k → ⊥
 lacks_not_shown p state a k lack.Number of shown = let e = rw of at shown.bound_is in cc
 lacks_not_shown p state a k lack.Answer (map, of) shown = let e = rw of at shown.bound_is in cc
+lacks_not_shown p state a k lack.MovedAnswer ((map, of), moved) shown = let e = rw of at shown.bound_is in cc
 lacks_not_shown p state a k lack.Reference (map, of) shown = let e = rw of at shown.bound_is in cc
 lacks_not_shown p state a k lack.WritesContext (of, writes) shown = shown.writable writes of
 lacks_not_shown p state a k lack.BeyondContext (of, read, (o, within, beyond)) shown =

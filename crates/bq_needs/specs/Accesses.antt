@@ -1,5 +1,5 @@
 -- When the abstract state shows an access to be good, and what a text tells of one that it does not.
-use Rattle.std.specs.Prelude.{◌≡◌, ◌≢◌, ℕ, ℤ, ◌+◌, ◌-◌, ◌%◌, ◌^◌, ◌<◌, ◌≤◌, Bool, true, false, List, ◌++◌, Some, None, codes, if◌then◌else◌, slice_get, slice_index_or}
+use Rattle.std.specs.Prelude.{◌≡◌, ◌≢◌, ℕ, ℤ, ◌+◌, ◌-◌, ◌%◌, ◌^◌, ◌<◌, ◌≤◌, ◌==◌, Bool, true, false, List, ◌++◌, Some, None, codes, if◌then◌else◌, slice_get, slice_index_or}
 use Rattle.std.specs.Fmt.{decimal}
 use Rattle.bq_bpf.specs.Steps.{address_of}
 use Rattle.bq_ranges.specs.Within.{Within}
@@ -71,6 +71,7 @@ pub record IsShown (p : PolicySource) (state : AbstractState) (a : Access) (k : 
 abbrev pub Lacks : PolicySource → AbstractState → Access → AbstractValue → Lack → Type 0
 Lacks p state a k lack.Number = k.kind ≡ kind.Number
 Lacks p state a k lack.Answer = (map : ℕ) × (k.kind ≡ kind.EntryOrNull map)
+Lacks p state a k lack.MovedAnswer = ((map : ℕ) × (k.kind ≡ kind.EntryOrNull map)) × (0 < k.offset.hi)
 Lacks p state a k lack.Reference = (map : ℕ) × (k.kind ≡ kind.Map map)
 Lacks p state a k lack.WritesContext = (k.kind ≡ kind.Context) × (a.writes ≡ true)
 Lacks p state a k lack.BeyondContext = (k.kind ≡ kind.Context) × (a.writes ≡ false) × GoesBeyond a k.offset (context_of p.form)
@@ -82,11 +83,12 @@ Lacks p state a k lack.InNoMap = (map : ℕ) × (k.kind ≡ kind.Entry map) × (
 abbrev pub lack_text : PolicySource → Lack → List ℕ
 lack_text p lack.Number = codes "a number is no address"
 lack_text p lack.Answer = codes "test it first"
+lack_text p lack.MovedAnswer = codes "an answer to which a number was added can't be tested"
 lack_text p lack.Reference = codes "the reference of a map is no address of its values"
 lack_text p lack.WritesContext = codes "the context is only read"
 lack_text p lack.BeyondContext = codes "the context of " ++ (hook_word p.form.hook ++ (codes ", version " ++ (decimal (version_number p.form.version) ++ (codes ", has " ++ (decimal (context_of p.form) ++ codes " bytes")))))
 lack_text p lack.BeyondStack = codes "the stack has the 512 bytes below r10"
-lack_text p lack.ReadsUnset = codes "not all of these bytes were written before, on each way that leads here"
+lack_text p lack.ReadsUnset = codes "on some way that leads here not all of these bytes are known to be written"
 lack_text p (lack.BeyondValue map size) = codes "a value of map " ++ (decimal map ++ (codes " has " ++ (decimal size ++ codes " bytes, and an access stays in one")))
 lack_text p lack.InNoMap = codes "an access stays in one value"
 
@@ -121,6 +123,10 @@ abbrev pub verb : Bool → List ℕ
 verb true = codes "writes"
 verb false = codes "reads"
 
+-- one byte, or several
+abbrev pub noun : ℕ → List ℕ
+noun bytes = if bytes == 1 then codes "byte" else codes "bytes"
+
 -- how many bytes are read or written, and from where
 abbrev pub access_text : Access → List ℕ → List ℕ
-access_text a begin = verb a.writes ++ (codes " " ++ (decimal a.bytes ++ (codes " bytes at " ++ begin)))
+access_text a begin = verb a.writes ++ (codes " " ++ (decimal a.bytes ++ (codes " " ++ (noun a.bytes ++ (codes " at " ++ begin)))))

@@ -1,8 +1,12 @@
 -- A need in words.
-use Rattle.std.specs.Prelude.{◌≡◌, ℕ, zero, suc, ℤ, Bool, false, List, [], ◌++◌, Option, Some, None, codes, if◌then◌else◌, length, slice_index_or}
+use Rattle.std.specs.Prelude.{◌≡◌, ℕ, zero, suc, ◌-◌, ◌==◌, ◌&&◌, ℤ, Bool, true, false, List, [], ◌++◌, Option, Some, None, codes, if◌then◌else◌, length, slice_index_or}
 use Rattle.std.specs.Fmt.{decimal, signed_decimal}
 use Rattle.bq_insn.specs.declared.Insn.{Insn}
-use Rattle.bq_insn.specs.declared.Insn.TheVariants.{StoreReg, Branch}
+use Rattle.bq_insn.specs.declared.Insn.TheVariants.{Alu, StoreReg, Branch}
+use Rattle.bq_insn.specs.declared.Width.TheVariants.{W64}
+use Rattle.bq_insn.specs.declared.Operation.TheVariants.{Add, Sub}
+use Rattle.bq_states.specs.declared.abstract_state.ValueKind.{ValueKind}
+use Rattle.bq_states.specs.declared.abstract_state.ValueKind.TheVariants as kind
 use Rattle.bq_states.specs.declared.abstract_state.AbstractValue.{AbstractValue}
 use Rattle.bq_states.specs.declared.abstract_state.AbstractState.{AbstractState}
 use Rattle.bq_policy_file.specs.declared.policy_source.PolicySource.{PolicySource}
@@ -11,18 +15,18 @@ use Rattle.bq_needs.specs.declared.needs.Need.{Need}
 use Rattle.bq_needs.specs.declared.needs.Need.TheVariants.{Unknown, Address, Access, Number, Map, Argument, Answer, Unshown}
 use Rattle.bq_needs.specs.declared.needs.Pointer.{Pointer}
 use Rattle.bq_needs.specs.declared.operands.Access.{Access as Accessed}
-use Rattle.bq_needs.specs.Accesses.{TellsBegin, access_text, lack_text, may_be_null, register_text, verb}
+use Rattle.bq_needs.specs.Accesses.{TellsBegin, access_text, lack_text, may_be_null, noun, register_text, verb}
 use Rattle.bq_needs.specs.Arguments.{register_of, wanted_text}
 use Rattle.bq_needs.specs.Operands.{known_in}
 use Rattle.bq_needs.specs.Texts.{known_text}
 
--- the names of those of the first registers, this many, that are marked
-abbrev pub name_text : ℕ → Bool → List ℕ
-name_text r named = if named then codes " r" ++ decimal r else []
+-- the names of those of the first registers, this many, that are marked, with `and` between
+abbrev pub name_text : ℕ → Bool → Bool → List ℕ
+name_text r is_first named = if named then (if is_first then codes " r" ++ decimal r else codes " and r" ++ decimal r) else []
 
 abbrev pub names_below : ℕ → List Bool → List ℕ
 names_below zero registers = []
-names_below (suc n) registers = names_below n registers ++ name_text n (slice_index_or registers n false)
+names_below (suc n) registers = names_below n registers ++ name_text n (length (names_below n registers) == 0) (slice_index_or registers n false)
 
 -- the registers that are read and of which nothing is known
 abbrev pub unknown_text : List Bool → List ℕ
@@ -30,30 +34,47 @@ unknown_text registers = codes "reads" ++ (names_below 11 registers ++ codes ", 
 
 -- an access by a register of which nothing is known
 abbrev pub address_text : Accessed → List ℕ
-address_text a = verb a.writes ++ (codes " " ++ (decimal a.bytes ++ (codes " bytes at r" ++ (decimal a.register ++ codes ", of which nothing is known here"))))
+address_text a = verb a.writes ++ (codes " " ++ (decimal a.bytes ++ (codes " " ++ (noun a.bytes ++ (codes " at r" ++ (decimal a.register ++ codes ", of which nothing is known here"))))))
 
 -- an access and where it begins
 abbrev pub TellsAccess : Accessed → AbstractValue → List ℕ → Type 0
 TellsAccess a k text = (begin : List ℕ) × TellsBegin a k begin × (text ≡ access_text a begin)
 
--- what may be done with a pointer, where the instruction does another thing
-abbrev pub other_rule : AbstractValue → List ℕ
-other_rule k =
-    if may_be_null k.kind then codes "test it first"
-    else codes "a pointer may be copied by mov64, and a number be added to it or taken from it by add64 and sub64"
+-- the instruction adds to the register or takes from it, or adds it to a number, in 64 bits: the reference of a map aside, a pointer takes that
+abbrev pub moves : Insn → ℕ → Bool
+moves (Alu W64 Add dst src) r = true
+moves (Alu W64 Sub dst src) r = dst == r
+moves insn r = false
 
-abbrev pub pointer_rule : Insn → AbstractValue → List ℕ
-pointer_rule (StoreReg size dst off src) k = codes "a pointer is stored whole by stxdw, on the stack, at a multiple of 8 below r10"
-pointer_rule (Branch w c dst src off) k = codes "of pointers only the answer of a look-up is compared, by jeq64 or jne64 with the number 0"
-pointer_rule insn k = other_rule k
+-- what may be done with a pointer of the kind
+abbrev pub kind_rule : ValueKind → List ℕ
+kind_rule (kind.Map map) = codes "the reference of a map may be copied by mov64, and nothing may be added to it or taken from it"
+kind_rule (kind.EntryOrNull map) = codes "the answer of a look-up may be copied by mov64; before its test no number may be added to it"
+kind_rule other = codes "a pointer may be copied by mov64; a number may be added to it by add64, or taken from it by sub64"
+
+-- what may be done with a pointer, where the instruction does another thing: a test of an answer helps where it is moved for the first time
+abbrev pub other_rule : Insn → Pointer → List ℕ
+other_rule insn p =
+    if may_be_null p.known.kind && (p.known.offset.hi == 0 && moves insn p.register) then codes "test it first" else kind_rule p.known.kind
+
+abbrev pub pointer_rule : Insn → Pointer → List ℕ
+pointer_rule (StoreReg size dst off src) p = codes "a pointer is stored whole by stxdw, on the stack, at a multiple of 8 below r10"
+pointer_rule (Branch w c dst src off) p = codes "of pointers only the answer of a look-up is compared, by jeq64 or jne64 with the number 0"
+pointer_rule insn p = other_rule insn p
 
 -- a pointer that is worked on
 abbrev pub pointer_text : Pointer → Insn → List ℕ
-pointer_text pointer insn = codes "works on " ++ (register_text pointer.register pointer.known ++ (codes "; " ++ pointer_rule insn pointer.known))
+pointer_text pointer insn = codes "works on " ++ (register_text pointer.register pointer.known ++ (codes "; " ++ pointer_rule insn pointer))
+
+-- how many maps a program has, and their numbers
+abbrev pub maps_text : ℕ → List ℕ
+maps_text count =
+    if count == 0 then codes "no maps"
+    else if count == 1 then codes "1 map, number 0" else decimal count ++ (codes " maps, numbers 0 to " ++ decimal (count - 1))
 
 -- a number that is no map's, and how many maps there are
 abbrev pub map_text : ℤ → ℕ → List ℕ
-map_text index count = codes "names map " ++ (signed_decimal index ++ (codes "; the program has " ++ (decimal count ++ codes " maps, numbered from 0")))
+map_text index count = codes "names map " ++ (signed_decimal index ++ (codes "; the program has " ++ maps_text count))
 
 -- what is known of an argument
 abbrev pub here_text : ℕ → Option AbstractValue → List ℕ

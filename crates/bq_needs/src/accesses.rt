@@ -20,6 +20,8 @@ pub enum Lack {
     Number,
     /// It is the answer of a look-up, which may be 0.
     Answer,
+    /// The same, and a number was added to it on some way.
+    MovedAnswer,
     /// It is the reference of a map.
     Reference,
     /// The access writes the context.
@@ -48,6 +50,7 @@ pub(crate) fn lack_of(
 {
     match pointer.kind {
         ValueKind::Number => Some(Lack::Number),
+        ValueKind::EntryOrNull(_) if pointer.offset.hi > 0 => Some(Lack::MovedAnswer),
         ValueKind::EntryOrNull(_) => Some(Lack::Answer),
         ValueKind::Map(_) => Some(Lack::Reference),
         ValueKind::Context => context_lack(policy, state, access, pointer),
@@ -269,6 +272,10 @@ pub(crate) fn lack_text(
     match lack {
         Lack::Number => String::from_str(alloc, "a number is no address"),
         Lack::Answer => String::from_str(alloc, "test it first"),
+        Lack::MovedAnswer => String::from_str(
+            alloc,
+            "an answer to which a number was added can't be tested",
+        ),
         Lack::Reference => String::from_str(
             alloc,
             "the reference of a map is no address of its values",
@@ -281,7 +288,7 @@ pub(crate) fn lack_text(
         ),
         Lack::ReadsUnset => String::from_str(
             alloc,
-            "not all of these bytes were written before, on each way that leads here",
+            "on some way that leads here not all of these bytes are known to be written",
         ),
         Lack::BeyondValue(map, size) => {
             format!(in alloc; "a value of map {map} has {size} bytes, and an access stays in one")

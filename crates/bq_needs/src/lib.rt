@@ -15,4 +15,4 @@ pub use arguments::Argument;
 pub use known::{known_text, range_text};
 pub use needs::{Need, Pointer, need_of};
 pub use operands::{Access, Registers, read_registers, reads};
-pub use words::need_text;
+pub use words::{moves, need_text};

@@ -1,17 +1,17 @@
 //! A need in words.
 ghost use Rattle.std.specs.Prelude.{◌≡◌, IfOk, string_bytes};
-ghost use Rattle.bq_needs.specs.Accesses.{verb};
+ghost use Rattle.bq_needs.specs.Accesses.{noun, verb};
 ghost use Rattle.bq_needs.specs.Operands.{known_in};
-ghost use Rattle.bq_needs.specs.Words.{TellsAccess, TellsNeed, address_text, answer_text, argument_text, here_text, map_text, name_text, names_below, other_rule, pointer_rule, pointer_text, unknown_text};
+ghost use Rattle.bq_needs.specs.Words.{TellsAccess, TellsNeed, address_text, answer_text, argument_text, here_text, kind_rule, map_text, maps_text, moves, name_text, names_below, other_rule, pointer_rule, pointer_text, unknown_text};
 
 use crate::accesses::{begin_text, lack_text, may_be_null, register_text};
 use crate::arguments::{Argument, wanted_text};
 use crate::known::known_text;
 use crate::needs::{Need, Pointer};
 use crate::operands::{Access, Registers};
-use bq_insn::Insn;
+use bq_insn::{Insn, Operation, Width};
 use bq_policy_file::PolicySource;
-use bq_states::abstract_state::{AbstractState, AbstractValue};
+use bq_states::abstract_state::{AbstractState, AbstractValue, ValueKind};
 use bq_states::registers::known;
 use std::alloc::{AllocError, Global};
 
@@ -59,20 +59,26 @@ fn names(alloc: Global, registers: &Registers) -> Result<String, AllocError>
 {
     let mut text = String::new(alloc);
     for register in 0..11usize {
-        let name = name_text(alloc, register, registers[register])?;
+        let is_first = text.is_empty();
+        let name = name_text(alloc, register, is_first, registers[register])?;
         text.push_str(name.as_str())?;
     }
     Ok(text)
 }
 
-/// The name of a register, if it is one of them.
-fn name_text(alloc: Global, register: usize, is_named: bool) -> Result<String, AllocError>
-    ensures { IfOk result (λ text. string_bytes text ≡ name_text register is_named) }
+/// The name of a register, if it is one of them; `and` stands before it, unless it is the first.
+fn name_text(
+    alloc: Global,
+    register: usize,
+    is_first: bool,
+    is_named: bool,
+) -> Result<String, AllocError>
+    ensures { IfOk result (λ text. string_bytes text ≡ name_text register is_first is_named) }
 {
-    if is_named {
-        format!(in alloc; " r{register}")
-    } else {
-        Ok(String::new(alloc))
+    match (is_named, is_first) {
+        (true, true) => format!(in alloc; " r{register}"),
+        (true, false) => format!(in alloc; " and r{register}"),
+        (false, _) => Ok(String::new(alloc)),
     }
 }
 
@@ -82,8 +88,9 @@ fn address_text(alloc: Global, access: Access) -> Result<String, AllocError>
 {
     let verb = verb(access.writes);
     let bytes = access.bytes;
+    let noun = noun(bytes);
     let register = access.register;
-    format!(in alloc; "{verb} {bytes} bytes at r{register}, of which nothing is known here")
+    format!(in alloc; "{verb} {bytes} {noun} at r{register}, of which nothing is known here")
 }
 
 /// How many bytes an access reads or writes, and from where.
@@ -92,8 +99,9 @@ fn access_text(alloc: Global, access: Access, pointer: AbstractValue) -> Result<
 {
     let verb = verb(access.writes);
     let bytes = access.bytes;
+    let noun = noun(bytes);
     let begin = begin_text(alloc, access, pointer)?;
-    format!(in alloc; "{verb} {bytes} bytes at {begin}")
+    format!(in alloc; "{verb} {bytes} {noun} at {begin}")
 }
 
 /// What an access does with the bytes.
@@ -103,18 +111,25 @@ fn verb(writes: bool) -> &'static str
     if writes { "writes" } else { "reads" }
 }
 
+/// One byte, or several.
+fn noun(bytes: usize) -> &'static str
+    ensures { result.now ≡ noun bytes }
+{
+    if bytes == 1 { "byte" } else { "bytes" }
+}
+
 /// A pointer that is worked on, and what may be done with it.
 fn pointer_text(alloc: Global, pointer: Pointer, insn: Insn) -> Result<String, AllocError>
     ensures { IfOk result (λ text. string_bytes text ≡ pointer_text pointer insn) }
 {
     let told = register_text(alloc, pointer.register, pointer.known)?;
-    let rule = pointer_rule(insn, pointer.known);
+    let rule = pointer_rule(insn, pointer);
     format!(in alloc; "works on {told}; {rule}")
 }
 
 /// What may be done with a pointer, where the instruction does another thing.
-fn pointer_rule(insn: Insn, known: AbstractValue) -> &'static str
-    ensures { result.now ≡ pointer_rule insn known }
+fn pointer_rule(insn: Insn, pointer: Pointer) -> &'static str
+    ensures { result.now ≡ pointer_rule insn pointer }
 {
     match insn {
         Insn::StoreReg { .. } => {
@@ -123,18 +138,55 @@ fn pointer_rule(insn: Insn, known: AbstractValue) -> &'static str
         Insn::Branch { .. } => {
             "of pointers only the answer of a look-up is compared, by jeq64 or jne64 with the number 0"
         }
-        _ => other_rule(known),
+        _ => other_rule(insn, pointer),
     }
 }
 
-/// The same, of what neither stores nor compares.
-fn other_rule(known: AbstractValue) -> &'static str
-    ensures { result.now ≡ other_rule known }
+/// The same, of what neither stores nor compares: the answer of a look-up may be moved after its test.
+fn other_rule(insn: Insn, pointer: Pointer) -> &'static str
+    ensures { result.now ≡ other_rule insn pointer }
 {
-    if may_be_null(known.kind) {
+    let is_first = pointer.known.offset.hi == 0 && moves(insn, pointer.register);
+    if may_be_null(pointer.known.kind) && is_first {
         "test it first"
     } else {
-        "a pointer may be copied by mov64, and a number be added to it or taken from it by add64 and sub64"
+        kind_rule(pointer.known.kind)
+    }
+}
+
+/// Whether the instruction adds to the register or takes from it, or adds it to a number, in 64 bits: then a pointer is moved.
+pub fn moves(insn: Insn, register: u8) -> bool
+    ensures { result ≡ moves insn register }
+{
+    match insn {
+        Insn::Alu {
+            width: Width::W64,
+            op: Operation::Add,
+            ..
+        } => true,
+        Insn::Alu {
+            width: Width::W64,
+            op: Operation::Sub,
+            dst,
+            ..
+        } => dst == register,
+        _ => false,
+    }
+}
+
+/// What may be done with a pointer of the kind.
+fn kind_rule(kind: ValueKind) -> &'static str
+    ensures { result.now ≡ kind_rule kind }
+{
+    match kind {
+        ValueKind::Map(_) => {
+            "the reference of a map may be copied by mov64, and nothing may be added to it or taken from it"
+        }
+        ValueKind::EntryOrNull(_) => {
+            "the answer of a look-up may be copied by mov64; before its test no number may be added to it"
+        }
+        _ =>
+            "a pointer may be copied by mov64; a number may be added to it by add64, or taken from it by sub64",
     }
 }
 
@@ -142,7 +194,22 @@ fn other_rule(known: AbstractValue) -> &'static str
 fn map_text(alloc: Global, index: i32, count: usize) -> Result<String, AllocError>
     ensures { IfOk result (λ text. string_bytes text ≡ map_text index count) }
 {
-    format!(in alloc; "names map {index}; the program has {count} maps, numbered from 0")
+    let maps = maps_text(alloc, count)?;
+    format!(in alloc; "names map {index}; the program has {maps}")
+}
+
+/// How many maps a program has, and their numbers.
+fn maps_text(alloc: Global, count: usize) -> Result<String, AllocError>
+    ensures { IfOk result (λ text. string_bytes text ≡ maps_text count) }
+{
+    if count == 0 {
+        return String::from_str(alloc, "no maps");
+    }
+    if count == 1 {
+        return String::from_str(alloc, "1 map, number 0");
+    }
+    let last = count - 1;
+    format!(in alloc; "{count} maps, numbers 0 to {last}")
 }
 
 /// What a helper needs an argument to be, and what is known of it.

@@ -18,7 +18,7 @@ pub(crate) fn image_words(fault: LoadFault) -> &'static str {
         ),
         LoadFault::Cut => "the bytes end before the image does",
         LoadFault::Rest => "bytes stand after the program",
-        LoadFault::Decode { .. } => "the program's bytes are no instructions",
+        LoadFault::Decode { cause, .. } => spelling_words(cause),
         LoadFault::Refused { .. } => "the program is not shown to be safe",
         LoadFault::OutOfMemory => "out of memory",
     }
@@ -28,11 +28,14 @@ pub(crate) fn image_words(fault: LoadFault) -> &'static str {
 pub(crate) fn spelling_words(cause: Spelling) -> &'static str {
     match cause {
         Spelling::Length => with_slots!("a program has ", " slots of 8 bytes"),
-        Spelling::Opcode => "the first byte names no instruction of the groups that there are",
+        Spelling::Opcode =>
+            "the first byte names no instruction; docs/INSTRUCTIONS.md has those that there are",
         Spelling::Register => "a register is not one of r0 to r10",
-        Spelling::Field => "a field that the instruction does not use is not 0",
-        Spelling::Offset => "the offset is none that the instruction has",
-        Spelling::Imm => "the immediate is none that the instruction has",
-        Spelling::WideCut => "a wide instruction has no second slot, or a wrong one",
+        Spelling::Field =>
+            "a field that the instruction does not use is not 0, in its first slot or in its second",
+        Spelling::Offset =>
+            "the offset names no form of the instruction, or the source field no kind of call or wide load",
+        Spelling::Imm => "the immediate is no width that a byte order has (docs/INSTRUCTIONS.md)",
+        Spelling::WideCut => "a wide instruction stands in the last slot, and has no second one",
     }
 }

@@ -64,7 +64,7 @@ pub(crate) fn fields_of_refusal(
     put(&mut fields, alloc, "registers", registers)?;
     let trail = trail_value(alloc, refusal.trail.made.as_slice())?;
     put(&mut fields, alloc, "trail", trail)?;
-    let advice = advice_text(alloc, refusal.advice)?;
+    let advice = advice_text(alloc, policy, refusal.advice)?;
     put_text(&mut fields, alloc, "advice", advice.as_str())?;
     Ok(fields)
 }

@@ -7,7 +7,7 @@ use crate::image_words::{image_words, spelling_words};
 use crate::json_parts::{number_value, put_text};
 use crate::maps_words::maps_words;
 use bq_asm::Cause;
-use bq_complain::assembly_words;
+use bq_complain::{assembly_words, with_nul_shown};
 use bq_console::{Lines, Name, Quoted};
 use bq_hooks::hook::{NO_HOOK, NO_VERSION};
 use bq_insn::fault::Cause as Spelling;
@@ -77,7 +77,10 @@ pub(crate) fn reason_of(
         PolicyFault::Text if is_object(bytes) => plain(alloc, OBJECT),
         PolicyFault::Assembly { .. } if is_object(bytes) => plain(alloc, OBJECT),
         PolicyFault::Text => plain(alloc, "the file is no UTF-8 text"),
-        PolicyFault::Hex => plain(alloc, "the file begins as hex does, and is none"),
+        PolicyFault::Hex => plain(
+            alloc,
+            "the file begins as hex does, and is none: hex is two digits for each byte, and nothing else",
+        ),
         PolicyFault::Head { line, cause } => head_reason(alloc, bytes, line, cause),
         PolicyFault::Assembly { line, cause } => assembly_reason(alloc, bytes, line, cause),
         PolicyFault::Image(fault) => plain(alloc, image_words(fault)),
@@ -171,8 +174,13 @@ fn stage_of(fault: PolicyFault) -> &'static str {
 
 /// What is wrong with words that say another thing than the file.
 fn difference_words(alloc: Global, key: Key) -> Result<String, AllocError> {
-    let key = key.word();
-    format!(in alloc; "--{key} says another {key} than the file")
+    match key {
+        Key::Maps => String::from_str(alloc, "--maps says other maps than the file"),
+        Key::Hook | Key::Format => {
+            let key = key.word();
+            format!(in alloc; "--{key} says another {key} than the file")
+        }
+    }
 }
 
 /// What is wrong with a text that the assembler refuses there; line 0 stands for a text without instruction.
@@ -249,6 +257,8 @@ fn near_key(
 
 /// What is wrong with what a line says of a key.
 fn value_words(alloc: Global, key: Key, value: &str) -> Result<String, AllocError> {
+    let shown = with_nul_shown(alloc, value)?;
+    let value = shown.as_str();
     let quoted = Quoted(value);
     match key {
         Key::Hook => format!(in alloc; "{quoted} {NO_HOOK}"),

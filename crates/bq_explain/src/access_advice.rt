@@ -1,0 +1,129 @@
+//! What helps where an access is not shown to be within what its pointer points to.
+ghost use Rattle.bq_explain.specs.Advising.{IsOn};
+
+use crate::advice::Advice;
+use crate::trail::Trail;
+use bq_bpf::shape::GREATEST_SIZE;
+use bq_hooks::{Hook, Version, context_length};
+use bq_needs::{Access, Lack};
+use bq_policy_file::PolicySource;
+use bq_states::abstract_state::{AbstractValue, ValueKind};
+
+/// How far a load reaches beyond the context.
+#[derive(Clone, Copy)]
+pub struct Reach {
+    /// Whether its pointer may be one of several.
+    pub is_range: bool,
+    /// Whether the longer context of format 2 has what it loads.
+    pub is_in_second: bool,
+}
+
+/// Where an access of a map's value may begin.
+#[derive(Clone, Copy)]
+pub struct Room {
+    /// Whether its pointer may be one of several.
+    pub is_range: bool,
+    /// The last byte of the value at which it may begin.
+    pub last: usize,
+    /// Whether the greatest value that a map may have has what it accesses.
+    pub is_in_greatest: bool,
+}
+
+/// What helps against that lack of an access.
+pub(crate) fn access_advice(
+    policy: &PolicySource,
+    access: Access,
+    pointer: AbstractValue,
+    lack: Lack,
+    trail: &Trail,
+) -> Advice
+    ensures { IsOn access.register result }
+{
+    match lack {
+        Lack::Number => number_advice(access.register, pointer, trail),
+        Lack::Answer | Lack::MovedAnswer => test_advice(access.register, pointer),
+        Lack::Reference => Advice::LookUp,
+        Lack::WritesContext => Advice::WriteElsewhere,
+        Lack::BeyondContext => Advice::ReadContext(Reach {
+            is_range: is_range(pointer),
+            is_in_second: is_in_second(policy, access, pointer),
+        }),
+        Lack::BeyondStack => Advice::StayOnStack,
+        Lack::ReadsUnset => Advice::WriteFirst,
+        Lack::BeyondValue(_, size) => Advice::StayInValue(room_of(access, pointer, size)),
+        Lack::InNoMap => Advice::Read,
+    }
+}
+
+/// What helps where the pointer is a number: where it is 0 and was the answer of a look-up, the access stands on the wrong side of the test.
+fn number_advice(register: u8, pointer: AbstractValue, trail: &Trail) -> Advice
+    ensures { IsOn register result }
+{
+    if pointer.offset.hi > 0 {
+        return Advice::UsePointer;
+    }
+    for made in trail.made.as_slice() {
+        if made.register == register && is_answer(made.known) {
+            return Advice::OtherSide(register);
+        }
+    }
+    Advice::UsePointer
+}
+
+/// Whether it is known to be the answer of a look-up.
+fn is_answer(known: Option<AbstractValue>) -> bool {
+    match known {
+        Some(word) => matches!(word.kind, ValueKind::EntryOrNull(_)),
+        None => false,
+    }
+}
+
+/// What helps where the register is the answer of a look-up: a test, unless a number was added to it.
+pub(crate) fn test_advice(register: u8, answer: AbstractValue) -> Advice
+    ensures { IsOn register result }
+{
+    if is_answer_itself(answer) {
+        Advice::Test(register)
+    } else {
+        Advice::UseBefore(register)
+    }
+}
+
+/// Whether nothing was added to the answer of a look-up, so that it may be tested.
+pub(crate) fn is_answer_itself(answer: AbstractValue) -> bool {
+    answer.offset.hi == 0
+}
+
+/// Whether the pointer may be one of several.
+fn is_range(pointer: AbstractValue) -> bool {
+    pointer.offset.lo != pointer.offset.hi
+}
+
+/// Whether format 2 helps: all bytes of the load are in the context of its place policies, with each address that the pointer may have.
+fn is_in_second(policy: &PolicySource, access: Access, pointer: AbstractValue) -> bool {
+    match (policy.form.hook, policy.form.version) {
+        (Hook::Place, Version::First) => {
+            let longer = context_length(Hook::Place, Version::Second);
+            is_within(access, pointer, longer as u64)
+        }
+        _ => false,
+    }
+}
+
+/// Whether all bytes of the access are below the bound, with each address that the pointer may have.
+fn is_within(access: Access, pointer: AbstractValue, bound: u64) -> bool {
+    let further = i64::from(access.off).cast_unsigned();
+    let lo = pointer.offset.lo.wrapping_add(further);
+    let hi = pointer.offset.hi.wrapping_add(further);
+    let past = hi.saturating_add(access.bytes as u64);
+    lo <= hi && past <= bound
+}
+
+/// Where an access may begin of a value of this many bytes.
+fn room_of(access: Access, pointer: AbstractValue, size: u16) -> Room {
+    Room {
+        is_range: is_range(pointer),
+        last: usize::from(size).saturating_sub(access.bytes),
+        is_in_greatest: is_within(access, pointer, u64::from(GREATEST_SIZE)),
+    }
+}

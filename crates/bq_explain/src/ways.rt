@@ -1,0 +1,149 @@
+//! The ways that runs may take through a program, by what is known before each branch.
+ghost use Rattle.std.specs.Prelude.{◌<◌, ◌≤◌, length};
+ghost use Rattle.bq_verify.specs.Passes.{IsSound};
+ghost use Rattle.bq_explain.specs.Makers.{IsLaidOut};
+
+use crate::after::{Sides, sides_of};
+use crate::makers::writes;
+use bq_insn::{Insn, SLOTS};
+use bq_verify::Program;
+use bq_verify::edges::{Targets, instruction};
+use bq_verify::passes::targets;
+use std::alloc::{AllocError, Global};
+
+/// How many branches are judged, the first ones; of each other one a run may take both sides.
+const JUDGED: usize = 256;
+
+/// Where runs may go from each slot: from one that no run comes to, nowhere.
+#[derive(Drop)]
+pub(crate) struct Ways {
+    next: Vec<Option<usize>>,
+    jump: Vec<Option<usize>>,
+}
+
+/// Where runs may go from each slot before that one.
+pub(crate) fn ways_before(
+    alloc: Global,
+    program: &Program,
+    slots: &[Option<Insn>],
+    slot: usize,
+) -> Result<Ways, AllocError>
+    requires laid { IsLaidOut program.now slots.now }
+    requires inside { slot < length slots.now }
+{
+    let mut ways = Ways {
+        next: Vec::new(alloc),
+        jump: Vec::new(alloc),
+    };
+    let mut reached = vec![in alloc; false; slots.len()]?;
+    mark(reached.as_mut_slice(), Some(0));
+    let mut judged: usize = 0;
+    for from in 0..slot {
+        let mut open = Targets {
+            next: None,
+            jump: None,
+        };
+        if is_marked(reached.as_slice(), from) {
+            open = open_from(alloc, program, slots, from, &mut judged)?;
+        }
+        mark(reached.as_mut_slice(), open.next);
+        mark(reached.as_mut_slice(), open.jump);
+        ways.next.push(open.next)?;
+        ways.jump.push(open.jump)?;
+    }
+    Ok(ways)
+}
+
+/// Where runs may go from a slot that one comes to.
+fn open_from(
+    alloc: Global,
+    program: &Program,
+    slots: &[Option<Insn>],
+    from: usize,
+    judged: &mut usize,
+) -> Result<Targets, AllocError>
+    requires laid { IsLaidOut program.now slots.now }
+    requires inside { from < length slots.now }
+{
+    let Some(insn) = instruction(slots, from) else {
+        return Ok(Targets {
+            next: None,
+            jump: None,
+        });
+    };
+    let both = targets(slots, from, insn);
+    if !matches!(insn, Insn::Branch { .. }) || *judged >= JUDGED {
+        return Ok(both);
+    }
+    *judged = judged.saturating_add(1);
+    let sides = sides_of(alloc, program, from, insn)?;
+    Ok(taken(both, sides))
+}
+
+/// The targets on those sides.
+fn taken(both: Targets, sides: Sides) -> Targets {
+    Targets {
+        next: if sides.next { both.next } else { None },
+        jump: if sides.jump { both.jump } else { None },
+    }
+}
+
+/// Marks the slot, if there is one.
+fn mark(list: &mut [bool], slot: Option<usize>) {
+    if let Some(slot) = slot {
+        if slot < list.len() {
+            list[slot] = true;
+        }
+    }
+}
+
+/// Whether the slot is marked.
+pub(crate) fn is_marked(list: &[bool], slot: usize) -> bool {
+    list.get(slot).copied() == Some(true)
+}
+
+/// For each slot, whether a run may go from it to that one so that no later instruction on its way writes the register.
+pub(crate) fn reaching(
+    alloc: Global,
+    slots: &[Option<Insn>],
+    ways: &Ways,
+    register: u8,
+    slot: usize,
+) -> Result<Vec<bool>, AllocError> {
+    let mut reaching = vec![in alloc; false; slots.len()]?;
+    let mut spared = vec![in alloc; false; slots.len()]?;
+    mark(spared.as_mut_slice(), Some(slot));
+    for done in 0..slot {
+        let here = slot - 1 - done;
+        if leads(ways, spared.as_slice(), here) {
+            mark(reaching.as_mut_slice(), Some(here));
+            if spares(slots, register, here) {
+                mark(spared.as_mut_slice(), Some(here));
+            }
+        }
+    }
+    Ok(reaching)
+}
+
+/// Whether a run may go from the slot to one that is marked.
+fn leads(ways: &Ways, marked: &[bool], here: usize) -> bool {
+    let next = ways.next.as_slice().get(here).copied().flatten();
+    let jump = ways.jump.as_slice().get(here).copied().flatten();
+    is_target(marked, next) || is_target(marked, jump)
+}
+
+/// Whether there is a target, and it is marked.
+fn is_target(marked: &[bool], target: Option<usize>) -> bool {
+    match target {
+        Some(slot) => is_marked(marked, slot),
+        None => false,
+    }
+}
+
+/// Whether the instruction of the slot does not write the register.
+pub(crate) fn spares(slots: &[Option<Insn>], register: u8, slot: usize) -> bool {
+    match slots.get(slot).copied() {
+        Some(Some(insn)) => !writes(insn, register),
+        _ => true,
+    }
+}
