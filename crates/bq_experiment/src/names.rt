@@ -85,8 +85,9 @@ pub fn workload_names(alloc: Global, workload: &Workload) -> Result<Names, Alloc
 
 /// The comments that name the tasks on a screen, a task a comment.
 fn shown_comments(alloc: Global, workload: &Workload) -> Result<Vec<String>, AllocError> {
+    let names = task_names(alloc, workload)?;
     let mut comments = Vec::new(alloc);
-    for (task, name) in task_names(alloc, workload)?.iter().enumerate() {
+    for (task, name) in names.iter().enumerate() {
         let name = shown_name(alloc, name.as_str())?;
         comments.push(format!(in alloc; "# task {task} {name}")?)?;
     }
