@@ -93,7 +93,9 @@ pub enum Advice {
 /// The registers of which nothing is known, by why.
 #[derive(Clone, Copy)]
 pub struct Missing {
-    /// A call leaves them unset on some way.
+    /// A call leaves them unset on some way, and something is known of them before it.
+    pub held: Registers,
+    /// A call leaves them unset on some way, and nothing is known of them before it.
     pub called: Registers,
     /// No instruction sets them on some way from the start.
     pub unset: Registers,
@@ -175,15 +177,18 @@ fn unknown_advice(registers: &Registers, trail: &Trail) -> Advice
     ensures { (missing : Lacking) × (result ≡ Know missing) }
 {
     let mut missing = Missing {
+        held: [false; 11],
         called: [false; 11],
         unset: [false; 11],
         mixed: [false; 11],
     };
     for at in 0..11usize {
         let is_asked = registers[at];
-        let is_called = trail.called[at];
+        let is_called = trail.left.called[at];
+        let is_held = trail.left.held[at];
         let is_unset = trail.unset[at];
-        missing.called[at] = is_asked && is_called;
+        missing.held[at] = is_asked && is_called && is_held;
+        missing.called[at] = is_asked && is_called && !is_held;
         missing.unset[at] = is_asked && is_unset && !is_called;
         missing.mixed[at] = is_asked && !is_unset && !is_called;
     }
@@ -211,7 +216,7 @@ fn argument_advice(
 {
     let register = argument.register();
     let at = usize::from(register);
-    let is_mixed = at < 11 && !trail.called[at] && !trail.unset[at];
+    let is_mixed = at < 11 && !trail.left.called[at] && !trail.unset[at];
     if known(state, register).is_none() && is_mixed {
         return unknown_advice(&only(register), trail);
     }

@@ -85,6 +85,11 @@ fn lack_text(alloc: Global, missing: &Missing, register: usize) -> Result<String
     }
     if missing.called[register] {
         return format!(in alloc;
+            "set r{register} after the call, on each way that leads here: a call leaves r1 to r5 unset"
+        );
+    }
+    if missing.held[register] {
+        return format!(in alloc;
             "a call leaves r1 to r5 unset: on each way that leads here copy r{register} before the call, as by mov64 r6, r{register}, and read the copy, or set r{register} again"
         );
     }

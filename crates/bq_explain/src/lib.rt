@@ -35,5 +35,5 @@ pub use place::{Place, index_at};
 pub use refusal::{Finding, Refusal};
 pub use summary::{Summary, maps_text};
 pub use text::{explanation_text, need_words};
-pub use trail::{Made, Trail};
+pub use trail::{Left, Made, Trail};
 pub use verdict::{Verdict, judge, verdict_line};

@@ -157,7 +157,7 @@ pub(crate) fn known_behind(
 }
 
 /// What is known of the register at the slot.
-fn known_at(
+pub(crate) fn known_at(
     alloc: Global,
     program: &Program,
     slot: usize,

@@ -1,11 +1,12 @@
 //! Where the registers come from that matter to a need: what made them, and where their ways meet.
-ghost use Rattle.std.specs.Prelude.{◌≡◌, ◌<◌, ◌≤◌, [], IfOk, IfSome, length};
+ghost use Rattle.std.specs.Prelude.{◌≡◌, ◌<◌, ◌≤◌, [], IfOk, IfSome, length, true};
+ghost use Rattle.bq_insn.specs.Spelling.{is_well_formed};
 ghost use Rattle.bq_verify.specs.Passes.{IsSound};
 ghost use Rattle.bq_explain.specs.Explained.{AreMade, AreOf, IsOf};
 ghost use Rattle.bq_explain.specs.Makers.{IsLaidOut};
 
 use crate::makers::{Maker, makers, trail};
-use crate::meeting::{Meeting, known_behind, meeting_of};
+use crate::meeting::{Meeting, known_at, known_behind, meeting_of};
 use crate::place::{Place, place_at};
 use crate::ways::{Ways, is_marked, reaching, spares, ways_before};
 use bq_insn::{Insn, SLOTS};
@@ -18,6 +19,9 @@ use std::alloc::{AllocError, Global};
 /// The most places where ways meet that are named.
 const MEETINGS: usize = 3;
 
+/// The most calls of which it is asked what is known before them.
+const CALLS: usize = 4;
+
 /// Where registers come from.
 #[derive(Drop)]
 pub struct Trail {
@@ -26,9 +30,18 @@ pub struct Trail {
     /// Those of the registers that no instruction sets on some way from the start.
     pub unset: Registers,
     /// Those of them that a call leaves unset on some way.
-    pub called: Registers,
+    pub left: Left,
     /// Where ways meet that bring different words into one of them, or into what a maker reads; three at most.
     pub meetings: Vec<Meeting>,
+}
+
+/// Registers that calls leave unset.
+#[derive(Clone, Copy)]
+pub struct Left {
+    /// A call leaves them unset on some way.
+    pub called: Registers,
+    /// And something is known of them before one.
+    pub held: Registers,
 }
 
 /// An instruction that made a register.
@@ -59,7 +72,10 @@ pub(crate) fn no_trail(alloc: Global) -> Trail
     Trail {
         made: Vec::new(alloc),
         unset: [false; 11],
-        called: [false; 11],
+        left: Left {
+            called: [false; 11],
+            held: [false; 11],
+        },
         meetings: Vec::new(alloc),
     }
 }
@@ -81,7 +97,7 @@ pub(crate) fn trail_of(
     let makers = trail(alloc, slots, &ways, slot, asked)?;
     let made = made_by(alloc, policy, program, slots, makers.as_slice())?;
     let unset = unset_from_start(alloc, slots, &ways, slot, asked)?;
-    let called = left_by_calls(alloc, slots, &ways, slot, asked)?;
+    let left = left_by_calls(alloc, program, slots, &ways, slot, asked)?;
     let asked = Asked {
         slot,
         registers: *asked,
@@ -91,7 +107,7 @@ pub(crate) fn trail_of(
     Ok(Trail {
         made,
         unset,
-        called,
+        left,
         meetings,
     })
 }
@@ -162,27 +178,68 @@ fn unset_from_start(
 /// Those of the registers that a call leaves unset on some way to the slot.
 fn left_by_calls(
     alloc: Global,
+    program: &Program,
     slots: &[Option<Insn>],
     ways: &Ways,
     slot: usize,
     asked: &Registers,
-) -> Result<Registers, AllocError>
+) -> Result<Left, AllocError>
+    requires laid { IsLaidOut program.now slots.now }
+    requires inside { slot < length slots.now }
+{
+    let mut left = Left {
+        called: [false; 11],
+        held: [false; 11],
+    };
+    for register in 0..11u8 {
+        let at = usize::from(register);
+        if asked[at] {
+            let calls = calls_before(alloc, slots, ways, register, slot)?;
+            left.called[at] = !calls.is_empty();
+            left.held[at] = is_held(alloc, program, calls.as_slice(), register)?;
+        }
+    }
+    Ok(left)
+}
+
+/// The calls from which a run may come to the slot and that leave the register unset there.
+fn calls_before(
+    alloc: Global,
+    slots: &[Option<Insn>],
+    ways: &Ways,
+    register: u8,
+    slot: usize,
+) -> Result<Vec<usize>, AllocError>
     requires inside { slot < length slots.now }
     requires short { length slots.now ≤ SLOTS }
     requires sound { IsSound slots.now }
 {
-    let mut called = [false; 11];
-    for register in 0..11u8 {
-        let at = usize::from(register);
-        if asked[at] {
-            let made = makers(alloc, slots, register, slot)?;
-            let reaching = reaching(alloc, slots, ways, register, slot)?;
-            called[at] = made.as_slice().iter().any(|maker| {
-                is_marked(reaching.as_slice(), *maker) && is_call(slots, register, *maker)
-            });
+    let made = makers(alloc, slots, register, slot)?;
+    let reaching = reaching(alloc, slots, ways, register, slot)?;
+    let mut calls = Vec::new(alloc);
+    for maker in made.as_slice() {
+        if is_marked(reaching.as_slice(), *maker) && is_call(slots, register, *maker) {
+            calls.push(*maker)?;
         }
     }
-    Ok(called)
+    Ok(calls)
+}
+
+/// Whether something is known of the register before one of the calls, of which the nearest are asked.
+fn is_held(
+    alloc: Global,
+    program: &Program,
+    calls: &[usize],
+    register: u8,
+) -> Result<bool, AllocError>
+    requires { is_well_formed program.now.insns.items ≡ true }
+{
+    for call in calls.iter().take(CALLS) {
+        if let Some(_) = known_at(alloc, program, *call, register)? {
+            return Ok(true);
+        }
+    }
+    Ok(false)
 }
 
 /// Whether the instruction of the slot is a call that leaves the register unset.
