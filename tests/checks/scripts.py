@@ -21,6 +21,7 @@ MODELS = [
     "tests/simulate_forms.py BQSIM",
     "tests/simulate_theory.py BQSIM",
     "tests/received.py BQSIM",
+    "tests/long_work.py BQSIM",
     "tests/compare_with_model.py BQSIM tests/every_line.trace",
     "tests/pages.py BQSIM",
 ]

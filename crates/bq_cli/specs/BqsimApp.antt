@@ -64,7 +64,7 @@ machine_commands =
     command (codes "par") par_rules
     ∷ command (codes "replay") (word_rule (codes "file") ∷ option_rule (codes "max-bytes") ∷ [])
     ∷ command (codes "timeline") (word_rule (codes "file") ∷ option_rule (codes "as") ∷ option_rule (codes "max-bytes") ∷ part_rules)
-    ∷ command (codes "simulate") (workload_rules ++ (option_rule (codes "max-bytes") ∷ simulate_rules) ++ part_rules) ∷ []
+    ∷ command (codes "simulate") (workload_rules ++ (option_rule (codes "max-bytes") ∷ option_rule (codes "max-events") ∷ simulate_rules) ++ part_rules) ∷ []
 
 -- the program with its nine commands
 abbrev pub bqsim_app : App

@@ -150,6 +150,7 @@ pub record AreStudyWords (rows : List Row) (w : StudyWords) : Type 0 where
 pub record AreSimulateWords (rows : List Row) (w : SimulateWords) : Type 0 where
   pub study : AreStudyWords rows w.study
   pub max_bytes : IsFirst (codes "max-bytes") rows w.max_bytes
+  pub max_events : IsFirst (codes "max-events") rows w.max_events
 
 -- no word names a file, a hook, maps, a format or a number of bytes
 abbrev pub name_nothing : PolicyWords → Bool

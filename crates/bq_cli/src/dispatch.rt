@@ -12,7 +12,8 @@ use crate::simulate::do_simulate;
 use crate::tables::VERSION;
 use crate::timeline::do_timeline;
 use bq_console::{
-    Bounded, MOST_BYTES, WordsFault, ended, say_out_of_memory, waiting_input, written,
+    Bounded, ErasingWriter, MOST_BYTES, Progress, ShowingReader, WordsFault, ended,
+    say_out_of_memory, waiting_input, written,
 };
 use bq_lines::with_first_line;
 use bq_streams::{Counted, Kept};
@@ -56,9 +57,11 @@ pub(crate) fn perform_from<T: Threads + Wait + Sync, R: Read + Drop>(
     name: Option<&str>,
     reader: R,
 ) -> ExitCode {
-    let mut input = Counted::new(Kept::new(reader));
-    let mut output = Counted::new(Kept::new(rt.stdout()));
+    let progress = Progress::new(rt);
+    let mut input = Counted::new(Kept::new(ShowingReader::new(reader, &progress)));
+    let mut output = Counted::new(Kept::new(ErasingWriter::new(rt.stdout(), &progress)));
     let outcome = perform(threads, rt.alloc(), command, &mut input, &mut output);
+    progress.erase();
     // A trace that ends at the first read is empty.
     if matches!((command, &outcome), (Command::Replay(_), Ok(true))) && input.calls() == 1 {
         let _ = rt.eprintln(EMPTY);

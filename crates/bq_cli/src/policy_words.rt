@@ -93,11 +93,29 @@ pub(crate) fn limit_of_bytes(
     alloc: Global,
     word: &Option<String>,
 ) -> Result<Option<u64>, WordsFault> {
+    limit_in(alloc, word, "max-bytes", "a number of bytes")
+}
+
+/// The most events of a run, by the word of `--max-events` if there is one.
+pub(crate) fn most_events(alloc: Global, word: &Option<String>) -> Result<u64, WordsFault> {
+    match limit_in(alloc, word, "max-events", "a number of events")? {
+        Some(most) => Ok(most),
+        None => Ok(u64::MAX),
+    }
+}
+
+/// The number that the word of an option says, if there is one.
+fn limit_in(
+    alloc: Global,
+    word: &Option<String>,
+    option: &str,
+    taken: &str,
+) -> Result<Option<u64>, WordsFault> {
     let Some(word) = word else {
         return Ok(None);
     };
     match number(word.as_bytes(), 10) {
         Some(most) => Ok(Some(most)),
-        None => Err(refused_value(alloc, "max-bytes", word, "a number of bytes")),
+        None => Err(refused_value(alloc, option, word, taken)),
     }
 }

@@ -4,25 +4,31 @@ ghost use Rattle.clap.specs.Words.{found_of, rows_of};
 ghost use Rattle.bq_cli.specs.Simulating.{AskToSimulate, IsShown};
 ghost use Rattle.bq_cli.specs.Words.{AreHookWords, AreMachineWords, AreSimulateWords, AreStudyWords};
 
-use crate::policy_words::most_bytes;
+use crate::policy_words::{most_bytes, most_events};
 use crate::simulate_files::{others, policies, workload};
 use crate::timeline::shown_words;
 use bq_comparison::{
-    Comparing, ComparingFault, MachineSize, SeedsFault, asked_comparison, compare, comparison_text,
-    size_of_machine,
+    Comparing, ComparingFault, MachineSize, RunPlan, SeedsFault, asked_comparison, compare,
+    comparison_text, size_of_machine,
 };
-use bq_console::status::BAD_INPUT;
-use bq_console::{WordsFault, all_words, refused_words, say_out_of_memory, word, written};
+use bq_console::status::{BAD_INPUT, IO_FAILED};
+use bq_console::{
+    ErasingWriter, Progress, WordsFault, all_words, refused_words, say_out_of_memory,
+    say_unwritten, word, written,
+};
 use bq_experiment::{
-    AskedFault, HookWords, MachineWords, Policies, ShownAs, StudyWords, asked_changes, run_as,
+    AskedFault, HookWords, MachineWords, Policies, Ran, RunFault, ShownAs, Streams, StudyWords,
+    asked_changes, run_as,
 };
 use bq_hooks::Hook;
 use bq_simulate::SimulateFault;
+use bq_streams::Kept;
 use bq_timeline::SettingsFault;
 use bq_workload::Workload;
 use bq_workload_file::Changes;
 use clap::ArgMatches;
 use std::alloc::{AllocError, Global};
+use std::io::Error;
 use std::process::ExitCode;
 use std::thread::Threads;
 
@@ -32,6 +38,8 @@ pub struct SimulateWords {
     pub study: StudyWords,
     /// The most bytes that are read of a file.
     pub max_bytes: Option<String>,
+    /// The most events of a run.
+    pub max_events: Option<String>,
 }
 
 /// The words that were found.
@@ -43,7 +51,12 @@ pub(crate) fn simulate_words(
 {
     let study = study_words(alloc, matches)?;
     let max_bytes = word(alloc, matches, "max-bytes")?;
-    Ok(SimulateWords { study, max_bytes })
+    let max_events = word(alloc, matches, "max-events")?;
+    Ok(SimulateWords {
+        study,
+        max_bytes,
+        max_events,
+    })
 }
 
 /// The words for the simulation, and for how it is shown.
@@ -148,6 +161,15 @@ fn asked_fault(alloc: Global, fault: AskedFault) -> WordsFault {
     }
 }
 
+/// How much is read, and run.
+#[derive(Clone, Copy)]
+struct Limits {
+    /// The most bytes of a file.
+    bytes: u64,
+    /// The most events of a run.
+    events: u64,
+}
+
 /// Runs the workload in the file that is named, or on standard input, and shows it.
 pub(crate) fn do_simulate<T: Threads + Sync>(
     rt: &HostRuntime,
@@ -155,75 +177,115 @@ pub(crate) fn do_simulate<T: Threads + Sync>(
     words: &SimulateWords,
 ) -> Result<ExitCode, WordsFault> {
     let simulation = simulation_of(rt.alloc(), &words.study)?;
-    let most = most_bytes(rt.alloc(), &words.max_bytes)?;
-    match simulated(rt, threads, &words.study, most, simulation) {
+    let limits = Limits {
+        bytes: most_bytes(rt.alloc(), &words.max_bytes)?,
+        events: most_events(rt.alloc(), &words.max_events)?,
+    };
+    match simulated(rt, threads, &words.study, limits, simulation) {
         Ok(code) => Ok(code),
         Err(code) => Ok(code),
     }
 }
 
-/// The same, of files of at most that many bytes. An error is the exit status of what was refused.
+/// The same, within these limits. An error is the exit status of what was refused.
 fn simulated<T: Threads + Sync>(
     rt: &HostRuntime,
     threads: &T,
     words: &StudyWords,
-    most: u64,
+    limits: Limits,
     simulation: Simulation,
 ) -> Result<ExitCode, ExitCode> {
-    let workload = workload(rt, words, most, simulation.changes)?;
-    let policies = policies(rt, words, most)?;
+    let Limits { bytes, events } = limits;
+    let workload = workload(rt, words, bytes, simulation.changes)?;
+    let policies = policies(rt, words, bytes)?;
     match simulation.shown {
-        Shown::Run(shown) => show_run(rt, &workload, &policies, shown),
+        Shown::Run(shown) => show_run(rt, &workload, &policies, shown, events),
         Shown::Figures(asked) => {
-            let others = others(rt, words, most)?;
-            show_figures(rt, threads, &workload, &policies, others.as_ref(), asked)
+            let others = others(rt, words, bytes)?;
+            let compared = Compared {
+                workload: &workload,
+                ours: &policies,
+                others: others.as_ref(),
+                most: events,
+            };
+            show_figures(rt, threads, &compared, asked)
         }
     }
 }
 
-/// Shows one run.
+/// Shows one run of at most that many events, as it goes.
 fn show_run(
     rt: &HostRuntime,
     workload: &Workload,
     policies: &Policies,
     shown: ShownAs,
+    most: u64,
 ) -> Result<ExitCode, ExitCode> {
-    match run_as(rt.alloc(), workload, policies, shown) {
-        Ok(answer) => {
-            let notes = answer.notes;
+    let progress = Progress::new(rt);
+    let streams = Streams {
+        output: Kept::new(ErasingWriter::new(rt.stdout(), &progress)),
+        errors: ErasingWriter::new(rt.stderr(), &progress),
+        progress: &progress,
+    };
+    let Ran { output, outcome } = run_as(rt.alloc(), workload, policies, shown, most, streams);
+    progress.erase();
+    match outcome {
+        Ok(notes) => {
+            let notes = Lines(notes.as_str());
             let _ = eprint!(rt; "{notes}");
-            Ok(written(rt, answer.text.as_str(), ExitCode::SUCCESS))
+            Ok(ExitCode::SUCCESS)
         }
-        Err(SimulateFault::OutOfMemory) => Err(say_out_of_memory(rt)),
-        Err(fault) => {
-            let _ = eprintln!(rt; "bqsim: {fault}");
-            Err(ExitCode::from(BAD_INPUT))
-        }
+        Err(RunFault::Simulation(SimulateFault::OutOfMemory)) => Err(say_out_of_memory(rt)),
+        Err(fault) => Err(say_stopped(rt, &fault, output.into_inner().failure())),
     }
+}
+
+/// Says why a run did not come to its end, where this is the last error of the output.
+fn say_stopped(rt: &HostRuntime, fault: &RunFault, failure: Option<Error>) -> ExitCode {
+    if let (RunFault::Write, Some(error)) = (fault, failure) {
+        return say_unwritten(rt, &error);
+    }
+    let _ = eprintln!(rt; "bqsim: {fault}");
+    match fault {
+        RunFault::Simulation(_) => ExitCode::from(BAD_INPUT),
+        RunFault::Write | RunFault::Events => ExitCode::from(IO_FAILED),
+    }
+}
+
+/// What is run with several seeds, or under two choices of policies.
+#[derive(Clone, Copy)]
+struct Compared<'a> {
+    workload: &'a Workload,
+    ours: &'a Policies,
+    others: Option<&'a Policies>,
+    /// The most events of a run.
+    most: u64,
 }
 
 /// Shows the figures of several runs.
 fn show_figures<T: Threads + Sync>(
     rt: &HostRuntime,
     threads: &T,
-    workload: &Workload,
-    ours: &Policies,
-    others: Option<&Policies>,
+    compared: &Compared<'_>,
     mut asked: Comparing,
 ) -> Result<ExitCode, ExitCode> {
-    let Ok(notes) = asked.add_called(rt.alloc(), workload) else {
+    let Ok(notes) = asked.add_called(rt.alloc(), compared.workload) else {
         return Err(say_out_of_memory(rt));
     };
-    match tabled(rt, threads, workload, ours, others, &asked) {
+    match tabled(rt, threads, compared, &asked) {
         Ok(text) => {
+            let notes = Lines(notes.as_str());
             let _ = eprint!(rt; "{notes}");
-            say_absent(rt, workload, &asked);
+            say_absent(rt, compared.workload, &asked);
             Ok(written(rt, text.as_str(), ExitCode::SUCCESS))
         }
         Err(SeedsFault::OutOfMemory) => Err(say_out_of_memory(rt)),
         Err(fault) => {
             let _ = eprintln!(rt; "bqsim: {fault}");
-            Err(ExitCode::from(BAD_INPUT))
+            match fault {
+                SeedsFault::Events => Err(ExitCode::from(IO_FAILED)),
+                _ => Err(ExitCode::from(BAD_INPUT)),
+            }
         }
     }
 }
@@ -232,14 +294,25 @@ fn show_figures<T: Threads + Sync>(
 fn tabled<T: Threads + Sync>(
     rt: &HostRuntime,
     threads: &T,
-    workload: &Workload,
-    ours: &Policies,
-    others: Option<&Policies>,
+    compared: &Compared<'_>,
     asked: &Comparing,
 ) -> Result<String, SeedsFault> {
+    let Compared {
+        workload,
+        ours,
+        others,
+        most,
+    } = *compared;
     let alloc = rt.alloc();
-    let sides = compare(threads, alloc, workload, ours, others, asked.seeds)?;
-    Ok(comparison_text(alloc, workload, &sides, asked)?)
+    let progress = Progress::new(rt);
+    let plan = RunPlan {
+        seeds: asked.seeds,
+        most,
+        progress: &progress,
+    };
+    let sides = compare(threads, alloc, workload, ours, others, &plan);
+    progress.erase();
+    Ok(comparison_text(alloc, workload, &sides?, asked)?)
 }
 
 /// Says which of the tasks and processors that are asked for are not there at all.

@@ -52,6 +52,11 @@ const READING_OPTIONS: &[OptionText] = options! {
     ("max-bytes", Once("N"), "Refuses files of more than N bytes (without this 16777216, for files that are read whole)")
 };
 
+/// How long a run is.
+const LIMIT_OPTIONS: &[OptionText] = options! {
+    ("max-events", Once("N"), "Cuts off a run that has more than N events (without this there is no limit)")
+};
+
 /// What the file of a policy leaves unsaid.
 const POLICY_OPTIONS: &[OptionText] = options! {
     ("hook", Once("HOOK"), with_hooks!("The policy's hook, if the file does not say it: ")),
@@ -215,6 +220,7 @@ static MACHINE_COMMANDS: [CommandText<'static>; 4] = [
         options: &[
             WORKLOAD_OPTIONS,
             READING_OPTIONS,
+            LIMIT_OPTIONS,
             SIMULATE_OPTIONS,
             PART_OPTIONS,
         ],

@@ -6,8 +6,8 @@ ghost use Rattle.bq_timeline.specs.Settings.{AsksFor};
 
 use crate::policy_words::limit_of_bytes;
 use bq_console::{
-    Bounded, Lines, WordsFault, ended, file_named, opened, refused_words, say_unread,
-    waiting_input, word,
+    Bounded, ErasingWriter, Lines, Progress, ShowingReader, WordsFault, ended, file_named, opened,
+    refused_words, say_unread, waiting_input, word,
 };
 use bq_streams::{Counted, Kept};
 use bq_timeline::{Settings, SettingsFault, Words, show};
@@ -95,10 +95,13 @@ fn show_from<R: Read + Drop>(
     name: Option<&str>,
     reader: R,
 ) -> ExitCode {
-    let mut input = Counted::new(Kept::new(reader));
-    let mut output = Counted::new(Kept::new(rt.stdout()));
-    let mut errors = rt.stderr();
-    let outcome = match show(rt.alloc(), settings, &mut input, &mut output, &mut errors) {
+    let progress = Progress::new(rt);
+    let mut input = Counted::new(Kept::new(ShowingReader::new(reader, &progress)));
+    let mut output = Counted::new(Kept::new(ErasingWriter::new(rt.stdout(), &progress)));
+    let mut errors = ErasingWriter::new(rt.stderr(), &progress);
+    let shown = show(rt.alloc(), settings, &mut input, &mut output, &mut errors);
+    progress.erase();
+    let outcome = match shown {
         Ok(outcome) => {
             let notes = Lines(outcome.notes.as_str());
             let _ = eprint!(rt; "{notes}");

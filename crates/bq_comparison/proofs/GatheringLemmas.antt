@@ -1,9 +1,12 @@
 -- What is gathered of all news.
-use Rattle.std.proofs.Common.{◌≡◌, ℕ, List, [], ◌∷◌, ◌++◌, None, sym, ap, ◌∙◌, append_assoc, append-nil}
+use Rattle.std.proofs.Common.{◌≡◌, ◌+◌, ℕ, List, [], ◌∷◌, ◌++◌, None, sym, ap, ◌∙◌, append_assoc, append-nil, arith}
 use Rattle.bq_trace.specs.News.{News, Told, TakesAll, Gets}
 use Rattle.bq_workload.specs.declared.workload.Workload.{Workload}
 use Rattle.bq_schedule.specs.WakeLatencies.{TakesStart, latencies_of}
 use Rattle.bq_simulate.specs.Simulations.{Accepted, IsSimulation}
+use Rattle.bq_experiment.specs.Limits.{events_of}
+use Rattle.bq_experiment.specs.declared.limited.Limited.{Limited}
+use Rattle.bq_experiment.proofs.PassingLemmas.{lets_through}
 use Rattle.bq_comparison.specs.declared.gathering.Gatherer.{Gatherer}
 use Rattle.bq_comparison.specs.Gathering.{IsGathered, latencies_told, latency_in, start_told}
 use Rattle.bq_comparison.proofs.LatencyLemmas.{takes_start}
@@ -12,6 +15,19 @@ use Rattle.bq_timeline.specs.Watching.{schedule_after, watched}
 -- what the sink takes of one piece of news
 abbrev pub Takes : Gatherer → ℕ → News → Gatherer → Type 0
 Takes old n news new = (new.schedule ≡ watched old.schedule news) × TakesStart (start_told news old.schedule) old.latencies new.latencies
+
+-- what the gatherer inside a limit takes
+abbrev TakesInside : Limited Gatherer → ℕ → News → Limited Gatherer → Type 0
+TakesInside old n news new = Takes old.sink n news new.sink
+
+-- and what the limit takes
+abbrev TakesLimited : Limited Gatherer → ℕ → News → Limited Gatherer → Type 0
+TakesLimited old n news new = TakesInside old n news new × (old.left ≡ events_of news + new.left)
+
+-- a gatherer takes what comes through its limit
+inside : (old new : Limited Gatherer) (told : Told) → TakesAll TakesInside old told new → TakesAll Takes old.sink told new.sink
+inside old new [] h = ap (λ (l : Limited Gatherer). l.sink) h
+inside old new ((n, x) ∷ more) h = (h.0.sink, h.1, inside h.0 new more h.2)
 
 -- the schedule of a gatherer that took some news is the one after them
 pub schedule-after : (old new : Gatherer) (told : Told) → TakesAll Takes old told new → new.schedule ≡ schedule_after old.schedule told
@@ -28,15 +44,19 @@ latencies-after old new ((n, x) ∷ more) h task =
     ∙ ap (λ l. l ++ latencies_told task (watched old.schedule x) more) (takes_start (start_told x old.schedule) old.latencies h.0.latencies h.1.1 task)
     ∙ append_assoc (latencies_of old.latencies task) (latency_in task (start_told x old.schedule)) (latencies_told task (watched old.schedule x) more)
 
--- the schedule and the latencies of a whole simulation
-pub gathers_simulation : (old new : Gatherer) (policies : List Accepted) (w : Workload) → old.schedule ≡ None → ((task : ℕ) → latencies_of old.latencies task ≡ [])
-    → Gets Takes old new (IsSimulation policies w) → IsGathered policies w new.schedule new.latencies
-gathers_simulation old new policies w none empty g = record {
-  told = g.told;
-  simulation = g.holds;
-  schedule_is = schedule-after old new g.told g.taken ∙ ap (λ s. schedule_after s g.told) none;
-  latencies_are = λ task.
-      latencies-after old new g.told g.taken task
-      ∙ ap (λ s. latencies_of old.latencies task ++ latencies_told task s g.told) none
-      ∙ ap (λ l. l ++ latencies_told task None g.told) (empty task);
-}
+-- the schedule and the latencies of a whole simulation, of at most as many events as were left
+pub gathers_simulation : (old new : Limited Gatherer) (policies : List Accepted) (w : Workload) → old.sink.schedule ≡ None → ((task : ℕ) → latencies_of old.sink.latencies task ≡ [])
+    → Gets TakesLimited old new (IsSimulation policies w) → IsGathered policies w old.left new.sink.schedule new.sink.latencies
+gathers_simulation old new policies w none empty g =
+    let through = lets_through (λ (l : Limited Gatherer). l.left) TakesInside old new g.told g.taken in
+    let taken = inside old new g.told through.0 in
+    record {
+      told = g.told;
+      simulation = g.holds;
+      few = omega (arith, through.1);
+      schedule_is = schedule-after old.sink new.sink g.told taken ∙ ap (λ s. schedule_after s g.told) none;
+      latencies_are = λ task.
+          latencies-after old.sink new.sink g.told taken task
+          ∙ ap (λ s. latencies_of old.sink.latencies task ++ latencies_told task s g.told) none
+          ∙ ap (λ l. l ++ latencies_told task None g.told) (empty task);
+    }

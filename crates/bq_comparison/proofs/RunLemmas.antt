@@ -1,6 +1,8 @@
 -- Runs, and more of them at the end.
-use Rattle.std.proofs.Common.{◌≡◌, ℕ, ◌+◌, List, [], ◌∷◌, ◌++◌, length, map, Ok, Err, Result, IfOk, ◌⊎◌, inl, inr, ap, sym, refl, zero, suc, subst, ◌∙◌, arith}
+use Rattle.std.proofs.Common.{◌≡◌, Bool, Option, None, Some, true, false, true≢false, ℕ, ◌+◌, List, [], ◌∷◌, ◌++◌, length, map, Ok, Err, Result, IfOk, ◌⊎◌, inl, inr, ap, sym, refl, zero, suc, subst, ◌∙◌, arith}
 use Rattle.std.proofs.lemmas.List.{length-append, length-map}
+use Rattle.std.specs.Prelude.{◌≢◌}
+use Rattle.bq_workload.specs.declared.sound.Unsound.{Unsound}
 use Rattle.bq_workload.specs.declared.workload.Workload.{Workload}
 use Rattle.bq_comparison.specs.declared.naming.Figure.{Figure}
 use Rattle.bq_comparison.specs.declared.runs.RunFigures.{RunFigures}
@@ -15,25 +17,25 @@ use Rattle.bq_simulate.specs.Simulations.{Accepted, with_seed}
 use Rattle.bq_comparison.specs.Seeds.{AreResults, AreRuns, Comes, IsRun}
 
 -- what came of runs that all came to their end
-ran : (policies : List Accepted) (w : Workload) (figures : List Figure) (seed : ℕ) (runs : List RunFigures) → AreResults policies w figures seed (map Ok runs) → AreRuns policies w figures seed runs
-ran policies w figures seed [] h = tt
-ran policies w figures seed (x ∷ xs) h =
-    let P : ℕ → Type 0 = λ s. IsRun policies (with_seed w s) figures x in
-    let rest : AreResults policies w figures (seed + 1) (map Ok xs) = λ i r there.
+ran : (policies : List Accepted) (w : Workload) (most : ℕ) (figures : List Figure) (seed : ℕ) (runs : List RunFigures) → AreResults policies w most figures seed (map Ok runs) → AreRuns policies w most figures seed runs
+ran policies w most figures seed [] h = tt
+ran policies w most figures seed (x ∷ xs) h =
+    let P : ℕ → Type 0 = λ s. IsRun policies (with_seed w s) most figures x in
+    let rest : AreResults policies w most figures (seed + 1) (map Ok xs) = λ i r there.
     let next = h (suc i) r there in
-    (subst (λ s. IfOk r (IsRun policies (with_seed w s) figures)) (omega arith) next.0, next.1) in
+    (subst (λ s. IfOk r (IsRun policies (with_seed w s) most figures)) (omega arith) next.0, next.1) in
     let first = h zero (Ok x) refl in
-    (subst P (omega arith) first.0, ran policies w figures (seed + 1) xs rest)
+    (subst P (omega arith) first.0, ran policies w most figures (seed + 1) xs rest)
 
 -- runs with some seeds, and results with the seeds after them that are runs, are runs together
-pub AreRuns-append : (policies : List Accepted) (w : Workload) (figures : List Figure) (seed : ℕ) (runs more : List RunFigures)
-    → AreRuns policies w figures seed runs → AreResults policies w figures (seed + length runs) (map Ok more) → AreRuns policies w figures seed (runs ++ more)
-AreRuns-append policies w figures seed [] more h k =
-    let P : ℕ → Type 0 = λ s. AreResults policies w figures s (map Ok more) in
-    ran policies w figures seed more (subst P (omega arith) k)
-AreRuns-append policies w figures seed (x ∷ xs) more h k =
-    let P : ℕ → Type 0 = λ s. AreResults policies w figures s (map Ok more) in
-    (h.0, AreRuns-append policies w figures (seed + 1) xs more h.1 (subst P (omega arith) k))
+pub AreRuns-append : (policies : List Accepted) (w : Workload) (most : ℕ) (figures : List Figure) (seed : ℕ) (runs more : List RunFigures)
+    → AreRuns policies w most figures seed runs → AreResults policies w most figures (seed + length runs) (map Ok more) → AreRuns policies w most figures seed (runs ++ more)
+AreRuns-append policies w most figures seed [] more h k =
+    let P : ℕ → Type 0 = λ s. AreResults policies w most figures s (map Ok more) in
+    ran policies w most figures seed more (subst P (omega arith) k)
+AreRuns-append policies w most figures seed (x ∷ xs) more h k =
+    let P : ℕ → Type 0 = λ s. AreResults policies w most figures s (map Ok more) in
+    (h.0, AreRuns-append policies w most figures (seed + 1) xs more h.1 (subst P (omega arith) k))
 
 abbrev ended : RunFigures → Result RunFigures SeedsFault
 ended = Ok
@@ -44,13 +46,13 @@ Comes-count before after results (more, ok, is) =
     ap length is ∙ length-append before more ∙ ap (λ n. length before + n) (sym (length-map more ended) ∙ ap length (sym ok))
 
 -- those with the next seeds stand behind those before
-pub AreRuns-come : (policies : List Accepted) (w : Workload) (figures : List Figure) (seed next : ℕ) (before after : List RunFigures) (results : List (Result RunFigures SeedsFault))
-    → next ≡ seed + length before → AreRuns policies w figures seed before → AreResults policies w figures next results → Comes before results after → AreRuns policies w figures seed after
-AreRuns-come policies w figures seed next before after results at h k (more, ok, is) =
-    let P : List RunFigures → Type 0 = λ l. AreRuns policies w figures seed l in
-    let Q : ℕ → Type 0 = λ s. AreResults policies w figures s results in
-    let R : List (Result RunFigures SeedsFault) → Type 0 = λ l. AreResults policies w figures (seed + length before) l in
-    subst P (sym is) (AreRuns-append policies w figures seed before more h (subst R ok (subst Q at k)))
+pub AreRuns-come : (policies : List Accepted) (w : Workload) (most : ℕ) (figures : List Figure) (seed next : ℕ) (before after : List RunFigures) (results : List (Result RunFigures SeedsFault))
+    → next ≡ seed + length before → AreRuns policies w most figures seed before → AreResults policies w most figures next results → Comes before results after → AreRuns policies w most figures seed after
+AreRuns-come policies w most figures seed next before after results at h k (more, ok, is) =
+    let P : List RunFigures → Type 0 = λ l. AreRuns policies w most figures seed l in
+    let Q : ℕ → Type 0 = λ s. AreResults policies w most figures s results in
+    let R : List (Result RunFigures SeedsFault) → Type 0 = λ l. AreResults policies w most figures (seed + length before) l in
+    subst P (sym is) (AreRuns-append policies w most figures seed before more h (subst R ok (subst Q at k)))
 
 -- the fault of a run, in the words of a summary, says as much
 pub refused_is_no_run : (w : Workload) (why : SimulateFault) → flaw_told why ≡ first_flaw w → IsNoRun w (fault_of_run why)
@@ -60,14 +62,23 @@ refused_is_no_run w (run_fault.Drive fault) h = h
 refused_is_no_run w run_fault.BrokenInvariant h = h
 refused_is_no_run w run_fault.Endless h = h
 
+-- where a run is cut off, the workload has no flaw, since before a flaw the sink gets nothing
+pub cut_is_sound : (w : Workload) (old new : Bool) → (first_flaw w ≢ None → new ≡ old) → old ≡ false → new ≡ true → first_flaw w ≡ None
+cut_is_sound w old new untold before after = of (first_flaw w) refl
+  where
+    of : (flaw : Option Unsound) → first_flaw w ≡ flaw → first_flaw w ≡ None
+    of None is = is
+    of (Some flaw) is = absurd (true≢false (sym after ∙ untold (λ none. let clash : Some flaw ≡ None = sym is ∙ none in absurd (cc)) ∙ before))
+
 -- where a run is refused, so are all
 refused_all : (w : Workload) (count : ℕ) (why : SeedsFault) → IsNoRun w why → IsNoSummary w count why
 refused_all w count (fault.Run why) h = h
 refused_all w count fault.Last h = absurd h
+refused_all w count fault.Events h = h
 refused_all w count fault.OutOfMemory h = tt
 
 -- and where one of the results is a fault, or memory runs out
-pub none_comes : (policies : List Accepted) (w : Workload) (figures : List Figure) (seed count : ℕ) (results : List (Result RunFigures SeedsFault)) (why : SeedsFault)
-    → AreResults policies w figures seed results → (why ≡ fault.OutOfMemory) ⊎ HasFault results why → IsNoSummary w count why
-none_comes policies w figures seed count results why are (inl out) = subst (λ e. IsNoSummary w count e) (sym out) tt
-none_comes policies w figures seed count results why are (inr (i, there)) = let one = are i (Err why) there in refused_all w count why one.1
+pub none_comes : (policies : List Accepted) (w : Workload) (most : ℕ) (figures : List Figure) (seed count : ℕ) (results : List (Result RunFigures SeedsFault)) (why : SeedsFault)
+    → AreResults policies w most figures seed results → (why ≡ fault.OutOfMemory) ⊎ HasFault results why → IsNoSummary w count why
+none_comes policies w most figures seed count results why are (inl out) = subst (λ e. IsNoSummary w count e) (sym out) tt
+none_comes policies w most figures seed count results why are (inr (i, there)) = let one = are i (Err why) there in refused_all w count why one.1

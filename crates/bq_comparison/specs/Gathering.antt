@@ -1,5 +1,5 @@
 -- What is kept of the news of a simulation: its schedule, and the latencies of each task, from a wake until it ran.
-use Rattle.std.specs.Prelude.{◌≡◌, ℕ, ◌==◌, List, [], ◌∷◌, ◌++◌, Option, Some, None, if◌then◌else◌}
+use Rattle.std.specs.Prelude.{◌≡◌, ◌≤◌, ℕ, ◌==◌, List, [], ◌∷◌, ◌++◌, Option, Some, None, if◌then◌else◌}
 use Rattle.bq_workload.specs.declared.workload.Workload.{Workload}
 use Rattle.bq_trace.specs.News.{News, Told, Answered}
 use Rattle.bq_schedule.specs.declared.change.Start.{Start}
@@ -7,6 +7,7 @@ use Rattle.bq_schedule.specs.Figures.{Figures}
 use Rattle.bq_schedule.specs.Steps.{change}
 use Rattle.bq_schedule.specs.WakeLatencies.{Tasks, latencies_of}
 use Rattle.bq_simulate.specs.Simulations.{Accepted, IsSimulation}
+use Rattle.bq_experiment.specs.Limits.{events_in}
 use Rattle.bq_timeline.specs.Watching.{schedule_after, watched}
 
 -- the start that news tell, if they tell one
@@ -29,9 +30,10 @@ abbrev pub latencies_told : ℕ → Option Figures → Told → List ℕ
 latencies_told task s [] = []
 latencies_told task s ((n, news) ∷ more) = latency_in task (start_told news s) ++ latencies_told task (watched s news) more
 
--- the schedule and each task's latencies of a simulation of that workload with these policies
-pub record IsGathered (policies : List Accepted) (w : Workload) (schedule : Option Figures) (tasks : Tasks) : Type 0 where
+-- the schedule and each task's latencies of a simulation of that workload with these policies, of at most this many events
+pub record IsGathered (policies : List Accepted) (w : Workload) (most : ℕ) (schedule : Option Figures) (tasks : Tasks) : Type 0 where
   pub told : Told
   pub simulation : IsSimulation policies w told
+  pub few : events_in told ≤ most
   pub schedule_is : schedule ≡ schedule_after None told
   pub latencies_are : (task : ℕ) → latencies_of tasks task ≡ latencies_told task None told

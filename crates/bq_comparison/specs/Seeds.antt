@@ -13,28 +13,28 @@ use Rattle.bq_comparison.specs.Gathering.{IsGathered}
 use Rattle.bq_comparison.specs.declared.fault.SeedsFault.{SeedsFault}
 use Rattle.bq_comparison.specs.Faults.{IsNoRun}
 
--- the figures of a simulation of that workload with these policies
-pub record IsRun (policies : List Accepted) (w : Workload) (figures : List Figure) (run : RunFigures) : Type 0 where
+-- the figures of a simulation of that workload with these policies, of at most this many events
+pub record IsRun (policies : List Accepted) (w : Workload) (most : ℕ) (figures : List Figure) (run : RunFigures) : Type 0 where
   pub schedule : Figures
   pub tasks : Tasks
-  pub gathered : IsGathered policies w (Some schedule) tasks
+  pub gathered : IsGathered policies w most (Some schedule) tasks
   pub told : IsRunOf schedule tasks figures run
 
 -- a run with each seed in turn, from that one on
-abbrev pub AreRuns : List Accepted → Workload → List Figure → ℕ → List RunFigures → Type 0
-AreRuns policies w figures seed [] = Unit {0}
-AreRuns policies w figures seed (run ∷ runs) = IsRun policies (with_seed w seed) figures run × AreRuns policies w figures (seed + 1) runs
+abbrev pub AreRuns : List Accepted → Workload → ℕ → List Figure → ℕ → List RunFigures → Type 0
+AreRuns policies w most figures seed [] = Unit {0}
+AreRuns policies w most figures seed (run ∷ runs) = IsRun policies (with_seed w seed) most figures run × AreRuns policies w most figures (seed + 1) runs
 
--- what the runs with this many seeds, from the workload's own on, say of each figure
-pub record IsSummary (policies : List Accepted) (w : Workload) (count : ℕ) (figures : List Figure) (rows : List FigureRow) : Type 0 where
+-- what the runs with this many seeds, from the workload's own on, each of at most that many events, say of each figure
+pub record IsSummary (policies : List Accepted) (w : Workload) (most : ℕ) (count : ℕ) (figures : List Figure) (rows : List FigureRow) : Type 0 where
   pub runs : List RunFigures
   pub number : length runs ≡ count
-  pub runs_are : AreRuns policies w figures w.machine.seed runs
+  pub runs_are : AreRuns policies w most figures w.machine.seed runs
   pub rows_are : AreRows runs figures rows
 
 -- what came of a run with each seed from that one on: its figures, where it came to its end, and else why it did not
-abbrev pub AreResults : List Accepted → Workload → List Figure → ℕ → List (Result RunFigures SeedsFault) → Type 0
-AreResults policies w figures seed results = (i : ℕ) (result : Result RunFigures SeedsFault) → slice_get results i ≡ Some result → IfOk result (IsRun policies (with_seed w (seed + i)) figures) × IfErr result (IsNoRun w)
+abbrev pub AreResults : List Accepted → Workload → ℕ → List Figure → ℕ → List (Result RunFigures SeedsFault) → Type 0
+AreResults policies w most figures seed results = (i : ℕ) (result : Result RunFigures SeedsFault) → slice_get results i ≡ Some result → IfOk result (IsRun policies (with_seed w (seed + i)) most figures) × IfErr result (IsNoRun w)
 
 -- each of them came to its end, and they stand behind those before
 abbrev pub Comes : List RunFigures → List (Result RunFigures SeedsFault) → List RunFigures → Type 0

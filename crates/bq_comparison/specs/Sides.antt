@@ -15,11 +15,11 @@ abbrev pub size_of_machine : Workload → MachineSize
 size_of_machine w = record { tasks = min (sum_by (λ kind. kind.count) w.tasks.items) 65535; processors = processors_in w.machine.size }
 
 -- there is another side exactly when there are other policies, and it tells of this many runs with these
-abbrev pub AreTheirs : Option (List Accepted) → Workload → ℕ → Option (List FigureRow) → Type 0
-AreTheirs None w seeds rows = rows ≡ None
-AreTheirs (Some others) w seeds rows = IsSomeAnd rows (IsSummary others w seeds (figures_of_report (size_of_machine w)))
+abbrev pub AreTheirs : Option (List Accepted) → Workload → ℕ → ℕ → Option (List FigureRow) → Type 0
+AreTheirs None w most seeds rows = rows ≡ None
+AreTheirs (Some others) w most seeds rows = IsSomeAnd rows (IsSummary others w most seeds (figures_of_report (size_of_machine w)))
 
--- each side tells of this many runs with its policies, and of all figures of the report
-pub record IsComparison (policies : List Accepted) (others : Option (List Accepted)) (w : Workload) (seeds : ℕ) (sides : Sides) : Type 0 where
-  pub ours : IsSummary policies w seeds (figures_of_report (size_of_machine w)) sides.ours.items
-  pub theirs : AreTheirs others w seeds (option_map (λ rows. rows.items) sides.theirs)
+-- each side tells of this many runs with its policies, each of at most that many events, and of all figures of the report
+pub record IsComparison (policies : List Accepted) (others : Option (List Accepted)) (w : Workload) (most seeds : ℕ) (sides : Sides) : Type 0 where
+  pub ours : IsSummary policies w most seeds (figures_of_report (size_of_machine w)) sides.ours.items
+  pub theirs : AreTheirs others w most seeds (option_map (λ rows. rows.items) sides.theirs)

@@ -1,5 +1,6 @@
 //! Why there is no summary.
 
+use bq_experiment::RunFault;
 use bq_simulate::SimulateFault;
 use std::alloc::{AllocError, AllocFailed};
 use thiserror::Error;
@@ -13,6 +14,9 @@ pub enum SeedsFault {
     /// The last seed would be 2^64 or more.
     #[error("--seeds: the last seed is not below 2^64")]
     Last,
+    /// A run has more events than it may have.
+    #[error("{run}", run = RunFault::Events)]
+    Events,
     #[error("out of memory")]
     OutOfMemory,
 }

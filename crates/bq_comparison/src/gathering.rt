@@ -4,24 +4,27 @@ ghost use Rattle.bq_workload.specs.Soundness.{first_flaw};
 ghost use Rattle.bq_comparison.specs.Gathering.{IsGathered, start_told};
 ghost use Rattle.bq_schedule.specs.WakeLatencies.{TakesStart, latencies_of};
 ghost use Rattle.bq_timeline.specs.Watching.{watched};
-ghost use Rattle.bq_simulate.specs.Faults.{flaw_told};
+ghost use Rattle.bq_comparison.specs.Faults.{IsNoRun};
 ghost use Rattle.bq_simulate.specs.Simulations.{with_seed};
 
+use crate::fault::SeedsFault;
+use bq_experiment::Limited;
 use bq_installed::Policy;
 use bq_load::LoadFault;
 use bq_parts::{Event, Refusal, Reply};
 use bq_schedule::{Schedule, WakeLatencies};
-use bq_simulate::{SimulateFault, simulate_seed};
+use bq_simulate::simulate_seed;
 use bq_trace::{AnyCore, Sink};
 use bq_words::{ProcessorCount, Rule};
 use bq_workload::Workload;
 use std::alloc::{AllocError, Global};
 
 /// A simulation as far as it has come: its schedule, once it has a machine, and the latencies of each task, from a wake until it
-/// ran.
+/// ran; and how many events have come.
 #[derive(Drop)]
 pub struct Gatherer {
     alloc: Global,
+    pub events: u64,
     pub schedule: Option<Schedule>,
     pub latencies: WakeLatencies,
 }
@@ -34,6 +37,7 @@ impl Gatherer {
     {
         Gatherer {
             alloc,
+            events: 0,
             schedule: None,
             latencies: WakeLatencies::new(alloc),
         }
@@ -63,6 +67,7 @@ impl Sink for Gatherer {
         _event: &Event,
         _machine: &AnyCore,
     ) -> Result<(), AllocError> {
+        self.events = self.events.saturating_add(1);
         Ok(())
     }
 
@@ -106,18 +111,22 @@ impl Sink for Gatherer {
     }
 }
 
-/// Follows a workload to its end with this seed, and keeps what figures are made of.
+/// Follows a workload to its end with this seed, and keeps what figures are made of. It is cut off after this many events.
 pub(crate) fn gather(
     alloc: Global,
     workload: &Workload,
     seed: u64,
     policies: &[Policy],
-) -> Result<Gatherer, SimulateFault>
-    ensures gathered { IfOk result (λ g. IsGathered policies.now (with_seed workload.now seed) g.schedule g.latencies) }
+    most: u64,
+) -> Result<Gatherer, SeedsFault>
+    ensures gathered { IfOk result (λ g. IsGathered policies.now (with_seed workload.now seed) most g.schedule g.latencies) }
     ensures sound { IfOk result (λ _. first_flaw workload.now ≡ None) }
-    ensures flaw { IfErr result (λ fault. flaw_told fault ≡ first_flaw workload.now) }
+    ensures fault { IfErr result (IsNoRun workload.now) }
 {
-    let mut gatherer = Gatherer::new(alloc);
-    simulate_seed(alloc, workload, seed, policies, &mut gatherer)?;
-    Ok(gatherer)
+    let mut limited = Limited::new(Gatherer::new(alloc), most);
+    match simulate_seed(alloc, workload, seed, policies, &mut limited) {
+        Ok(_) => Ok(limited.sink),
+        Err(_) if limited.is_over => Err(SeedsFault::Events),
+        Err(fault) => Err(SeedsFault::from(fault)),
+    }
 }

@@ -14,17 +14,19 @@ pub struct FigureValue {
     pub value: Option<u64>,
 }
 
-/// The figures of one run, each with its value.
+/// The figures of one run, each with its value, and how many events it had.
 #[derive(Drop)]
 pub struct RunFigures {
     pub values: Vec<FigureValue>,
+    pub events: u64,
 }
 
-/// The values that figures have in a schedule in which tasks had these latencies. It sorts them.
+/// The values that figures have in a schedule of this many events, in which tasks had these latencies. It sorts them.
 pub fn run_of(
     alloc: Global,
     schedule: &Schedule,
     latencies: &mut WakeLatencies,
+    events: u64,
     figures: &[Figure],
 ) -> Result<RunFigures, AllocError>
     ensures { IfOk result (IsRunOf schedule.now latencies.old figures.now) }
@@ -35,7 +37,7 @@ pub fn run_of(
         let value = value_of(schedule, latencies, figure);
         values.push(FigureValue { figure, value })?;
     }
-    Ok(RunFigures { values })
+    Ok(RunFigures { values, events })
 }
 
 impl RunFigures {

@@ -8,6 +8,7 @@ ghost use Rattle.bq_simulate.specs.Simulations.{with_seed};
 use crate::fault::SeedsFault;
 use crate::gathering::gather;
 use crate::{Figure, FigureRow, RunFigures, rows, run_of};
+use bq_console::{Done, EVENTS, Progress};
 use bq_installed::Policy;
 use bq_simulate::SimulateFault;
 use bq_workload::Workload;
@@ -22,38 +23,44 @@ type Results = Vec<Result<RunFigures, SeedsFault>>;
 
 /// What is shared by runs that differ only in their seeds.
 #[derive(Clone, Copy)]
-struct Experiment<'a> {
-    workload: &'a Workload,
+pub struct Experiment<'a> {
+    pub workload: &'a Workload,
     /// The policies at all processors.
-    policies: &'a [Policy],
+    pub policies: &'a [Policy],
+    /// The most events of a run.
+    pub most: u64,
     /// What is reported of each run.
-    figures: &'a [Figure],
+    pub figures: &'a [Figure],
+}
+
+/// Where it is shown how many runs of all are done.
+#[derive(Clone, Copy)]
+pub struct RunsShown<'a> {
+    pub progress: &'a Progress<'a>,
+    /// How many runs were done before these.
+    pub before: usize,
+    /// How many runs there are in all.
+    pub all: usize,
 }
 
 /// At most this many runs are done at once.
 const MOST_AT_ONCE: usize = 64;
 
 /// Runs a workload with this many seeds, from its own on, with these policies at all processors; what the runs say of each of
-/// the figures. As many runs are done at once as there are processors available, each on a thread of its own. A workload with a
+/// the figures. A run that has more events than it may have is cut off, and then there is no summary. As many runs are done at once as there are processors available, each on a thread of its own. A workload with a
 /// flaw is refused for the first of its flaws, and `Last` comes exactly when the last seed would be 2^64 or more.
 pub fn summary<T: Threads + Sync>(
     threads: &T,
     alloc: Global,
-    workload: &Workload,
-    policies: &[Policy],
+    experiment: &Experiment<'_>,
     count: u16,
-    figures: &[Figure],
+    shown: &RunsShown<'_>,
 ) -> Result<Rows, SeedsFault>
-    ensures rows { IfOk result (λ rows. IsSummary policies.now workload.now count figures.now rows.items) }
-    ensures fault { IfErr result (IsNoSummary workload.now count) }
+    ensures rows { IfOk result (λ rows. IsSummary experiment.now.policies.now experiment.now.workload.now experiment.now.most count experiment.now.figures.now rows.items) }
+    ensures fault { IfErr result (IsNoSummary experiment.now.workload.now count) }
 {
-    let experiment = Experiment {
-        workload,
-        policies,
-        figures,
-    };
-    let runs = runs(threads, alloc, &experiment, count)?;
-    let rows = rows(alloc, figures, runs.as_slice())?;
+    let runs = runs(threads, alloc, experiment, count, shown)?;
+    let rows = rows(alloc, experiment.figures, runs.as_slice())?;
     Ok(rows)
 }
 
@@ -63,8 +70,9 @@ fn runs<T: Threads + Sync>(
     alloc: Global,
     experiment: &Experiment<'_>,
     count: u16,
+    shown: &RunsShown<'_>,
 ) -> Result<Vec<RunFigures>, SeedsFault>
-    ensures runs { IfOk result (λ runs. AreRuns experiment.now.policies.now experiment.now.workload.now experiment.now.figures.now experiment.now.workload.now.machine.seed runs.items) }
+    ensures runs { IfOk result (λ runs. AreRuns experiment.now.policies.now experiment.now.workload.now experiment.now.most experiment.now.figures.now experiment.now.workload.now.machine.seed runs.items) }
     ensures count { IfOk result (λ runs. vec_len runs ≡ count) }
     ensures fault { IfErr result (IsNoSummary experiment.now.workload.now count) }
 {
@@ -81,8 +89,22 @@ fn runs<T: Threads + Sync>(
         let wave = most.min(count - runs.len());
         let results = at_once(threads, alloc, experiment, seed, wave)?;
         add_all(&mut runs, results)?;
+        show_runs(shown, runs.as_slice());
     }
     Ok(runs)
+}
+
+/// Shows how many runs are done, once they are about a second's work.
+fn show_runs(shown: &RunsShown<'_>, runs: &[RunFigures]) {
+    let mut events: u64 = 0;
+    for run in runs {
+        events = events.saturating_add(run.events);
+    }
+    if shown.before > 0 || events >= EVENTS {
+        let done = shown.before.saturating_add(runs.len());
+        let done = Done::Runs(done as u64, shown.all as u64);
+        shown.progress.show(done);
+    }
 }
 
 /// How many runs are done at once: as many as there are processors available.
@@ -104,7 +126,7 @@ fn at_once<T: Threads + Sync>(
     count: usize,
 ) -> Result<Results, AllocError>
     requires { first + count ≤ 2 ^ 64 }
-    ensures results { IfOk result (λ results. AreResults experiment.now.policies.now experiment.now.workload.now experiment.now.figures.now first results.items) }
+    ensures results { IfOk result (λ results. AreResults experiment.now.policies.now experiment.now.workload.now experiment.now.most experiment.now.figures.now first results.items) }
     ensures count { IfOk result (λ results. vec_len results ≡ count) }
 {
     map_indices(
@@ -122,7 +144,7 @@ fn nth_run(
     first: u64,
     number: usize,
 ) -> Result<RunFigures, SeedsFault>
-    ensures run { IfOk result (IsRun experiment.now.policies.now (with_seed experiment.now.workload.now (first + number)) experiment.now.figures.now) }
+    ensures run { IfOk result (IsRun experiment.now.policies.now (with_seed experiment.now.workload.now (first + number)) experiment.now.most experiment.now.figures.now) }
     ensures fault { first + number < 2 ^ 64 → IfErr result (IsNoRun experiment.now.workload.now) }
 {
     let seed = first
@@ -144,17 +166,19 @@ fn add_all(runs: &mut Vec<RunFigures>, results: Results) -> Result<(), SeedsFaul
 
 /// One run, with this seed in place of the workload's own.
 fn run(alloc: Global, experiment: &Experiment<'_>, seed: u64) -> Result<RunFigures, SeedsFault>
-    ensures run { IfOk result (IsRun experiment.now.policies.now (with_seed experiment.now.workload.now seed) experiment.now.figures.now) }
+    ensures run { IfOk result (IsRun experiment.now.policies.now (with_seed experiment.now.workload.now seed) experiment.now.most experiment.now.figures.now) }
     ensures fault { IfErr result (IsNoRun experiment.now.workload.now) }
 {
     let Experiment {
         workload,
         policies,
+        most,
         figures,
     } = *experiment;
-    let mut gathered = gather(alloc, workload, seed, policies)?;
+    let mut gathered = gather(alloc, workload, seed, policies, most)?;
+    let events = gathered.events;
     match &gathered.schedule {
-        Some(schedule) => Ok(run_of(alloc, schedule, &mut gathered.latencies, figures)?),
+        Some(schedule) => Ok(run_of(alloc, schedule, &mut gathered.latencies, events, figures)?),
         None => Err(SeedsFault::Run(SimulateFault::BrokenInvariant)),
     }
 }

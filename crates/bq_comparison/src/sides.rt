@@ -3,7 +3,9 @@ ghost use Rattle.std.specs.Prelude.{◌≡◌, IfErr, IfOk, option_map};
 ghost use Rattle.bq_comparison.specs.Faults.{IsNoSummary};
 ghost use Rattle.bq_comparison.specs.Sides.{IsComparison, size_of_machine};
 
+use crate::seeds::{Experiment, RunsShown};
 use crate::{MachineSize, Rows, SeedsFault, all_figures, summary};
+use bq_console::Progress;
 use bq_experiment::Policies;
 use bq_workload::Workload;
 use std::alloc::Global;
@@ -16,31 +18,63 @@ pub struct Sides {
     pub theirs: Option<Rows>,
 }
 
-/// Runs a workload with this many seeds, from its own on, under policies, and with the same seeds under others, if there are
+/// How far a comparison goes, and where it is shown how much of it is done.
+#[derive(Clone, Copy)]
+pub struct RunPlan<'a> {
+    /// How many seeds there are.
+    pub seeds: u16,
+    /// The most events of a run.
+    pub most: u64,
+    pub progress: &'a Progress<'a>,
+}
+
+/// Runs a workload with these seeds, from its own on, under policies, and with the same seeds under others, if there are
 /// others; as many runs at once as there are processors available. A workload with a flaw is refused for the first of its flaws,
-/// and `Last` comes just for the numbers of the seeds.
+/// and `Last` comes just for the numbers of the seeds. A run that has more events than it may have is cut off, and then there is no
+/// comparison.
 pub fn compare<T: Threads + Sync>(
     threads: &T,
     alloc: Global,
     workload: &Workload,
     policies: &Policies,
     others: Option<&Policies>,
-    seeds: u16,
+    plan: &RunPlan<'_>,
 ) -> Result<Sides, SeedsFault>
-    ensures sides { IfOk result (IsComparison policies.now.loaded (option_map (λ p. p.now.loaded) others.entry) workload.now seeds) }
-    ensures fault { IfErr result (IsNoSummary workload.now seeds) }
+    ensures sides { IfOk result (IsComparison policies.now.loaded (option_map (λ p. p.now.loaded) others.entry) workload.now plan.now.most plan.now.seeds) }
+    ensures fault { IfErr result (IsNoSummary workload.now plan.now.seeds) }
 {
     let figures = all_figures(alloc, size_of_machine(workload))?;
-    let figures = figures.as_slice();
-    let ours = summary(threads, alloc, workload, policies.loaded(), seeds, figures)?;
-    let theirs = match others {
-        Some(others) => {
-            let rows = summary(threads, alloc, workload, others.loaded(), seeds, figures)?;
-            Some(rows)
-        }
-        None => None,
+    let ours = Experiment {
+        workload,
+        policies: policies.loaded(),
+        most: plan.most,
+        figures: figures.as_slice(),
     };
-    Ok(Sides { ours, theirs })
+    let seeds = plan.seeds;
+    let Some(others) = others else {
+        let ours = summary(threads, alloc, &ours, seeds, &shown(plan, 0, 1))?;
+        return Ok(Sides { ours, theirs: None });
+    };
+    let theirs = Experiment {
+        policies: others.loaded(),
+        ..ours
+    };
+    let ours = summary(threads, alloc, &ours, seeds, &shown(plan, 0, 2))?;
+    let theirs = summary(threads, alloc, &theirs, seeds, &shown(plan, 1, 2))?;
+    Ok(Sides {
+        ours,
+        theirs: Some(theirs),
+    })
+}
+
+/// Where the runs of a side are shown: how many sides come before it, and how many there are.
+fn shown<'a>(plan: &RunPlan<'a>, before: usize, sides: usize) -> RunsShown<'a> {
+    let seeds = usize::from(plan.seeds);
+    RunsShown {
+        progress: plan.progress,
+        before: seeds.saturating_mul(before),
+        all: seeds.saturating_mul(sides),
+    }
 }
 
 /// How many tasks a workload has, as far as 16 bits count, and how many processors.

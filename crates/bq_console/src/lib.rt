@@ -3,12 +3,14 @@
 //! found, and that a command ends with the exit status of its outcome. Texts on standard error are only safe.
 #![tactic(auto)]
 
+mod beside;
 mod bounded;
 mod ending;
 pub mod fault;
 pub mod found;
 mod given;
 mod printable;
+mod progress;
 mod reading;
 mod reasons;
 mod refused;
@@ -18,12 +20,14 @@ pub mod tables;
 pub mod words;
 mod writing;
 
+pub use beside::{ErasingWriter, ShowingReader};
 pub use bounded::Bounded;
 pub use ending::ended;
 pub use fault::{WordsFault, words_fault};
 pub use found::{all_words, is_set, value, word};
 pub use given::{as_texts, given_words};
 pub use printable::{Lines, NO_TEXT, Name, Quoted};
+pub use progress::{Done, EVENTS, Progress};
 pub use reading::{
     MOST_BYTES, file_named, name_of, opened, read_input, waiting_input, whole_file, whole_input,
 };

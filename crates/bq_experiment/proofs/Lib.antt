@@ -1,4 +1,5 @@
 pub mod NameLemmas
+pub mod PassingLemmas
 pub mod StandingLemmas
 pub mod TakingLemmas
 pub mod TraceLemmas

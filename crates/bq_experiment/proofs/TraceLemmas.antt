@@ -1,41 +1,83 @@
 -- A simulation that is reported as a text.
-use Rattle.std.proofs.Common.{◌≡◌, List, None, [], ◌∷◌, ◌++◌, map, sym, ap, ◌∙◌, subst, string_bytes}
-use Rattle.std.proofs.lemmas.Grind.{flat_map-append}
+use Rattle.std.proofs.Common.{◌≡◌, ◌+◌, ℕ, List, Option, None, [], ◌∷◌, ◌++◌, map, refl, sym, ap, ◌∙◌, subst, string_bytes, arith}
+use Rattle.std.specs.Io.KnownBytes.{Appends}
 use Rattle.bq_workload.specs.Soundness.{first_flaw}
 use Rattle.bq_workload.specs.declared.workload.Workload.{Workload}
 use Rattle.bq_simulate.specs.Retelling.{Answers, AreOfImages}
 use Rattle.bq_simulate.specs.Texts.{AreFitting, ByHook, image_at, told_lines}
 use Rattle.bq_simulate.specs.declared.trace_writer.TraceWriter.{TraceWriter}
 use Rattle.bq_simulate.proofs.FromImagesLemmas.{installs_of_images}
-use Rattle.bq_simulate.proofs.RetellingLemmas.{AreFitting-parts, texts_are_replayed}
-use Rattle.bq_simulate.proofs.TextLemmas.{Takes, writes_all}
+use Rattle.bq_simulate.proofs.RetellingLemmas.{AreFitting-parts, texts_are_replayed, told_lines-append}
+use Rattle.bq_simulate.proofs.TextLemmas.{Takes}
+use Rattle.bq_streams.specs.Counts.{inner_of}
 use Rattle.bq_simulate.specs.Chronicles.{events_of}
 use Rattle.bq_simulate.specs.Simulations.{Accepted, IsSimulation}
 use Rattle.bq_trace.specs.Feeding.{with_feeds}
-use Rattle.bq_trace.specs.News.{Gets, TakesAll, Told, texts}
-use Rattle.bq_experiment.specs.Traces.{IsTrace, TracesAreReplayed, skipped}
+use Rattle.bq_trace.specs.News.{Gets, News, Told, texts}
+use Rattle.bq_experiment.specs.Limits.{events_in, events_of}
+use Rattle.bq_experiment.specs.Passing.{TakesAndPasses}
+use Rattle.bq_experiment.specs.declared.limited.Limited.{Limited}
+use Rattle.bq_experiment.specs.declared.passing.Passing.{Passing}
+use Rattle.bq_experiment.specs.Traces.{IsNamedRun, TracesAreReplayed, WritesTrace, skipped}
 use Rattle.bq_experiment.specs.Names.{comments_of}
 use Rattle.bq_experiment.proofs.NameLemmas.{are_comments, lines_named}
+use Rattle.bq_experiment.proofs.PassingLemmas.{Clears, Grows, all_written, events_in-append, grows, lets_through, pending}
+
+-- comments are no events
+events_skipped : (lines : List (List ℕ)) → events_in (map skipped lines) ≡ 0
+events_skipped [] = refl
+events_skipped (line ∷ lines) = events_skipped lines
 
 -- comments that name the tasks, and then a simulation whose policies are those of the images, are written as a trace
-pub trace_written : (none named whole : TraceWriter) (w : Workload) (policies : List Accepted) (images : ByHook) → string_bytes none.text ≡ [] → image_at none.images ≡ images → AreOfImages images policies
-    → first_flaw w ≡ None → TakesAll Takes none (map skipped (comments_of w)) named → Gets Takes named whole (IsSimulation policies w) → IsTrace w policies images (string_bytes whole.text)
-trace_written none named whole w policies images empty same of sound g h =
-    let first = writes_all none named (map skipped (comments_of w)) g in
-    let then = writes_all named whole h.told h.taken in
-    let names : string_bytes named.text ≡ with_feeds (comments_of w) =
-    first.1.text ∙ ap (λ l. l ++ with_feeds (told_lines (image_at none.images) (map skipped (comments_of w)))) empty ∙ ap with_feeds (lines_named (image_at none.images) w sound) in
-    let as_images : image_at named.images ≡ images = ap image_at first.0 ∙ same in
+pub trace_written : (first last : TraceWriter) (was now final : Option (List ℕ)) (w : Workload) (policies : List Accepted) (images : ByHook) (told : Told) (most left : ℕ)
+    → string_bytes first.text ≡ [] → image_at first.images ≡ images → AreOfImages images policies → first_flaw w ≡ None → IsNamedRun policies w told
+    → Grows first was told last now → Appends now final (string_bytes last.text) → most ≡ events_in told + left → WritesTrace w policies images most was final
+trace_written first last was now final w policies images told most left empty same of sound named g rest limit =
+    let comments = map skipped (comments_of w) in
+    let lines : told_lines images told ≡ comments_of w ++ told_lines images named.more =
+    ap (told_lines images) named.whole ∙ told_lines-append images comments named.more ∙ ap (λ l. l ++ told_lines images named.more) (lines_named images w sound) in
+    let whole : with_feeds (told_lines (image_at first.images) told) ≡ with_feeds (comments_of w ++ told_lines images named.more) =
+    ap (λ (at : ByHook). with_feeds (told_lines at told)) same ∙ ap with_feeds lines in
+    let events : events_in told ≡ events_in comments + events_in named.more = ap events_in named.whole ∙ events_in-append comments named.more in
+    let none = events_skipped (comments_of w) in
     record {
-      told = h.told;
-      sound = sound;
-      simulation = h.holds;
-      fits = then.1.fits;
-      of_images = of;
-      whole = then.1.text ∙ ap (λ l. l ++ with_feeds (told_lines (image_at named.images) h.told)) names
-          ∙ sym (flat_map-append (λ line. line ++ 10 ∷ []) (comments_of w) (told_lines (image_at named.images) h.told))
-          ∙ ap (λ (at : ByHook). with_feeds (comments_of w ++ told_lines at h.told)) as_images;
+      text = with_feeds (comments_of w ++ told_lines images named.more);
+      trace = record {
+        told = named.more;
+        sound = sound;
+        simulation = named.simulation;
+        fits = (AreFitting-parts comments named.more (subst AreFitting named.whole g.fits)).1;
+        of_images = of;
+        whole = refl;
+      };
+      few = omega (arith, limit, events, none);
+      added = subst (λ (l : List ℕ). Appends was final l) whole (all_written was now final (string_bytes first.text) (string_bytes last.text) _ empty g.added rest);
     }
+
+-- a run whose trace is written
+abbrev pub TraceRun : Type 0 → Type 0 → Type 0
+TraceRun W E = Limited (Passing TraceWriter W E)
+
+-- what its output has
+abbrev pub got : {W E : Type 0} → (W → Option (List ℕ)) → TraceRun W E → Option (List ℕ)
+got contents run = contents (inner_of run.sink.output)
+
+-- what it takes, and passes on
+abbrev Passes : {W E : Type 0} → (W → Option (List ℕ)) → TraceRun W E → ℕ → News → TraceRun W E → Type 0
+Passes contents old n news new = TakesAndPasses Takes pending Clears old.sink.sink (got contents old) n news new.sink.sink (got contents new)
+
+-- within its limit
+abbrev pub TakesRun : {W E : Type 0} → (W → Option (List ℕ)) → TraceRun W E → ℕ → News → TraceRun W E → Type 0
+TakesRun contents old n news new = Passes contents old n news new × (old.left ≡ events_of news + new.left)
+
+-- what it took is written as a trace, once the rest of the text is
+pub run_written : {W E : Type 0} (contents : W → Option (List ℕ)) (old new : TraceRun W E) (final : Option (List ℕ)) (w : Workload) (policies : List Accepted) (images : ByHook)
+    → string_bytes old.sink.sink.text ≡ [] → image_at old.sink.sink.images ≡ images → AreOfImages images policies → first_flaw w ≡ None
+    → Gets (TakesRun contents) old new (IsNamedRun policies w) → Appends (got contents new) final (string_bytes new.sink.sink.text) → WritesTrace w policies images old.left (got contents old) final
+run_written {W} {E} contents old new final w policies images empty same of sound g rest =
+    let through = lets_through (λ (r : TraceRun W E). r.left) (Passes contents) old new g.told g.taken in
+    let grown = grows (λ (r : TraceRun W E). r.sink.sink) (got contents) old new g.told through.0 in
+    trace_written old.sink.sink new.sink.sink (got contents old) (got contents new) final w policies images g.told old.left new.left empty same of sound g.holds grown rest through.1
 
 -- the text that tells a simulation is answered by the answers that it got, and leaves the same machine
 pub traces_are_replayed : TracesAreReplayed

@@ -1,5 +1,5 @@
 -- What a viewer has of a simulation that is reported to it.
-use Rattle.std.proofs.Common.{◌≡◌, ℕ, List, [], ◌∷◌, Some, None, Option, map, refl, sym, ap, ◌∙◌}
+use Rattle.std.proofs.Common.{◌≡◌, ◌+◌, ℕ, List, [], ◌∷◌, Some, None, Option, inl, inr, sym, ap, ◌∙◌, arith, subst, string_bytes}
 use Rattle.std.specs.Prelude.{IfSome}
 use Rattle.bq_workload.specs.Soundness.{first_flaw}
 use Rattle.bq_workload.specs.declared.sound.Unsound.{Unsound}
@@ -17,28 +17,43 @@ use Rattle.bq_timeline.specs.Watching.{schedule_after, troubles_after}
 use Rattle.bq_timeline.specs.declared.viewer.Viewer.{Viewer}
 use Rattle.bq_timeline.proofs.WatchLemmas.{Takes, takes_all, troubles_after-append}
 use Rattle.bq_trace.specs.News.{Gets, News, TakesAll, Told}
-use Rattle.bq_experiment.specs.Traces.{skipped}
+use Rattle.bq_experiment.specs.Faults.{IsRunFault, IsStopped}
+use Rattle.bq_experiment.specs.Limits.{events_in, events_of}
+use Rattle.bq_experiment.specs.Passing.{TakesAndPasses}
 use Rattle.bq_experiment.specs.Views.{IsViewed}
+use Rattle.bq_experiment.specs.declared.fault.RunFault.{RunFault}
+use Rattle.bq_experiment.specs.declared.fault.RunFault.TheVariants as fault
 use Rattle.bq_experiment.specs.declared.later.Later.{Later}
+use Rattle.bq_experiment.specs.declared.limited.Limited.{Limited}
+use Rattle.bq_experiment.specs.declared.passing.Passing.{Passing}
+use Rattle.bq_experiment.proofs.PassingLemmas.{lets_through}
+use Rattle.bq_streams.specs.Counts.{inner_of}
 
 -- a viewer further below takes a piece of news
 abbrev pub TakesLater : Later → ℕ → News → Later → Type 0
 TakesLater old n news new = (new.above ≡ old.above) × Keeps old.viewer news new.viewer
 
--- what it takes its viewer takes
-viewer_takes : (old new : Later) (told : Told) → TakesAll TakesLater old told new → TakesAll Takes old.viewer told new.viewer
-viewer_takes old new [] h = ap (λ (l : Later). l.viewer) h
-viewer_takes old new ((n, news) ∷ more) h = (h.0.viewer, h.1.1, viewer_takes h.0 new more h.2)
+-- the text of a viewer that is not written yet
+abbrev pub pending : Later → List ℕ
+pending later = string_bytes later.viewer.screen.text
 
--- comments change no schedule
-schedule_skipped : (s : Option Figures) (lines : List (List ℕ)) → schedule_after s (map skipped lines) ≡ s
-schedule_skipped s [] = refl
-schedule_skipped s (line ∷ lines) = schedule_skipped s lines
+-- clearing leaves the schedule and the troubles
+abbrev pub Clears : Later → Later → Type 0
+Clears old new = (new.viewer.schedule ≡ old.viewer.schedule) × (new.viewer.troubles ≡ old.viewer.troubles)
 
--- and none of them is trouble
-troubles_skipped : (n : ℕ) (lines : List (List ℕ)) → troubles_after n (map skipped lines) ≡ n
-troubles_skipped n [] = refl
-troubles_skipped n (line ∷ lines) = troubles_skipped n lines
+-- what it takes its viewer takes, whatever is passed on
+keeps_one : (old new : Later) (was now : Option (List ℕ)) (n : ℕ) (news : News) → TakesAndPasses TakesLater pending Clears old was n news new now → Keeps old.viewer news new.viewer
+keeps_one old new was now n news h = elim h.passed [
+  | inl same ↦ (ap (λ (l : Later). l.viewer.schedule) same.0 ∙ h.taken.1.0, ap (λ (l : Later). l.viewer.troubles) same.0 ∙ h.taken.1.1)
+  | inr emptied ↦ (emptied.cleared.0 ∙ h.taken.1.0, emptied.cleared.1 ∙ h.taken.1.1)
+]
+
+-- and so it is with all of it
+pub viewer_takes : {P : Type 0} (sink : P → Later) (got : P → Option (List ℕ)) (old new : P) (told : Told)
+    → TakesAll (λ o n x w. TakesAndPasses TakesLater pending Clears (sink o) (got o) n x (sink w) (got w)) old told new → TakesAll Takes (sink old).viewer told (sink new).viewer
+viewer_takes {P} sink got old new [] h = ap (λ (p : P). (sink p).viewer) h
+viewer_takes sink got old new ((n, news) ∷ more) h =
+    ((sink h.0).viewer, keeps_one (sink old) (sink h.0) (got old) (got h.0) n news h.1, viewer_takes sink got h.0 new more h.2)
 
 -- events that are done, of which none is refused, are no trouble
 troubles_driven : (n : ℕ) (d : Driver) (events : List Event) (told : Told) (e : Driver) → Drives d events told e → troubles_after n told ≡ n
@@ -61,16 +76,46 @@ no_other w why is = of (flaw_told why) is
     of None h = tt
     of (Some flaw) h = sym h
 
--- a viewer that took comments, and then a simulation further below, has viewed it
-pub views_simulation : (none : Viewer) (old new : Later) (lines : List (List ℕ)) (policies : List Accepted) (w : Workload) → none.schedule ≡ None → none.troubles ≡ 0 → first_flaw w ≡ None
-    → TakesAll Takes none (map skipped lines) old.viewer → Gets TakesLater old new (IsSimulation policies w) → IsViewed policies w new.viewer
-views_simulation none old new lines policies w empty zero sound named g =
-    let first = takes_all none old.viewer (map skipped lines) named in
-    let then = takes_all old.viewer new.viewer g.told (viewer_takes old new g.told g.taken) in
+-- a fault of the simulation reports no other flaw
+pub IsRunFault-stopped : (w : Workload) (why : SimulateFault) (e : RunFault) (failures : ℕ) → TellsNoOther w why → IsStopped (λ (told : SimulateFault). told ≡ why) e failures → IsRunFault w e failures
+IsRunFault-stopped w why (fault.Simulation told) failures h k = (subst (TellsNoOther w) (sym k.0) h, k.1)
+IsRunFault-stopped w why fault.Write failures h k = k
+IsRunFault-stopped w why fault.Events failures h k = k
+
+-- a viewer that took a simulation has viewed it
+pub views_simulation : (old new : Viewer) (policies : List Accepted) (w : Workload) (told : Told) (most left : ℕ) → old.schedule ≡ None → old.troubles ≡ 0 → first_flaw w ≡ None
+    → TakesAll Takes old told new → IsSimulation policies w told → most ≡ events_in told + left → IsViewed policies w most new
+views_simulation old new policies w told most left empty zero sound taken simulation limit =
+    let all = takes_all old new told taken in
     record {
-      told = g.told;
+      told = told;
       sound = sound;
-      simulation = g.holds;
-      schedule = then.0 ∙ ap (λ s. schedule_after s g.told) (first.0 ∙ schedule_skipped none.schedule lines ∙ empty);
-      clean = then.1 ∙ ap (λ n. troubles_after n g.told) (first.1 ∙ troubles_skipped none.troubles lines ∙ zero) ∙ troubles_simulated policies w g.told g.holds;
+      few = omega (arith, limit);
+      simulation = simulation;
+      schedule = all.0 ∙ ap (λ s. schedule_after s told) empty;
+      clean = all.1 ∙ ap (λ n. troubles_after n told) zero ∙ troubles_simulated policies w told simulation;
     }
+
+-- a run that is viewed
+abbrev pub ViewedRun : Type 0 → Type 0 → Type 0
+ViewedRun W E = Limited (Passing Later W E)
+
+-- what its output has
+abbrev pub got : {W E : Type 0} → (W → Option (List ℕ)) → ViewedRun W E → Option (List ℕ)
+got contents run = contents (inner_of run.sink.output)
+
+-- what it takes, and passes on
+abbrev Passes : {W E : Type 0} → (W → Option (List ℕ)) → ViewedRun W E → ℕ → News → ViewedRun W E → Type 0
+Passes contents old n news new = TakesAndPasses TakesLater pending Clears old.sink.sink (got contents old) n news new.sink.sink (got contents new)
+
+-- within its limit
+abbrev pub TakesRun : {W E : Type 0} → (W → Option (List ℕ)) → ViewedRun W E → ℕ → News → ViewedRun W E → Type 0
+TakesRun contents old n news new = Passes contents old n news new × (old.left ≡ events_of news + new.left)
+
+-- its viewer has viewed the simulation that it took
+pub run_viewed : {W E : Type 0} (contents : W → Option (List ℕ)) (old new : ViewedRun W E) (policies : List Accepted) (w : Workload) → old.sink.sink.viewer.schedule ≡ None → old.sink.sink.viewer.troubles ≡ 0
+    → first_flaw w ≡ None → Gets (TakesRun contents) old new (IsSimulation policies w) → IsViewed policies w old.left new.sink.sink.viewer
+run_viewed {W} {E} contents old new policies w empty zero sound g =
+    let through = lets_through (λ (r : ViewedRun W E). r.left) (Passes contents) old new g.told g.taken in
+    let taken = viewer_takes (λ (r : ViewedRun W E). r.sink.sink) (got contents) old new g.told through.0 in
+    views_simulation old.sink.sink.viewer new.sink.sink.viewer policies w g.told old.left new.left empty zero sound taken g.holds through.1

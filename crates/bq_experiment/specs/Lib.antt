@@ -1,5 +1,8 @@
 pub mod Asking
+pub mod Faults
+pub mod Limits
 pub mod Names
+pub mod Passing
 pub mod Standing
 pub mod Taking
 pub mod Traces

@@ -1,5 +1,6 @@
 -- What is written of a workload that is run, as a trace.
-use Rattle.std.specs.Prelude.{◌≡◌, ℕ, List, [], ◌++◌, None, string_bytes}
+use Rattle.std.specs.Prelude.{◌≡◌, ◌≤◌, ℕ, List, [], ◌++◌, Option, None, map}
+use Rattle.std.specs.Io.KnownBytes.{Appends}
 use Rattle.bq_workload.specs.Soundness.{first_flaw}
 use Rattle.bq_workload.specs.declared.workload.Workload.{Workload}
 use Rattle.bq_simulate.specs.Retelling.{Answers, AreOfImages}
@@ -9,7 +10,7 @@ use Rattle.bq_experiment.specs.Names.{comments_of}
 use Rattle.bq_experiment.specs.declared.asked.ShownAs.{ShownAs}
 use Rattle.bq_experiment.specs.declared.asked.ShownAs.TheVariants.{Trace, Timeline}
 use Rattle.bq_experiment.specs.declared.policies.Policies.{Policies}
-use Rattle.bq_experiment.specs.declared.running.Written.{Written}
+use Rattle.bq_experiment.specs.Limits.{events_in}
 use Rattle.bq_experiment.specs.Standing.{image_for}
 use Rattle.bq_experiment.specs.Views.{AreNotesOf}
 use Rattle.bq_trace.specs.Feeding.{with_feeds}
@@ -18,6 +19,12 @@ use Rattle.bq_trace.specs.News.{News, Told, Skipped, texts}
 -- a comment that is reported beside the lines of the trace
 abbrev pub skipped : List ℕ → ℕ × News
 skipped line = (0, Skipped line)
+
+-- the comments that name the tasks of a workload, and then a simulation of it with these policies
+pub record IsNamedRun (policies : List Accepted) (w : Workload) (told : Told) : Type 0 where
+  pub more : Told
+  pub simulation : IsSimulation policies w more
+  pub whole : told ≡ map skipped (comments_of w) ++ more
 
 -- The workload has no flaw. The text has the comments that name its tasks, in order, and then the line of each piece of news of a
 -- simulation of it with these policies, in order, written with the images that they are of.
@@ -29,10 +36,17 @@ pub record IsTrace (w : Workload) (policies : List Accepted) (images : ByHook) (
   pub of_images : AreOfImages images policies
   pub whole : text ≡ with_feeds (comments_of w ++ told_lines images told)
 
+-- The writer got the whole text of a trace of at most this many events, beyond what it had.
+pub record WritesTrace (w : Workload) (policies : List Accepted) (images : ByHook) (most : ℕ) (old new : Option (List ℕ)) : Type 0 where
+  pub text : List ℕ
+  pub trace : IsTrace w policies images text
+  pub few : events_in trace.told ≤ most
+  pub added : Appends old new text
+
 -- What is written of a workload that is run with these policies: a trace, and no notes; or what a viewer of a simulation has.
-abbrev pub IsWritten : ShownAs → Workload → Policies → Written → Type 0
-IsWritten Trace w policies written = IsTrace w policies.loaded (image_for policies.images) (string_bytes written.text) × (string_bytes written.notes ≡ [])
-IsWritten (Timeline settings) w policies written = AreNotesOf policies.loaded w (string_bytes written.notes)
+abbrev pub IsWritten : ShownAs → Workload → Policies → ℕ → Option (List ℕ) → Option (List ℕ) → List ℕ → Type 0
+IsWritten Trace w policies most old new notes = WritesTrace w policies.loaded (image_for policies.images) most old new × (notes ≡ [])
+IsWritten (Timeline settings) w policies most old new notes = AreNotesOf policies.loaded w most notes
 
 -- The text is answered by the answers that the simulation got, and leaves the same machine.
 abbrev pub TracesAreReplayed : Type 0

@@ -1,5 +1,5 @@
 -- A workload that is run before a viewer.
-use Rattle.std.specs.Prelude.{◌≡◌, ℕ, List, ◌++◌, None}
+use Rattle.std.specs.Prelude.{◌≡◌, ◌≤◌, ℕ, List, ◌++◌, None}
 use Rattle.bq_workload.specs.Soundness.{first_flaw}
 use Rattle.bq_workload.specs.declared.workload.Workload.{Workload}
 use Rattle.bq_simulate.specs.Simulations.{Accepted, IsSimulation}
@@ -7,19 +7,21 @@ use Rattle.bq_timeline.specs.Notes.{last_notes}
 use Rattle.bq_timeline.specs.Watching.{schedule_after}
 use Rattle.bq_timeline.specs.declared.viewer.Viewer.{Viewer}
 use Rattle.bq_trace.specs.News.{Told}
+use Rattle.bq_experiment.specs.Limits.{events_in}
 
--- The workload has no flaw. The viewer has the schedule of a simulation of it with these policies, and has counted no line of it as bad
--- or refused.
-pub record IsViewed (policies : List Accepted) (w : Workload) (viewer : Viewer) : Type 0 where
+-- The workload has no flaw. The viewer has the schedule of a simulation of it with these policies, of at most this many events, and has
+-- counted no line of it as bad or refused.
+pub record IsViewed (policies : List Accepted) (w : Workload) (most : ℕ) (viewer : Viewer) : Type 0 where
   pub told : Told
   pub sound : first_flaw w ≡ None
+  pub few : events_in told ≤ most
   pub simulation : IsSimulation policies w told
   pub schedule : viewer.schedule ≡ schedule_after None told
   pub clean : viewer.troubles ≡ 0
 
 -- What goes to standard error ends with the last notes at the schedule that a viewer has of it.
-pub record AreNotesOf (policies : List Accepted) (w : Workload) (notes : List ℕ) : Type 0 where
+pub record AreNotesOf (policies : List Accepted) (w : Workload) (most : ℕ) (notes : List ℕ) : Type 0 where
   pub viewer : Viewer
-  pub viewed : IsViewed policies w viewer
+  pub viewed : IsViewed policies w most viewer
   pub before : List ℕ
   pub whole : notes ≡ before ++ last_notes viewer.schedule 0

@@ -1,20 +1,27 @@
 //! The command `simulate`: a workload, read from a text, is run, and shown as `timeline` shows a trace, or as a trace.
 //! Promises that each policy is that of the image at its hook, that a trace has the line of each event of a simulation of that
-//! workload, and that a replay answers it alike.
-//! Stands on bq_workload_file for the text, on bq_simulate for the loop, and on bq_timeline for the forms other than a
-//! trace.
+//! workload, and that a replay answers it alike; and that a run which comes to its end has no more events than it may have.
+//! What is written goes to the output as it comes. Stands on bq_workload_file for the text, on bq_simulate for the loop, and on
+//! bq_timeline for the forms other than a trace.
 #![tactic(auto)]
 
 pub mod asked;
+mod fault;
 pub mod later;
 pub mod laws;
+mod limited;
 pub mod names;
+mod passing;
 pub mod policies;
+mod run_progress;
 pub mod running;
+mod texts;
 pub mod words;
 
 pub use asked::{AskedFault, ShownAs, asked_changes};
+pub use fault::RunFault;
+pub use limited::Limited;
 pub use names::{shown_name, task_names, workload_names};
 pub use policies::{AttachFault, Policies};
-pub use running::{Written, run_as};
+pub use running::{Ran, Streams, run_as};
 pub use words::{HookWords, MachineWords, StudyWords};

@@ -1,96 +1,274 @@
 //! One run of a workload, and what is written of it.
-ghost use Rattle.std.specs.Prelude.{IfErr, IfOk, string_bytes};
+ghost use Rattle.std.specs.Prelude.{◌≡◌, [], IfErr, IfOk, None, OnOk, string_bytes};
+ghost use Rattle.bq_streams.specs.Counts.{failures_of, inner_of};
 ghost use Rattle.bq_simulate.specs.Faults.{TellsNoOther};
-ghost use Rattle.bq_experiment.specs.Traces.{IsWritten};
+ghost use Rattle.bq_simulate.specs.Texts.{image_at};
+ghost use Rattle.bq_trace.specs.News.{Gets};
+ghost use Rattle.bq_workload.specs.Soundness.{first_flaw};
+ghost use Rattle.bq_experiment.specs.Faults.{IsRunFault, IsStopped};
+ghost use Rattle.bq_experiment.specs.Standing.{AreOfTheirImages, image_for};
+ghost use Rattle.bq_experiment.specs.Traces.{IsNamedRun, IsWritten, WritesTrace};
 ghost use Rattle.bq_experiment.specs.Views.{AreNotesOf, IsViewed};
-ghost use Rattle.bq_experiment.specs.declared.asked.ShownAs.TheVariants.{Trace};
+ghost use Rattle.bq_experiment.specs.declared.asked.ShownAs.TheVariants as shown_as;
 
 use crate::asked::ShownAs;
+use crate::fault::RunFault;
 use crate::later::Later;
+use crate::limited::Limited;
 use crate::names::{show_names, tell_names};
+use crate::passing::Passing;
 use crate::policies::Policies;
+use crate::run_progress::RunProgress;
+use crate::texts::Texts;
+use bq_console::Progress;
 use bq_simulate::{SimulateFault, TraceWriter, simulate};
+use bq_streams::Counted;
 use bq_timeline::Settings;
 use bq_timeline::viewer::Viewer;
+use bq_trace::Sink;
 use bq_workload::Workload;
-use std::alloc::Global;
+use std::alloc::{AllocError, Global};
+use std::io::Write;
 
-/// What is written of a run: to the output, and to standard error.
+/// Where a run is written: its text, its notes, and how far it is.
 #[derive(Drop)]
-pub struct Written {
-    pub text: String,
-    pub notes: String,
+pub struct Streams<'a, W, E> {
+    pub output: W,
+    pub errors: E,
+    pub progress: &'a Progress<'a>,
 }
 
-/// Runs a workload with these policies at all processors; what is written of it, as it was asked for.
-pub fn run_as(
+/// What came of a run: the output, given back, and the last notes, or why the run has not come to its end.
+#[derive(Drop)]
+pub struct Ran<W> {
+    pub output: Counted<W>,
+    pub outcome: Result<String, RunFault>,
+}
+
+/// A run of which each piece is written as it comes.
+type Run<'a, S, W, E> = Limited<Passing<'a, S, W, E>>;
+
+/// Runs a workload with these policies at all processors, and writes what is asked for as it comes. A run of more events than
+/// `most` is cut off there, and what was written stays written, in whole lines. Notes go to standard error as they come; that one
+/// is not taken there stops nothing.
+pub fn run_as<W: Write + Drop, E: Write + Drop>(
     alloc: Global,
     workload: &Workload,
     policies: &Policies,
     shown: ShownAs,
-) -> Result<Written, SimulateFault>
-    ensures written { IfOk result (IsWritten shown workload.now policies.now) }
+    most: u64,
+    streams: Streams<'_, W, E>,
+) -> Ran<W>
+    ensures written { IfOk result.outcome (λ notes. IsWritten shown workload.now policies.now most (W.contents streams.entry.output) (W.contents (inner_of result.output)) (string_bytes notes)) }
 
-    // Where a flaw is reported, it is the first that the workload has.
-    ensures flaw { IfErr result (TellsNoOther workload.now) }
+    // No write has failed then: the first failure ends it.
+    ensures writes { OnOk result.outcome (failures_of result.output ≡ 0) }
+
+    // Each fault has its cause. Where a flaw is reported, it is the first that the workload has.
+    ensures fault { IfErr result.outcome (λ e. IsRunFault workload.now e (failures_of result.output)) }
 {
     match shown {
-        ShownAs::Trace => as_trace(alloc, workload, policies),
-        ShownAs::Timeline(settings) => as_timeline(alloc, workload, policies, settings),
+        ShownAs::Trace => as_trace(alloc, workload, policies, most, streams),
+        ShownAs::Timeline(settings) => {
+            as_timeline(alloc, workload, policies, settings, most, streams)
+        }
     }
 }
 
-/// Runs it, and tells its events as the text of a trace, after comments that name the tasks.
-fn as_trace(
+/// A run before a sink, with no more events than that.
+fn begun<'a, S, W, E>(
+    workload: &Workload,
+    sink: S,
+    most: u64,
+    streams: Streams<'a, W, E>,
+) -> Run<'a, S, W, E>
+    ensures sink { result.sink.sink ≡ sink }
+    ensures output { inner_of result.sink.output ≡ streams.entry.output }
+    ensures left { result.left ≡ most }
+{
+    let Streams {
+        output,
+        errors,
+        progress,
+    } = streams;
+    let progress = RunProgress::new(workload, progress);
+    Limited::new(Passing::new(sink, output, errors, progress), most)
+}
+
+/// Writes its events as a trace, after comments that name the tasks.
+fn as_trace<W: Write + Drop, E: Write + Drop>(
     alloc: Global,
     workload: &Workload,
     policies: &Policies,
-) -> Result<Written, SimulateFault>
-    ensures written { IfOk result (IsWritten Trace workload.now policies.now) }
-    ensures flaw { IfErr result (TellsNoOther workload.now) }
+    most: u64,
+    streams: Streams<'_, W, E>,
+) -> Ran<W>
+    ensures written { IfOk result.outcome (λ notes. IsWritten shown_as.Trace workload.now policies.now most (W.contents streams.entry.output) (W.contents (inner_of result.output)) (string_bytes notes)) }
+    ensures writes { OnOk result.outcome (failures_of result.output ≡ 0) }
+    ensures fault { IfErr result.outcome (λ e. IsRunFault workload.now e (failures_of result.output)) }
 {
-    let mut sink = TraceWriter::new(alloc, policies.images());
-    tell_names(alloc, workload, &mut sink)?;
-    simulate(alloc, workload, policies.loaded(), &mut sink)?;
-    Ok(Written {
-        text: sink.text,
-        notes: String::new(alloc),
-    })
+    let writer = TraceWriter::new(alloc, policies.images());
+    let mut run = begun(workload, writer, most, streams);
+    let outcome = match write_trace(alloc, workload, policies, &mut run) {
+        Ok(()) => Ok(String::new(alloc)),
+        Err(fault) => Err(fault),
+    };
+    let passing = run.sink;
+    Ran {
+        output: passing.into_output(),
+        outcome,
+    }
 }
 
-/// Runs it, and shows its schedule by these settings.
-fn as_timeline(
+/// Writes a trace to its end.
+fn write_trace<W: Write, E: Write>(
+    alloc: Global,
+    workload: &Workload,
+    policies: &Policies,
+    run: &mut Run<'_, TraceWriter<'_>, W, E>,
+) -> Result<(), RunFault>
+    requires empty { string_bytes run.old.sink.sink.text ≡ [] }
+    requires images { image_at run.old.sink.sink.images ≡ image_for policies.now.images }
+    ensures written { OnOk result (WritesTrace workload.now policies.now.loaded (image_for policies.now.images) run.old.left (W.contents (inner_of run.old.sink.output)) (W.contents (inner_of run.new.sink.output))) }
+    ensures writes { OnOk result (failures_of run.new.sink.output ≡ 0) }
+    ensures fault { IfErr result (λ e. IsRunFault workload.now e (failures_of run.new.sink.output)) }
+{
+    match tell_run(alloc, workload, policies, run) {
+        Ok(()) => {}
+        Err(fault) => return Err(stopped(run, fault)),
+    }
+    match run.sink.write_text() {
+        Ok(()) => Ok(()),
+        Err(_) => Err(RunFault::Write),
+    }
+}
+
+/// Tells a sink of the run, after the names of the tasks.
+fn tell_run<S: Sink>(
+    alloc: Global,
+    workload: &Workload,
+    policies: &Policies,
+    sink: &mut S,
+) -> Result<(), SimulateFault>
+    ensures told { OnOk result (Gets S.takes sink.old sink.new (IsNamedRun policies.now.loaded workload.now)) }
+    ensures sound { OnOk result (first_flaw workload.now ≡ None) }
+    ensures of_images { OnOk result (AreOfTheirImages policies.now) }
+    ensures flaw { IfErr result (TellsNoOther workload.now) }
+{
+    tell_names(alloc, workload, sink)?;
+    simulate(alloc, workload, policies.loaded(), sink)?;
+    Ok(())
+}
+
+/// Why a run was stopped, by the fault that came of it. Where it was cut off, what has come is written.
+fn stopped<S: Texts, W: Write, E: Write>(
+    run: &mut Run<'_, S, W, E>,
+    fault: SimulateFault,
+) -> RunFault
+    ensures { IsStopped (λ why. why ≡ fault) result (failures_of run.new.sink.output) }
+{
+    if run.is_over {
+        if let Ok(()) = run.sink.write_text() {
+            return RunFault::Events;
+        }
+    }
+    if run.sink.is_failed {
+        return RunFault::Write;
+    }
+    RunFault::Simulation(fault)
+}
+
+/// Shows its schedule by these settings.
+fn as_timeline<W: Write + Drop, E: Write + Drop>(
     alloc: Global,
     workload: &Workload,
     policies: &Policies,
     settings: Settings,
-) -> Result<Written, SimulateFault>
-    ensures written { IfOk result (λ written. AreNotesOf policies.now.loaded workload.now (string_bytes written.notes)) }
-    ensures flaw { IfErr result (TellsNoOther workload.now) }
+    most: u64,
+    streams: Streams<'_, W, E>,
+) -> Ran<W>
+    ensures written { IfOk result.outcome (λ notes. AreNotesOf policies.now.loaded workload.now most (string_bytes notes)) }
+    ensures writes { OnOk result.outcome (failures_of result.output ≡ 0) }
+    ensures fault { IfErr result.outcome (λ e. IsRunFault workload.now e (failures_of result.output)) }
 {
-    let mut viewer = viewed(alloc, workload, policies, settings)?;
-    viewer.end()?;
-    let screen = viewer.screen;
-    Ok(Written {
-        text: screen.text,
-        notes: screen.notes,
-    })
+    let viewer = Viewer::new(alloc, settings);
+    let mut run = begun(workload, Later { viewer, above: 0 }, most, streams);
+    let outcome = write_timeline(alloc, workload, policies, &mut run);
+    let passing = run.sink;
+    Ran {
+        output: passing.into_output(),
+        outcome,
+    }
 }
 
-/// Runs it before a viewer, which gets the names of its tasks first.
-fn viewed(
+/// Writes a timeline to its end. What goes to standard error then.
+fn write_timeline<W: Write, E: Write>(
     alloc: Global,
     workload: &Workload,
     policies: &Policies,
-    settings: Settings,
-) -> Result<Viewer, SimulateFault>
-    ensures viewed { IfOk result (IsViewed policies.now.loaded workload.now) }
+    run: &mut Run<'_, Later, W, E>,
+) -> Result<String, RunFault>
+    requires schedule { run.old.sink.sink.viewer.schedule ≡ None }
+    requires troubles { run.old.sink.sink.viewer.troubles ≡ 0 }
+    ensures written { IfOk result (λ notes. AreNotesOf policies.now.loaded workload.now run.old.left (string_bytes notes)) }
+    ensures writes { OnOk result (failures_of run.new.sink.output ≡ 0) }
+    ensures fault { IfErr result (λ e. IsRunFault workload.now e (failures_of run.new.sink.output)) }
+{
+    let notes = match view(alloc, workload, policies, run) {
+        Ok(notes) => notes,
+        Err(fault) => return Err(stopped(run, fault)),
+    };
+    match run.sink.write_text() {
+        Ok(()) => Ok(notes),
+        Err(_) => Err(RunFault::Write),
+    }
+}
+
+/// Runs it before a viewer, which gets the names of its tasks first. The notes at the end.
+fn view<W: Write, E: Write>(
+    alloc: Global,
+    workload: &Workload,
+    policies: &Policies,
+    run: &mut Run<'_, Later, W, E>,
+) -> Result<String, SimulateFault>
+    requires schedule { run.old.sink.sink.viewer.schedule ≡ None }
+    requires troubles { run.old.sink.sink.viewer.troubles ≡ 0 }
+    ensures notes { IfOk result (λ notes. AreNotesOf policies.now.loaded workload.now run.old.left (string_bytes notes)) }
     ensures flaw { IfErr result (TellsNoOther workload.now) }
 {
-    let mut viewer = Viewer::new(alloc, settings);
-    let above = show_names(alloc, workload, &mut viewer.screen)?;
-    let mut later = Later { viewer, above };
-    let counts = simulate(alloc, workload, policies.loaded(), &mut later)?;
+    watch(alloc, workload, policies, run)?;
+    let passing = &mut run.sink;
+    let later = &mut passing.sink;
+    later.viewer.end()?;
+    Ok(later.viewer.screen.notes.clone()?)
+}
+
+/// The same, up to the end of the simulation.
+fn watch<W: Write, E: Write>(
+    alloc: Global,
+    workload: &Workload,
+    policies: &Policies,
+    run: &mut Run<'_, Later, W, E>,
+) -> Result<(), SimulateFault>
+    requires schedule { run.old.sink.sink.viewer.schedule ≡ None }
+    requires troubles { run.old.sink.sink.viewer.troubles ≡ 0 }
+    ensures viewed { OnOk result (IsViewed policies.now.loaded workload.now run.old.left run.new.sink.sink.viewer) }
+    ensures flaw { IfErr result (TellsNoOther workload.now) }
+{
+    let passing = &mut run.sink;
+    name_tasks(alloc, workload, &mut passing.sink)?;
+    let counts = simulate(alloc, workload, policies.loaded(), run)?;
+    let passing = &mut run.sink;
+    let later = &mut passing.sink;
     later.viewer.count_missed(counts.missed);
-    Ok(later.viewer)
+    Ok(())
+}
+
+/// Names the tasks on the screen. Each line comes below as many as that takes in a trace.
+fn name_tasks(alloc: Global, workload: &Workload, later: &mut Later) -> Result<(), AllocError>
+    ensures schedule { later.new.viewer.schedule ≡ later.old.viewer.schedule }
+    ensures troubles { later.new.viewer.troubles ≡ later.old.viewer.troubles }
+{
+    later.above = show_names(alloc, workload, &mut later.viewer.screen)?;
+    Ok(())
 }

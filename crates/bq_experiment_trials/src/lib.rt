@@ -7,6 +7,8 @@
 #[cfg(test)]
 mod cases;
 #[cfg(test)]
+mod cuts;
+#[cfg(test)]
 mod facts;
 #[cfg(test)]
 mod files;

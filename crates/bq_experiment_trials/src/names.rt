@@ -1,8 +1,9 @@
 // Names that are not ASCII: a trace has `?` in their place, and every other form shows them as they are.
 
 use crate::cases::holds;
-use crate::timelines::settings_of;
-use bq_experiment::{Policies, ShownAs, run_as};
+use crate::timelines::{settings_of, text_of};
+use bq_console::Progress;
+use bq_experiment::{Policies, ShownAs, Streams, run_as};
 use bq_workload::Workload;
 use bq_workload_file::{Changes, read};
 use std::alloc::Global;
@@ -28,8 +29,16 @@ fn workload(alloc: Global) -> Result<Workload, Fail> {
 /// What is written of the run in that form.
 fn written(alloc: Global, shown: ShownAs) -> Result<String, Fail> {
     let workload = workload(alloc)?;
-    match run_as(alloc, &workload, &Policies::new(alloc), shown) {
-        Ok(written) => Ok(written.text),
+    let progress = Progress::none();
+    let streams = Streams {
+        output: Vec::new(alloc),
+        errors: Vec::new(alloc),
+        progress: &progress,
+    };
+    let none = Policies::new(alloc);
+    let ran = run_as(alloc, &workload, &none, shown, u64::MAX, streams);
+    match ran.outcome {
+        Ok(_) => text_of(alloc, &ran.output.into_inner()),
         Err(_) => Err(Fail::from("the run is refused")),
     }
 }

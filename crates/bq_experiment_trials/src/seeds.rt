@@ -8,7 +8,10 @@
 use crate::cases::holds;
 use bq_cli::simulate::SimulateWords;
 use bq_cli::{Command, job};
-use bq_comparison::{Comparing, ComparingFault, asked_comparison, compare, comparison_text};
+use bq_comparison::{
+    Comparing, ComparingFault, RunPlan, asked_comparison, compare, comparison_text,
+};
+use bq_console::Progress;
 use bq_experiment::{Policies, ShownAs, StudyWords};
 use bq_workload::Workload;
 use bq_workload_file::{Changes, read};
@@ -201,7 +204,13 @@ fn compared<T: Threads + Sync>(
 ) -> Result<String, Fail> {
     let none = Policies::new(alloc);
     let _notes = asked.add_called(alloc, workload)?;
-    match compare(threads, alloc, workload, &none, others, asked.seeds) {
+    let progress = Progress::none();
+    let plan = RunPlan {
+        seeds: asked.seeds,
+        most: u64::MAX,
+        progress: &progress,
+    };
+    match compare(threads, alloc, workload, &none, others, &plan) {
         Ok(sides) => Ok(comparison_text(alloc, workload, &sides, asked)?),
         Err(_) => Err(Fail::from("it does not run")),
     }

@@ -1,0 +1,92 @@
+//! How far long work is: one line of a terminal, which is written again and again.
+
+use std::cell::Cell;
+use std::fmt;
+use std::io::IsTerminal;
+
+/// How many events of simulations are about a second's work.
+pub const EVENTS: u64 = 250_000;
+
+/// How many bytes of a trace are about a second's work.
+pub const BYTES: u64 = 4_000_000;
+
+/// What erases the line on which the cursor is.
+const ERASED: &str = "\r\x1b[K";
+
+/// How much of long work is done.
+#[derive(Clone, Copy)]
+pub enum Done {
+    /// This much of the time that is simulated, in percent.
+    Percent(u64),
+    /// This many runs of all.
+    Runs(u64, u64),
+    /// This many bytes of an input.
+    Bytes(u64),
+}
+
+impl fmt::Display for Done {
+    fn fmt<W: fmt::Write>(&self, f: &mut fmt::Formatter<W>) -> fmt::Result {
+        match self {
+            Done::Percent(percent) => write!(f, "{percent}% simulated"),
+            Done::Runs(done, all) => write!(f, "{done} of {all} runs done"),
+            Done::Bytes(bytes) => {
+                let megabytes = *bytes / 1_000_000;
+                write!(f, "{megabytes} MB read")
+            }
+        }
+    }
+}
+
+/// The line of standard error that shows how much is done. Nothing is shown unless standard error is a terminal.
+///
+/// ```text
+/// let progress = Progress::new(rt);
+/// progress.show(Done::Percent(40));
+/// progress.erase();
+/// ```
+#[derive(Drop)]
+pub struct Progress<'a> {
+    /// The terminal, if there is one.
+    terminal: Option<&'a HostRuntime>,
+    is_shown: Cell<bool>,
+}
+
+impl<'a> Progress<'a> {
+    /// Nothing is shown yet.
+    pub fn new(rt: &'a HostRuntime) -> Progress<'a> {
+        let terminal = if rt.stderr().is_terminal() {
+            Some(rt)
+        } else {
+            None
+        };
+        Progress {
+            terminal,
+            is_shown: Cell::new(false),
+        }
+    }
+
+    /// Nothing is ever shown.
+    pub fn none() -> Progress<'a> {
+        Progress {
+            terminal: None,
+            is_shown: Cell::new(false),
+        }
+    }
+
+    /// Shows how much is done, in place of what is shown.
+    pub fn show(&self, done: Done) {
+        if let Some(rt) = self.terminal {
+            let _ = eprint!(rt; "{ERASED}bqsim: {done}");
+            self.is_shown.set(true);
+        }
+    }
+
+    /// Erases what is shown, if something is.
+    pub fn erase(&self) {
+        if let Some(rt) = self.terminal {
+            if self.is_shown.replace(false) {
+                let _ = rt.eprint(ERASED);
+            }
+        }
+    }
+}

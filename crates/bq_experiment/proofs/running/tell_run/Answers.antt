@@ -1,0 +1,27 @@
+-- The names of the tasks are told, and then the simulation.
+use Rattle.std.proofs.Common.{List, map, refl, subst, ◌++◌}
+use Rattle.std.proofs.lemmas.Result.{err_from_is_err_and}
+use Rattle.bq_trace.specs.News.{Gets}
+use Rattle.bq_trace.proofs.TakingLemmas.{TakesAll-append}
+use Rattle.bq_simulate.specs.Simulations.{Accepted, IsSimulation}
+use Rattle.bq_experiment.specs.Names.{comments_of}
+use Rattle.bq_experiment.specs.Traces.{skipped}
+use Rattle.bq_experiment.proofs.ViewLemmas.{no_other}
+use Rattle.bq_experiment.proofs.running.tell_run.Goals as goal
+
+pub returns-clause-told : goal.returns-clause-told
+returns-clause-told g c =
+    let takes = g.S.Sink.takes in
+    let w = c.args.workload.now in
+    let named = c.tell_names.new.sink in
+    let run = subst (λ (l : List Accepted). Gets takes named c.simulate.new.sink (IsSimulation l w)) c.loaded.ensures.value c.in_ok-simulate.ensures.told in
+    record {
+      told = map skipped (comments_of w) ++ run.told;
+      taken = TakesAll-append takes c.args.sink.now named c.simulate.new.sink (map skipped (comments_of w)) run.told c.in_ok-tell_names.ensures.told run.taken;
+      holds = record { more = run.told; simulation = run.holds; whole = refl };
+    }
+
+pub returns-in_err-simulate-clause-flaw : goal.returns-in_err-simulate-clause-flaw
+returns-in_err-simulate-clause-flaw g c =
+    let p = err_from_is_err_and c.from_residual-in_err-simulate.result c.from_residual-in_err-simulate.ensures.1 in
+    rw (p.1, p.2) (no_other c.args.workload.now c.in_err-simulate.field-0.0 c.in_err-simulate.ensures.flaw)

@@ -1,0 +1,13 @@
+-- How many events a run has.
+use Rattle.std.specs.Prelude.{ℕ, ◌+◌, [], ◌∷◌}
+use Rattle.bq_trace.specs.News.{News, Told, Comes}
+
+-- an event that comes counts as one, and nothing else does
+abbrev pub events_of : News → ℕ
+events_of (Comes event m) = 1
+events_of news = 0
+
+-- how many events all of it tells
+abbrev pub events_in : Told → ℕ
+events_in [] = 0
+events_in ((n, news) ∷ more) = events_of news + events_in more

@@ -1,0 +1,157 @@
+//! A sink whose texts are written as they come.
+ghost use Rattle.std.specs.Prelude.{◌≡◌, ◌<◌, false, true, IfErr, OnOk};
+ghost use Rattle.std.specs.Io.KnownBytes.{Appends};
+ghost use Rattle.bq_streams.specs.Counts.{HasRisen, failures_of, inner_of};
+ghost use Rattle.bq_experiment.specs.Passing.{Empties, IsPassedOn, TakesAndPasses};
+
+use crate::run_progress::RunProgress;
+use crate::texts::Texts;
+use bq_load::LoadFault;
+use bq_parts::{Event, Refusal, Reply};
+use bq_streams::{Counted, PIECE, StreamFault};
+use bq_trace::{AnyCore, Sink};
+use bq_words::{ProcessorCount, Rule};
+use std::alloc::AllocError;
+use std::io::Write;
+
+/// A sink, and the writers that get its texts: each piece as it comes, notes first. It ends the run by an error if a write of the
+/// text fails.
+#[derive(Drop)]
+pub struct Passing<'a, S, W, E> {
+    pub sink: S,
+    pub output: Counted<W>,
+    errors: E,
+    progress: RunProgress<'a>,
+    /// Whether a write to the output has failed.
+    pub is_failed: bool,
+    ghost whole: { is_failed ≡ false → failures_of output ≡ 0 },
+    ghost failed: { is_failed ≡ true → 0 < failures_of output },
+}
+
+impl<'a, S, W, E> Passing<'a, S, W, E> {
+    /// Nothing is written yet.
+    pub fn new(sink: S, output: W, errors: E, progress: RunProgress<'a>) -> Passing<'a, S, W, E>
+        ensures sink { result.sink ≡ sink }
+        ensures output { inner_of result.output ≡ output }
+    {
+        Passing {
+            sink,
+            output: Counted::new(output),
+            errors,
+            progress,
+            is_failed: false,
+        }
+    }
+}
+
+impl<S: Drop, W, E: Drop> Passing<'_, S, W, E> {
+    /// The writer of the text.
+    pub fn into_output(self) -> Counted<W>
+        ensures { result ≡ self.entry.output }
+    {
+        let Passing {
+            sink: _sink,
+            output,
+            errors: _errors,
+            progress: _progress,
+            is_failed: _,
+        } = self;
+        output
+    }
+}
+
+impl<S: Texts, W: Write, E: Write> Passing<'_, S, W, E> {
+    /// Writes the text.
+    pub fn write_text(&mut self) -> Result<(), StreamFault>
+        ensures sink { self.new.sink ≡ self.old.sink }
+        ensures added { OnOk result (Appends (W.contents (inner_of self.old.output)) (W.contents (inner_of self.new.output)) (S.pending self.old.sink)) }
+        ensures kept { OnOk result (failures_of self.new.output ≡ 0) }
+        ensures fault { IfErr result (λ e. HasRisen 0 (failures_of self.new.output)) }
+    {
+        if self.output.write_text(self.sink.text().as_bytes()).is_err() {
+            self.is_failed = true;
+        }
+        if self.is_failed {
+            return Err(StreamFault::Write);
+        }
+        Ok(())
+    }
+
+    /// Writes the notes and the text, and clears both.
+    fn empty(&mut self) -> Result<(), AllocError>
+        ensures { OnOk result (Empties S.pending S.clears self.old.sink (W.contents (inner_of self.old.output)) self.new.sink (W.contents (inner_of self.new.output))) }
+    {
+        let _ = self.errors.write_all(self.sink.notes().as_bytes());
+        if self.write_text().is_err() {
+            return Err(AllocError);
+        }
+        self.sink.clear();
+        Ok(())
+    }
+
+    /// Writes what has come once it is a piece, or there is a note.
+    fn pass_on(&mut self) -> Result<(), AllocError>
+        ensures { OnOk result (IsPassedOn S.pending S.clears self.old.sink (W.contents (inner_of self.old.output)) self.new.sink (W.contents (inner_of self.new.output))) }
+    {
+        if self.sink.text().len() < PIECE && self.sink.notes().is_empty() {
+            return Ok(());
+        }
+        self.empty()
+    }
+}
+
+impl<S: Sink + Texts, W: Write, E: Write> Sink for Passing<'_, S, W, E> {
+    ghost takes = { λ old n news new. TakesAndPasses S.takes S.pending S.clears old.sink (W.contents (inner_of old.output)) n news new.sink (W.contents (inner_of new.output)) };
+
+    fn opened(&mut self, number: u64, rule: Rule, size: ProcessorCount) -> Result<(), AllocError> {
+        self.sink.opened(number, rule, size)?;
+        self.pass_on()
+    }
+
+    fn skipped(&mut self, number: u64, line: &[u8]) -> Result<(), AllocError> {
+        self.sink.skipped(number, line)?;
+        self.pass_on()
+    }
+
+    fn comes(&mut self, number: u64, event: &Event, machine: &AnyCore) -> Result<(), AllocError> {
+        self.progress.count(event);
+        self.sink.comes(number, event, machine)?;
+        self.pass_on()
+    }
+
+    fn answered(
+        &mut self,
+        number: u64,
+        event: &Event,
+        answer: &Result<Reply, Refusal>,
+        machine: &AnyCore,
+    ) -> Result<(), AllocError> {
+        self.sink.answered(number, event, answer, machine)?;
+        self.pass_on()
+    }
+
+    fn unspelled(&mut self, number: u64) -> Result<(), AllocError> {
+        self.sink.unspelled(number)?;
+        self.pass_on()
+    }
+
+    fn unloaded(&mut self, number: u64, fault: LoadFault) -> Result<(), AllocError> {
+        self.sink.unloaded(number, fault)?;
+        self.pass_on()
+    }
+
+    fn shown(&mut self, number: u64, processor: u8, machine: &AnyCore) -> Result<(), AllocError> {
+        self.sink.shown(number, processor, machine)?;
+        self.pass_on()
+    }
+
+    fn counted(&mut self, number: u64, counter: u8, value: u64) -> Result<(), AllocError> {
+        self.sink.counted(number, counter, value)?;
+        self.pass_on()
+    }
+
+    fn bad(&mut self, number: u64, line: Option<&[u8]>) -> Result<(), AllocError> {
+        self.sink.bad(number, line)?;
+        self.pass_on()
+    }
+}

@@ -1,0 +1,57 @@
+//! How far one run is.
+
+use bq_console::{Done, EVENTS, Progress};
+use bq_parts::Event;
+use bq_workload::Workload;
+
+/// How far a run is, by the times of its events.
+#[derive(Drop)]
+pub struct RunProgress<'a> {
+    progress: &'a Progress<'a>,
+    /// How long it is, in nanoseconds.
+    duration: u64,
+    /// How many events have come.
+    events: u64,
+    /// The time of the last event that has one.
+    now: u64,
+}
+
+impl<'a> RunProgress<'a> {
+    /// No event of the workload's run has come.
+    pub fn new(workload: &Workload, progress: &'a Progress<'a>) -> RunProgress<'a> {
+        RunProgress {
+            progress,
+            duration: workload.machine.duration,
+            events: 0,
+            now: 0,
+        }
+    }
+
+    /// An event comes. About once a second it is shown how far the run is.
+    pub fn count(&mut self, event: &Event) {
+        if let Some(now) = time_of(event) {
+            self.now = now;
+        }
+        self.events = self.events.saturating_add(1);
+        if self.events % EVENTS == 0 {
+            self.progress.show(Done::Percent(self.percent()));
+        }
+    }
+
+    /// How much of its time has passed, in percent.
+    fn percent(&self) -> u64 {
+        self.now.saturating_mul(100) / self.duration.max(1)
+    }
+}
+
+/// The time of an event, if it has one.
+fn time_of(event: &Event) -> Option<u64> {
+    match event {
+        Event::EndWake { now, .. }
+        | Event::Drain { now, .. }
+        | Event::Tick { now, .. }
+        | Event::Block { now, .. }
+        | Event::Pull { now, .. } => Some(*now),
+        _ => None,
+    }
+}
