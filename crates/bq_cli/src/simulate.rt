@@ -13,7 +13,7 @@ use bq_comparison::{
 };
 use bq_console::status::{BAD_INPUT, IO_FAILED};
 use bq_console::{
-    ErasingWriter, Progress, WordsFault, all_words, refused_words, say_out_of_memory,
+    ErasingWriter, Lines, Progress, WordsFault, all_words, refused_words, say_out_of_memory,
     say_unwritten, word, written,
 };
 use bq_experiment::{
