@@ -202,10 +202,11 @@ fn simulated<T: Threads + Sync>(
         Shown::Run(shown) => show_run(rt, &workload, &policies, shown, events),
         Shown::Figures(asked) => {
             let others = others(rt, words, bytes)?;
+            let others = others.as_ref();
             let compared = Compared {
                 workload: &workload,
                 ours: &policies,
-                others: others.as_ref(),
+                others,
                 most: events,
             };
             show_figures(rt, threads, &compared, asked)
