@@ -36,7 +36,7 @@ static REFUSED: [(&str, &str, &str, &str); 23] = [
         ";@ hook preempt\ncall 5\nldxw r0, [r1+48]\nexit\n",
         "refused L8 V4 1\n",
         "line 3, slot 1:  ldxw r0, [r1+48]\n  reads r1, of which nothing is known here\n",
-        "  made at line 2, slot 0:  call 5    r1 then is unset\n  helps: a call leaves r1 to r5 unset: keep what is needed later in r6 to r9, as by mov64 r6, r1 before it, or set r1 again\n",
+        "  made at line 2, slot 0:  call 5    r1 then is unset\n  helps: a call leaves r1 to r5 unset: on each way that leads here copy r1 before the call, as by mov64 r6, r1, and read the copy, or set r1 again\n",
     ),
     // a look-up without its test
     (
@@ -70,8 +70,8 @@ static REFUSED: [(&str, &str, &str, &str); 23] = [
     (
         ";@ hook preempt\ncall 3\nexit\n",
         "refused L8 V7 0\n",
-        "calls helper 3, which there is not; there are 1, 2, 5, 8, 100 and 101",
-        "call by number: 1 looks an entry up",
+        "calls helper 3, which does not exist; the helpers are 1, 2, 5, 8, 100 and 101",
+        "call one of these: 1 looks an entry up",
     ),
     // a wide instruction takes two slots, so slot 2 stands on line 3
     (
@@ -98,7 +98,7 @@ static REFUSED: [(&str, &str, &str, &str); 23] = [
     (
         ";@ hook preempt\nmov64 r0, 0\nldmap r1, 0\nexit\n",
         "refused L8 V8 1\n",
-        "names map 0; the program has 0 maps",
+        "names map 0; the program has no maps",
         "say the maps: a line ;@ maps 8:1",
     ),
     // the context of another hook: that of preempt has 56 bytes
@@ -120,7 +120,7 @@ static REFUSED: [(&str, &str, &str, &str); 23] = [
         ";@ hook place\nmov64 r0, 0\nstxw [r1+104], r0\nexit\n",
         "refused L8 V5 1\n",
         "writes 4 bytes at context + 104; the context is only read",
-        "  helps: write to the stack, at r10 - 8 or below, or to an entry of a map, which stays for the next call\n",
+        "  helps: write to the stack, at r10 - 8 or below, or to an entry of a map, which keeps its value from run to run\n",
     ),
     // the last 4 of the 296 bytes of format 2: 292 + 4 is 296
     (
@@ -154,14 +154,14 @@ static REFUSED: [(&str, &str, &str, &str); 23] = [
     (
         ";@ hook place\nldxw r2, [r1+0]\nand64 r2, 7\nadd64 r1, r2\nldxb r0, [r1-7]\nexit\n",
         "refused L8 V5 3\n",
-        "reads 1 bytes at context -7..0; the context of place, version 1, has 104 bytes",
+        "reads 1 byte at context -7..0; the context of place, version 1, has 104 bytes",
         "  helps: a smaller mask or a test (jgt64) before the address is made; docs/CONTEXTS.md has the fields of each hook\n",
     ),
     // numbers and distances below zero
     (
         ";@ hook place\nldxw r2, [r1+0]\nand64 r2, 15\nadd64 r2, -24\nmov64 r3, r10\nadd64 r3, r2\nldxb r0, [r3+0]\nexit\n",
         "refused L8 V5 5\n",
-        "reads 1 bytes at stack end -24..-9; not all of these bytes were written before",
+        "reads 1 byte at stack end -24..-9; on some way that leads here not all of these bytes are known to be written",
         "r2 -24..-9   r3 stack end -24..-9",
     ),
     // the argument at fault is the amount
@@ -190,7 +190,7 @@ static REFUSED: [(&str, &str, &str, &str); 23] = [
         ";@ hook preempt\nmov64 r0, 0\ndiv64 r1, 4\nexit\n",
         "refused L8 V6 1\n",
         "works on r1, which is context",
-        "for a shift write lsh64 or rsh64",
+        "do arithmetic on numbers, and add the result to the pointer by add64\n",
     ),
 ];
 
@@ -371,7 +371,7 @@ fn complaints_name_what_is_wrong(rt: HostRuntime) -> Result<(), Fail> {
 const WHOLE: &str = "refused L8 V5 4
 line 6, slot 4:  ldxw r0, [r1+40]
   reads 4 bytes at context + 40..164; the context of place, version 1, has 104 bytes
-  r1 context + 0..124   r2 0..124   r10 stack end   r0 r3 r4 r5 r6 r7 r8 r9 unknown   stack: nothing written
+  r1 context + 0..124   r2 0..124   r10 stack end   r0 r3 r4 r5 r6 r7 r8 r9 unknown   stack: nothing known to be written
   made at line 5, slot 3:  add64 r1, r2    r1 then is context + 0..124
   made at line 4, slot 2:  lsh64 r2, 2    r2 then is 0..124
   made at line 3, slot 1:  and64 r2, 31    r2 then is 0..31

@@ -38,7 +38,10 @@ static REFUSED: [(&str, &str); 6] = [
         ";@ hook wake\nmov64 r0, 0\nexit\n",
         "line 1: wake is no hook (place, preempt or pull)",
     ),
-    ("4g", "the file begins as hex does, and is none"),
+    (
+        "4g",
+        "the file begins as hex does, and is none: hex is two digits for each byte, and nothing else",
+    ),
     // r9 was never set
     ("mov64 r0, r9\nexit\n", "refused L8 V4 0"),
 ];
