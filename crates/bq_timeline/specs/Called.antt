@@ -38,10 +38,13 @@ shown_letter letter = if nat_lt letter 32 || (nat_le 127 letter && nat_lt letter
 abbrev pub quoted : List ℕ → List ℕ
 quoted name = encodes (map shown_letter (take 40 (chars name)))
 
--- the note on a name that no task has
+-- that no task is called so
+abbrev pub lacking_note : List ℕ → List ℕ
+lacking_note name = codes "--tasks: no task is called " ++ (quoted name ++ codes "\n")
+
+-- the note on a name, if no task has it
 abbrev pub uncalled_note : NamedTasks → List ℕ → List ℕ
-uncalled_note named name =
-    if nat_lt 0 (length (tasks_called named name)) then [] else codes "--tasks: no task is called " ++ (quoted name ++ codes "\n")
+uncalled_note named name = if nat_lt 0 (length (tasks_called named name)) then [] else lacking_note name
 
 -- the notes on the names that no task has
 abbrev pub uncalled_notes : NamedTasks → List (String Global) → List ℕ

@@ -1,7 +1,7 @@
 //! The tasks that are asked for by their names.
 ghost use Rattle.std.specs.Prelude.{◌≡◌, ◌++◌, IfOk, OnOk, option_map, string_bytes};
 ghost use Rattle.bq_report.specs.Names.{name_of};
-ghost use Rattle.bq_timeline.specs.Called.{is_named, quoted, shown_letter, tasks_called, tasks_for, uncalled_note, uncalled_notes};
+ghost use Rattle.bq_timeline.specs.Called.{is_named, lacking_note, quoted, shown_letter, tasks_called, tasks_for, uncalled_note, uncalled_notes};
 
 use bq_disc::limits::TASKS;
 use bq_report::Names;
@@ -55,6 +55,13 @@ fn note_name(alloc: Global, notes: &mut String, name: &str, names: &Names) -> Re
     if !called.is_empty() {
         return Ok(());
     }
+    note_lacking(alloc, notes, name)
+}
+
+/// Notes that no task is called so.
+fn note_lacking(alloc: Global, notes: &mut String, name: &str) -> Result<(), AllocError>
+    ensures { OnOk result (string_bytes notes.new ≡ string_bytes notes.old ++ lacking_note name.now) }
+{
     let name = quoted(alloc, name)?;
     write!(notes, "--tasks: no task is called {name}\n")
 }

@@ -116,10 +116,26 @@ impl Screen {
         note_uncalled(alloc, &mut self.notes, asked, &self.names)?;
         let mut shown = self.form_of(alloc, settings)?;
         if let Shown::Report(_) = &shown {
-            self.near = Some(BoundsTable::new(alloc, rule, schedule.processors())?);
+            self.begin_near(alloc, rule, schedule)?;
         }
         shown.begin(rule, schedule, &self.names, &mut self.text)?;
         self.shown = Some(shown);
+        Ok(())
+    }
+
+    /// The bounds of the rule are to be shown.
+    fn begin_near(
+        &mut self,
+        alloc: Global,
+        rule: Rule,
+        schedule: &Schedule,
+    ) -> Result<(), AllocError>
+        ensures names { self.new.names ≡ self.old.names }
+        ensures tasks { self.new.tasks ≡ self.old.tasks }
+        ensures processors { self.new.processors ≡ self.old.processors }
+        ensures notes { self.new.notes ≡ self.old.notes }
+    {
+        self.near = Some(BoundsTable::new(alloc, rule, schedule.processors())?);
         Ok(())
     }
 
@@ -270,9 +286,7 @@ impl Screen {
         ensures { OnOk result (string_bytes self.new.notes ≡ (string_bytes self.old.notes ++ absent_notes (Some schedule.now) self.old.tasks.items self.old.processors)
             ++ last_notes (Some schedule.now) troubles) }
     {
-        if let Some(shown) = &mut self.shown {
-            shown.end(schedule, &self.names, &mut self.text)?;
-        }
+        self.end_form(schedule)?;
         if let Some(near) = &self.near {
             near.write(self.processors, &mut self.text)?;
         }
@@ -284,6 +298,18 @@ impl Screen {
         )?;
         note_waiting(&mut self.notes, schedule)?;
         note_troubles(&mut self.notes, troubles)
+    }
+
+    /// The form ends, if it has begun.
+    fn end_form(&mut self, schedule: &Schedule) -> Result<(), AllocError>
+        ensures tasks { self.new.tasks ≡ self.old.tasks }
+        ensures processors { self.new.processors ≡ self.old.processors }
+        ensures notes { self.new.notes ≡ self.old.notes }
+    {
+        match &mut self.shown {
+            Some(shown) => shown.end(schedule, &self.names, &mut self.text),
+            None => Ok(()),
+        }
     }
 
     /// The trace is over, and made no machine. This many lines were bad.
