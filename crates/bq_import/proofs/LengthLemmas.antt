@@ -15,7 +15,7 @@ use Rattle.bq_import.specs.Lengths.{IsIn, IsLanding, IsTooLong, run_at, run_of}
 use Rattle.bq_import.specs.Search.{IsNext, width_at, width_of}
 use Rattle.bq_import.proofs.RoomLemmas.{enough, one_slot}
 
--- the run, by what stands at its first slot
+-- the run, by the first of its slots
 run_here : (slots : List (Option Insn)) (slot : ℕ) (o : Option Insn) → slot < length slots → instruction_at slots slot ≡ o → run_at slots slot ≡ run_of (o ∷ drop (slot + 1) slots)
 run_here slots slot o inside here = at_drop_more run_of slots slot None inside ∙ ap (λ (v : Option Insn). run_of (v ∷ drop (slot + 1) slots)) here
 

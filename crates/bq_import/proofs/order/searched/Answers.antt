@@ -9,6 +9,9 @@ use Rattle.bq_import.proofs.ProgramLemmas.{written_is_well_formed}
 use Rattle.bq_import.proofs.ReachLemmas.{wrong_by_search}
 use Rattle.bq_import.proofs.order.searched.Goals as goal
 
+pub run-requires-clause-done : goal.run-requires-clause-done
+run-requires-clause-done c = c.in_ok-search.ensures.done c.args.maps
+
 pub returns-in_err-run-clause-disorder : goal.returns-in_err-run-clause-disorder
 returns-in_err-run-clause-disorder c =
     let p = err_from_is_err_and c.from_residual-in_err-run.result c.from_residual-in_err-run.ensures.1 in
