@@ -1,5 +1,5 @@
 -- Parts of a report, one behind another.
-use Rattle.std.proofs.Common.{◌≡◌, ℕ, ◌+◌, ◌<◌, Bool, true, false, true≢false, IsTrue, List, [], ◌∷◌, ◌++◌, ◌↔◌, ◌⊎◌, refl, ap, sym, ◌∙◌, subst, append_assoc, append-nil, add-one, arith, inl, inr, Option, Some, None, ℤ, pos, negsuc, ◌≤◌, nat_eq}
+use Rattle.std.proofs.Common.{◌≡◌, ℕ, ◌+◌, ◌<◌, Bool, true, false, true≢false, IsTrue, List, [], ◌∷◌, ◌++◌, ◌↔◌, ◌⊎◌, refl, ap, sym, ◌∙◌, subst, append_assoc, append-nil, add-one, arith, inl, inr, Option, Some, None, ℤ, pos, negsuc, ◌||◌, ◌≤◌, nat_eq}
 use Rattle.std.specs.Prelude.{codes, IsSorted, IsPermutation}
 use Rattle.std.specs.Ordering.{nat_cmp}
 use Rattle.std.proofs.lemmas.Bool.Decides.{nat_tests}
@@ -16,7 +16,7 @@ use Rattle.bq_schedule.specs.WakeLatencies.{Tasks, latencies_of, percentiles_of}
 use Rattle.bq_report.specs.declared.window.Window.{Window}
 use Rattle.bq_report.specs.Columns.{hook_line_if, hook_lines, latency_line, missed_line, nearest, processor_line, right, task_line}
 use Rattle.bq_report.specs.Names.{NamedTasks, name_of}
-use Rattle.bq_report.specs.Objects.{missed_member, number_or_null, processor_object, task_object, text_or_null}
+use Rattle.bq_report.specs.Objects.{latency_object, missed_member, number_or_null, processor_object, task_object, text_or_null}
 use Rattle.bq_report.specs.Reports.{Adds, AreElements, AreHookLines, AreParts, ArePercentiles, HasHooks, HasProcessor, HasTask, IsHookTable, IsJson, IsLatencyLine, IsPartIf, IsProcessorLine, IsProcessorObject, IsReport, IsTable, IsTaskLine, IsTaskObject, WasAsked, elements_text, hook_head, hook_head_unless, latency_head, processor_head, separator_if, task_head, under_hook_head}
 use Rattle.bq_report.specs.Timehist.{name_text}
 use Rattle.bq_report.specs.Waits.{still_waiting}
@@ -277,11 +277,24 @@ no_float_in_integer : (z : ℤ) → is_float (of_integer z) ≡ false
 no_float_in_integer (pos n) = refl
 no_float_in_integer (negsuc n) = refl
 
+four_false : (a b c d : Bool) → a ≡ false → b ≡ false → c ≡ false → d ≡ false → (a || (b || (c || (d || false)))) ≡ false
+four_false false false false false ea eb ec ed = refl
+four_false true b c d ea eb ec ed = absurd (true≢false ea)
+four_false false true c d ea eb ec ed = absurd (true≢false eb)
+four_false false false true d ea eb ec ed = absurd (true≢false ec)
+four_false false false false true ea eb ec ed = absurd (true≢false ed)
+
+no_float_in_latency : (p : Percentiles) → has_float (latency_object p) ≡ false
+no_float_in_latency p =
+    four_false (has_float (number_or_null p.greatest)) (has_float (number_or_null p.p50)) (has_float (number_or_null p.p95)) (has_float (number_or_null p.p99))
+    (no_float_in_number p.greatest) (no_float_in_number p.p50) (no_float_in_number p.p95) (no_float_in_number p.p99)
+
 -- no figure of a task is a float
 pub no_float_in_task : (names : NamedTasks) (s : Figures) (id : ℕ) (p : Percentiles) → has_float (task_object names s id p) ≡ false
 no_float_in_task names s id p =
-    rw (no_float_in_number p.greatest, no_float_in_number p.p50, no_float_in_number p.p95, no_float_in_number p.p99, no_float_in_text (name_of names id),
-    no_float_in_integer (task_of s id).nice, no_float_in_number (still_waiting s id)) refl
+    four_false (has_float (latency_object p)) (has_float (text_or_null (name_of names id))) (is_float (of_integer (task_of s id).nice))
+    (has_float (number_or_null (still_waiting s id)))
+    (no_float_in_latency p) (no_float_in_text (name_of names id)) (no_float_in_integer (task_of s id).nice) (no_float_in_number (still_waiting s id))
 
 -- an element that is this object
 pub element_of : (v d : Data) (first : Bool) (old new : List ℕ) → v ≡ d → has_float d ≡ false
