@@ -149,6 +149,11 @@ hooks_same w s number f has old now below is none =
       below.3,
     )
 
+-- the same of a text and a mark that are those
+pub hooks_at : (w : Window) (s : Figures) (number : ℕ) (has has_now : Bool) (old now here : List ℕ) → has_now ≡ has → here ≡ now → HooksBelow w s number has old now
+    → HooksBelow w s number has_now old here
+hooks_at w s number has has_now old now here is same below = (below.0, below.1, same ∙ below.2, is ∙ below.3)
+
 -- the lines of all processors: the table
 pub hooks_table : (w : Window) (s : Figures) (number : ℕ) (has : Bool) (old now : List ℕ) → number ≡ 64 → HooksBelow w s number has old now → Adds (IsHookTable w s) old now
 hooks_table w s number has old now is below = (under_hook_head below.0, (below.0, AreParts-end (AreHookLines w s) number 64 below.0 is below.1, refl), below.2)
@@ -200,6 +205,11 @@ elements_more Is number first old now next d below is e = (
 pub elements_same : (Is : ℕ → List Data → Type 0) (number : ℕ) (first : Bool) (old now : List ℕ)
     → ElementsBelow Is number first old now → Is number [] → ElementsBelow Is (number + 1) first old now
 elements_same Is number first old now below is = (below.0, AreParts-same Is number below.0 below.1 is, below.2, below.3)
+
+-- the same of a text and a mark that are those
+pub elements_at : (Is : ℕ → List Data → Type 0) (number : ℕ) (first first_now : Bool) (old now here : List ℕ) → first_now ≡ first → here ≡ now
+    → ElementsBelow Is number first old now → ElementsBelow Is number first_now old here
+elements_at Is number first first_now old now here is same below = (below.0, below.1, same ∙ below.2, is ∙ below.3)
 
 -- the elements of as many numbers as there are
 pub elements_all : (Is : ℕ → List Data → Type 0) (number count : ℕ) (first : Bool) (old now : List ℕ) → number ≡ count → ElementsBelow Is number first old now → Adds (AreElements Is count) old now
@@ -291,10 +301,16 @@ no_float_in_latency p =
 
 -- no figure of a task is a float
 pub no_float_in_task : (names : NamedTasks) (s : Figures) (id : ℕ) (p : Percentiles) → has_float (task_object names s id p) ≡ false
+unfolding task_object
 no_float_in_task names s id p =
     four_false (has_float (latency_object p)) (has_float (text_or_null (name_of names id))) (is_float (of_integer (task_of s id).nice))
     (has_float (number_or_null (still_waiting s id)))
     (no_float_in_latency p) (no_float_in_text (name_of names id)) (no_float_in_integer (task_of s id).nice) (no_float_in_number (still_waiting s id))
+
+-- no figure of a processor is a float
+pub no_float_in_processor : (p : ℕ) (f : ProcessorFigures) → has_float (processor_object p f) ≡ false
+unfolding processor_object
+no_float_in_processor p f = refl
 
 -- an element that is this object
 pub element_of : (v d : Data) (first : Bool) (old new : List ℕ) → v ≡ d → has_float d ≡ false

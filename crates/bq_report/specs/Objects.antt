@@ -44,7 +44,7 @@ counts_object t =
     (member (codes "wakes") (number (unsigned t.wakes)) no_members))))
 
 -- the figures of a task, with these percentiles of its latencies
-abbrev pub task_object : NamedTasks → Figures → ℕ → Percentiles → Data
+unfoldable pub task_object : NamedTasks → Figures → ℕ → Percentiles → Data
 task_object names s id p =
     object (member (codes "counts") (counts_object (task_of s id))
     (member (codes "cpu") (number (unsigned (task_of s id).time))
@@ -58,7 +58,7 @@ task_object names s id p =
     (member (codes "weight") (number (unsigned (task_of s id).weight)) no_members))))))))))
 
 -- the figures of a processor
-abbrev pub processor_object : ℕ → ProcessorFigures → Data
+unfoldable pub processor_object : ℕ → ProcessorFigures → Data
 processor_object processor p =
     object (member (codes "busy") (number (unsigned p.busy))
     (member (codes "idle") (number (unsigned (idle_of p)))

@@ -145,6 +145,7 @@ fn write_element(
 }
 
 /// The object of a task.
+#[tactic(auto, unfolding(crate::specs::Objects::task_object))]
 fn task_value(
     alloc: Global,
     schedule: &Schedule,
@@ -199,6 +200,7 @@ fn latency_value(alloc: Global, percentiles: &Percentiles) -> Result<Value, Allo
 }
 
 /// The object of a processor.
+#[tactic(auto, unfolding(crate::specs::Objects::processor_object))]
 fn processor_value(
     alloc: Global,
     number: u8,
