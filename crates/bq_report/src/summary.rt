@@ -28,8 +28,8 @@ pub struct Json {
     missed: u64,
 }
 
-/// The version of what the object holds. It changes if a key goes or means something else.
-const SCHEMA: u64 = 1;
+/// Before the elements of the tasks: the version of what the object holds. It changes if a key goes or means something else.
+const HEAD: &str = "{\"schema\":1,\"tasks\":[";
 
 impl Json {
     /// The figures of what is in the window.
@@ -301,7 +301,7 @@ impl ScheduleForm for Json {
         ensures { OnOk result (Adds (IsJson self.old.window names.now schedule.now self.old.latencies self.old.missed)
             (string_bytes text.old) (string_bytes text.new)) }
     {
-        write!(text, "{{\"schema\":{SCHEMA},\"tasks\":[")?;
+        text.push_str(HEAD)?;
         write_tasks(self.alloc, &self.window, &mut self.latencies, schedule, names, text)?;
         text.push_str("\n],\"processors\":[")?;
         write_processors(self.alloc, &self.window, schedule, text)?;
