@@ -17,7 +17,7 @@ use Rattle.bq_report.specs.declared.window.Window.{Window}
 use Rattle.bq_report.specs.Columns.{hook_line_if, hook_lines, latency_line, missed_line, nearest, processor_line, right, task_line}
 use Rattle.bq_report.specs.Names.{NamedTasks, name_of}
 use Rattle.bq_report.specs.Objects.{latency_object, missed_member, number_or_null, processor_object, task_object, text_or_null}
-use Rattle.bq_report.specs.Reports.{Adds, AreElements, AreHookLines, AreParts, ArePercentiles, HasHooks, HasProcessor, HasTask, IsHookTable, IsJson, IsLatencyLine, IsPartIf, IsProcessorLine, IsProcessorObject, IsReport, IsTable, IsTaskLine, IsTaskObject, WasAsked, elements_text, hook_head, hook_head_unless, latency_head, processor_head, separator_if, task_head, under_hook_head}
+use Rattle.bq_report.specs.Reports.{Adds, AreElements, AreHookLines, AreParts, ArePercentiles, HasHooks, HasProcessor, HasTask, IsHookTable, IsJsonReport, IsLatencyLine, IsPartIf, IsProcessorLine, IsProcessorObject, IsReport, IsTable, IsTaskLine, IsTaskObject, WasAsked, elements_text, hook_head, hook_head_unless, latency_head, processor_head, separator_if, task_head, under_hook_head}
 use Rattle.bq_report.specs.Timehist.{name_text}
 use Rattle.bq_report.specs.Waits.{still_waiting}
 use Rattle.bq_report.specs.Windows.{ShowsProcessor}
@@ -128,12 +128,11 @@ hooks_more w s number f has old now headed next below is asked head lines =
     let some : is_there own ≡ true = lines_there number (processor_of s number) there in
     let part : AreHookLines w s number own = part_there (HasHooks w s number) (λ l. l ≡ own) own (record { shown = asked.0; asked = there }) refl in
     let all : next ≡ ((old ++ under_hook_head below.0) ++ hook_head_unless (is_there below.0)) ++ own
-    = lines ∙ ap (λ g. headed ++ hook_lines number g) is ∙ ap (λ l. l ++ own) (head ∙ ap (λ b. now ++ hook_head_unless b) below.3 ∙ ap (λ l. l ++ hook_head_unless (is_there below.0)) below.2) in
-    (
+    = lines ∙ ap (λ g. headed ++ hook_lines number g) is ∙ ap (λ l. l ++ own) (head ∙ ap (λ b. now ++ hook_head_unless b) below.3 ∙ ap (λ l. l ++ hook_head_unless (is_there below.0)) below.2) in (
       below.0 ++ own,
       AreParts-more (AreHookLines w s) number below.0 own below.1 part,
       all ∙ append_assoc (old ++ under_hook_head below.0) (hook_head_unless (is_there below.0)) own
-      ∙ append_assoc old (under_hook_head below.0) (hook_head_unless (is_there below.0) ++ own) ∙ ap (λ l. old ++ l) (sym (under_more below.0 own some)),
+          ∙ append_assoc old (under_hook_head below.0) (hook_head_unless (is_there below.0) ++ own) ∙ ap (λ l. old ++ l) (sym (under_more below.0 own some)),
       sym (there_behind below.0 own some),
     )
 
@@ -141,8 +140,7 @@ hooks_more w s number f has old now headed next below is asked head lines =
 pub hooks_same : (w : Window) (s : Figures) (number : ℕ) (f : ProcessorFigures) (has : Bool) (old now : List ℕ)
     → HooksBelow w s number has old now → f ≡ processor_of s number → ¬ (ShowsProcessor w number × WasAsked f) → HooksBelow w s (number + 1) has old now
 hooks_same w s number f has old now below is none =
-    let missing : ¬ (HasHooks w s number) = λ h. none (h.shown, subst WasAsked (sym is) h.asked) in
-    (
+    let missing : ¬ (HasHooks w s number) = λ h. none (h.shown, subst WasAsked (sym is) h.asked) in (
       below.0,
       AreParts-same (AreHookLines w s) number below.0 below.1 (part_missing (HasHooks w s number) (λ l. l ≡ hook_lines number (processor_of s number)) missing),
       below.2,
@@ -197,7 +195,7 @@ elements_more Is number first old now next d below is e = (
   below.0 ++ d ∷ [],
   AreParts-more Is number below.0 (d ∷ []) below.1 is,
   e ∙ ap (λ b. now ++ (separator_if b ++ compact_text d)) below.3 ∙ ap (λ t. t ++ (separator_if (still_first true below.0) ++ compact_text d)) below.2
-  ∙ append_assoc old (elements_text true below.0) _ ∙ ap (λ t. old ++ t) (sym (elements_last true below.0 d)),
+      ∙ append_assoc old (elements_text true below.0) _ ∙ ap (λ t. old ++ t) (sym (elements_last true below.0 d)),
   not_first below.0 d,
 )
 
@@ -353,7 +351,7 @@ report_added w names s latencies missed t0 t1 t2 t3 t4 t5 t6 t7 tasks e2 waits e
 pub json_added : (w : Window) (names : NamedTasks) (s : Figures) (latencies : Tasks) (missed : ℕ) (t0 t1 t2 t3 t4 t5 t6 t7 : List ℕ)
     → t1 ≡ t0 ++ codes "{\"schema\":1,\"tasks\":[" → Adds (AreElements (λ id. IsTaskObject w names s (latencies_of latencies id) id) 1024) t1 t2
     → t3 ≡ t2 ++ codes "\n],\"processors\":[" → Adds (AreElements (IsProcessorObject w s) 64) t3 t4 → t5 ≡ t4 ++ codes "\n]" → t6 ≡ t5 ++ missed_member missed
-    → t7 ≡ t6 ++ codes "}\n" → Adds (IsJson w names s latencies missed) t0 t7
+    → t7 ≡ t6 ++ codes "}\n" → Adds (IsJsonReport w names s latencies missed) t0 t7
 json_added w names s latencies missed t0 t1 t2 t3 t4 t5 t6 t7 e1 tasks e3 processors e5 e6 e7 = (
   _,
   record { first = tasks.0; second = processors.0; tasks = tasks.1; processors = processors.1; whole = refl },

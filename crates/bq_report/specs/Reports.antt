@@ -145,7 +145,7 @@ abbrev pub AreElements : (ℕ → List Data → Type 0) → ℕ → List ℕ →
 AreElements Is count text = (objects : List Data) × AreParts Is count objects × (text ≡ elements_text true objects)
 
 -- the figures as JSON: the schema's number, the tasks, the processors, and the wakes that did nothing if there are any
-pub record IsJson (w : Window) (names : NamedTasks) (s : Figures) (latencies : Tasks) (missed : ℕ) (text : List ℕ) : Type 0 where
+pub record IsJsonReport (w : Window) (names : NamedTasks) (s : Figures) (latencies : Tasks) (missed : ℕ) (text : List ℕ) : Type 0 where
   pub first : List ℕ
   pub second : List ℕ
   pub tasks : AreElements (λ id. IsTaskObject w names s (latencies_of latencies id) id) 1024 first

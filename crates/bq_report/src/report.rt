@@ -120,7 +120,14 @@ fn write_latency_if(
     let percentiles = latencies.percentiles(task);
     let figures = schedule.task(task);
     let still = still_waiting(schedule, task);
-    write_latency_line(text, task, names.text(task), figures.wakes, &percentiles, still)
+    write_latency_line(
+        text,
+        task,
+        names.text(task),
+        figures.wakes,
+        &percentiles,
+        still,
+    )
 }
 
 /// The table of the processors.
@@ -155,11 +162,7 @@ fn write_processor_if(
 }
 
 /// The table of the policies that were asked; nothing if no policy was.
-fn write_policies(
-    window: &Window,
-    schedule: &Schedule,
-    text: &mut String,
-) -> Result<(), AllocError>
+fn write_policies(window: &Window, schedule: &Schedule, text: &mut String) -> Result<(), AllocError>
     ensures { OnOk result (Adds (IsHookTable window.now schedule.now) (string_bytes text.old) (string_bytes text.new)) }
 {
     let mut has_head = false;

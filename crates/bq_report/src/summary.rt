@@ -1,10 +1,10 @@
 //! The report as JSON.
-ghost use Rattle.std.specs.Prelude.{◌≡◌, ◌++◌, ◌∷◌, ℕ, List, [], false, IfOk, OnOk, OnErr, option_map, string_bytes};
+ghost use Rattle.std.specs.Prelude.{◌≡◌, ◌++◌, ℕ, [], codes, false, IfOk, OnOk, OnErr, option_map, string_bytes};
 ghost use Rattle.serde_json.specs.View.{view};
 ghost use Rattle.serde_json.specs.Written.{compact_text, has_float};
 ghost use Rattle.bq_schedule.specs.WakeLatencies.{IsSame, TakesStart, latencies_of};
 ghost use Rattle.bq_report.specs.Objects.{counts_object, hook_object, latency_object, missed_member, number_or_null, processor_object, task_object, text_or_null};
-ghost use Rattle.bq_report.specs.Reports.{Adds, AreElements, ArePercentiles, IsJson, IsProcessorObject, IsTaskObject, separator_if};
+ghost use Rattle.bq_report.specs.Reports.{Adds, AreElements, IsJsonReport, IsProcessorObject, IsTaskObject, separator_if};
 
 use crate::form::ScheduleForm;
 use crate::names::Names;
@@ -264,6 +264,13 @@ fn write_missed(text: &mut String, missed: u64) -> Result<(), AllocError>
     write!(text, ",\"missed_wakes\":{missed}")
 }
 
+/// The end of the object.
+fn write_end(text: &mut String) -> Result<(), AllocError>
+    ensures { OnOk result (string_bytes text.new ≡ string_bytes text.old ++ codes "}\n") }
+{
+    text.push_str("}\n")
+}
+
 impl ScheduleForm for Json {
     fn begin(
         &mut self,
@@ -298,15 +305,22 @@ impl ScheduleForm for Json {
         names: &Names,
         text: &mut String,
     ) -> Result<(), AllocError>
-        ensures { OnOk result (Adds (IsJson self.old.window names.now schedule.now self.old.latencies self.old.missed)
+        ensures { OnOk result (Adds (IsJsonReport self.old.window names.now schedule.now self.old.latencies self.old.missed)
             (string_bytes text.old) (string_bytes text.new)) }
     {
         text.push_str(HEAD)?;
-        write_tasks(self.alloc, &self.window, &mut self.latencies, schedule, names, text)?;
+        write_tasks(
+            self.alloc,
+            &self.window,
+            &mut self.latencies,
+            schedule,
+            names,
+            text,
+        )?;
         text.push_str("\n],\"processors\":[")?;
         write_processors(self.alloc, &self.window, schedule, text)?;
         text.push_str("\n]")?;
         write_missed(text, self.missed)?;
-        text.push_str("}\n")
+        write_end(text)
     }
 }

@@ -6,4 +6,4 @@ pub returns : goal.returns
 returns c =
     on_ok_weaker _ (json_added _ _ _ _ _ _ _ _ _ _ _ _ _ c.in_ok-push_str.ensures.bytes c.in_ok-write_tasks.ensures c.in_ok-push_str-2.ensures.bytes
     c.in_ok-write_processors.ensures c.in_ok-push_str-3.ensures.bytes c.in_ok-write_missed.ensures)
-    c.push_str-4.ensures.bytes
+    c.write_end.ensures
