@@ -4,6 +4,7 @@ pub mod Extents
 pub mod Longest
 pub mod Names
 pub mod Objects
+pub mod Reports
 pub mod Rosters
 pub mod Rows
 pub mod Steps

@@ -1,5 +1,8 @@
 //! The report: a table of the tasks, of their latencies, of the processors and of the policies.
-ghost use Rattle.std.specs.Prelude.{◌≡◌};
+ghost use Rattle.std.specs.Prelude.{◌≡◌, ◌↔◌, ◌++◌, ℕ, [], IsTrue, OnOk, OnErr, string_bytes};
+ghost use Rattle.bq_schedule.specs.WakeLatencies.{IsSame, TakesStart, latencies_of};
+ghost use Rattle.bq_report.specs.Reports.{Adds, IsHookTable, IsLatencyLine, IsProcessorLine, IsReport, IsTable, IsTaskLine, WasAsked, hook_head_unless, latency_head, processor_head, task_head};
+ghost use Rattle.bq_report.specs.Windows.{ShowsProcessor};
 
 use crate::form::ScheduleForm;
 use crate::names::Names;
@@ -24,7 +27,11 @@ pub struct Report {
 
 impl Report {
     /// A report of what is in the window.
-    pub fn new(alloc: Global, window: Window) -> Report {
+    pub fn new(alloc: Global, window: Window) -> Report
+        ensures window { result.window ≡ window }
+        ensures latencies { (task : ℕ) → latencies_of result.latencies task ≡ [] }
+        ensures missed { result.missed ≡ 0 }
+    {
         Report {
             window,
             latencies: WakeLatencies::new(alloc),
@@ -38,74 +45,159 @@ impl Report {
     {
         self.missed = wakes;
     }
+}
 
-    fn write_tasks(
-        &self,
-        schedule: &Schedule,
-        names: &Names,
-        text: &mut String,
-    ) -> Result<(), AllocError> {
-        text.push_str(TASK_HEAD)?;
-        for task in 0..TASKS {
-            let figures = schedule.task(task);
-            if figures.is_admitted && self.window.shows_task(task) {
-                let name = names.of(task).unwrap_or("");
-                let fair = nanoseconds(schedule.fair_time(task));
-                write_task_line(text, task, name, &figures, fair)?;
-            }
-        }
-        Ok(())
+/// The table of the tasks.
+fn write_tasks(
+    window: &Window,
+    schedule: &Schedule,
+    names: &Names,
+    text: &mut String,
+) -> Result<(), AllocError>
+    ensures { OnOk result (Adds (IsTable task_head (IsTaskLine window.now names.now schedule.now) 1024)
+        (string_bytes text.old) (string_bytes text.new)) }
+{
+    text.push_str(TASK_HEAD)?;
+    for task in 0..TASKS {
+        write_task_if(window, schedule, names, task, text)?;
     }
+    Ok(())
+}
 
-    fn write_latencies(
-        &mut self,
-        schedule: &Schedule,
-        names: &Names,
-        text: &mut String,
-    ) -> Result<(), AllocError> {
-        text.push_str(LATENCY_HEAD)?;
-        for task in 0..TASKS {
-            let figures = schedule.task(task);
-            if figures.is_admitted && self.window.shows_task(task) {
-                let percentiles = self.latencies.percentiles(task);
-                let name = names.of(task).unwrap_or("");
-                let still = still_waiting(schedule, task);
-                write_latency_line(text, task, name, figures.wakes, &percentiles, still)?;
-            }
-        }
-        Ok(())
+/// The line of a task, if it has one.
+fn write_task_if(
+    window: &Window,
+    schedule: &Schedule,
+    names: &Names,
+    task: u16,
+    text: &mut String,
+) -> Result<(), AllocError>
+    ensures { OnOk result (Adds (IsTaskLine window.now names.now schedule.now task) (string_bytes text.old) (string_bytes text.new)) }
+{
+    if !window.has_task(schedule, task) {
+        return Ok(());
     }
+    let figures = schedule.task(task);
+    let fair = nanoseconds(schedule.fair_time(task));
+    write_task_line(text, task, names.text(task), &figures, fair)
+}
 
-    fn write_processors(&self, schedule: &Schedule, text: &mut String) -> Result<(), AllocError> {
-        text.push_str(PROCESSOR_HEAD)?;
-        for number in 0..PROCESSORS {
-            if usize::from(number) < schedule.processors() && self.window.shows_processor(number) {
-                write_processor_line(text, number, &schedule.processor(number))?;
-            }
-        }
-        Ok(())
+/// The table of the tasks' latencies, which it sorts.
+fn write_latencies(
+    window: &Window,
+    latencies: &mut WakeLatencies,
+    schedule: &Schedule,
+    names: &Names,
+    text: &mut String,
+) -> Result<(), AllocError>
+    ensures { OnOk result (Adds
+        (IsTable latency_head (λ id. IsLatencyLine window.now names.now schedule.now (latencies_of latencies.old id) id) 1024)
+        (string_bytes text.old) (string_bytes text.new)) }
+{
+    text.push_str(LATENCY_HEAD)?;
+    for task in 0..TASKS {
+        write_latency_if(window, latencies, schedule, names, task, text)?;
     }
+    Ok(())
+}
 
-    /// The table of the policies that were asked; nothing where none was.
-    fn write_policies(&self, schedule: &Schedule, text: &mut String) -> Result<(), AllocError> {
-        let mut has_head = false;
-        for number in 0..PROCESSORS {
-            let figures = schedule.processor(number);
-            if self.window.shows_processor(number) && was_asked(&figures) {
-                if !has_head {
-                    text.push_str("\n")?;
-                    text.push_str(HOOK_HEAD)?;
-                    has_head = true;
-                }
-                write_hook_lines(text, number, &figures)?;
-            }
-        }
-        Ok(())
+/// The line of a task's latencies, if it has one. It sorts them, and no other task's.
+fn write_latency_if(
+    window: &Window,
+    latencies: &mut WakeLatencies,
+    schedule: &Schedule,
+    names: &Names,
+    task: u16,
+    text: &mut String,
+) -> Result<(), AllocError>
+    ensures line { OnOk result (Adds (IsLatencyLine window.now names.now schedule.now (latencies_of latencies.old task) task)
+        (string_bytes text.old) (string_bytes text.new)) }
+    ensures others { (other : ℕ) → ¬ (other ≡ task) → latencies_of latencies.new other ≡ latencies_of latencies.old other }
+{
+    if !window.has_task(schedule, task) {
+        return Ok(());
     }
+    let percentiles = latencies.percentiles(task);
+    let figures = schedule.task(task);
+    let still = still_waiting(schedule, task);
+    write_latency_line(
+        text,
+        task,
+        names.text(task),
+        figures.wakes,
+        &percentiles,
+        still,
+    )
+}
+
+/// The table of the processors.
+fn write_processors(
+    window: &Window,
+    schedule: &Schedule,
+    text: &mut String,
+) -> Result<(), AllocError>
+    ensures { OnOk result (Adds (IsTable processor_head (IsProcessorLine window.now schedule.now) 64)
+        (string_bytes text.old) (string_bytes text.new)) }
+{
+    text.push_str(PROCESSOR_HEAD)?;
+    for number in 0..PROCESSORS {
+        write_processor_if(window, schedule, number, text)?;
+    }
+    Ok(())
+}
+
+/// The line of a processor, if it has one.
+fn write_processor_if(
+    window: &Window,
+    schedule: &Schedule,
+    number: u8,
+    text: &mut String,
+) -> Result<(), AllocError>
+    ensures { OnOk result (Adds (IsProcessorLine window.now schedule.now number) (string_bytes text.old) (string_bytes text.new)) }
+{
+    if !window.has_processor(schedule, number) {
+        return Ok(());
+    }
+    write_processor_line(text, number, &schedule.processor(number))
+}
+
+/// The table of the policies that were asked; nothing if no policy was.
+fn write_policies(window: &Window, schedule: &Schedule, text: &mut String) -> Result<(), AllocError>
+    ensures { OnOk result (Adds (IsHookTable window.now schedule.now) (string_bytes text.old) (string_bytes text.new)) }
+{
+    let mut has_head = false;
+    for number in 0..PROCESSORS {
+        let figures = schedule.processor(number);
+        if has_hooks(window, number, &figures) {
+            write_hook_head(text, has_head)?;
+            write_hook_lines(text, number, &figures)?;
+            has_head = true;
+        }
+    }
+    Ok(())
+}
+
+/// The head of the policies, unless it stands there already.
+fn write_hook_head(text: &mut String, has_head: bool) -> Result<(), AllocError>
+    ensures { OnOk result (string_bytes text.new ≡ string_bytes text.old ++ hook_head_unless has_head) }
+{
+    if has_head {
+        return Ok(());
+    }
+    text.push_str(HOOK_HEAD)
+}
+
+/// Whether a processor has lines for its hooks: it is shown, and a policy was asked there.
+fn has_hooks(window: &Window, number: u8, figures: &ProcessorFigures) -> bool
+    ensures { IsTrue result ↔ (ShowsProcessor window.now number × WasAsked figures.now) }
+{
+    window.shows_processor(number) && was_asked(figures)
 }
 
 /// Whether a policy was asked at a hook of a processor.
-fn was_asked(figures: &ProcessorFigures) -> bool {
+fn was_asked(figures: &ProcessorFigures) -> bool
+    ensures { IsTrue result ↔ WasAsked figures.now }
+{
     figures.place.asked > 0 || figures.preempt.asked > 0 || figures.pull.asked > 0
 }
 
@@ -114,8 +206,11 @@ impl ScheduleForm for Report {
         &mut self,
         _schedule: &Schedule,
         _names: &Names,
-        _text: &mut String,
-    ) -> Result<(), AllocError> {
+        text: &mut String,
+    ) -> Result<(), AllocError>
+        ensures none { string_bytes text.new ≡ string_bytes text.old }
+        ensures same { self.new ≡ self.old }
+    {
         Ok(())
     }
 
@@ -124,8 +219,13 @@ impl ScheduleForm for Report {
         change: &Change,
         _schedule: &Schedule,
         _names: &Names,
-        _text: &mut String,
-    ) -> Result<(), AllocError> {
+        text: &mut String,
+    ) -> Result<(), AllocError>
+        ensures ok { OnOk result (TakesStart change.now.start self.old.latencies self.new.latencies) }
+        ensures err { OnErr result (IsSame self.old.latencies self.new.latencies) }
+        ensures none { string_bytes text.new ≡ string_bytes text.old }
+        ensures same { (self.new.window ≡ self.old.window) × (self.new.missed ≡ self.old.missed) }
+    {
         self.latencies.take(change)
     }
 
@@ -134,13 +234,16 @@ impl ScheduleForm for Report {
         schedule: &Schedule,
         names: &Names,
         text: &mut String,
-    ) -> Result<(), AllocError> {
-        self.write_tasks(schedule, names, text)?;
+    ) -> Result<(), AllocError>
+        ensures { OnOk result (Adds (IsReport self.old.window names.now schedule.now self.old.latencies self.old.missed)
+            (string_bytes text.old) (string_bytes text.new)) }
+    {
+        write_tasks(&self.window, schedule, names, text)?;
         text.push_str("\n")?;
-        self.write_latencies(schedule, names, text)?;
+        write_latencies(&self.window, &mut self.latencies, schedule, names, text)?;
         write_missed_line(text, self.missed)?;
         text.push_str("\n")?;
-        self.write_processors(schedule, text)?;
-        self.write_policies(schedule, text)
+        write_processors(&self.window, schedule, text)?;
+        write_policies(&self.window, schedule, text)
     }
 }

@@ -1,7 +1,10 @@
 //! The report as JSON.
-ghost use Rattle.std.specs.Prelude.{◌≡◌, IfOk};
+ghost use Rattle.std.specs.Prelude.{◌≡◌, ◌++◌, ℕ, [], codes, false, IfOk, OnOk, OnErr, option_map, string_bytes};
 ghost use Rattle.serde_json.specs.View.{view};
-ghost use Rattle.bq_report.specs.Objects.{hook_object, latency_object, number_or_null};
+ghost use Rattle.serde_json.specs.Written.{compact_text, has_float};
+ghost use Rattle.bq_schedule.specs.WakeLatencies.{IsSame, TakesStart, latencies_of};
+ghost use Rattle.bq_report.specs.Objects.{counts_object, hook_object, latency_object, missed_member, number_or_null, processor_object, task_object, text_or_null};
+ghost use Rattle.bq_report.specs.Reports.{Adds, AreElements, IsJsonReport, IsProcessorObject, IsTaskObject, separator_if};
 
 use crate::form::ScheduleForm;
 use crate::names::Names;
@@ -12,7 +15,7 @@ use bq_disc::limits::{PROCESSORS, TASKS};
 use bq_schedule::{
     Change, HookFigures, Percentiles, ProcessorFigures, Schedule, TaskFigures, WakeLatencies,
 };
-use serde_json::{Map, Value, json, put};
+use serde_json::{Value, json};
 use std::alloc::{AllocError, Global};
 
 /// The figures of the report, in full, as one JSON object: `schema`, then `tasks` and `processors`, an object each, and
@@ -25,12 +28,16 @@ pub struct Json {
     missed: u64,
 }
 
-/// The version of what the object holds. It changes if a key goes or means something else.
-const SCHEMA: u64 = 1;
+/// Before the elements of the tasks: the version of what the object holds. It changes if a key goes or means something else.
+const HEAD: &str = "{\"schema\":1,\"tasks\":[";
 
 impl Json {
     /// The figures of what is in the window.
-    pub fn new(alloc: Global, window: Window) -> Json {
+    pub fn new(alloc: Global, window: Window) -> Json
+        ensures window { result.window ≡ window }
+        ensures latencies { (task : ℕ) → latencies_of result.latencies task ≡ [] }
+        ensures missed { result.missed ≡ 0 }
+    {
         Json {
             alloc,
             window,
@@ -45,149 +52,195 @@ impl Json {
     {
         self.missed = wakes;
     }
+}
 
-    fn write_tasks(
-        &mut self,
-        schedule: &Schedule,
-        names: &Names,
-        text: &mut String,
-    ) -> Result<(), AllocError> {
-        let mut is_first = true;
-        for task in 0..TASKS {
-            if schedule.task(task).is_admitted && self.window.shows_task(task) {
-                let percentiles = self.latencies.percentiles(task);
-                let value = self.task(task, names, schedule, &percentiles)?;
-                self.write_element(&value, is_first, text)?;
-                is_first = false;
-            }
+/// The elements of the tasks.
+fn write_tasks(
+    alloc: Global,
+    window: &Window,
+    latencies: &mut WakeLatencies,
+    schedule: &Schedule,
+    names: &Names,
+    text: &mut String,
+) -> Result<(), AllocError>
+    ensures { OnOk result (Adds
+        (AreElements (λ id. IsTaskObject window.now names.now schedule.now (latencies_of latencies.old id) id) 1024)
+        (string_bytes text.old) (string_bytes text.new)) }
+{
+    let mut is_first = true;
+    for task in 0..TASKS {
+        if window.has_task(schedule, task) {
+            let percentiles = latencies.percentiles(task);
+            write_task(alloc, schedule, names, task, &percentiles, is_first, text)?;
+            is_first = false;
         }
-        Ok(())
     }
+    Ok(())
+}
 
-    fn write_processors(&self, schedule: &Schedule, text: &mut String) -> Result<(), AllocError> {
-        let mut is_first = true;
-        for number in 0..PROCESSORS {
-            if usize::from(number) < schedule.processors() && self.window.shows_processor(number) {
-                let value = self.processor(number, &schedule.processor(number))?;
-                self.write_element(&value, is_first, text)?;
-                is_first = false;
-            }
+/// The element of a task.
+fn write_task(
+    alloc: Global,
+    schedule: &Schedule,
+    names: &Names,
+    task: u16,
+    percentiles: &Percentiles,
+    is_first: bool,
+    text: &mut String,
+) -> Result<(), AllocError>
+    ensures { OnOk result (string_bytes text.new
+        ≡ string_bytes text.old ++ (separator_if is_first ++ compact_text (task_object names.now schedule.now task percentiles.now))) }
+{
+    let value = task_value(alloc, schedule, names, task, percentiles)?;
+    write_element(alloc, &value, is_first, text)
+}
+
+/// The elements of the processors.
+fn write_processors(
+    alloc: Global,
+    window: &Window,
+    schedule: &Schedule,
+    text: &mut String,
+) -> Result<(), AllocError>
+    ensures { OnOk result (Adds (AreElements (IsProcessorObject window.now schedule.now) 64) (string_bytes text.old) (string_bytes text.new)) }
+{
+    let mut is_first = true;
+    for number in 0..PROCESSORS {
+        if window.has_processor(schedule, number) {
+            write_processor(alloc, number, &schedule.processor(number), is_first, text)?;
+            is_first = false;
         }
-        Ok(())
     }
+    Ok(())
+}
 
-    /// Adds an element of an array, on a line of its own.
-    fn write_element(
-        &self,
-        value: &Value,
-        is_first: bool,
-        text: &mut String,
-    ) -> Result<(), AllocError> {
-        let element = value.to_string(self.alloc)?;
-        text.push_str(if is_first { "\n" } else { ",\n" })?;
-        text.push_str(element.as_str())
-    }
+/// The element of a processor.
+fn write_processor(
+    alloc: Global,
+    number: u8,
+    figures: &ProcessorFigures,
+    is_first: bool,
+    text: &mut String,
+) -> Result<(), AllocError>
+    ensures { OnOk result (string_bytes text.new
+        ≡ string_bytes text.old ++ (separator_if is_first ++ compact_text (processor_object number figures.now))) }
+{
+    let value = processor_value(alloc, number, figures)?;
+    write_element(alloc, &value, is_first, text)
+}
 
-    fn task(
-        &self,
-        task: u16,
-        names: &Names,
-        schedule: &Schedule,
-        percentiles: &Percentiles,
-    ) -> Result<Value, AllocError> {
-        let figures = schedule.task(task);
-        let mut members = Map::new(self.alloc);
-        let name = match names.of(task) {
-            Some(name) => Value::try_from_str(self.alloc, name)?,
-            None => Value::Null,
-        };
-        put(&mut members, self.alloc, "name", name)?;
-        put(&mut members, self.alloc, "nice", Value::from(figures.nice))?;
-        self.put_numbers(
-            &mut members,
-            &[
-                ("task", u64::from(task)),
-                ("weight", u64::from(figures.weight)),
-                ("cpu", figures.time),
-                ("fair", nanoseconds(schedule.fair_time(task))),
-                ("waited", waited_in_all(schedule, task)),
-            ],
-        )?;
-        let still = number(still_waiting(schedule, task));
-        put(&mut members, self.alloc, "still_waiting", still)?;
-        let latency = self.latency(percentiles)?;
-        put(&mut members, self.alloc, "latency", latency)?;
-        let counts = self.counts(&figures)?;
-        put(&mut members, self.alloc, "counts", counts)?;
-        Ok(Value::Object(members))
-    }
+/// Adds an element of an array, on a line of its own.
+fn write_element(
+    alloc: Global,
+    value: &Value,
+    is_first: bool,
+    text: &mut String,
+) -> Result<(), AllocError>
+    ensures { OnOk result (has_float (view value.now) ≡ false
+        → string_bytes text.new ≡ string_bytes text.old ++ (separator_if is_first ++ compact_text (view value.now))) }
+{
+    let element = value.to_string(alloc)?;
+    text.push_str(if is_first { "\n" } else { ",\n" })?;
+    text.push_str(element.as_str())
+}
 
-    fn counts(&self, figures: &TaskFigures) -> Result<Value, AllocError> {
-        let mut members = Map::new(self.alloc);
-        self.put_numbers(
-            &mut members,
-            &[
-                ("switches", figures.switches),
-                ("preempted", figures.preemptions),
-                ("migrated", figures.migrations),
-                ("wakes", figures.wakes),
-            ],
-        )?;
-        Ok(Value::Object(members))
-    }
+/// The object of a task.
+#[tactic(auto, unfolding(crate::specs::Objects::task_object))]
+fn task_value(
+    alloc: Global,
+    schedule: &Schedule,
+    names: &Names,
+    task: u16,
+    percentiles: &Percentiles,
+) -> Result<Value, AllocError>
+    ensures { IfOk result (λ v. view v ≡ task_object names.now schedule.now task percentiles.now) }
+{
+    let figures = schedule.task(task);
+    let counts = counts_value(alloc, &figures)?;
+    let fair = nanoseconds(schedule.fair_time(task));
+    let latency = latency_value(alloc, percentiles)?;
+    let name = text_value(alloc, names.of(task))?;
+    let still = number(still_waiting(schedule, task));
+    let waited = waited_in_all(schedule, task);
+    json!(in alloc; {
+        "counts": counts,
+        "cpu": (figures.time),
+        "fair": fair,
+        "latency": latency,
+        "name": name,
+        "nice": (figures.nice),
+        "still_waiting": still,
+        "task": task,
+        "waited": waited,
+        "weight": (figures.weight)
+    })
+}
 
-    /// Puts each number into an object, by its key.
-    fn put_numbers(
-        &self,
-        members: &mut Map<String, Value>,
-        numbers: &[(&str, u64)],
-    ) -> Result<(), AllocError> {
-        for (key, number) in numbers {
-            put(members, self.alloc, key, Value::from(*number))?;
-        }
-        Ok(())
-    }
+/// The counts of a task.
+fn counts_value(alloc: Global, figures: &TaskFigures) -> Result<Value, AllocError>
+    ensures { IfOk result (λ v. view v ≡ counts_object figures.now) }
+{
+    json!(in alloc; {
+        "migrated": (figures.migrations),
+        "preempted": (figures.preemptions),
+        "switches": (figures.switches),
+        "wakes": (figures.wakes)
+    })
+}
 
-    fn latency(&self, percentiles: &Percentiles) -> Result<Value, AllocError>
-        ensures { IfOk result (λ v. view v ≡ latency_object percentiles.now) }
-    {
-        let median = number(percentiles.p50);
-        let most = number(percentiles.p95);
-        let nearly_all = number(percentiles.p99);
-        let greatest = number(percentiles.greatest);
-        json!(in self.alloc; {"p50": median, "p95": most, "p99": nearly_all, "max": greatest})
-    }
+/// The percentiles of a task's latencies.
+fn latency_value(alloc: Global, percentiles: &Percentiles) -> Result<Value, AllocError>
+    ensures { IfOk result (λ v. view v ≡ latency_object percentiles.now) }
+{
+    let median = number(percentiles.p50);
+    let most = number(percentiles.p95);
+    let nearly_all = number(percentiles.p99);
+    let greatest = number(percentiles.greatest);
+    json!(in alloc; {"p50": median, "p95": most, "p99": nearly_all, "max": greatest})
+}
 
-    fn processor(&self, number: u8, figures: &ProcessorFigures) -> Result<Value, AllocError> {
-        let mut members = Map::new(self.alloc);
-        self.put_numbers(
-            &mut members,
-            &[
-                ("processor", u64::from(number)),
-                ("busy", figures.busy),
-                ("idle", figures.idle()),
-                ("switches", figures.switches),
-            ],
-        )?;
-        for (key, hook) in [
-            ("place", figures.place),
-            ("preempt", figures.preempt),
-            ("pull", figures.pull),
-        ] {
-            let hook = self.hook(&hook)?;
-            put(&mut members, self.alloc, key, hook)?;
-        }
-        Ok(Value::Object(members))
-    }
+/// The object of a processor.
+#[tactic(auto, unfolding(crate::specs::Objects::processor_object))]
+fn processor_value(
+    alloc: Global,
+    number: u8,
+    figures: &ProcessorFigures,
+) -> Result<Value, AllocError>
+    ensures { IfOk result (λ v. view v ≡ processor_object number figures.now) }
+{
+    let idle = figures.idle();
+    let place = hook_value(alloc, &figures.place)?;
+    let preempt = hook_value(alloc, &figures.preempt)?;
+    let pull = hook_value(alloc, &figures.pull)?;
+    json!(in alloc; {
+        "busy": (figures.busy),
+        "idle": idle,
+        "place": place,
+        "preempt": preempt,
+        "processor": number,
+        "pull": pull,
+        "switches": (figures.switches)
+    })
+}
 
-    fn hook(&self, figures: &HookFigures) -> Result<Value, AllocError>
-        ensures { IfOk result (λ v. view v ≡ hook_object figures.now) }
-    {
-        json!(in self.alloc; {
-            "asked": (figures.asked),
-            "overruled": (figures.overruled),
-            "steps": (figures.steps)
-        })
+/// The figures of a hook.
+fn hook_value(alloc: Global, figures: &HookFigures) -> Result<Value, AllocError>
+    ensures { IfOk result (λ v. view v ≡ hook_object figures.now) }
+{
+    json!(in alloc; {
+        "asked": (figures.asked),
+        "overruled": (figures.overruled),
+        "steps": (figures.steps)
+    })
+}
+
+/// A text, or null.
+fn text_value(alloc: Global, text: Option<&str>) -> Result<Value, AllocError>
+    ensures { IfOk result (λ v. view v ≡ text_or_null (option_map (λ t. t.now) text.entry)) }
+{
+    match text {
+        Some(text) => Value::try_from_str(alloc, text),
+        None => Ok(Value::Null),
     }
 }
 
@@ -201,13 +254,33 @@ fn number(value: Option<u64>) -> Value
     }
 }
 
+/// The member of the wakes that did nothing, if there are any.
+fn write_missed(text: &mut String, missed: u64) -> Result<(), AllocError>
+    ensures { OnOk result (string_bytes text.new ≡ string_bytes text.old ++ missed_member missed) }
+{
+    if missed == 0 {
+        return Ok(());
+    }
+    write!(text, ",\"missed_wakes\":{missed}")
+}
+
+/// The end of the object.
+fn write_end(text: &mut String) -> Result<(), AllocError>
+    ensures { OnOk result (string_bytes text.new ≡ string_bytes text.old ++ codes "}\n") }
+{
+    text.push_str("}\n")
+}
+
 impl ScheduleForm for Json {
     fn begin(
         &mut self,
         _schedule: &Schedule,
         _names: &Names,
-        _text: &mut String,
-    ) -> Result<(), AllocError> {
+        text: &mut String,
+    ) -> Result<(), AllocError>
+        ensures none { string_bytes text.new ≡ string_bytes text.old }
+        ensures same { self.new ≡ self.old }
+    {
         Ok(())
     }
 
@@ -216,8 +289,13 @@ impl ScheduleForm for Json {
         change: &Change,
         _schedule: &Schedule,
         _names: &Names,
-        _text: &mut String,
-    ) -> Result<(), AllocError> {
+        text: &mut String,
+    ) -> Result<(), AllocError>
+        ensures ok { OnOk result (TakesStart change.now.start self.old.latencies self.new.latencies) }
+        ensures err { OnErr result (IsSame self.old.latencies self.new.latencies) }
+        ensures none { string_bytes text.new ≡ string_bytes text.old }
+        ensures same { (self.new.window ≡ self.old.window) × (self.new.missed ≡ self.old.missed) }
+    {
         self.latencies.take(change)
     }
 
@@ -226,16 +304,23 @@ impl ScheduleForm for Json {
         schedule: &Schedule,
         names: &Names,
         text: &mut String,
-    ) -> Result<(), AllocError> {
-        write!(text, "{{\"schema\":{SCHEMA},\"tasks\":[")?;
-        self.write_tasks(schedule, names, text)?;
+    ) -> Result<(), AllocError>
+        ensures { OnOk result (Adds (IsJsonReport self.old.window names.now schedule.now self.old.latencies self.old.missed)
+            (string_bytes text.old) (string_bytes text.new)) }
+    {
+        text.push_str(HEAD)?;
+        write_tasks(
+            self.alloc,
+            &self.window,
+            &mut self.latencies,
+            schedule,
+            names,
+            text,
+        )?;
         text.push_str("\n],\"processors\":[")?;
-        self.write_processors(schedule, text)?;
+        write_processors(self.alloc, &self.window, schedule, text)?;
         text.push_str("\n]")?;
-        if self.missed > 0 {
-            let missed = self.missed;
-            write!(text, ",\"missed_wakes\":{missed}")?;
-        }
-        text.push_str("}\n")
+        write_missed(text, self.missed)?;
+        write_end(text)
     }
 }

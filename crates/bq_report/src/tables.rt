@@ -18,8 +18,8 @@ pub const LATENCY_HEAD: &str =
 /// Above the lines of the processors.
 pub const PROCESSOR_HEAD: &str = "  cpu  busy %      busy ms      idle ms switches\n";
 
-/// Above the lines of the hooks at which a policy was asked.
-pub const HOOK_HEAD: &str = "  cpu hook            asked  overruled          steps\n";
+/// Above the lines of the hooks at which a policy was asked; an empty line before it.
+pub const HOOK_HEAD: &str = "\n  cpu hook            asked  overruled          steps\n";
 
 /// A task by its number and its name, in 20 columns.
 pub fn write_task(text: &mut String, task: u16, name: &str) -> Result<(), AllocError>

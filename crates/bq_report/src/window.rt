@@ -1,11 +1,12 @@
 //! What is shown of a schedule.
 ghost use Rattle.std.specs.Prelude.{◌≡◌, ◌-◌, ◌^◌, ◌↔◌, [], IsTrue};
 ghost use Rattle.std.specs.Option.{SomeIff};
+ghost use Rattle.bq_report.specs.Reports.{HasProcessor, HasTask};
 ghost use Rattle.bq_report.specs.Windows.{ShowsProcessor, ShowsTask, Shows, ShowsPart, IsShownPart, part_of};
 
 use bq_disc::limits::PROCESSORS;
 use bq_disc::mask::allows;
-use bq_schedule::Slice;
+use bq_schedule::{Schedule, Slice};
 use std::alloc::Global;
 
 /// What is shown of a schedule: a stretch of time, processors and tasks. A run is cut at the window's edges; what happens at a
@@ -71,6 +72,20 @@ impl Window {
         ensures { IsTrue result ↔ ShowsTask self.now task }
     {
         self.tasks.is_empty() || self.tasks.contains(&task)
+    }
+
+    /// Whether a task has a part in a report: it was admitted, and is shown.
+    pub(crate) fn has_task(&self, schedule: &Schedule, task: u16) -> bool
+        ensures { IsTrue result ↔ HasTask self.now schedule.now task }
+    {
+        schedule.task(task).is_admitted && self.shows_task(task)
+    }
+
+    /// Whether a processor has a part in a report: it is there, and is shown.
+    pub(crate) fn has_processor(&self, schedule: &Schedule, number: u8) -> bool
+        ensures { IsTrue result ↔ HasProcessor self.now schedule.now number }
+    {
+        usize::from(number) < schedule.processors() && self.shows_processor(number)
     }
 
     /// Whether something is shown that happens to a task at a processor at a moment.
