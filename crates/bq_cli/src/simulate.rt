@@ -202,13 +202,8 @@ fn simulated<T: Threads + Sync>(
         Shown::Run(shown) => show_run(rt, &workload, &policies, shown, events),
         Shown::Figures(asked) => {
             let others = others(rt, words, bytes)?;
-            let compared = Compared {
-                workload: &workload,
-                ours: &policies,
-                others: others.as_ref(),
-                most: events,
-            };
-            show_figures(rt, threads, &compared, &asked)
+            let others = others.as_ref();
+            show_figures(rt, threads, &workload, &policies, others, &asked, events)
         }
     }
 }
@@ -251,26 +246,19 @@ fn say_stopped(rt: &HostRuntime, fault: &RunFault, failure: Option<Error>) -> Ex
     }
 }
 
-/// What is run with several seeds, or under two choices of policies.
-#[derive(Clone, Copy)]
-struct Compared<'a> {
-    workload: &'a Workload,
-    ours: &'a Policies,
-    others: Option<&'a Policies>,
-    /// The most events of a run.
-    most: u64,
-}
-
-/// Shows the figures of several runs.
+/// Shows the figures of several runs, each of at most that many events.
 fn show_figures<T: Threads + Sync>(
     rt: &HostRuntime,
     threads: &T,
-    compared: &Compared<'_>,
+    workload: &Workload,
+    ours: &Policies,
+    others: Option<&Policies>,
     asked: &Comparing,
+    most: u64,
 ) -> Result<ExitCode, ExitCode> {
-    match tabled(rt, threads, compared, asked) {
+    match tabled(rt, threads, workload, ours, others, asked, most) {
         Ok(text) => {
-            say_absent(rt, compared.workload, asked);
+            say_absent(rt, workload, asked);
             Ok(written(rt, text.as_str(), ExitCode::SUCCESS))
         }
         Err(SeedsFault::OutOfMemory) => Err(say_out_of_memory(rt)),
@@ -288,15 +276,12 @@ fn show_figures<T: Threads + Sync>(
 fn tabled<T: Threads + Sync>(
     rt: &HostRuntime,
     threads: &T,
-    compared: &Compared<'_>,
+    workload: &Workload,
+    ours: &Policies,
+    others: Option<&Policies>,
     asked: &Comparing,
+    most: u64,
 ) -> Result<String, SeedsFault> {
-    let Compared {
-        workload,
-        ours,
-        others,
-        most,
-    } = *compared;
     let alloc = rt.alloc();
     let progress = Progress::new(rt);
     let plan = RunPlan {
