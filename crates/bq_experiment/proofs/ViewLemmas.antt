@@ -18,7 +18,7 @@ use Rattle.bq_timeline.specs.declared.viewer.Viewer.{Viewer}
 use Rattle.bq_timeline.proofs.WatchLemmas.{Takes, takes_all, troubles_after-append}
 use Rattle.bq_trace.specs.News.{Gets, News, TakesAll, Told}
 use Rattle.bq_experiment.specs.Faults.{IsRunFault, IsStopped}
-use Rattle.bq_experiment.specs.Limits.{events_in, events_of}
+use Rattle.bq_experiment.specs.Limits.{event_count, events_in}
 use Rattle.bq_experiment.specs.Passing.{TakesAndPasses}
 use Rattle.bq_experiment.specs.Views.{IsViewed}
 use Rattle.bq_experiment.specs.declared.fault.RunFault.{RunFault}
@@ -110,7 +110,7 @@ Passes contents old n news new = TakesAndPasses TakesLater pending Clears old.si
 
 -- within its limit
 abbrev pub TakesRun : {W E : Type 0} → (W → Option (List ℕ)) → ViewedRun W E → ℕ → News → ViewedRun W E → Type 0
-TakesRun contents old n news new = Passes contents old n news new × (old.left ≡ events_of news + new.left)
+TakesRun contents old n news new = Passes contents old n news new × (old.left ≡ event_count news + new.left)
 
 -- its viewer has viewed the simulation that it took
 pub run_viewed : {W E : Type 0} (contents : W → Option (List ℕ)) (old new : ViewedRun W E) (policies : List Accepted) (w : Workload) → old.sink.sink.viewer.schedule ≡ None → old.sink.sink.viewer.troubles ≡ 0
