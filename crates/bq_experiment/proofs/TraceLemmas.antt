@@ -26,7 +26,7 @@ use Rattle.bq_experiment.proofs.PassingLemmas.{Clears, Grows, all_written, event
 -- comments are no events
 events_skipped : (lines : List (List ℕ)) → events_in (map skipped lines) ≡ 0
 events_skipped [] = refl
-events_skipped (line ∷ lines) = events_skipped lines
+events_skipped (line ∷ lines) = let rest = events_skipped lines in omega (arith, rest)
 
 -- comments that name the tasks, and then a simulation whose policies are those of the images, are written as a trace
 pub trace_written : (first last : TraceWriter) (was now final : Option (List ℕ)) (w : Workload) (policies : List Accepted) (images : ByHook) (told : Told) (most left : ℕ)

@@ -113,9 +113,9 @@ abbrev pub TakesRun : {W E : Type 0} → (W → Option (List ℕ)) → ViewedRun
 TakesRun contents old n news new = Passes contents old n news new × (old.left ≡ event_count news + new.left)
 
 -- its viewer has viewed the simulation that it took
-pub run_viewed : {W E : Type 0} (contents : W → Option (List ℕ)) (old new : ViewedRun W E) (policies : List Accepted) (w : Workload) → old.sink.sink.viewer.schedule ≡ None → old.sink.sink.viewer.troubles ≡ 0
-    → first_flaw w ≡ None → Gets (TakesRun contents) old new (IsSimulation policies w) → IsViewed policies w old.left new.sink.sink.viewer
-run_viewed {W} {E} contents old new policies w empty zero sound g =
+pub run_viewed : {W E : Type 0} (contents : W → Option (List ℕ)) (old new : ViewedRun W E) (policies : List Accepted) (w : Workload) → Gets (TakesRun contents) old new (IsSimulation policies w)
+    → old.sink.sink.viewer.schedule ≡ None → old.sink.sink.viewer.troubles ≡ 0 → first_flaw w ≡ None → IsViewed policies w old.left new.sink.sink.viewer
+run_viewed {W} {E} contents old new policies w g empty zero sound =
     let through = lets_through (λ (r : ViewedRun W E). r.left) (Passes contents) old new g.told g.taken in
     let taken = viewer_takes (λ (r : ViewedRun W E). r.sink.sink) (got contents) old new g.told through.0 in
     views_simulation old.sink.sink.viewer new.sink.sink.viewer policies w g.told old.left new.left empty zero sound taken g.holds through.1
