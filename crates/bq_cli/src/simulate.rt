@@ -203,13 +203,7 @@ fn simulated<T: Threads + Sync>(
         Shown::Figures(asked) => {
             let others = others(rt, words, bytes)?;
             let others = others.as_ref();
-            let compared = Compared {
-                workload: &workload,
-                ours: &policies,
-                others,
-                most: events,
-            };
-            show_figures(rt, threads, &compared, asked)
+            show_figures(rt, threads, &workload, &policies, others, asked, events)
         }
     }
 }
@@ -253,31 +247,24 @@ fn say_stopped(rt: &HostRuntime, fault: &RunFault, failure: Option<Error>) -> Ex
     }
 }
 
-/// What is run with several seeds, or under two choices of policies.
-#[derive(Clone, Copy)]
-struct Compared<'a> {
-    workload: &'a Workload,
-    ours: &'a Policies,
-    others: Option<&'a Policies>,
-    /// The most events of a run.
-    most: u64,
-}
-
-/// Shows the figures of several runs.
+/// Shows the figures of several runs, each of at most that many events.
 fn show_figures<T: Threads + Sync>(
     rt: &HostRuntime,
     threads: &T,
-    compared: &Compared<'_>,
+    workload: &Workload,
+    ours: &Policies,
+    others: Option<&Policies>,
     mut asked: Comparing,
+    most: u64,
 ) -> Result<ExitCode, ExitCode> {
-    let Ok(notes) = asked.add_called(rt.alloc(), compared.workload) else {
+    let Ok(notes) = asked.add_called(rt.alloc(), workload) else {
         return Err(say_out_of_memory(rt));
     };
-    match tabled(rt, threads, compared, &asked) {
+    match tabled(rt, threads, workload, ours, others, &asked, most) {
         Ok(text) => {
             let notes = Lines(notes.as_str());
             let _ = eprint!(rt; "{notes}");
-            say_absent(rt, compared.workload, &asked);
+            say_absent(rt, workload, &asked);
             Ok(written(rt, text.as_str(), ExitCode::SUCCESS))
         }
         Err(SeedsFault::OutOfMemory) => Err(say_out_of_memory(rt)),
@@ -295,15 +282,12 @@ fn show_figures<T: Threads + Sync>(
 fn tabled<T: Threads + Sync>(
     rt: &HostRuntime,
     threads: &T,
-    compared: &Compared<'_>,
+    workload: &Workload,
+    ours: &Policies,
+    others: Option<&Policies>,
     asked: &Comparing,
+    most: u64,
 ) -> Result<String, SeedsFault> {
-    let Compared {
-        workload,
-        ours,
-        others,
-        most,
-    } = *compared;
     let alloc = rt.alloc();
     let progress = Progress::new(rt);
     let plan = RunPlan {

@@ -4,7 +4,7 @@ use Rattle.bq_trace.specs.News.{News, Told, TakesAll, Gets}
 use Rattle.bq_workload.specs.declared.workload.Workload.{Workload}
 use Rattle.bq_schedule.specs.WakeLatencies.{TakesStart, latencies_of}
 use Rattle.bq_simulate.specs.Simulations.{Accepted, IsSimulation}
-use Rattle.bq_experiment.specs.Limits.{events_of}
+use Rattle.bq_experiment.specs.Limits.{event_count}
 use Rattle.bq_experiment.specs.declared.limited.Limited.{Limited}
 use Rattle.bq_experiment.proofs.PassingLemmas.{lets_through}
 use Rattle.bq_comparison.specs.declared.gathering.Gatherer.{Gatherer}
@@ -22,7 +22,7 @@ TakesInside old n news new = Takes old.sink n news new.sink
 
 -- and what the limit takes
 abbrev TakesLimited : Limited Gatherer → ℕ → News → Limited Gatherer → Type 0
-TakesLimited old n news new = TakesInside old n news new × (old.left ≡ events_of news + new.left)
+TakesLimited old n news new = TakesInside old n news new × (old.left ≡ event_count news + new.left)
 
 -- a gatherer takes what comes through its limit
 inside : (old new : Limited Gatherer) (told : Told) → TakesAll TakesInside old told new → TakesAll Takes old.sink told new.sink

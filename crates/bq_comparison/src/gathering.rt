@@ -123,7 +123,8 @@ pub(crate) fn gather(
     ensures sound { IfOk result (λ _. first_flaw workload.now ≡ None) }
     ensures fault { IfErr result (IsNoRun workload.now) }
 {
-    let mut limited = Limited::new(Gatherer::new(alloc), most);
+    let gatherer = Gatherer::new(alloc);
+    let mut limited = Limited::new(gatherer, most);
     match simulate_seed(alloc, workload, seed, policies, &mut limited) {
         Ok(_) => Ok(limited.sink),
         Err(_) if limited.is_over => Err(SeedsFault::Events),

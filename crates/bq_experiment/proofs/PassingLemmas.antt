@@ -9,7 +9,7 @@ use Rattle.bq_simulate.specs.declared.trace_writer.TraceWriter.{TraceWriter}
 use Rattle.bq_simulate.proofs.TextLemmas.{Takes}
 use Rattle.bq_trace.specs.Feeding.{with_feeds}
 use Rattle.bq_trace.specs.News.{News, Told, TakesAll}
-use Rattle.bq_experiment.specs.Limits.{events_in, events_of}
+use Rattle.bq_experiment.specs.Limits.{events_in, event_count}
 use Rattle.bq_experiment.specs.Passing.{IsPassedOn, TakesAndPasses}
 
 -- a sink that took some news, and whose text was then passed on or kept
@@ -19,12 +19,12 @@ OnOk-passed takes pending Clears old mid new was now n news (Ok x) taken passed 
 OnOk-passed takes pending Clears old mid new was now n news (Err e) taken passed = tt
 
 -- what a limit lets through, and how much of it is left
-pub lets_through : {P : Type 0} (left : P → ℕ) (T : P → ℕ → News → P → Type 0) (old new : P) (told : Told) → TakesAll (λ o n x w. T o n x w × (left o ≡ events_of x + left w)) old told new
+pub lets_through : {P : Type 0} (left : P → ℕ) (T : P → ℕ → News → P → Type 0) (old new : P) (told : Told) → TakesAll (λ o n x w. T o n x w × (left o ≡ event_count x + left w)) old told new
     → TakesAll T old told new × (left old ≡ events_in told + left new)
 lets_through left T old new [] h = let same : left new ≡ left old = ap left h in (h, omega (arith, same))
 lets_through left T old new ((n, x) ∷ more) h =
     let rest = lets_through left T h.0 new more h.2 in
-    let here : left old ≡ events_of x + left h.0 = h.1.1 in
+    let here : left old ≡ event_count x + left h.0 = h.1.1 in
     ((h.0, h.1.0, rest.0), omega (arith, here, rest.1))
 
 -- the events of news and of others behind

@@ -14,7 +14,7 @@ use Rattle.bq_simulate.specs.Chronicles.{events_of}
 use Rattle.bq_simulate.specs.Simulations.{Accepted, IsSimulation}
 use Rattle.bq_trace.specs.Feeding.{with_feeds}
 use Rattle.bq_trace.specs.News.{Gets, News, Told, texts}
-use Rattle.bq_experiment.specs.Limits.{events_in, events_of}
+use Rattle.bq_experiment.specs.Limits.{event_count, events_in}
 use Rattle.bq_experiment.specs.Passing.{TakesAndPasses}
 use Rattle.bq_experiment.specs.declared.limited.Limited.{Limited}
 use Rattle.bq_experiment.specs.declared.passing.Passing.{Passing}
@@ -26,7 +26,7 @@ use Rattle.bq_experiment.proofs.PassingLemmas.{Clears, Grows, all_written, event
 -- comments are no events
 events_skipped : (lines : List (List ℕ)) → events_in (map skipped lines) ≡ 0
 events_skipped [] = refl
-events_skipped (line ∷ lines) = events_skipped lines
+events_skipped (line ∷ lines) = let rest = events_skipped lines in omega (arith, rest)
 
 -- comments that name the tasks, and then a simulation whose policies are those of the images, are written as a trace
 pub trace_written : (first last : TraceWriter) (was now final : Option (List ℕ)) (w : Workload) (policies : List Accepted) (images : ByHook) (told : Told) (most left : ℕ)
@@ -68,7 +68,7 @@ Passes contents old n news new = TakesAndPasses Takes pending Clears old.sink.si
 
 -- within its limit
 abbrev pub TakesRun : {W E : Type 0} → (W → Option (List ℕ)) → TraceRun W E → ℕ → News → TraceRun W E → Type 0
-TakesRun contents old n news new = Passes contents old n news new × (old.left ≡ events_of news + new.left)
+TakesRun contents old n news new = Passes contents old n news new × (old.left ≡ event_count news + new.left)
 
 -- what it took is written as a trace, once the rest of the text is
 pub run_written : {W E : Type 0} (contents : W → Option (List ℕ)) (old new : TraceRun W E) (final : Option (List ℕ)) (w : Workload) (policies : List Accepted) (images : ByHook)

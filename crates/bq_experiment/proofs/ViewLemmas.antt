@@ -18,7 +18,7 @@ use Rattle.bq_timeline.specs.declared.viewer.Viewer.{Viewer}
 use Rattle.bq_timeline.proofs.WatchLemmas.{Takes, takes_all, troubles_after-append}
 use Rattle.bq_trace.specs.News.{Gets, News, TakesAll, Told}
 use Rattle.bq_experiment.specs.Faults.{IsRunFault, IsStopped}
-use Rattle.bq_experiment.specs.Limits.{events_in, events_of}
+use Rattle.bq_experiment.specs.Limits.{event_count, events_in}
 use Rattle.bq_experiment.specs.Passing.{TakesAndPasses}
 use Rattle.bq_experiment.specs.Views.{IsViewed}
 use Rattle.bq_experiment.specs.declared.fault.RunFault.{RunFault}
@@ -110,12 +110,12 @@ Passes contents old n news new = TakesAndPasses TakesLater pending Clears old.si
 
 -- within its limit
 abbrev pub TakesRun : {W E : Type 0} → (W → Option (List ℕ)) → ViewedRun W E → ℕ → News → ViewedRun W E → Type 0
-TakesRun contents old n news new = Passes contents old n news new × (old.left ≡ events_of news + new.left)
+TakesRun contents old n news new = Passes contents old n news new × (old.left ≡ event_count news + new.left)
 
 -- its viewer has viewed the simulation that it took
-pub run_viewed : {W E : Type 0} (contents : W → Option (List ℕ)) (old new : ViewedRun W E) (policies : List Accepted) (w : Workload) → old.sink.sink.viewer.schedule ≡ None → old.sink.sink.viewer.troubles ≡ 0
-    → first_flaw w ≡ None → Gets (TakesRun contents) old new (IsSimulation policies w) → IsViewed policies w old.left new.sink.sink.viewer
-run_viewed {W} {E} contents old new policies w empty zero sound g =
+pub run_viewed : {W E : Type 0} (contents : W → Option (List ℕ)) (old new : ViewedRun W E) (policies : List Accepted) (w : Workload) → Gets (TakesRun contents) old new (IsSimulation policies w)
+    → old.sink.sink.viewer.schedule ≡ None → old.sink.sink.viewer.troubles ≡ 0 → first_flaw w ≡ None → IsViewed policies w old.left new.sink.sink.viewer
+run_viewed {W} {E} contents old new policies w g empty zero sound =
     let through = lets_through (λ (r : ViewedRun W E). r.left) (Passes contents) old new g.told g.taken in
     let taken = viewer_takes (λ (r : ViewedRun W E). r.sink.sink) (got contents) old new g.told through.0 in
     views_simulation old.sink.sink.viewer new.sink.sink.viewer policies w g.told old.left new.left empty zero sound taken g.holds through.1

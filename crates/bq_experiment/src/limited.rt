@@ -1,6 +1,6 @@
 //! A sink that gets no more events than a limit.
 ghost use Rattle.std.specs.Prelude.{◌≡◌, ◌+◌, OnOk, false};
-ghost use Rattle.bq_experiment.specs.Limits.{events_of};
+ghost use Rattle.bq_experiment.specs.Limits.{event_count};
 
 use bq_load::LoadFault;
 use bq_parts::{Event, Refusal, Reply};
@@ -51,7 +51,7 @@ impl<S> Limited<S> {
 }
 
 impl<S: Sink> Sink for Limited<S> {
-    ghost takes = { λ old n news new. S.takes old.sink n news new.sink × (old.left ≡ events_of news + new.left) };
+    ghost takes = { λ old n news new. S.takes old.sink n news new.sink × (old.left ≡ event_count news + new.left) };
 
     fn opened(&mut self, number: u64, rule: Rule, size: ProcessorCount) -> Result<(), AllocError> {
         self.sink.opened(number, rule, size)

@@ -1,5 +1,15 @@
+-- What the limit lets through is gathered; and only a run of a workload without a flaw is cut off.
+use Rattle.std.proofs.Common.{◌≡◌, ◌∙◌, ℕ, [], ap, subst}
+use Rattle.bq_schedule.specs.WakeLatencies.{latencies_of}
+use Rattle.bq_comparison.specs.Gathering.{IsGathered}
+use Rattle.bq_comparison.specs.declared.gathering.Gatherer.{Gatherer}
 use Rattle.bq_comparison.proofs.GatheringLemmas.{gathers_simulation}
 use Rattle.bq_comparison.proofs.gathering.gather.Goals as goal
 
-pub returns-clause-gathered : goal.returns-clause-gathered
-returns-clause-gathered c = gathers_simulation _ _ _ _ c.new-gatherer.ensures.schedule c.new-gatherer.ensures.latencies c.in_ok-simulate_seed.ensures.told
+pub returns-in-Ok-clause-gathered : goal.returns-in-Ok-clause-gathered
+returns-in-Ok-clause-gathered c =
+    let old = c.new-limited.result in
+    let new = c.simulate_seed.new.sink in
+    let none = ap (λ (g : Gatherer). g.schedule) c.new-limited.ensures.sink ∙ c.new-gatherer.ensures.schedule in
+    let empty : (task : ℕ) → latencies_of old.sink.latencies task ≡ [] = λ task. ap (λ (g : Gatherer). latencies_of g.latencies task) c.new-limited.ensures.sink ∙ c.new-gatherer.ensures.latencies task in
+    subst (λ (most : ℕ). IsGathered _ _ most new.sink.schedule new.sink.latencies) c.new-limited.ensures.left (gathers_simulation old new _ _ none empty c.in-Ok.ensures.told)

@@ -1,4 +1,4 @@
--- The names of the tasks are told, and then the simulation.
+-- The names of the tasks are reported, and then the simulation.
 use Rattle.std.proofs.Common.{List, map, refl, subst, ◌++◌}
 use Rattle.std.proofs.lemmas.Result.{err_from_is_err_and}
 use Rattle.bq_trace.specs.News.{Gets}

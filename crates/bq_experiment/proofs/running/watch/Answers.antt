@@ -1,26 +1,28 @@
 -- The viewer has the names on its screen, and then took the simulation.
 use Rattle.std.proofs.Common.{List, subst, ◌∙◌}
 use Rattle.std.proofs.lemmas.Result.{err_from_is_err_and}
-use Rattle.bq_trace.specs.News.{Gets}
-use Rattle.bq_simulate.specs.Simulations.{Accepted, IsSimulation}
-use Rattle.bq_experiment.proofs.ViewLemmas.{TakesRun, no_other, run_viewed}
+use Rattle.bq_simulate.specs.Simulations.{Accepted}
+use Rattle.bq_experiment.specs.Views.{IsViewed}
+use Rattle.bq_experiment.proofs.ViewLemmas.{no_other, run_viewed}
 use Rattle.bq_experiment.proofs.running.watch.Goals as goal
 
 pub returns-clause-viewed : goal.returns-clause-viewed
 returns-clause-viewed g c =
     let w = c.args.workload.now in
-    let contents = g.W.Write.contents in
-    let named = record c.args.run.now { sink = record c.args.run.now.sink { sink = c.name_tasks.new.later } } in
-    let told = subst (λ (l : List Accepted). Gets (TakesRun contents) named c.simulate.new.sink (IsSimulation l w)) c.loaded.ensures.value c.in_ok-counts.ensures.told in
-    let seen = run_viewed contents named c.simulate.new.sink c.args.policies.now.loaded w
-    (c.name_tasks.ensures.schedule ∙ c.requires.schedule) (c.name_tasks.ensures.troubles ∙ c.requires.troubles) c.in_ok-counts.ensures.sound told in
+    let left = c.args.run.now.left in
+    let new = c.simulate.new.sink in
+    let seen : IsViewed c.loaded.result.now w left new.sink.sink.viewer =
+    run_viewed g.W.Write.contents _ new c.loaded.result.now w c.in_ok-counts.ensures.told
+    (c.name_tasks.ensures.schedule ∙ c.requires.schedule) (c.name_tasks.ensures.troubles ∙ c.requires.troubles) c.in_ok-counts.ensures.sound in
+    let ours : IsViewed c.args.policies.now.loaded w left new.sink.sink.viewer =
+    subst (λ (l : List Accepted). IsViewed l w left new.sink.sink.viewer) c.loaded.ensures.value seen in
     record {
-      told = seen.told;
-      sound = seen.sound;
-      few = seen.few;
-      simulation = seen.simulation;
-      schedule = c.count_missed.ensures.schedule ∙ seen.schedule;
-      clean = c.count_missed.ensures.troubles ∙ seen.clean;
+      told = ours.told;
+      sound = ours.sound;
+      few = ours.few;
+      simulation = ours.simulation;
+      schedule = c.count_missed.ensures.schedule ∙ ours.schedule;
+      clean = c.count_missed.ensures.troubles ∙ ours.clean;
     }
 
 pub returns-in_err-counts-clause-flaw : goal.returns-in_err-counts-clause-flaw
