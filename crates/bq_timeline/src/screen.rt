@@ -115,19 +115,18 @@ impl Screen {
         let asked = settings.names.as_slice();
         note_uncalled(alloc, &mut self.notes, asked, &self.names)?;
         let mut shown = self.form_of(alloc, settings)?;
-        if let Shown::Report(_) = &shown {
-            self.begin_near(alloc, rule, schedule)?;
-        }
+        self.begin_near(alloc, rule, &shown, schedule)?;
         shown.begin(rule, schedule, &self.names, &mut self.text)?;
         self.shown = Some(shown);
         Ok(())
     }
 
-    /// The bounds of the rule are to be shown.
+    /// The bounds of the rule are to be shown, if the form shows them.
     fn begin_near(
         &mut self,
         alloc: Global,
         rule: Rule,
+        shown: &Shown,
         schedule: &Schedule,
     ) -> Result<(), AllocError>
         ensures names { self.new.names ≡ self.old.names }
@@ -135,8 +134,13 @@ impl Screen {
         ensures processors { self.new.processors ≡ self.old.processors }
         ensures notes { self.new.notes ≡ self.old.notes }
     {
-        self.near = Some(BoundsTable::new(alloc, rule, schedule.processors())?);
-        Ok(())
+        match shown {
+            Shown::Report(_) => {
+                self.near = Some(BoundsTable::new(alloc, rule, schedule.processors())?);
+                Ok(())
+            }
+            _ => Ok(()),
+        }
     }
 
     /// The form that is asked for, of the tasks that have the names that are asked for, too.
