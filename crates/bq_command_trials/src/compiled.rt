@@ -213,13 +213,19 @@ fn runs_of_4096_slots(rt: HostRuntime) -> Result<(), Fail> {
     let back = "160253ff00000000\n";
     let program = crossed(alloc, 86, over, into, back)?;
     let text = said_of(alloc, program.as_bytes())?;
-    holds(&rt, is_policy(alloc, text.as_str()), text.as_str(), "a policy");
+    holds(
+        &rt,
+        is_policy(alloc, text.as_str()),
+        text.as_str(),
+        "a policy",
+    );
     let over = "0500580000000000\n";
     let into = "1602570000000000\n";
     let back = "16024fff00000000\n";
     let program = crossed(alloc, 88, over, into, back)?;
     let text = said_of(alloc, program.as_bytes())?;
-    let words = "the program takes more than 4096 slots once every jump goes forward; make it shorter";
+    let words =
+        "the program takes more than 4096 slots once every jump goes forward; make it shorter";
     holds(&rt, text.as_str() == words, text.as_str(), words);
     Ok(())
 }
