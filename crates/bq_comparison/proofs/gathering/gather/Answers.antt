@@ -1,4 +1,4 @@
--- What the limit lets through is gathered; and only a run of a workload without a flaw is cut off.
+-- What the limit lets through is gathered.
 use Rattle.std.proofs.Common.{◌≡◌, ◌∙◌, ℕ, [], ap, subst}
 use Rattle.bq_schedule.specs.WakeLatencies.{latencies_of}
 use Rattle.bq_simulate.specs.Simulations.{with_seed}
