@@ -11,7 +11,7 @@ use Rattle.bq_simulate.proofs.RetellingLemmas.{AreFitting-parts, texts_are_repla
 use Rattle.bq_simulate.proofs.TextLemmas.{Takes}
 use Rattle.bq_streams.specs.Counts.{inner_of}
 use Rattle.bq_simulate.specs.Chronicles.{events_of}
-use Rattle.bq_simulate.specs.Simulations.{Accepted, IsSimulation}
+use Rattle.bq_simulate.specs.Simulations.{Accepted}
 use Rattle.bq_trace.specs.Feeding.{with_feeds}
 use Rattle.bq_trace.specs.News.{Gets, News, Told, texts}
 use Rattle.bq_experiment.specs.Limits.{event_count, events_in}
