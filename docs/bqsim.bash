@@ -13,7 +13,7 @@ _bqsim() {
         par) words="--rule --processors --ticks --help" ;;
         replay) words="--max-bytes --help" ;;
         run) words="--hook --maps --format --max-bytes --ctx --set --map --time --processor --counter --trace --repeat --help" ;;
-        simulate) words="--discipline --processors --duration --seed --seeds --max-bytes --place --preempt --pull --against --as --from --to --cpus --tasks --width --theme --title --help" ;;
+        simulate) words="--discipline --processors --duration --seed --seeds --max-bytes --max-events --place --preempt --pull --against --as --from --to --cpus --tasks --width --theme --title --help" ;;
         timeline) words="--as --max-bytes --from --to --cpus --tasks --width --theme --title --help" ;;
         help) words="asm check dis import par replay run simulate timeline" ;;
         *) words="" ;;
