@@ -139,8 +139,8 @@ def commands(inputs):
 class Trial:
     """Runs the program, and keeps what went wrong."""
 
-    def __init__(self, program, ends):
-        self.program, self.ends = program, ends
+    def __init__(self, program, ends, folder):
+        self.program, self.ends, self.folder = program, ends, folder
         self.lock = threading.Lock()
         self.passed, self.failures, self.slowest, self.largest = 0, [], (0, ""), (0, "")
 
@@ -155,7 +155,7 @@ class Trial:
         with tempfile.TemporaryFile() as fed, tempfile.TemporaryFile() as out, tempfile.TemporaryFile() as err:
             fed.write(given)
             fed.seek(0)
-            streams = {"stdin": fed, "stdout": out, "stderr": err} | more
+            streams = {"stdin": fed, "stdout": out, "stderr": err, "cwd": self.folder} | more
             child = subprocess.Popen([self.program, *words], **streams)
             watched = []
             watch = threading.Timer(60.0, lambda: (watched.append(True), child.kill()))
@@ -350,9 +350,9 @@ def main():
     if len(sys.argv) not in (2, 3):
         sys.exit(__doc__)
     seconds = min(600.0, float(sys.argv[2])) if sys.argv[2:] else 600.0
-    trial = Trial(os.path.abspath(sys.argv[1]), time.monotonic() + seconds)
     inputs = hostile_inputs()
     with tempfile.TemporaryDirectory() as folder, ThreadPoolExecutor(os.cpu_count() or 1) as pool:
+        trial = Trial(os.path.abspath(sys.argv[1]), time.monotonic() + seconds, folder)
         work = work_of(trial, inputs, Path(folder))
         for one in [pool.submit(call) for call in work]:
             one.result()
