@@ -175,7 +175,9 @@ class Trial:
             wrong.append(f"ended by {child.returncode}")
         if spent > 1.0 + 4.0 * size / MEGABYTE:
             wrong.append(f"took {spent:.1f} s of processor time for {size} bytes")
-        if memory > 96 * MEGABYTE + 64 * size:
+        # what a child is said to have taken at most begins with what this script had when it started the child
+        own = resource.getrusage(resource.RUSAGE_SELF).ru_maxrss * 1024
+        if memory > max(96 * MEGABYTE + 64 * size, own + MEGABYTE):
             wrong.append(f"took {memory >> 20} MB for {size} bytes")
         if len(texts[1]) > 64_000 + 4 * size:
             wrong.append(f"wrote {len(texts[1])} bytes of messages")
