@@ -283,7 +283,8 @@ def full(trial, words):
 
 
 def limits(trial, policy):
-    """Little memory and little stack. Under a limit of address space the loader may fail by itself, with 127."""
+    """Little memory and little stack. Under a limit of address space the loader may fail by itself, with 127, and under one below the
+    size of the program a signal of the kernel ends it before it starts."""
 
     def limited(kind, most):
         return lambda: resource.setrlimit(kind, (most, most))
@@ -291,7 +292,7 @@ def limits(trial, policy):
     for words in commands(None):
         for most in (2, 4, 8, 12, 16, 32, 64):
             yield lambda w=words, m=most: trial.run(
-                [*w, str(policy)], f"{m} MB of addresses", size=1000, statuses=STATUSES | {127}, preexec_fn=limited(resource.RLIMIT_AS, m * MEGABYTE)
+                [*w, str(policy)], f"{m} MB of addresses", size=1000, statuses=STATUSES | ({127, -11} if m < 4 else {127}), preexec_fn=limited(resource.RLIMIT_AS, m * MEGABYTE)
             )
         yield lambda w=words: trial.run([*w, str(policy)], "a stack of 256 KB", size=1000, preexec_fn=limited(resource.RLIMIT_STACK, 256 * 1024))
         yield lambda w=words: trial.run([*w, str(policy)], "few files", size=1000, preexec_fn=limited(resource.RLIMIT_NOFILE, 4))
