@@ -4,6 +4,8 @@ import json
 import subprocess
 import sys
 
+if len(sys.argv) not in (2, 3):
+    sys.exit(__doc__)
 POLICY, BQSIM = sys.argv[1], sys.argv[2] if len(sys.argv) > 2 else "./bqsim"
 
 
