@@ -5,7 +5,7 @@ use std::fmt;
 use std::io::IsTerminal;
 
 /// How many events of simulations are about a second's work.
-pub const EVENTS: u64 = 250_000;
+pub const EVENTS: u64 = 2_000_000;
 
 /// How many bytes of a trace are about a second's work.
 pub const BYTES: u64 = 4_000_000;
