@@ -10,6 +10,7 @@ use bq_bpf::instruction::{destination, is_counter_call};
 use bq_insn::{Condition, Insn, Source, Width};
 use bq_states::abstract_state::AbstractState;
 use bq_states::registers::{known, operand};
+use bq_states::relations::Relation;
 use bq_states::told::tell;
 use bq_transfer::counters::ask;
 use bq_transfer::sides::{right_side, side};
@@ -153,7 +154,12 @@ fn passes(state: &mut AbstractState, test: Test, is_taken: bool) -> bool {
         return false;
     };
     let right = right_side(test.width, test.cond, left, right, is_taken);
-    tell(state, test.dst, test.src, there, right);
+    let relation = Relation::Compared {
+        width: test.width,
+        cond: test.cond,
+        goes: is_taken,
+    };
+    tell(state, test.dst, test.src, there, right, relation);
     true
 }
 

@@ -13,12 +13,26 @@ use Rattle.bq_states.specs.declared.abstract_state.ValueKind.TheVariants.{Number
 use Rattle.bq_states.specs.declared.abstract_state.AbstractValue.{AbstractValue}
 use Rattle.bq_states.specs.declared.abstract_state.AbstractState.{AbstractState}
 
--- the first address of some entry of the map
+-- two maps of one shape
+pub record AreAlike (shapes : List MapShape) (m n : ℕ) : Type 0 where
+  pub shape : MapShape
+  pub one : slice_get shapes m ≡ Some shape
+  pub other : slice_get shapes n ≡ Some shape
+
+-- the first address of some entry of a map of that map's shape
 pub record IsEntryBase (shapes : List MapShape) (m base : ℕ) : Type 0 where
+  pub map : ℕ
+  pub alike : AreAlike shapes m map
   pub first : ℕ
   pub size : ℕ
-  pub entry : IsEntry shapes m first size
-  pub base_is : base ≡ values_base m + first
+  pub entry : IsEntry shapes map first size
+  pub base_is : base ≡ values_base map + first
+
+-- the reference of a map of that map's shape
+pub record IsReferenceBase (shapes : List MapShape) (m base : ℕ) : Type 0 where
+  pub map : ℕ
+  pub alike : AreAlike shapes m map
+  pub base_is : base ≡ reference map
 
 -- what a word of the kind may count from
 abbrev pub IsBase : List MapShape → ValueKind → ℕ → Type 0
@@ -27,7 +41,7 @@ IsBase shapes Context base = base ≡ context_base
 IsBase shapes Stack base = base ≡ stack_base
 IsBase shapes (Entry m) base = IsEntryBase shapes m base
 IsBase shapes (EntryOrNull m) base = (base ≡ 0) ⊎ IsEntryBase shapes m base
-IsBase shapes (Map m) base = (base ≡ reference m) × (m < length shapes)
+IsBase shapes (Map m) base = IsReferenceBase shapes m base
 
 -- the word is one of those
 pub record Describes (shapes : List MapShape) (k : AbstractValue) (word : ℕ) : Type 0 where
@@ -54,7 +68,7 @@ pub record Contains (f : Setting) (v : AbstractState) (s : State) : Type 0 where
   pub kept : (j : ℕ) → Keeps f.shapes (slice_index_or v.kept j None) s.stack j
   pub parts : HaveParts s.stack v.parts
   pub maps : HaveShapes f.shapes s.maps
-  pub copies : AreCopies v.classes s
+  pub copies : AreCopies v.classes v.related s
 
 -- the settings of a program with these shapes and this length of context
 pub record Suits (shapes : List MapShape) (context_length : ℕ) (f : Setting) : Type 0 where
@@ -72,17 +86,17 @@ Finds v src k = (f : Setting) (s : State) → Contains f v s → (b : ℕ) × Is
 abbrev pub knowing : AbstractState → ℕ → AbstractValue → AbstractState
 knowing v dst k = record v { registers = slice_set v.registers dst (Some k); classes = slice_set v.classes dst 0 }
 
--- every word of the one is a word of the other
-abbrev pub Allows : Option AbstractValue → Option AbstractValue → Type 0
-Allows old None = Unit {0}
-Allows None (Some new) = ⊥
-Allows (Some old) (Some new) = (shapes : List MapShape) (word : ℕ) → Describes shapes old word → Describes shapes new word
+-- in a program of those maps every word of the one is a word of the other
+abbrev pub Allows : List MapShape → Option AbstractValue → Option AbstractValue → Type 0
+Allows shapes old None = Unit {0}
+Allows shapes None (Some new) = ⊥
+Allows shapes (Some old) (Some new) = (word : ℕ) → Describes shapes old word → Describes shapes new word
 
 -- the regions that a pointer of the kind is into
 abbrev pub IsOfKind : ValueKind → Region → Type 0
 IsOfKind Context region = region ≡ InContext
 IsOfKind Stack region = region ≡ InStack
-IsOfKind (Entry m) region = (first : ℕ) × (region ≡ InEntry m first)
+IsOfKind (Entry m) region = (map : ℕ) × (first : ℕ) × (region ≡ InEntry map first)
 IsOfKind _ region = ⊥
 
 -- what a pointer of the kind counts from is the start of a region of that size

@@ -1,3 +1,4 @@
+pub mod Relations
 pub mod Copies
 pub mod Parts
 pub mod AbstractStates

@@ -1,5 +1,7 @@
 -- What a branch tells of its operands, and of the places that hold the same words.
 use Rattle.std.specs.Prelude.{◌≡◌, ℕ, List, Option, Some, None, slice_set}
+use Rattle.bq_states.specs.declared.relations.Relation.{Relation}
+use Rattle.bq_states.specs.Relations.{IsRelated}
 use Rattle.bq_insn.specs.declared.Source.{Source}
 use Rattle.bq_insn.specs.declared.Source.TheVariants.{Reg}
 use Rattle.bq_bpf.specs.declared.shape.MapShape.{MapShape}
@@ -35,9 +37,9 @@ IsSharper told old None = Unit {0}
 IsSharper told None (Some new) = ⊥
 IsSharper told (Some old) (Some new) = (shapes : List MapShape) (n : ℕ) → Describes shapes told n → Describes shapes old n → Describes shapes new n
 
--- both operands are as told
-pub record IsTold (f : Setting) (s : State) (dst : ℕ) (src : Source) (left right : AbstractValue) : Type 0 where
+-- both operands are as told, and so related
+pub record IsTold (f : Setting) (s : State) (dst : ℕ) (src : Source) (left right : AbstractValue) (relation : Relation) : Type 0 where
   pub word : ℕ
   pub is : s.register dst ≡ Some word
   pub left_is : Describes f.shapes left word
-  pub right_is : (r : ℕ) → src ≡ Reg r → (n : ℕ) × (s.register r ≡ Some n) × Describes f.shapes right n
+  pub right_is : (r : ℕ) → src ≡ Reg r → (n : ℕ) × (s.register r ≡ Some n) × Describes f.shapes right n × IsRelated relation word n

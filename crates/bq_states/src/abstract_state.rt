@@ -1,5 +1,6 @@
 //! What is known of a state when the control flow comes to a slot.
 
+use crate::relations::Related;
 use bq_insn::Size;
 use bq_ranges::Range;
 
@@ -12,11 +13,11 @@ pub enum ValueKind {
     Context,
     /// The lowest byte of the stack.
     Stack,
-    /// The start of some entry of the map of that number.
+    /// The start of some entry of a map of the shape of that one.
     Entry(u8),
-    /// The answer of a look-up in that map, before its test: the start of some entry, or 0.
+    /// The answer of a look-up in such a map, before its test: the start of some entry, or 0.
     EntryOrNull(u8),
-    /// The reference of that map.
+    /// The reference of such a map.
     Map(u8),
 }
 
@@ -52,4 +53,6 @@ pub struct AbstractState {
     /// Of which class each place is: the registers, and then these slots. Places of one class other than 0 hold the same
     /// word.
     pub classes: [u8; 75],
+    /// How the words of two classes are related, as far as it is known; a class may have lost its places since then.
+    pub related: [Option<Related>; 8],
 }

@@ -2,7 +2,10 @@
 
 ghost use Rattle.std.specs.Prelude.{◌≡◌, ◌≢◌, ◌+◌, ◌<◌, ◌≤◌, ℕ, length, slice_index};
 ghost use Rattle.bq_bpf.specs.Memory.{State, stack_size};
-ghost use Rattle.bq_states.specs.Copies.{AreCopies, HasWord, KeepsClasses, PartsFirst, PartsSlots};
+ghost use Rattle.bq_states.specs.Copies.{AreCopies, HasWord, HaveWords, KeepsClasses, PartsFirst, PartsSlots};
+ghost use Rattle.bq_states.specs.Relations.{AreRelated};
+
+use crate::relations::{Related, unrelate};
 
 /// Registers 0 to 5 are written.
 pub fn part_first(classes: &mut [u8])
@@ -27,32 +30,49 @@ pub fn part_slots(classes: &mut [u8], from: usize, to: usize)
 }
 
 /// The place holds what another one holds.
-pub fn link(classes: &mut [u8], to: usize, from: usize)
+pub fn link(classes: &mut [u8], related: &mut [Option<Related>], to: usize, from: usize)
     requires to { to < length classes.old }
     requires from { from < 75 }
     requires room { length classes.old ≡ 75 }
-    ensures { (s : State) (n : ℕ) → AreCopies classes.old s → HasWord s from n → ((m : ℕ) → HasWord s from m → HasWord s to m) → AreCopies classes.new s }
+    ensures { (s : State) (n : ℕ) → AreCopies classes.old related.old s → HasWord s from n → ((m : ℕ) → HasWord s from m → HasWord s to m) → AreCopies classes.new related.new s }
 {
-    let class = class_of(classes, from);
+    let class = class_of(classes, related, from, 0);
     classes[to] = class;
 }
 
-/// The class of a place; it gets its own if it had none.
-fn class_of(classes: &mut [u8], place: usize) -> u8
+/// The class of a place; if it had none, it gets its own, which is another one than `beside`.
+pub fn class_of(
+    classes: &mut [u8],
+    related: &mut [Option<Related>],
+    place: usize,
+    beside: u8,
+) -> u8
     requires place { place < 75 }
     requires room { length classes.old ≡ 75 }
     ensures some { result ≢ 0 }
     ensures long { length classes.new ≡ 75 }
-    ensures word { (s : State) (n : ℕ) → AreCopies classes.old s → HasWord s place n → (word : ℕ → ℕ) × HasWord s place (word result) × ((p : ℕ) → slice_index classes.new p ≢ 0 → HasWord s p (word (slice_index classes.new p))) }
+    ensures room { length related.new ≡ length related.old }
+    ensures word { (s : State) (n : ℕ) (copies : AreCopies classes.old related.old s) → HasWord s place n → (word : ℕ → ℕ) × HaveWords classes.new s word × AreRelated word related.new × HasWord s place (word result) × (word beside ≡ copies.0 beside) }
 {
     let class = classes[place];
     if class != 0 {
         return class;
     }
-    let own = place as u8 + 1;
+    let own = own_class(place, beside);
     retire(classes, own);
+    unrelate(related, own);
     classes[place] = own;
     own
+}
+
+/// A class for a place, another one than `beside`.
+fn own_class(place: usize, beside: u8) -> u8
+    requires { place < 75 }
+    ensures some { result ≢ 0 }
+    ensures other { result ≢ beside }
+{
+    let own = place as u8 + 1;
+    if own == beside { own + 75 } else { own }
 }
 
 /// No place is of that class.

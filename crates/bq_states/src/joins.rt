@@ -1,25 +1,32 @@
 //! Where two ways meet: the join of what each knows.
 
-ghost use Rattle.std.specs.Prelude.{◌≡◌, ◌≢◌, ℕ, true, None, Some, length, slice_index_or, false};
+ghost use Rattle.std.specs.Prelude.{◌≡◌, ◌≢◌, ℕ, true, IsTrue, None, Some, length, slice_index_or, false};
 ghost use Rattle.bq_bpf.specs.Memory.{Setting, State};
 ghost use Rattle.bq_states.specs.Certainty.{Fact, Has, Certainty, Stands};
-ghost use Rattle.bq_states.specs.AbstractStates.{Allows, Contains};
+ghost use Rattle.bq_states.specs.AbstractStates.{Allows, AreAlike, Contains, IsBase};
 
 use crate::abstract_state::{AbstractState, AbstractValue, ValueKind};
 use crate::copies::keep_same;
 use crate::parts::join_parts;
+use crate::places::shape_of;
+use crate::relations::keep_related;
+use bq_bpf::MapShape;
 
-/// What both say.
-pub fn join(a: Option<AbstractValue>, b: Option<AbstractValue>) -> Option<AbstractValue>
-    ensures left { Allows a result }
-    ensures right { Allows b result }
+/// What both say, in a program of maps of these shapes.
+pub fn join(
+    shapes: &[MapShape],
+    a: Option<AbstractValue>,
+    b: Option<AbstractValue>,
+) -> Option<AbstractValue>
+    ensures left { Allows shapes.now a result }
+    ensures right { Allows shapes.now b result }
     ensures stands { (s : Certainty) → Stands s a → Stands s b → Stands s result }
 {
     let (Some(a), Some(b)) = (a, b) else {
         return None;
     };
-    if a.kind != b.kind {
-        return join_answers(a, b);
+    if a.kind != b.kind && !is_alike(shapes, a.kind, b.kind) {
+        return join_answers(shapes, a, b);
     }
     Some(AbstractValue {
         kind: a.kind,
@@ -27,16 +34,46 @@ pub fn join(a: Option<AbstractValue>, b: Option<AbstractValue>) -> Option<Abstra
     })
 }
 
-/// Two of these are an untested answer: an entry, an untested answer of a look-up in the same map, and 0, the answer where nothing is found.
-fn join_answers(a: AbstractValue, b: AbstractValue) -> Option<AbstractValue>
+/// Whether both count from the same of two maps of one shape.
+fn is_alike(shapes: &[MapShape], a: ValueKind, b: ValueKind) -> bool
+    ensures left { IsTrue result → (base : ℕ) → IsBase shapes.now b base → IsBase shapes.now a base }
+{
+    match (a, b) {
+        (ValueKind::Entry(map), ValueKind::Entry(other)) => are_alike(shapes, map, other),
+        (ValueKind::EntryOrNull(map), ValueKind::EntryOrNull(other)) => {
+            are_alike(shapes, map, other)
+        }
+        (ValueKind::Map(map), ValueKind::Map(other)) => are_alike(shapes, map, other),
+        _ => false,
+    }
+}
+
+/// Whether two maps have one shape.
+fn are_alike(shapes: &[MapShape], map: u8, other: u8) -> bool
+    ensures { IsTrue result → AreAlike shapes.now map other }
+{
+    let (Some(one), Some(other)) = (shape_of(shapes, map), shape_of(shapes, other)) else {
+        return false;
+    };
+    one == other
+}
+
+/// Two of these are an untested answer: an entry, an untested answer of a look-up in a map of the same shape, and 0, the answer where nothing is found.
+fn join_answers(
+    shapes: &[MapShape],
+    a: AbstractValue,
+    b: AbstractValue,
+) -> Option<AbstractValue>
     requires { a.kind ≢ b.kind }
-    ensures left { Allows (Some a) result }
-    ensures right { Allows (Some b) result }
+    ensures left { Allows shapes.now (Some a) result }
+    ensures right { Allows shapes.now (Some b) result }
     ensures stands { (s : Certainty) → Stands s (Some a) → Stands s (Some b) → Stands s result }
 {
     let map = match (a.kind, b.kind) {
-        (ValueKind::Entry(map), ValueKind::EntryOrNull(other)) if map == other => map,
-        (ValueKind::EntryOrNull(map), ValueKind::Entry(other)) if map == other => map,
+        (ValueKind::Entry(map), ValueKind::EntryOrNull(other))
+            if map == other || are_alike(shapes, map, other) => map,
+        (ValueKind::EntryOrNull(map), ValueKind::Entry(other))
+            if map == other || are_alike(shapes, map, other) => map,
         (ValueKind::Entry(map) | ValueKind::EntryOrNull(map), ValueKind::Number)
             if b.offset.hi == 0 => map,
         (ValueKind::Number, ValueKind::Entry(map) | ValueKind::EntryOrNull(map))
@@ -49,14 +86,18 @@ fn join_answers(a: AbstractValue, b: AbstractValue) -> Option<AbstractValue>
     })
 }
 
-fn join_all(into: &mut [Option<AbstractValue>], other: &[Option<AbstractValue>])
+fn join_all(
+    shapes: &[MapShape],
+    into: &mut [Option<AbstractValue>],
+    other: &[Option<AbstractValue>],
+)
     requires { length into.old ≡ length other.now }
-    ensures left { (k : ℕ) → Allows (slice_index_or into.old k None) (slice_index_or into.new k None) }
-    ensures right { (k : ℕ) → Allows (slice_index_or other.now k None) (slice_index_or into.new k None) }
+    ensures left { (k : ℕ) → Allows shapes.now (slice_index_or into.old k None) (slice_index_or into.new k None) }
+    ensures right { (k : ℕ) → Allows shapes.now (slice_index_or other.now k None) (slice_index_or into.new k None) }
     ensures stands { (s : Certainty) (k : ℕ) → Stands s (slice_index_or into.old k None) → Stands s (slice_index_or other.now k None) → Stands s (slice_index_or into.new k None) }
 {
     for i in 0..into.len() {
-        into[i] = join(into[i], other[i]);
+        into[i] = join(shapes, into[i], other[i]);
     }
 }
 
@@ -72,14 +113,15 @@ fn keep_common(into: &mut [bool], other: &[bool])
 }
 
 /// The join of the two: the abstract state is right wherever it was, and wherever the other is.
-pub fn join_states(into: &mut AbstractState, other: &AbstractState)
-    ensures left { (f : Setting) (s : State) → Contains f into.old s → Contains f into.new s }
-    ensures right { (f : Setting) (s : State) → Contains f other.now s → Contains f into.new s }
+pub fn join_states(shapes: &[MapShape], into: &mut AbstractState, other: &AbstractState)
+    ensures left { (f : Setting) (s : State) → f.shapes ≡ shapes.now → Contains f into.old s → Contains f into.new s }
+    ensures right { (f : Setting) (s : State) → f.shapes ≡ shapes.now → Contains f other.now s → Contains f into.new s }
     ensures stands { (x : Fact) → Has x into.old → Has x other.now → Has x into.new }
 {
-    join_all(&mut into.registers, &other.registers);
+    join_all(shapes, &mut into.registers, &other.registers);
     keep_common(&mut into.set, &other.set);
-    join_all(&mut into.kept, &other.kept);
+    join_all(shapes, &mut into.kept, &other.kept);
     join_parts(&mut into.parts, &other.parts);
     keep_same(&mut into.classes, &other.classes);
+    keep_related(&mut into.related, &other.related);
 }

@@ -11,5 +11,6 @@ pub mod joins;
 pub mod parts;
 pub mod places;
 pub mod registers;
+pub mod relations;
 pub mod stack;
 pub mod told;

@@ -1,6 +1,6 @@
 //! Arithmetic on what is known.
 
-ghost use Rattle.std.specs.Prelude.{◌≡◌, ◌≢◌, ◌<◌, length, IsTrue, IfSome, OnOk, IsOk, IfErr, List, ℕ, ℤ, Some};
+ghost use Rattle.std.specs.Prelude.{◌≡◌, ◌≢◌, ◌+◌, ◌%◌, ◌^◌, ◌<◌, length, slice_index, IsTrue, IfSome, OnOk, IsOk, IfErr, List, ℕ, ℤ, Some};
 ghost use Rattle.bq_bpf.specs.declared.shape.MapShape.{MapShape};
 ghost use Rattle.bq_bpf.specs.Meaning.{alu_result, word_of};
 ghost use Rattle.bq_transfer.specs.Obligations.{MayBeUnproven};
@@ -11,13 +11,16 @@ ghost use Rattle.bq_bpf.specs.Memory.{State};
 ghost use Rattle.bq_states.specs.Copies.{AreCopies};
 ghost use Rattle.bq_transfer.specs.Transfers.{IsCopied, Transfers};
 ghost use Rattle.bq_states.specs.AbstractStates.{Describes};
+ghost use Rattle.bq_states.specs.Relations.{Relates};
+ghost use Rattle.bq_ranges.specs.Within.{Within};
 
 use crate::obligation::Obligation;
 use bq_insn::{Insn, Operation, Source, Width};
-use bq_ranges::arithmetic;
+use bq_ranges::{Range, arithmetic};
 use bq_states::abstract_state::{AbstractState, AbstractValue, ValueKind};
-use bq_states::copies::link;
+use bq_states::copies::{class_of, link};
 use bq_states::registers::{known, learn, operand};
+use bq_states::relations::{RELATIONS, Related, Relation, relate};
 
 /// What is known of the result, where the instruction may work on such words.
 pub fn combine(
@@ -119,8 +122,80 @@ fn operate(
     let Some(word) = combine(width, op, left, right) else {
         return Err(Obligation::PointerUse);
     };
+    let class = class_at(state, dst);
     learn(state, dst, word);
+    if let Some(more) = constant_added(width, op, left, right) {
+        relate_sum(&mut state.classes, &mut state.related, dst, class, more);
+    }
     Ok(())
+}
+
+/// The class of a register, and 0 if it is of none.
+fn class_at(state: &AbstractState, register: u8) -> u8
+    requires { register < 11 }
+    ensures { result ≡ slice_index state.now.classes register }
+{
+    state.classes[usize::from(register)]
+}
+
+/// By how much the instruction makes a word greater, modulo 2 to the 64, if that is a constant.
+fn constant_added(
+    width: Width,
+    op: Operation,
+    left: AbstractValue,
+    right: AbstractValue,
+) -> Option<u64>
+    ensures { IfSome result (λ more. (shapes : List MapShape) (x y : ℕ) → Describes shapes left x → Describes shapes right y → alu_result width op x y ≡ (x + more) % 2 ^ 64) }
+{
+    if left.kind != ValueKind::Number || right.kind != ValueKind::Number {
+        return None;
+    }
+    if op != Operation::Add || !right.offset.is_single() {
+        return None;
+    }
+    match width {
+        Width::W64 => Some(right.offset.lo),
+        Width::W32 => small_constant(left.offset, right.offset),
+    }
+}
+
+/// The constant, if no such sum has more than 32 bits.
+fn small_constant(left: Range, right: Range) -> Option<u64>
+    requires { right.lo ≡ right.hi }
+    ensures { IfSome result (λ more. (x y : ℕ) → Within left x → Within right y → alu_result Width.W32 Operation.Add x y ≡ (x + more) % 2 ^ 64) }
+{
+    if right.hi > 0xffff_ffff || left.hi > 0xffff_ffff - right.hi {
+        return None;
+    }
+    Some(right.lo)
+}
+
+/// The register is that much more than the word of the class that it was of.
+fn relate_sum(
+    classes: &mut [u8],
+    related: &mut [Option<Related>],
+    register: u8,
+    class: u8,
+    more: u64,
+)
+    requires register { register < 11 }
+    requires room { length classes.old ≡ 75 }
+    requires few { length related.old ≡ RELATIONS }
+    ensures { (s : State) (a : ℕ) (copies : AreCopies classes.old related.old s) → s.register register ≡ Some a → (class ≢ 0 → Relates (Relation.Sum more) a (copies.0 class)) → AreCopies classes.new related.new s }
+{
+    if class == 0 {
+        return;
+    }
+    let left = class_of(classes, related, usize::from(register), class);
+    let relation = Relation::Sum(more);
+    relate(
+        related,
+        Related {
+            left,
+            right: class,
+            relation,
+        },
+    );
 }
 
 /// A copy.
@@ -142,15 +217,22 @@ fn copy(state: &mut AbstractState, width: Width, dst: u8, src: Source) -> Result
         return Err(Obligation::PointerUse);
     };
     learn(state, dst, word);
-    link_copy(&mut state.classes, width, dst, src, right);
+    link_copy(&mut state.classes, &mut state.related, width, dst, src, right);
     Ok(())
 }
 
 /// The register is a copy of another one, if it got the whole word.
-fn link_copy(classes: &mut [u8], width: Width, dst: u8, src: Source, word: AbstractValue)
+fn link_copy(
+    classes: &mut [u8],
+    related: &mut [Option<Related>],
+    width: Width,
+    dst: u8,
+    src: Source,
+    word: AbstractValue,
+)
     requires dst { dst < 10 }
     requires room { length classes.old ≡ 75 }
-    ensures { (s : State) → AreCopies classes.old s → ((r : ℕ) → src ≡ Source.Reg r → r ≢ dst → IsCopied s dst r width word) → AreCopies classes.new s }
+    ensures { (s : State) → AreCopies classes.old related.old s → ((r : ℕ) → src ≡ Source.Reg r → r ≢ dst → IsCopied s dst r width word) → AreCopies classes.new related.new s }
 {
     let Source::Reg(from) = src else {
         return;
@@ -158,7 +240,7 @@ fn link_copy(classes: &mut [u8], width: Width, dst: u8, src: Source, word: Abstr
     if from == dst || from >= 11 || !is_whole(width, word) {
         return;
     }
-    link(classes, usize::from(dst), usize::from(from));
+    link(classes, related, usize::from(dst), usize::from(from));
 }
 
 /// Whether a copy of that width has the whole word.

@@ -10,7 +10,7 @@ ghost use Rattle.bq_transfer.specs.After.{After};
 ghost use Rattle.bq_states.specs.Certainty.{Fact, Has, IsAnswered, IsCalled, IsMade, Pointer, Scalar, StandsAt};
 ghost use Rattle.bq_transfer.specs.Ready.{IsAtMost, IsReady, IsUpdating, IsNamingEntry};
 ghost use Rattle.bq_transfer.specs.Transfers.{Transfers, IsBelow};
-ghost use Rattle.bq_states.specs.AbstractStates.{Contains};
+ghost use Rattle.bq_states.specs.AbstractStates.{AreAlike, Contains};
 
 use crate::obligation::Obligation;
 use bq_bpf::MapShape;
@@ -71,7 +71,7 @@ fn map_number(shapes: &[MapShape], index: i32) -> Option<u8>
 /// The map that register 1 names.
 fn map_of(state: &AbstractState) -> Option<u8>
     ensures found { (m : ℕ) → StandsAt (Pointer (ValueKind.Map m) 0) state.now 1 → result ≡ Some m }
-    ensures names { IfSome result (λ m. (f : Setting) (s : State) → Contains f state.now s → (s.register 1 ≡ Some (reference m)) × (m < length f.shapes)) }
+    ensures names { IfSome result (λ m. (f : Setting) (s : State) → Contains f state.now s → (n : ℕ) × (s.register 1 ≡ Some (reference n)) × AreAlike f.shapes m n) }
 {
     let Some(word) = known(state, 1) else {
         return None;

@@ -44,7 +44,12 @@ pub fn load(
     if let Some(word) = kept_at(state, found, access.size, signed) {
         learn(state, dst, word);
         let slot = found.at.lo as usize / 8;
-        link(&mut state.classes, usize::from(dst), 11 + slot);
+        link(
+            &mut state.classes,
+            &mut state.related,
+            usize::from(dst),
+            11 + slot,
+        );
         return Ok(());
     }
     if !is_readable(state, found.kind, found.at, access.size) {

@@ -22,6 +22,7 @@ use bq_insn::{Insn, Size};
 use bq_ranges::Range;
 use bq_states::abstract_state::{AbstractState, AbstractValue, ValueKind};
 use bq_states::copies::link;
+use bq_states::relations::Related;
 use bq_states::parts::store_part;
 use bq_states::places::stays;
 use bq_states::registers::known;
@@ -74,16 +75,22 @@ pub fn store_reg(
         return Err(Obligation::Unset);
     };
     let slot = store(state, shapes, context, access, word)?;
-    link_slot(&mut state.classes, slot, src);
+    link_slot(&mut state.classes, &mut state.related, slot, src);
     Ok(())
 }
 
 /// The slot of the stack, if there is one, is a copy of the register.
-fn link_slot(classes: &mut [u8], slot: Option<usize>, register: u8)
+fn link_slot(
+    classes: &mut [u8],
+    related: &mut [Option<Related>],
+    slot: Option<usize>,
+    register: u8,
+)
     requires room { length classes.old ≡ 75 }
     requires inside { IfSome slot (λ n. n < 64) }
-    ensures copies { (s : State) (word : ℕ) → AreCopies classes.old s → s.register register ≡ Some word → ((n : ℕ) → slot ≡ Some n → HasWord s (11 + n) word) → AreCopies classes.new s }
+    ensures copies { (s : State) (word : ℕ) → AreCopies classes.old related.old s → s.register register ≡ Some word → ((n : ℕ) → slot ≡ Some n → HasWord s (11 + n) word) → AreCopies classes.new related.new s }
     ensures none { slot ≡ None → classes.new ≡ classes.old }
+    ensures unrelated { slot ≡ None → related.new ≡ related.old }
 {
     let Some(slot) = slot else {
         return;
@@ -91,7 +98,7 @@ fn link_slot(classes: &mut [u8], slot: Option<usize>, register: u8)
     if register >= 11 {
         return;
     }
-    link(classes, 11 + slot, usize::from(register));
+    link(classes, related, 11 + slot, usize::from(register));
 }
 
 /// A store of a word: on the stack, or into an entry. The answer is the slot of eight bytes in which the word is kept whole.

@@ -22,6 +22,8 @@ use Rattle.bq_verify.specs.Passes.{IsSound}
 use Rattle.bq_verify.specs.Subjects.{Subject}
 use Rattle.bq_states.specs.declared.abstract_state.AbstractValue.{AbstractValue}
 use Rattle.bq_states.specs.declared.abstract_state.AbstractState.{AbstractState}
+use Rattle.bq_states.specs.declared.relations.Relation.{Relation}
+use Rattle.bq_bpf.specs.declared.shape.MapShape.{MapShape}
 use Rattle.bq_transfer.specs.Ready.{WritesBelowFrame}
 use Rattle.bq_states.specs.Told.{IsTold}
 use Rattle.bq_states.specs.AbstractStates.{Contains}
@@ -75,8 +77,8 @@ abbrev pub WaitsBoxed : Setting → List (Option (Box AbstractState Global)) →
 WaitsBoxed f pending s = IsIn f (slice_index_or pending s.slot None) s
 
 -- what waited waits still
-abbrev pub KeepsWaiting : List (Option (Box AbstractState Global)) → List (Option (Box AbstractState Global)) → Type 0
-KeepsWaiting old new = (f : Setting) (s : State) → WaitsBoxed f old s → WaitsBoxed f new s
+abbrev pub KeepsWaiting : List MapShape → List (Option (Box AbstractState Global)) → List (Option (Box AbstractState Global)) → Type 0
+KeepsWaiting shapes old new = (f : Setting) (s : State) → f.shapes ≡ shapes → WaitsBoxed f old s → WaitsBoxed f new s
 
 -- the state is one of a waiting abstract state, or one of the abstract state that is transferred to that slot
 abbrev pub IsKnown : List (Option (Box AbstractState Global)) → AbstractState → Bool → ℕ → Setting → State → Type 0
@@ -105,9 +107,9 @@ RestIsSafe p heights made slot K =
     (f : Setting) (s : State) → IsSetting p.slots p.shapes p.context f → slot ≤ s.slot → IsStart p.slots s.slot → K f s → EndsWithin f s (slice_index heights s.slot) (made s.slot)
 
 -- the state is one of the abstract state, and both operands are as told there; of none where control never goes there
-abbrev pub IsOnSide : Setting → AbstractState → ℕ → Source → Option AbstractValue → AbstractValue → State → Type 0
-IsOnSide f state dst src None right s = ⊥
-IsOnSide f state dst src (Some word) right s = Contains f state s × IsTold f s dst src word right
+abbrev pub IsOnSide : Setting → AbstractState → ℕ → Source → Option AbstractValue → AbstractValue → Relation → State → Type 0
+IsOnSide f state dst src None right relation s = ⊥
+IsOnSide f state dst src (Some word) right relation s = Contains f state s × IsTold f s dst src word right relation
 
 -- both operands are set, and on the side that the test chooses the state is known
 pub record PartsTo (K : Setting → State → Type 0) (f : Setting) (s : State) (w : Width) (c : Condition) (dst : ℕ) (src : Source) (to next : ℕ) : Type 0 where

@@ -18,10 +18,12 @@ use crate::passes::target;
 use crate::stop::PassStop;
 use crate::subject::Subject;
 use crate::waiting::wait;
+use bq_bpf::MapShape;
 use bq_bpf::instruction::is_counter_call;
 use bq_insn::{Condition, Insn, SLOTS, Source, Width};
 use bq_states::abstract_state::{AbstractState, AbstractValue, ValueKind};
 use bq_states::registers::{known, operand};
+use bq_states::relations::Relation;
 use bq_states::told::tell;
 use bq_transfer::counters::ask;
 use bq_transfer::obligation::Obligation;
@@ -38,6 +40,19 @@ struct Test {
     src: Source,
 }
 
+impl Test {
+    /// How the operands are related on a side of the branch.
+    fn relation(self, goes: bool) -> Relation
+        ensures { result ≡ Relation.Compared self.width self.cond goes }
+    {
+        Relation::Compared {
+            width: self.width,
+            cond: self.cond,
+            goes,
+        }
+    }
+}
+
 /// What is known of both operands on one side of a branch; of the left one `None` where control does not go there.
 #[derive(Clone, Copy)]
 struct Told {
@@ -45,6 +60,7 @@ struct Told {
     src: Source,
     left: Option<AbstractValue>,
     right: AbstractValue,
+    relation: Relation,
 }
 
 /// One slot where something is known: whether an abstract state is transferred on to the next slot.
@@ -61,7 +77,7 @@ pub fn visit(
     requires passable { CanBePassed (judged subject.now) }
     requires room { length pending.old ≡ length subject.now.slots.now }
     ensures long { length pending.new ≡ length pending.old }
-    ensures kept { OnOk result (KeepsWaiting pending.old pending.new) }
+    ensures kept { OnOk result (KeepsWaiting subject.now.shapes.now pending.old pending.new) }
     ensures goes { IfOk result (λ live. Goes (judged subject.now) slot state.old (IsKnown pending.new state.new live (slot + 1))) }
     ensures obligations { IfErr result (λ stop. MayStop stop insn) }
     ensures accepts { IsReadyFor (judged subject.now) state.old insn → IfErr result IsWantOfMemory }
@@ -88,7 +104,7 @@ fn go_on(
     requires passable { CanBePassed (judged subject.now) }
     requires room { length pending.old ≡ length subject.now.slots.now }
     ensures long { length pending.new ≡ length pending.old }
-    ensures kept { OnOk result (KeepsWaiting pending.old pending.new) }
+    ensures kept { OnOk result (KeepsWaiting subject.now.shapes.now pending.old pending.new) }
     ensures goes { IfOk result (λ live. Goes (judged subject.now) slot state.old (IsKnown pending.new state.new live (slot + 1))) }
     ensures obligations { IfErr result (λ stop. MayStop stop insn) }
     ensures accepts { IsReady subject.now.shapes.now subject.now.context state.old insn → IfErr result IsWantOfMemory }
@@ -101,12 +117,12 @@ fn go_on(
         }
         Insn::Goto { off } => {
             let to = target(subject.slots, slot, insn, i64::from(off));
-            wait(alloc, pending, to, state)?;
+            wait(alloc, subject.shapes, pending, to, state)?;
             Ok(false)
         }
         Insn::Goto32 { imm } => {
             let to = target(subject.slots, slot, insn, i64::from(imm));
-            wait(alloc, pending, to, state)?;
+            wait(alloc, subject.shapes, pending, to, state)?;
             Ok(false)
         }
         Insn::Branch {
@@ -123,7 +139,7 @@ fn go_on(
                 dst,
                 src,
             };
-            branch(alloc, test, to, slot + 1, state, pending)
+            branch(alloc, subject.shapes, test, to, slot + 1, state, pending)
         }
         _ => {
             transfer(state, subject.shapes, subject.context, insn)?;
@@ -131,7 +147,7 @@ fn go_on(
             if count == 1 {
                 return Ok(true);
             }
-            wait(alloc, pending, slot + count, state)?;
+            wait(alloc, subject.shapes, pending, slot + count, state)?;
             Ok(false)
         }
     }
@@ -155,6 +171,7 @@ fn leave(state: &AbstractState) -> Result<(), Obligation>
 /// A branch: what is known where it is taken waits there, and the other side is transferred on.
 fn branch(
     alloc: Global,
+    shapes: &[MapShape],
     test: Test,
     to: usize,
     next: usize,
@@ -163,8 +180,8 @@ fn branch(
 ) -> Result<bool, PassStop>
     requires to { to < length pending.old }
     ensures long { length pending.new ≡ length pending.old }
-    ensures kept { OnOk result (KeepsWaiting pending.old pending.new) }
-    ensures parts { IfOk result (λ live. (f : Setting) (s : State) → Contains f state.old s → PartsTo (IsKnown pending.new state.new live next) f s test.width test.cond test.dst test.src to next) }
+    ensures kept { OnOk result (KeepsWaiting shapes.now pending.old pending.new) }
+    ensures parts { IfOk result (λ live. (f : Setting) (s : State) → f.shapes ≡ shapes.now → Contains f state.old s → PartsTo (IsKnown pending.new state.new live next) f s test.width test.cond test.dst test.src to next) }
     ensures obligations { IfErr result (λ stop. (insn : Insn) → ReadsOperand insn → UsesWord insn → MayStop stop insn) }
     ensures accepts { test.dst < 10 → StandsAt Scalar state.old test.dst → IsScalarOperand state.old test.src → IfErr result IsWantOfMemory }
     ensures checks { (map : ℕ) → test.dst < 10 → IsNullCheck test.width test.cond test.src → StandsAt (Pointer (ValueKind.EntryOrNull map) 0) state.old test.dst → IfErr result IsWantOfMemory }
@@ -187,13 +204,15 @@ fn branch(
         src: test.src,
         left: yes,
         right: right_side(test.width, test.cond, left, right, true),
+        relation: test.relation(true),
     };
-    wait_on_side(alloc, pending, to, state, taken)?;
+    wait_on_side(alloc, shapes, pending, to, state, taken)?;
     let other = Told {
         dst: test.dst,
         src: test.src,
         left: no,
         right: right_side(test.width, test.cond, left, right, false),
+        relation: test.relation(false),
     };
     Ok(carry_on(state, other))
 }
@@ -201,6 +220,7 @@ fn branch(
 /// The abstract state waits for the slot with what is known of both operands there, if control goes there.
 fn wait_on_side(
     alloc: Global,
+    shapes: &[MapShape],
     pending: &mut [Option<Box<AbstractState>>],
     slot: usize,
     state: &AbstractState,
@@ -209,27 +229,41 @@ fn wait_on_side(
     requires here { slot < length pending.old }
     requires dst { told.dst < 11 }
     ensures long { length pending.new ≡ length pending.old }
-    ensures kept { OnOk result (KeepsWaiting pending.old pending.new) }
-    ensures added { OnOk result ((f : Setting) (s : State) → s.slot ≡ slot → IsOnSide f state.now told.dst told.src told.left told.right s → WaitsBoxed f pending.new s) }
+    ensures kept { OnOk result (KeepsWaiting shapes.now pending.old pending.new) }
+    ensures added { OnOk result ((f : Setting) (s : State) → f.shapes ≡ shapes.now → s.slot ≡ slot → IsOnSide f state.now told.dst told.src told.left told.right told.relation s → WaitsBoxed f pending.new s) }
     ensures has { OnOk result ((x : Fact) (k : ℕ) → HasWaiting x pending.old k → (k ≡ slot → HasOnSide x state.now told.dst told.left) → HasWaiting x pending.new k) }
 {
     let Some(left) = told.left else {
         return Ok(());
     };
     let mut there = *state;
-    tell(&mut there, told.dst, told.src, left, told.right);
-    wait(alloc, pending, slot, &there)
+    tell(
+        &mut there,
+        told.dst,
+        told.src,
+        left,
+        told.right,
+        told.relation,
+    );
+    wait(alloc, shapes, pending, slot, &there)
 }
 
 /// The abstract state is transferred on with what is known of both operands there, if control goes there.
 fn carry_on(state: &mut AbstractState, told: Told) -> bool
     requires { told.dst < 11 }
-    ensures contains { (f : Setting) (s : State) → IsOnSide f state.old told.dst told.src told.left told.right s → (result ≡ true) × Contains f state.new s }
+    ensures contains { (f : Setting) (s : State) → IsOnSide f state.old told.dst told.src told.left told.right told.relation s → (result ≡ true) × Contains f state.new s }
     ensures has { (x : Fact) → HasOnSide x state.old told.dst told.left → result ≡ true → Has x state.new }
 {
     let Some(left) = told.left else {
         return false;
     };
-    tell(state, told.dst, told.src, left, told.right);
+    tell(
+        state,
+        told.dst,
+        told.src,
+        left,
+        told.right,
+        told.relation,
+    );
     true
 }

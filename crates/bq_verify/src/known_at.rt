@@ -117,7 +117,7 @@ fn known_with(
     let mut state = start();
     match pass_before(alloc, subject, slot, &mut state, pending) {
         Ok(live) => {
-            if arrive(&mut state, live, pending, slot) {
+            if arrive(subject.shapes, &mut state, live, pending, slot) {
                 Ok(Some(state))
             } else {
                 Ok(None)

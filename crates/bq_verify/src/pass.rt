@@ -22,6 +22,7 @@ use bq_insn::SLOTS;
 use bq_ranges::Range;
 use bq_states::abstract_state::{AbstractState, AbstractValue, StackPart, ValueKind};
 use bq_states::registers::learn;
+use bq_states::relations::Related;
 use std::alloc::Global;
 
 /// Whether the program is safe within the height of its first slot.
@@ -81,7 +82,7 @@ pub(crate) fn pass_slot(
     ensures accepts { IsStraightBefore (judged subject.now) (slot + 1) → IsSure subject.now.slots.now pending.old state.old live slot → IfErr result IsOutOfMemory }
     ensures sure { IsStraightBefore (judged subject.now) (slot + 1) → IsSure subject.now.slots.now pending.old state.old live slot → IfOk result (λ on. IsSure subject.now.slots.now pending.new state.new on (slot + 1)) }
 {
-    if !arrive(state, live, pending, slot) {
+    if !arrive(subject.shapes, state, live, pending, slot) {
         return Ok(false);
     }
     let Some(insn) = instruction(subject.slots, slot) else {
@@ -131,6 +132,7 @@ fn blank() -> AbstractState
         kept: nothing(),
         parts: no_parts(),
         classes: no_copies(),
+        related: no_relations(),
     }
 }
 
@@ -150,6 +152,12 @@ fn no_copies<const N: usize>() -> [u8; N]
     ensures { (k : ℕ) → slice_index result k ≡ 0 }
 {
     [0; N]
+}
+
+fn no_relations<const N: usize>() -> [Option<Related>; N]
+    ensures { (k : ℕ) → slice_index_or result k None ≡ None }
+{
+    [None; N]
 }
 
 fn unset<const N: usize>() -> [bool; N]

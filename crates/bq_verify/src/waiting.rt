@@ -7,6 +7,7 @@ ghost use Rattle.bq_verify.specs.Ways.{HasIn, HasWaiting, IsSureOf};
 ghost use Rattle.bq_states.specs.AbstractStates.{Contains};
 ghost use Rattle.bq_verify.specs.Control.{IsIn, IsKnown, KeepsWaiting, WaitsBoxed};
 
+use bq_bpf::MapShape;
 use bq_states::abstract_state::AbstractState;
 use bq_states::joins::join_states;
 use std::alloc::{AllocError, Global};
@@ -28,6 +29,7 @@ pub fn nothing_waits(
 
 /// Joins what waits at the slot into the abstract state that is transferred to it; whether anything is known there.
 pub fn arrive(
+    shapes: &[MapShape],
     state: &mut AbstractState,
     live: bool,
     pending: &mut [Option<Box<AbstractState>>],
@@ -36,28 +38,29 @@ pub fn arrive(
     requires here { slot < length pending.old }
     ensures long { length pending.new ≡ length pending.old }
     ensures empty { slice_index_or pending.new slot None ≡ None }
-    ensures known { (f : Setting) (s : State) → IsKnown pending.old state.old live slot f s → IsKnown pending.new state.new result slot f s }
+    ensures known { (f : Setting) (s : State) → f.shapes ≡ shapes.now → IsKnown pending.old state.old live slot f s → IsKnown pending.new state.new result slot f s }
     ensures waits { (x : Fact) (k : ℕ) → HasWaiting x pending.old k → HasWaiting x pending.new k }
     ensures has { (x : Fact) → IsSureOf x pending.old state.old live slot slot → result ≡ true → Has x state.new }
 {
-    take_over(state, live, &mut pending[slot])
+    take_over(shapes, state, live, &mut pending[slot])
 }
 
 fn take_over(
+    shapes: &[MapShape],
     state: &mut AbstractState,
     live: bool,
     waiting: &mut Option<Box<AbstractState>>,
 ) -> bool
     ensures empty { waiting.new ≡ None }
-    ensures transferred { (f : Setting) (s : State) → live ≡ true → Contains f state.old s → (result ≡ true) × Contains f state.new s }
-    ensures waited { (f : Setting) (s : State) → IsIn f waiting.old s → (result ≡ true) × Contains f state.new s }
+    ensures transferred { (f : Setting) (s : State) → f.shapes ≡ shapes.now → live ≡ true → Contains f state.old s → (result ≡ true) × Contains f state.new s }
+    ensures waited { (f : Setting) (s : State) → f.shapes ≡ shapes.now → IsIn f waiting.old s → (result ≡ true) × Contains f state.new s }
     ensures has { (x : Fact) → (live ≡ true → Has x state.old) → HasIn x waiting.old → result ≡ true → Has x state.new }
 {
     let Some(boxed) = waiting.take() else {
         return live;
     };
     if live {
-        join_states(state, &boxed);
+        join_states(shapes, state, &boxed);
         return true;
     }
     *state = *boxed;
@@ -67,30 +70,32 @@ fn take_over(
 /// One more abstract state that waits for a slot.
 pub fn wait(
     alloc: Global,
+    shapes: &[MapShape],
     pending: &mut [Option<Box<AbstractState>>],
     slot: usize,
     state: &AbstractState,
 ) -> Result<(), AllocError>
     requires here { slot < length pending.old }
     ensures long { length pending.new ≡ length pending.old }
-    ensures kept { OnOk result (KeepsWaiting pending.old pending.new) }
-    ensures added { OnOk result ((f : Setting) (s : State) → s.slot ≡ slot → Contains f state.now s → WaitsBoxed f pending.new s) }
+    ensures kept { OnOk result (KeepsWaiting shapes.now pending.old pending.new) }
+    ensures added { OnOk result ((f : Setting) (s : State) → f.shapes ≡ shapes.now → s.slot ≡ slot → Contains f state.now s → WaitsBoxed f pending.new s) }
     ensures has { OnOk result ((x : Fact) (k : ℕ) → HasWaiting x pending.old k → (k ≡ slot → Has x state.now) → HasWaiting x pending.new k) }
 {
-    join(alloc, &mut pending[slot], state)
+    join(alloc, shapes, &mut pending[slot], state)
 }
 
 fn join(
     alloc: Global,
+    shapes: &[MapShape],
     waiting: &mut Option<Box<AbstractState>>,
     state: &AbstractState,
 ) -> Result<(), AllocError>
-    ensures kept { OnOk result ((f : Setting) (s : State) → IsIn f waiting.old s → IsIn f waiting.new s) }
-    ensures added { OnOk result ((f : Setting) (s : State) → Contains f state.now s → IsIn f waiting.new s) }
+    ensures kept { OnOk result ((f : Setting) (s : State) → f.shapes ≡ shapes.now → IsIn f waiting.old s → IsIn f waiting.new s) }
+    ensures added { OnOk result ((f : Setting) (s : State) → f.shapes ≡ shapes.now → Contains f state.now s → IsIn f waiting.new s) }
     ensures has { OnOk result ((x : Fact) → HasIn x waiting.old → Has x state.now → HasIn x waiting.new) }
 {
     if let Some(boxed) = waiting {
-        join_states(boxed, state);
+        join_states(shapes, boxed, state);
         return Ok(());
     }
     *waiting = Some(Box::new(alloc, *state)?);
