@@ -1,4 +1,4 @@
-use Rattle.std.proofs.Common.{◌≡◌, ◌<◌, ℕ, Some, subst, sym, ap, ◌∙◌, arith, rules}
+use Rattle.std.proofs.Common.{◌≡◌, ◌<◌, ℕ, Some, subst, sym, ◌∙◌, arith, rules}
 use Rattle.std.proofs.lemmas.Option.{same_Some}
 use Rattle.bq_states.specs.Relations.{Relates}
 use Rattle.bq_states.specs.declared.relations.Relation.TheVariants.{Sum}

@@ -1,4 +1,4 @@
-use Rattle.std.proofs.Common.{◌≡◌, ◌+◌, ◌^◌, ◌<◌, ap, arith, ℕ, ◌%◌, subst}
+use Rattle.std.proofs.Common.{◌≡◌, ◌+◌, ◌^◌, ◌<◌, arith, ℕ, ◌%◌, subst}
 use Rattle.bq_insn.specs.declared.Width.TheVariants.{W32}
 use Rattle.bq_insn.specs.declared.Operation.TheVariants.{Add}
 use Rattle.bq_bpf.specs.Meaning.{alu_result}
