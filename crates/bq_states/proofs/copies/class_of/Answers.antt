@@ -1,4 +1,4 @@
-use Rattle.std.proofs.Common.{◌<◌, ◌+◌, ◌≢◌, length, arith}
+use Rattle.std.proofs.Common.{◌<◌, length, arith}
 use Rattle.bq_states.proofs.CopyLemmas.{class_given}
 use Rattle.bq_states.proofs.copies.class_of.Goals as goal
 

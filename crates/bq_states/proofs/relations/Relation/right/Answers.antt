@@ -1,6 +1,5 @@
-use Rattle.std.proofs.Common.{◌≡◌, ℕ, ◌+◌, ◌-◌, ◌%◌, ◌^◌, sym, subst, arith, rules}
+use Rattle.std.proofs.Common.{ℕ, sym, subst, arith}
 use Rattle.bq_ranges.specs.Within.{Within}
-use Rattle.bq_states.specs.Relations.{Relates}
 use Rattle.bq_states.proofs.RelationLemmas.{sum_right}
 use Rattle.bq_states.proofs.relations.Relation.right.Goals as goal
 
