@@ -54,7 +54,7 @@ returns-in-Some-constant_added-clause-moves c = λ m.
     let stands : Stands (Pointer Stack m.at) (Some c.in-Some-combine.word) = subst (λ (n : ℕ). Stands (Pointer Stack n) (Some c.in-Some-combine.word)) (sum_on_stack m.base m.at m.distance m.below m.small m.at_is) moved in (
       refl,
       made_classes (Pointer Stack m.at) c.args.state.now c.learn.new.state c.args.dst c.relate_sum.new.classes c.relate_sum.new.related
-      (subst (λ (v : AbstractState). IsMade (Pointer Stack m.at) c.args.state.now v c.args.dst) (sym c.learn.ensures.is) (knowing_made (Pointer Stack m.at) c.args.state.now c.args.dst c.in-Some-combine.word there stands)),
+          (subst (λ (v : AbstractState). IsMade (Pointer Stack m.at) c.args.state.now v c.args.dst) (sym c.learn.ensures.is) (knowing_made (Pointer Stack m.at) c.args.state.now c.args.dst c.in-Some-combine.word there stands)),
     )
 
 pub returns-in_default-constant_added-clause-moves : goal.returns-in_default-constant_added-clause-moves

@@ -32,9 +32,8 @@ returns-in_err-slot-clause-entry c = λ scalar map place placed.
 pub returns-clause-entry : goal.returns-clause-entry
 returns-clause-entry c = λ scalar map place placed.
     let number : c.in-Some.word.kind ≡ Number = subst (λ (v : Option AbstractValue). Stands Scalar v) (sym c.in-Some.ensures) scalar in
-    let unchanged = c.in_ok-slot.ensures.entry number map place placed in
-    (
+    let unchanged = c.in_ok-slot.ensures.entry number map place placed in (
       refl,
       subst (λ (classes : List ℕ). record c.store.new.state { classes = classes; related = c.link_slot.new.related } ≡ c.args.state.now) (sym (c.link_slot.ensures.none unchanged.2))
-      (subst (λ (related : List (Option Related)). record c.store.new.state { related = related } ≡ c.args.state.now) (sym (c.link_slot.ensures.unrelated unchanged.2)) unchanged.1),
+          (subst (λ (related : List (Option Related)). record c.store.new.state { related = related } ≡ c.args.state.now) (sym (c.link_slot.ensures.unrelated unchanged.2)) unchanged.1),
     )
