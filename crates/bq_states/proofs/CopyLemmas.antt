@@ -8,22 +8,29 @@ use Rattle.std.proofs.lemmas.List.{get_or_past}
 use Rattle.std.proofs.lemmas.Option.{same_Some}
 use Rattle.bq_bpf.specs.Memory.{State, InStack, number_of, written}
 use Rattle.bq_bpf.specs.Steps.{called, next, put}
-use Rattle.bq_states.specs.Copies.{AreCopies, HasWord, KeepsClasses, PartsFirst, PartsSlots}
+use Rattle.bq_states.specs.declared.relations.Related.{Related}
+use Rattle.bq_states.specs.Copies.{AreCopies, HasWord, HaveWords, KeepsClasses, PartsFirst, PartsSlots}
+use Rattle.bq_states.specs.Relations.{AreRelated}
 use Rattle.bq_states.proofs.StoreLemmas.{apart_byte}
 
+-- each place of a class in the one list and state is of it in the other, and holds what it held
+abbrev Moves : List ℕ → List ℕ → State → State → Type 0
+Moves old new s t = (p : ℕ) → slice_index new p ≢ 0 → (slice_index new p ≡ slice_index old p) × ((n : ℕ) → HasWord s p n → HasWord t p n)
+
+-- the classes of places that keep their class and their word have their words as before
+pub words_moved : (old new : List ℕ) (s t : State) (word : ℕ → ℕ) → Moves old new s t → HaveWords old s word → HaveWords new t word
+words_moved old new s t word keeps have p some =
+    let kept = keeps p some in
+    let was : slice_index old p ≢ 0 = λ e. some (kept.0 ∙ e) in
+    kept.1 (word (slice_index new p)) (subst (λ (k : ℕ). HasWord s p (word k)) (sym kept.0) (have p was))
+
 -- places that keep their class and their word are copies as before
-pub copies_moved : (old new : List ℕ) (s t : State) → ((p : ℕ) → slice_index new p ≢ 0 → (slice_index new p ≡ slice_index old p) × ((n : ℕ) → HasWord s p n → HasWord t p n)) → AreCopies old s → AreCopies new t
-copies_moved old new s t keeps copies = (
-  copies.0,
-  λ p some.
-      let kept = keeps p some in
-      let was : slice_index old p ≢ 0 = λ e. some (kept.0 ∙ e) in
-      kept.1 (copies.0 (slice_index new p)) (subst (λ (k : ℕ). HasWord s p (copies.0 k)) (sym kept.0) (copies.1 p was)),
-)
+pub copies_moved : (old new : List ℕ) (related : List (Option Related)) (s t : State) → Moves old new s t → AreCopies old related s → AreCopies new related t
+copies_moved old new related s t keeps copies = (copies.0, words_moved old new s t copies.0 keeps copies.1, copies.2)
 
 -- fewer copies
-pub copies_kept : (old new : List ℕ) (s : State) → KeepsClasses old new → AreCopies old s → AreCopies new s
-copies_kept old new s keeps copies = copies_moved old new s s (λ p some. (keeps p some, λ n h. h)) copies
+pub copies_kept : (old new : List ℕ) (related : List (Option Related)) (s : State) → KeepsClasses old new → AreCopies old related s → AreCopies new related s
+copies_kept old new related s keeps copies = copies_moved old new related s s (λ p some. (keeps p some, λ n h. h)) copies
 
 zero_at : (xs : List ℕ) (d : ℕ) → (d < length xs) ⊎ (length xs ≤ d) → get_or (set xs d 0) d 0 ≡ 0
 zero_at xs d (inl lt) = get_or-set_same xs d 0 0 lt
@@ -42,16 +49,20 @@ pub register_put : (register : ℕ → Option ℕ) (p d v : ℕ) (b : Bool) → 
 register_put register p d v b (inl (_, same)) other = absurd (other same)
 register_put register p d v b (inr (e, _)) other = rw e refl
 
--- a register is written
-pub copies_put : (classes : List ℕ) (s : State) (slots d v : ℕ) → AreCopies classes s → AreCopies (slice_set classes d 0) (put s slots d v)
-copies_put classes s slots d v copies =
-    copies_moved classes (slice_set classes d 0) s (put s slots d v)
+-- a register is written: the other places of the classes keep their words
+pub words_put : (classes : List ℕ) (s : State) (slots d v : ℕ) (word : ℕ → ℕ) → HaveWords classes s word → HaveWords (slice_set classes d 0) (put s slots d v) word
+words_put classes s slots d v word have =
+    words_moved classes (slice_set classes d 0) s (put s slots d v) word
     (λ p some. let kept = written_has_no_class classes d p some in (kept.1, λ n h. (λ lt. register_put s.register p d v _ (eqb_tells p d) kept.0 ∙ h.0 lt, h.1)))
-    copies
+    have
+
+-- and stay copies, so related
+pub copies_put : (classes : List ℕ) (related : List (Option Related)) (s : State) (slots d v : ℕ) → AreCopies classes related s → AreCopies (slice_set classes d 0) related (put s slots d v)
+copies_put classes related s slots d v copies = (copies.0, words_put classes s slots d v copies.0 copies.1, copies.2)
 
 -- a register of which more is known is counted as written
-pub copies_learnt : (classes : List ℕ) (s : State) (d : ℕ) → AreCopies classes s → AreCopies (slice_set classes d 0) s
-copies_learnt classes s d copies = copies_kept classes (slice_set classes d 0) s (λ p some. (written_has_no_class classes d p some).1) copies
+pub copies_learnt : (classes : List ℕ) (related : List (Option Related)) (s : State) (d : ℕ) → AreCopies classes related s → AreCopies (slice_set classes d 0) related s
+copies_learnt classes related s d copies = copies_kept classes (slice_set classes d 0) related s (λ p some. (written_has_no_class classes d p some).1) copies
 
 register_called : (register : ℕ → Option ℕ) (p answer : ℕ) (b c : Bool) → ((b ≡ true) × (p ≡ 0)) ⊎ ((b ≡ false) × (p ≢ 0)) → ((c ≡ true) × (suc p ≤ 6)) ⊎ ((c ≡ false) × (6 < suc p)) → 6 ≤ p → cond b (Some answer) (cond c None (register p)) ≡ register p
 register_called register p answer b c (inl (_, same)) q above = absurd (omega arith)
@@ -59,9 +70,9 @@ register_called register p answer b c (inr (e, _)) (inl (_, low)) above = absurd
 register_called register p answer b c (inr (e, _)) (inr (e', _)) above = rw (e, e') refl
 
 -- after a call
-pub copies_called : (old parts : List ℕ) (s : State) (answer : ℕ) → PartsFirst old parts → AreCopies old s → AreCopies (slice_set parts 0 0) (called s answer)
-copies_called old parts s answer first copies =
-    copies_moved old (slice_set parts 0 0) s (called s answer)
+pub copies_called : (old parts : List ℕ) (related : List (Option Related)) (s : State) (answer : ℕ) → PartsFirst old parts → AreCopies old related s → AreCopies (slice_set parts 0 0) related (called s answer)
+copies_called old parts related s answer first copies =
+    copies_moved old (slice_set parts 0 0) related s (called s answer)
     (λ p some.
     let kept = written_has_no_class parts 0 p some in
     let before = first p (λ e. some (kept.1 ∙ e)) in
@@ -69,9 +80,9 @@ copies_called old parts s answer first copies =
     copies
 
 -- after a write of bytes on the stack
-pub copies_written : (old new : List ℕ) (s : State) (at : ℕ) (bytes : List ℕ) → PartsSlots old new at (at + length bytes) → AreCopies old s → AreCopies new (next (written s InStack at bytes))
-copies_written old new s at bytes parts copies =
-    copies_moved old new s (next (written s InStack at bytes))
+pub copies_written : (old new : List ℕ) (related : List (Option Related)) (s : State) (at : ℕ) (bytes : List ℕ) → PartsSlots old new at (at + length bytes) → AreCopies old related s → AreCopies new related (next (written s InStack at bytes))
+copies_written old new related s at bytes parts copies =
+    copies_moved old new related s (next (written s InStack at bytes))
     (λ p some.
     let kept = parts p some in
     (kept.0, λ n h. (h.0, λ j is. let word = h.1 j is in (word.0, λ i lt. apart_byte s.stack at bytes j i (kept.1 j is) lt ∙ word.1 i lt))))
@@ -97,21 +108,28 @@ other_by : (word : ℕ → ℕ) (own n k : ℕ) (b : Bool) → ((b ≡ true) × 
 other_by word own n k b (inl (_, same)) other = absurd (other same)
 other_by word own n k b (inr (e, _)) other = rw e refl
 
--- a place of no class gets one that no place has
-pub class_given : (old retired : List ℕ) (place own n : ℕ) (s : State) → place < length retired → KeepsClasses old retired → ((p : ℕ) → slice_index retired p ≢ own) → AreCopies old s → HasWord s place n → (word : ℕ → ℕ) × HasWord s place (word own) × ((p : ℕ) → slice_index (slice_set retired place own) p ≢ 0 → HasWord s p (word (slice_index (slice_set retired place own) p)))
-class_given old retired place own n s there keeps gone copies has = (
+-- a place of no class gets one that no place has, and that is not related to any; that other class keeps its word
+pub class_given : (old retired : List ℕ) (before related : List (Option Related)) (place own beside n : ℕ) (s : State) → place < length retired → KeepsClasses old retired → ((p : ℕ) → slice_index retired p ≢ own)
+    → own ≢ beside → ((word other : ℕ → ℕ) → ((k : ℕ) → k ≢ own → other k ≡ word k) → AreRelated word before → AreRelated other related) → (copies : AreCopies old before s) → HasWord s place n
+    → (word : ℕ → ℕ) × HaveWords (slice_set retired place own) s word × AreRelated word related × HasWord s place (word own) × (word beside ≡ copies.0 beside)
+class_given old retired before related place own beside n s there keeps gone apart_is unrelated copies has = (
   with_word copies.0 own n,
-  subst (λ (k : ℕ). HasWord s place k) (own_by copies.0 own n own _ (eqb_tells own own) refl) has,
   λ p some. at p _ (eqb_tells p place) some,
+  unrelated copies.0 (with_word copies.0 own n) other copies.2,
+  subst (λ (k : ℕ). HasWord s place k) (own_by copies.0 own n own _ (eqb_tells own own) refl) has,
+  other beside (λ e. apart_is (sym e)),
 )
   where
+    other : (k : ℕ) → k ≢ own → with_word copies.0 own n k ≡ copies.0 k
+    other k apart = sym (other_by copies.0 own n k _ (eqb_tells k own) apart)
+
     at : (p : ℕ) (b : Bool) → ((b ≡ true) × (p ≡ place)) ⊎ ((b ≡ false) × (p ≢ place)) → get_or (set retired place own) p 0 ≢ 0 → HasWord s p (with_word copies.0 own n (get_or (set retired place own) p 0))
     at p b (inl (_, same)) some =
         let is : get_or (set retired place own) p 0 ≡ own = rw (same, get_or-set_same retired place own 0 there) refl in
         let word = own_by copies.0 own n (get_or (set retired place own) p 0) _ (eqb_tells (get_or (set retired place own) p 0) own) is in
         subst (λ (k : ℕ). HasWord s p k) word (subst (λ (q : ℕ). HasWord s q n) (sym same) has)
-    at p b (inr (_, other)) some =
-        let is : get_or (set retired place own) p 0 ≡ get_or retired p 0 = get_or-set_other retired place p own 0 other in
+    at p b (inr (_, elsewhere)) some =
+        let is : get_or (set retired place own) p 0 ≡ get_or retired p 0 = get_or-set_other retired place p own 0 elsewhere in
         let kept : get_or retired p 0 ≡ get_or old p 0 = keeps p (λ e. some (is ∙ e)) in
         let apart : get_or (set retired place own) p 0 ≢ own = λ e. gone p (sym is ∙ e) in
         let word = other_by copies.0 own n (get_or (set retired place own) p 0) _ (eqb_tells (get_or (set retired place own) p 0) own) apart in
@@ -119,8 +137,8 @@ class_given old retired place own n s there keeps gone copies has = (
         subst (λ (k : ℕ). HasWord s p k) word (subst (λ (k : ℕ). HasWord s p (copies.0 k)) (sym (is ∙ kept)) before)
 
 -- a place of the class of another, whose word it holds
-pub copies_linked : (classes : List ℕ) (to from class : ℕ) (s : State) (word : ℕ → ℕ) → to < length classes → HasWord s from (word class) → ((p : ℕ) → slice_index classes p ≢ 0 → HasWord s p (word (slice_index classes p))) → ((m : ℕ) → HasWord s from m → HasWord s to m) → AreCopies (slice_set classes to class) s
-copies_linked classes to from class s word there has all copy = (word, λ p some. at p _ (eqb_tells p to) some)
+pub copies_linked : (classes : List ℕ) (related : List (Option Related)) (to from class : ℕ) (s : State) (word : ℕ → ℕ) → to < length classes → HasWord s from (word class) → HaveWords classes s word → AreRelated word related → ((m : ℕ) → HasWord s from m → HasWord s to m) → AreCopies (slice_set classes to class) related s
+copies_linked classes related to from class s word there has all so copy = (word, λ p some. at p _ (eqb_tells p to) some, so)
   where
     at : (p : ℕ) (b : Bool) → ((b ≡ true) × (p ≡ to)) ⊎ ((b ≡ false) × (p ≢ to)) → get_or (set classes to class) p 0 ≢ 0 → HasWord s p (word (get_or (set classes to class) p 0))
     at p b (inl (_, same)) some =
@@ -151,8 +169,8 @@ pub put_same : (s : State) (slots d n : ℕ) → s.register d ≡ Some n → (p 
 put_same s slots d n is p = same_by s.register p d n _ (eqb_tells p d) is
 
 -- its copies stay its copies
-pub copies_same : (classes : List ℕ) (s : State) (slots d n : ℕ) → s.register d ≡ Some n → AreCopies classes s → AreCopies classes (put s slots d n)
-copies_same classes s slots d n is copies = copies_moved classes classes s (put s slots d n) (λ p some. (refl, λ m h. (λ lt. put_same s slots d n is p ∙ h.0 lt, h.1))) copies
+pub copies_same : (classes : List ℕ) (related : List (Option Related)) (s : State) (slots d n : ℕ) → s.register d ≡ Some n → AreCopies classes related s → AreCopies classes related (put s slots d n)
+copies_same classes related s slots d n is copies = copies_moved classes classes related s (put s slots d n) (λ p some. (refl, λ m h. (λ lt. put_same s slots d n is p ∙ h.0 lt, h.1))) copies
 
 -- registers with one word
 pub register_word : (s : State) (r n : ℕ) → r < 11 → s.register r ≡ Some n → HasWord s r n

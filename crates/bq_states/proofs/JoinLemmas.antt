@@ -10,8 +10,9 @@ use Rattle.std.proofs.lemmas.Bool.{cases_lt}
 use Rattle.std.proofs.lemmas.List.{get_or_read}
 use Rattle.bq_states.specs.Certainty.{Certainty, NoPointer, Stands, Fact, Never, AtRegister, IsSetAt, IsPlainAt, Has}
 use Rattle.bq_states.specs.Copies.{KeepsClasses}
+use Rattle.bq_states.specs.Relations.{AreRelated}
 use Rattle.bq_states.specs.Parts.{AllowsPart}
-use Rattle.bq_states.proofs.CopyLemmas.{copies_kept}
+use Rattle.bq_states.proofs.CopyLemmas.{words_moved}
 use Rattle.bq_states.specs.AbstractStates.{Holds, Keeps, Contains, Allows}
 
 -- what is known of a register is true too where more words are allowed
@@ -27,14 +28,14 @@ Keeps-more shapes None (Some b) stack j more h = absurd more
 Keeps-more shapes (Some a) (Some b) stack j more h = (h.0, more shapes h.0 h.1, h.2)
 
 -- an abstract state that allows more contains no less
-pub Contains-more : (f : Setting) (s : State) (v w : AbstractState) → ((k : ℕ) → Allows (slice_index_or v.registers k None) (slice_index_or w.registers k None)) → ((k : ℕ) → slice_index_or w.set k false ≡ true → slice_index_or v.set k false ≡ true) → ((k : ℕ) → Allows (slice_index_or v.kept k None) (slice_index_or w.kept k None)) → ((k : ℕ) → AllowsPart (slice_index_or v.parts k None) (slice_index_or w.parts k None)) → KeepsClasses v.classes w.classes → Contains f v s → Contains f w s
-Contains-more f s v w registers set kept parts classes contains = record {
+pub Contains-more : (f : Setting) (s : State) (v w : AbstractState) → ((k : ℕ) → Allows (slice_index_or v.registers k None) (slice_index_or w.registers k None)) → ((k : ℕ) → slice_index_or w.set k false ≡ true → slice_index_or v.set k false ≡ true) → ((k : ℕ) → Allows (slice_index_or v.kept k None) (slice_index_or w.kept k None)) → ((k : ℕ) → AllowsPart (slice_index_or v.parts k None) (slice_index_or w.parts k None)) → KeepsClasses v.classes w.classes → ((word : ℕ → ℕ) → AreRelated word v.related → AreRelated word w.related) → Contains f v s → Contains f w s
+Contains-more f s v w registers set kept parts classes related contains = record {
   registers = λ r. Holds-more f.shapes _ _ (s.register r) (registers r) (contains.registers r);
   set = λ i h. contains.set i (set i h);
   kept = λ j. Keeps-more f.shapes _ _ s.stack j (kept j) (contains.kept j);
   parts = λ k. (parts k).has s.stack (contains.parts k);
   maps = contains.maps;
-  copies = copies_kept v.classes w.classes s classes contains.copies;
+  copies = (contains.copies.0, words_moved v.classes w.classes s s contains.copies.0 (λ p some. (classes p some, λ n h. h)) contains.copies.1, related contains.copies.0 contains.copies.2);
 }
 
 stands_by : (s : Certainty) (old now other : List (Option AbstractValue)) (i : ℕ) (x a b : Option AbstractValue) → i < length now → i < length other → a ≡ get_or now i a → b ≡ get_or other i b → get_or now i None ≡ get_or old i None → (Stands s a → Stands s b → Stands s x) → ((k : ℕ) → k < i → Stands s (get_or old k None) → Stands s (get_or other k None) → Stands s (get_or now k None)) → (k : ℕ) (t : Bool) → k < i + 1 → ((t ≡ true) × (k ≡ i)) ⊎ ((t ≡ false) × (k ≢ i)) → Stands s (get_or old k None) → Stands s (get_or other k None) → Stands s (get_or (set now i x) k None)

@@ -26,5 +26,5 @@ contains_learn f v s dst n k lt is contains d = record {
   kept = contains.kept;
   parts = contains.parts;
   maps = contains.maps;
-  copies = copies_learnt v.classes s dst contains.copies;
+  copies = copies_learnt v.classes v.related s dst contains.copies;
 }

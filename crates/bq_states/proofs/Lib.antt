@@ -5,5 +5,6 @@ pub mod AccessLemmas
 pub mod StoreLemmas
 pub mod StackLemmas
 pub mod CopyLemmas
+pub mod RelationLemmas
 pub mod PartLemmas
 pub mod ToldLemmas

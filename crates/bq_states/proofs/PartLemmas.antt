@@ -42,29 +42,29 @@ part_number stack p o size bytes place same h has =
     let own = subst (λ (n : ℕ). HasBytes stack n (byte_count size) h.0) place (subst (λ (z : Size). HasBytes stack p.first (byte_count z) h.0) same h.1) in
     subst (λ (xs : List ℕ). Within p.range (number_of xs)) (same_bytes stack o (byte_count size) h.0 bytes own has) h.2
 
-related_at : (R : Option StackPart → Option StackPart → Type 0) (old now : List (Option StackPart)) (i : ℕ) (x a : Option StackPart) → i < length now → get_or old i None ≡ a → R a x → ((k : ℕ) → k < i → R (get_or old k None) (get_or now k None)) → (k : ℕ) (b : Bool) → k < i + 1 → ((b ≡ true) × (k ≡ i)) ⊎ ((b ≡ false) × (k ≢ i)) → R (get_or old k None) (get_or (set now i x) k None)
+related_at : {X : Type 0} (R : Option X → Option X → Type 0) (old now : List (Option X)) (i : ℕ) (x a : Option X) → i < length now → get_or old i None ≡ a → R a x → ((k : ℕ) → k < i → R (get_or old k None) (get_or now k None)) → (k : ℕ) (b : Bool) → k < i + 1 → ((b ≡ true) × (k ≡ i)) ⊎ ((b ≡ false) × (k ≢ i)) → R (get_or old k None) (get_or (set now i x) k None)
 related_at R old now i x a lt read r before k b le (inr (_, other)) =
-    subst (λ (v : Option StackPart). R (get_or old k None) v) (sym (get_or-set_other now i k x None other)) (before k (omega arith))
+    subst (λ v. R (get_or old k None) v) (sym (get_or-set_other now i k x None other)) (before k (omega arith))
 related_at R old now i x a lt read r before k b le (inl (_, same)) =
     let there : get_or (set now i x) k None ≡ x = rw same (get_or-set_same now i x None lt) in
     let was : get_or old k None ≡ a = rw same read in
-    subst (λ (v : Option StackPart). R (get_or old k None) v) (sym there) (subst (λ (v : Option StackPart). R v x) (sym was) r)
+    subst (λ v. R (get_or old k None) v) (sym there) (subst (λ v. R v x) (sym was) r)
 
 -- one more of the parts that are related
-pub related_more : (R : Option StackPart → Option StackPart → Type 0) (old now : List (Option StackPart)) (i : ℕ) (x a : Option StackPart) → i < length now → get_or old i None ≡ a → R a x → ((k : ℕ) → k < i → R (get_or old k None) (get_or now k None)) → (k : ℕ) → k < i + 1 → R (get_or old k None) (get_or (set now i x) k None)
+pub related_more : {X : Type 0} (R : Option X → Option X → Type 0) (old now : List (Option X)) (i : ℕ) (x a : Option X) → i < length now → get_or old i None ≡ a → R a x → ((k : ℕ) → k < i → R (get_or old k None) (get_or now k None)) → (k : ℕ) → k < i + 1 → R (get_or old k None) (get_or (set now i x) k None)
 related_more R old now i x a lt read r before k le = related_at R old now i x a lt read r before k _ le (eqb_tells k i)
 
-related_by : (R : Option StackPart → Option StackPart → Type 0) (old now : List (Option StackPart)) (i : ℕ) → R None None → length old ≤ i → length now ≤ i → ((k : ℕ) → k < i → R (get_or old k None) (get_or now k None)) → (k : ℕ) → (k < i) ⊎ (i ≤ k) → R (get_or old k None) (get_or now k None)
+related_by : {X : Type 0} (R : Option X → Option X → Type 0) (old now : List (Option X)) (i : ℕ) → R None None → length old ≤ i → length now ≤ i → ((k : ℕ) → k < i → R (get_or old k None) (get_or now k None)) → (k : ℕ) → (k < i) ⊎ (i ≤ k) → R (get_or old k None) (get_or now k None)
 related_by R old now i none long long' before k (inl lt) = before k lt
 related_by R old now i none long long' before k (inr le) =
-    subst (λ (v : Option StackPart). R (get_or old k None) v) (sym (get_or_past now k None (omega arith))) (subst (λ (v : Option StackPart). R v None) (sym (get_or_past old k None (omega arith))) none)
+    subst (λ v. R (get_or old k None) v) (sym (get_or_past now k None (omega arith))) (subst (λ v. R v None) (sym (get_or_past old k None (omega arith))) none)
 
 -- all parts are related
-pub related_all : (R : Option StackPart → Option StackPart → Type 0) (old now : List (Option StackPart)) (i : ℕ) → R None None → length old ≤ i → length now ≤ i → ((k : ℕ) → k < i → R (get_or old k None) (get_or now k None)) → (k : ℕ) → R (get_or old k None) (get_or now k None)
+pub related_all : {X : Type 0} (R : Option X → Option X → Type 0) (old now : List (Option X)) (i : ℕ) → R None None → length old ≤ i → length now ≤ i → ((k : ℕ) → k < i → R (get_or old k None) (get_or now k None)) → (k : ℕ) → R (get_or old k None) (get_or now k None)
 related_all R old now i none long long' before k = related_by R old now i none long long' before k (cases_lt k i)
 
 -- an element that was read
-pub part_read : (now : List (Option StackPart)) (i : ℕ) (a : Option StackPart) → i < length now → a ≡ get_or now i a → get_or now i None ≡ a
+pub part_read : {X : Type 0} (now : List (Option X)) (i : ℕ) (a : Option X) → i < length now → a ≡ get_or now i a → get_or now i None ≡ a
 part_read now i a lt is = sym (get_or_read now i a lt is None)
 
 -- where nothing is known of a part, nothing need be known of it

@@ -31,11 +31,11 @@ forgets_less old new from to o e low high forgets j = at (forgets j)
     at (inr (same, inr above)) = inr (same, inr (omega arith))
 
 -- bytes written at one place of the range
-pub contains_over : (f : Setting) (v w : AbstractState) (s : State) (at : Range) (n o : ℕ) (bytes : List ℕ) → w.registers ≡ v.registers → Marks v.set w.set o (o + n) → Forgets v.kept w.kept at.lo (at.hi + n) → ((j : ℕ) → Outlives at.lo (at.hi + n) (slice_index_or v.parts j None) (slice_index_or w.parts j None)) → PartsSlots v.classes w.classes at.lo (at.hi + n) → Contains f v s → Within at o → length bytes ≡ n → ((k : ℕ) → k < length bytes → slice_index bytes k < 256) → Contains f w (next (written s InStack o bytes))
-contains_over f v w s at n o bytes same marks forgets outlive parts contains within long small =
+pub contains_over : (f : Setting) (v w : AbstractState) (s : State) (at : Range) (n o : ℕ) (bytes : List ℕ) → w.registers ≡ v.registers → w.related ≡ v.related → Marks v.set w.set o (o + n) → Forgets v.kept w.kept at.lo (at.hi + n) → ((j : ℕ) → Outlives at.lo (at.hi + n) (slice_index_or v.parts j None) (slice_index_or w.parts j None)) → PartsSlots v.classes w.classes at.lo (at.hi + n) → Contains f v s → Within at o → length bytes ≡ n → ((k : ℕ) → k < length bytes → slice_index bytes k < 256) → Contains f w (next (written s InStack o bytes))
+contains_over f v w s at n o bytes same so marks forgets outlive parts contains within long small =
     contains_written f v w s o bytes small same
     (subst (λ (m : ℕ). Marks v.set w.set o (o + m)) (sym long) marks)
     (forgets_less v.kept w.kept at.lo (at.hi + n) o (o + length bytes) within.0 (omega (arith, within.1, long)) forgets)
     (λ j. record { has = λ stack p written low high. (outlive j).has stack p written (omega (arith, within.0, low)) (omega (arith, within.1, long, high)) })
-    (copies_written v.classes w.classes s o bytes (parts_less v.classes w.classes at.lo (at.hi + n) o (o + length bytes) within.0 (omega (arith, within.1, long)) parts) contains.copies)
+    (rw so (copies_written v.classes w.classes v.related s o bytes (parts_less v.classes w.classes at.lo (at.hi + n) o (o + length bytes) within.0 (omega (arith, within.1, long)) parts) contains.copies))
     contains

@@ -49,7 +49,7 @@ kept_after shapes old new stack at bytes j h (inl e) = rw e tt
 kept_after shapes old new stack at bytes j h (inr (e, apart)) = rw e (Keeps-apart shapes old stack at bytes j apart h)
 
 -- the abstract state after a write of bytes on the stack
-pub contains_written : (f : Setting) (v w : AbstractState) (s : State) (at : ℕ) (bytes : List ℕ) → ((k : ℕ) → k < length bytes → slice_index bytes k < 256) → w.registers ≡ v.registers → Marks v.set w.set at (at + length bytes) → Forgets v.kept w.kept at (at + length bytes) → ((j : ℕ) → Outlives at (at + length bytes) (slice_index_or v.parts j None) (slice_index_or w.parts j None)) → AreCopies w.classes (next (written s InStack at bytes)) → Contains f v s → Contains f w (next (written s InStack at bytes))
+pub contains_written : (f : Setting) (v w : AbstractState) (s : State) (at : ℕ) (bytes : List ℕ) → ((k : ℕ) → k < length bytes → slice_index bytes k < 256) → w.registers ≡ v.registers → Marks v.set w.set at (at + length bytes) → Forgets v.kept w.kept at (at + length bytes) → ((j : ℕ) → Outlives at (at + length bytes) (slice_index_or v.parts j None) (slice_index_or w.parts j None)) → AreCopies w.classes w.related (next (written s InStack at bytes)) → Contains f v s → Contains f w (next (written s InStack at bytes))
 contains_written f v w s at bytes small same marks forgets parts copies contains = record {
   registers = λ r. rw same (contains.registers r);
   set = λ i h. set_after v s at i bytes _ small (contains.set i) (marks i h) (stack_cases s.stack at bytes i);

@@ -1,0 +1,65 @@
+-- Relations of the words of classes.
+use Rattle.std.proofs.Common.{◌≡◌, ◌≢◌, ℕ, ◌+◌, ◌-◌, ◌%◌, ◌^◌, ◌<◌, true, ◌&&◌, Option, Some, None, refl, ap, arith}
+use Rattle.std.specs.Prelude.{◌==◌}
+use Rattle.std.specs.Bool.{Decides, beq}
+use Rattle.std.specs.Cmp.{booleans_Decides}
+use Rattle.std.proofs.lemmas.Bool.Decides.{Decides-and, Decides-eqb, Decides-like}
+use Rattle.core.specs.Option.{option_eq}
+use denote.Enum.Bare.{sameb, same_true, true_same}
+use Rattle.bq_insn.specs.declared.Condition.{Condition}
+use Rattle.bq_insn.specs.declared.Width.{Width}
+use Rattle.bq_insn.specs.contracts.Condition as condition
+use Rattle.bq_insn.specs.contracts.Width as width
+use Rattle.bq_states.specs.declared.relations.Related.{Related}
+use Rattle.bq_states.specs.declared.relations.Relation.{Relation}
+use Rattle.bq_states.specs.declared.relations.Relation.TheVariants.{Sum, Compared}
+use Rattle.bq_states.specs.contracts.relations.RelationPartialEq.TheImpl as same_relation
+use Rattle.bq_states.specs.contracts.relations.RelatedPartialEq.TheImpl as same_related
+use Rattle.bq_states.specs.Relations.{IsRelatedBy, Relates}
+
+-- each relation of the one is right where the words of the other are so related
+pub record AllowsRelation (old new : Option Related) : Type 0 where
+  pub has : (word : ℕ → ℕ) → IsRelatedBy word old → IsRelatedBy word new
+
+-- a relation stays right where only the word of that class is another one
+pub record OutlivesClass (class : ℕ) (old new : Option Related) : Type 0 where
+  pub has : (word other : ℕ → ℕ) → ((k : ℕ) → k ≢ class → other k ≡ word k) → IsRelatedBy word old → IsRelatedBy other new
+
+-- where no relation is known, none need be known
+pub allows_no_relation : AllowsRelation None None
+allows_no_relation = record { has = λ word h. h }
+
+-- no relation outlives each class
+pub no_relation_outlives : (class : ℕ) → OutlivesClass class None None
+no_relation_outlives class = record { has = λ word other same h. h }
+
+-- the word to which a number is added is the sum less that number
+pub sum_right : (a b n : ℕ) → n < 2 ^ 64 → Relates (Sum n) a b → b ≡ (a + (2 ^ 64 - n)) % 2 ^ 64
+sum_right a b n small so = omega (arith, so.left, so.right, so.is)
+
+condition_decides : (a b : Condition) → Decides (sameb condition.the_type a b) (a ≡ b)
+condition_decides a b = (same_true condition.the_type tt a b, true_same condition.the_type a b)
+
+width_decides : (a b : Width) → Decides (sameb width.the_type a b) (a ≡ b)
+width_decides a b = (same_true width.the_type tt a b, true_same width.the_type a b)
+
+relation_decides : (a b : Relation) → Decides (same_relation.eq-value.it a b) (a ≡ b)
+relation_decides (Sum n) (Sum m) = Decides-like (n == m) (λ (p : n ≡ m). ap Sum p) (λ e. cc) (Decides-eqb n m)
+relation_decides (Sum n) (Compared v d h) = ((λ e. absurd (cc)), (λ e. absurd (cc)))
+relation_decides (Compared w c g) (Sum m) = ((λ e. absurd (cc)), (λ e. absurd (cc)))
+relation_decides (Compared w c g) (Compared v d h) = Decides-like (sameb width.the_type w v && (sameb condition.the_type c d && beq g h))
+    (λ (p : (w ≡ v) × ((c ≡ d) × (g ≡ h))). λ i. Compared (p.0 i) (p.1.0 i) (p.1.1 i))
+    (λ e. ((cc), ((cc), (cc))))
+    (Decides-and (sameb width.the_type w v) (sameb condition.the_type c d && beq g h) (width_decides w v) (Decides-and (sameb condition.the_type c d) (beq g h) (condition_decides c d) (booleans_Decides g h)))
+
+related_same : (a b : Related) → same_related.eq-value.it a b ≡ true → a ≡ b
+related_same a b e =
+    let all = (Decides-and (a.left == b.left) ((a.right == b.right) && same_relation.eq-value.it a.relation b.relation) (Decides-eqb a.left b.left) (Decides-and (a.right == b.right) (same_relation.eq-value.it a.relation b.relation) (Decides-eqb a.right b.right) (relation_decides a.relation b.relation))).0 e in
+    λ i. record { left = all.0 i; right = all.1.0 i; relation = all.1.1 i }
+
+-- relations that `==` says are one are one
+pub option_same : (a b : Option Related) → option_eq same_related.eq-value.it a b ≡ true → a ≡ b
+option_same None None e = refl
+option_same None (Some b) e = absurd (cc)
+option_same (Some a) None e = absurd (cc)
+option_same (Some a) (Some b) e = ap Some (related_same a b e)
