@@ -22,6 +22,12 @@ describes_number shapes r word w =
     let fits = r.fits in
     record { base = 0; offset = word; is_base = refl; within = w; word_is = omega (arith, w) }
 
+-- a number that is within what is known of it
+pub describes_as_number : (shapes : List MapShape) (k : AbstractValue) (word : ℕ) → k.kind ≡ Number → Within k.offset word → Describes shapes k word
+describes_as_number shapes k word e w =
+    let fits = k.offset.fits in
+    record { base = 0; offset = word; is_base = rw e refl; within = w; word_is = omega (arith, w) }
+
 -- a word that is known to be in a range is known to be in a wider one
 pub describes_wider : (shapes : List MapShape) (kind : ValueKind) (k : AbstractValue) (r : Range) (word : ℕ) → k.kind ≡ kind → ((x : ℕ) → Within k.offset x → Within r x) → Describes shapes k word → Describes shapes (record { kind = kind; offset = r }) word
 describes_wider shapes kind k r word e more d = record { base = d.base; offset = d.offset; is_base = rw e at d.is_base; within = more d.offset d.within; word_is = d.word_is }
