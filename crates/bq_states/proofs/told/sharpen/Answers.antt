@@ -1,5 +1,4 @@
-use Rattle.std.proofs.Common.{◌≡◌, ◌<◌, ◌≤◌, ℕ, Option, Some, length, refl, sym, subst, arith, rules}
-use Rattle.std.specs.Prelude.{slice_index}
+use Rattle.std.proofs.Common.{◌≡◌, ◌<◌, ℕ, Option, Some, length, refl, sym, subst, arith, rules}
 use Rattle.bq_states.proofs.ToldLemmas.{contains_sharper_one, has_sharper, set_each, told_class}
 use Rattle.bq_states.specs.Certainty.{Stands}
 use Rattle.bq_states.specs.declared.abstract_state.AbstractValue.{AbstractValue}

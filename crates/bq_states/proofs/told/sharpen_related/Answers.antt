@@ -1,9 +1,6 @@
-use Rattle.std.proofs.Common.{◌≡◌, Some, None, refl, sym, subst, rules}
-use Rattle.std.specs.Prelude.{slice_index_or}
-use Rattle.bq_states.specs.declared.abstract_state.AbstractState.{AbstractState}
+use Rattle.std.proofs.Common.{◌≡◌, refl, rules}
 use Rattle.bq_states.specs.declared.abstract_state.ValueKind.TheVariants.{Number}
-use Rattle.bq_states.specs.Certainty.{Has}
-use Rattle.bq_states.proofs.ToldLemmas.{Sharpens, sharpens_more}
+use Rattle.bq_states.proofs.ToldLemmas.{sharpens_more}
 use Rattle.bq_states.proofs.told.sharpen_related.Goals.{in-Some, in_default}
 use Rattle.bq_states.proofs.told.sharpen_related.Goals as goal
 

@@ -1,4 +1,4 @@
-use Rattle.std.proofs.Common.{◌≡◌, ◌<◌, ◌∙◌, ℕ, Option, Some, sym, subst, arith, rules}
+use Rattle.std.proofs.Common.{◌≡◌, ◌<◌, ◌∙◌, ℕ, Option, Some, sym, arith, rules}
 use Rattle.std.proofs.lemmas.Option.{same_Some}
 use Rattle.bq_states.specs.Relations.{Relates}
 use Rattle.bq_states.proofs.CopyLemmas.{register_word}
