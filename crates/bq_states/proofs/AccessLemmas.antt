@@ -65,16 +65,18 @@ entry_low shapes m first size entry =
     omega (arith, entry.first_is, product)
 
 -- a pointer to an entry of a map may reach over one value
-pub entry_bounds : (shapes : List MapShape) (context_length m size : ℕ) (shape : MapShape) (kind : ValueKind) → kind ≡ Entry m → Some shape ≡ slice_get shapes m → size ≡ shape.value_size → m < 256 → Bounds shapes context_length kind size
-entry_bounds shapes context_length m size shape kind kind_is known size_is low f base suits is =
+pub entry_bounds : (shapes : List MapShape) (context_length m size : ℕ) (shape : MapShape) (kind : ValueKind) → kind ≡ Entry m → Some shape ≡ slice_get shapes m → size ≡ shape.value_size → Bounds shapes context_length kind size
+entry_bounds shapes context_length m size shape kind kind_is known size_is f base suits is =
     let entry : IsEntryBase f.shapes m base = rw kind_is at is in
     let e = entry.entry in
-    let same : e.shape ≡ shape = some_same _ _ _ (rw suits.shapes_are at e.known) (sym known) in
-    let below = entry_low f.shapes m entry.first entry.size e in (
-      InEntry m entry.first,
-      (entry.base_is, record { shape = e.shape; known = e.known; number = e.number; there = e.there; first_is = e.first_is; size_is = size_is ∙ ap (λ (x : MapShape). x.value_size) (sym same) }),
-      rw kind_is (entry.first, refl),
-      omega (arith, entry.base_is, below),
+    let alike = entry.alike in
+    let one : alike.shape ≡ shape = some_same _ _ _ (rw suits.shapes_are at alike.one) (sym known) in
+    let other : e.shape ≡ alike.shape = some_same _ _ _ e.known alike.other in
+    let below = entry_low f.shapes entry.map entry.first entry.size e in (
+      InEntry entry.map entry.first,
+      (entry.base_is, record { shape = e.shape; known = e.known; number = e.number; there = e.there; first_is = e.first_is; size_is = size_is ∙ ap (λ (x : MapShape). x.value_size) (sym (other ∙ one)) }),
+      rw kind_is (entry.map, entry.first, refl),
+      omega (arith, entry.base_is, below, alike.low),
     )
 
 -- the bytes that a pointer of the kind points to are set
@@ -85,9 +87,9 @@ region_byte shapes context_length f v s Context region base size i suits contain
     rw is (context_byte shapes context_length f s i suits (omega (arith, spans'.1)))
 region_byte shapes context_length f v s Stack region base size i suits contains is spans lt set = rw is (contains.set i (set refl))
 region_byte shapes context_length f v s (Entry m) region base size i suits contains is spans lt set =
-    let spans' : Spans f (InEntry m is.0) base size = rw is.1 at spans in
-    let inside = entry_inside f.shapes s.maps m is.0 size contains.maps spans'.1 in
-    rw is.1 (entry_byte f.shapes s f m is.0 i contains.maps (omega (arith, inside)))
+    let spans' : Spans f (InEntry is.0 is.1) base size = rw is.2 at spans in
+    let inside = entry_inside f.shapes s.maps is.0 is.1 size contains.maps spans'.1 in
+    rw is.2 (entry_byte f.shapes s f is.0 is.1 i contains.maps (omega (arith, inside)))
 region_byte shapes context_length f v s (EntryOrNull m) region base size i suits contains is spans lt set = absurd is
 region_byte shapes context_length f v s (Map m) region base size i suits contains is spans lt set = absurd is
 

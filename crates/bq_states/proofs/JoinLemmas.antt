@@ -16,19 +16,19 @@ use Rattle.bq_states.proofs.CopyLemmas.{words_moved}
 use Rattle.bq_states.specs.AbstractStates.{Holds, Keeps, Contains, Allows}
 
 -- what is known of a register is true too where more words are allowed
-pub Holds-more : (shapes : List MapShape) (a b : Option AbstractValue) (v : Option ℕ) → Allows a b → Holds shapes a v → Holds shapes b v
+pub Holds-more : (shapes : List MapShape) (a b : Option AbstractValue) (v : Option ℕ) → Allows shapes a b → Holds shapes a v → Holds shapes b v
 Holds-more shapes a None v more h = tt
 Holds-more shapes None (Some b) v more h = absurd more
-Holds-more shapes (Some a) (Some b) v more h = (h.0, h.1, more shapes h.0 h.2)
+Holds-more shapes (Some a) (Some b) v more h = (h.0, h.1, more h.0 h.2)
 
 -- what is known of eight bytes of the stack is true too where more words are allowed
-pub Keeps-more : (shapes : List MapShape) (a b : Option AbstractValue) (stack : ℕ → Option ℕ) (j : ℕ) → Allows a b → Keeps shapes a stack j → Keeps shapes b stack j
+pub Keeps-more : (shapes : List MapShape) (a b : Option AbstractValue) (stack : ℕ → Option ℕ) (j : ℕ) → Allows shapes a b → Keeps shapes a stack j → Keeps shapes b stack j
 Keeps-more shapes a None stack j more h = tt
 Keeps-more shapes None (Some b) stack j more h = absurd more
-Keeps-more shapes (Some a) (Some b) stack j more h = (h.0, more shapes h.0 h.1, h.2)
+Keeps-more shapes (Some a) (Some b) stack j more h = (h.0, more h.0 h.1, h.2)
 
 -- an abstract state that allows more contains no less
-pub Contains-more : (f : Setting) (s : State) (v w : AbstractState) → ((k : ℕ) → Allows (slice_index_or v.registers k None) (slice_index_or w.registers k None)) → ((k : ℕ) → slice_index_or w.set k false ≡ true → slice_index_or v.set k false ≡ true) → ((k : ℕ) → Allows (slice_index_or v.kept k None) (slice_index_or w.kept k None)) → ((k : ℕ) → AllowsPart (slice_index_or v.parts k None) (slice_index_or w.parts k None)) → KeepsClasses v.classes w.classes → ((word : ℕ → ℕ) → AreRelated word v.related → AreRelated word w.related) → Contains f v s → Contains f w s
+pub Contains-more : (f : Setting) (s : State) (v w : AbstractState) → ((k : ℕ) → Allows f.shapes (slice_index_or v.registers k None) (slice_index_or w.registers k None)) → ((k : ℕ) → slice_index_or w.set k false ≡ true → slice_index_or v.set k false ≡ true) → ((k : ℕ) → Allows f.shapes (slice_index_or v.kept k None) (slice_index_or w.kept k None)) → ((k : ℕ) → AllowsPart (slice_index_or v.parts k None) (slice_index_or w.parts k None)) → KeepsClasses v.classes w.classes → ((word : ℕ → ℕ) → AreRelated word v.related → AreRelated word w.related) → Contains f v s → Contains f w s
 Contains-more f s v w registers set kept parts classes related contains = record {
   registers = λ r. Holds-more f.shapes _ _ (s.register r) (registers r) (contains.registers r);
   set = λ i h. contains.set i (set i h);

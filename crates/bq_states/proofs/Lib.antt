@@ -1,3 +1,4 @@
+pub mod AlikeLemmas
 pub mod WordLemmas
 pub mod LearnLemmas
 pub mod JoinLemmas

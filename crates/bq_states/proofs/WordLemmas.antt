@@ -6,7 +6,7 @@ use Rattle.bq_ranges.specs.declared.range.Range.{Range}
 use Rattle.bq_states.specs.declared.abstract_state.ValueKind.{ValueKind}
 use Rattle.bq_states.specs.declared.abstract_state.ValueKind.TheVariants.{Number}
 use Rattle.bq_states.specs.declared.abstract_state.AbstractValue.{AbstractValue}
-use Rattle.bq_states.specs.AbstractStates.{Describes}
+use Rattle.bq_states.specs.AbstractStates.{Describes, IsBase}
 
 -- a number is itself in the range
 pub number_within : (shapes : List MapShape) (k : AbstractValue) (word : ℕ) → k.kind ≡ Number → Describes shapes k word → Within k.offset word
@@ -28,9 +28,13 @@ describes_as_number shapes k word e w =
     let fits = k.offset.fits in
     record { base = 0; offset = word; is_base = rw e refl; within = w; word_is = omega (arith, w) }
 
+-- a word that is known is known of a kind that counts from no less, in a wider range
+pub describes_more : (shapes : List MapShape) (kind : ValueKind) (k : AbstractValue) (r : Range) (word : ℕ) → ((base : ℕ) → IsBase shapes k.kind base → IsBase shapes kind base) → ((x : ℕ) → Within k.offset x → Within r x) → Describes shapes k word → Describes shapes (record { kind = kind; offset = r }) word
+describes_more shapes kind k r word bases more d = record { base = d.base; offset = d.offset; is_base = bases d.base d.is_base; within = more d.offset d.within; word_is = d.word_is }
+
 -- a word that is known to be in a range is known to be in a wider one
 pub describes_wider : (shapes : List MapShape) (kind : ValueKind) (k : AbstractValue) (r : Range) (word : ℕ) → k.kind ≡ kind → ((x : ℕ) → Within k.offset x → Within r x) → Describes shapes k word → Describes shapes (record { kind = kind; offset = r }) word
-describes_wider shapes kind k r word e more d = record { base = d.base; offset = d.offset; is_base = rw e at d.is_base; within = more d.offset d.within; word_is = d.word_is }
+describes_wider shapes kind k r word e = describes_more shapes kind k r word (λ base is. rw e at is)
 
 -- a word that is described has at most 64 bits
 pub word_fits : (shapes : List MapShape) (k : AbstractValue) (a : ℕ) → Describes shapes k a → a < 2 ^ 64

@@ -13,11 +13,12 @@ use Rattle.bq_states.specs.declared.abstract_state.ValueKind.TheVariants.{Number
 use Rattle.bq_states.specs.declared.abstract_state.AbstractValue.{AbstractValue}
 use Rattle.bq_states.specs.declared.abstract_state.AbstractState.{AbstractState}
 
--- two maps of one shape
+-- two maps of one shape; the number of the second is a byte, as each that a kind names is
 pub record AreAlike (shapes : List MapShape) (m n : ℕ) : Type 0 where
   pub shape : MapShape
   pub one : slice_get shapes m ≡ Some shape
   pub other : slice_get shapes n ≡ Some shape
+  pub low : n < 256
 
 -- the first address of some entry of a map of that map's shape
 pub record IsEntryBase (shapes : List MapShape) (m base : ℕ) : Type 0 where

@@ -55,15 +55,18 @@ fn are_alike(shapes: &[MapShape], map: u8, other: u8) -> bool
     let (Some(one), Some(other)) = (shape_of(shapes, map), shape_of(shapes, other)) else {
         return false;
     };
+    is_same(&one, &other)
+}
+
+/// Whether both are one shape.
+fn is_same(one: &MapShape, other: &MapShape) -> bool
+    ensures { IsTrue result → one.now ≡ other.now }
+{
     one == other
 }
 
 /// Two of these are an untested answer: an entry, an untested answer of a look-up in a map of the same shape, and 0, the answer where nothing is found.
-fn join_answers(
-    shapes: &[MapShape],
-    a: AbstractValue,
-    b: AbstractValue,
-) -> Option<AbstractValue>
+fn join_answers(shapes: &[MapShape], a: AbstractValue, b: AbstractValue) -> Option<AbstractValue>
     requires { a.kind ≢ b.kind }
     ensures left { Allows shapes.now (Some a) result }
     ensures right { Allows shapes.now (Some b) result }

@@ -56,7 +56,7 @@ contains_called f v s cleared parts answer k lt clears first contains d = record
   kept = contains.kept;
   parts = contains.parts;
   maps = contains.maps;
-  copies = copies_called v.classes parts s answer first contains.copies;
+  copies = copies_called v.classes parts v.related s answer first contains.copies;
 }
 
 -- a look-up transfers the abstract state on

@@ -17,6 +17,7 @@ use Rattle.bq_states.specs.declared.abstract_state.ValueKind.{ValueKind}
 use Rattle.bq_states.specs.declared.abstract_state.ValueKind.TheVariants.{Number, Stack, Entry, EntryOrNull, Map}
 use Rattle.bq_states.specs.declared.abstract_state.AbstractValue.{AbstractValue}
 use Rattle.bq_states.specs.declared.abstract_state.AbstractState.{AbstractState}
+use Rattle.bq_states.specs.declared.relations.Related.{Related}
 use Rattle.bq_ranges.specs.declared.range.Range.{Range}
 use Rattle.bq_states.specs.AbstractStates.{Clears, knowing}
 use Rattle.bq_states.specs.Certainty.{Certainty, Scalar, Exact, Pointer, NoPointer, Stands, StandsAt, Fact, Never, AtRegister, IsSetAt, IsPlainAt, Has, Outlasts, IsMade, IsGiven, IsCalled, IsAnswered, IsStoredAt, IsScalarOperand}
@@ -281,9 +282,9 @@ knowing_made s state dst k there stands = record {
   kept_same = refl;
 }
 
--- classes say nothing of that
-pub made_classes : (s : Certainty) (old new : AbstractState) (dst : ℕ) (classes : List ℕ) → IsMade s old new dst → IsMade s old (record new { classes = classes }) dst
-made_classes s old new dst classes made = record { given = made.given; kept = made.kept; set_same = made.set_same; kept_same = made.kept_same }
+-- classes and relations say nothing of that
+pub made_classes : (s : Certainty) (old new : AbstractState) (dst : ℕ) (classes : List ℕ) (related : List (Option Related)) → IsMade s old new dst → IsMade s old (record new { classes = classes; related = related }) dst
+made_classes s old new dst classes related made = record { given = made.given; kept = made.kept; set_same = made.set_same; kept_same = made.kept_same }
 
 -- an abstract state that learns a number in a register has a number there, and all else as before
 pub knowing_given : (state : AbstractState) (dst : ℕ) (k : AbstractValue) → dst < length state.registers → k.kind ≡ Number → IsGiven state (knowing state dst k) dst

@@ -7,3 +7,4 @@ pub mod CallLemmas
 pub mod WriteLemmas
 pub mod CounterLemmas
 pub mod TransferLemmas
+pub mod SumLemmas

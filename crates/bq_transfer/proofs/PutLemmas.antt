@@ -14,6 +14,7 @@ use Rattle.bq_bpf.specs.Memory.{Setting, State, reference}
 use Rattle.bq_bpf.specs.Steps.{Does, put, IsLeft}
 use Rattle.bq_states.specs.declared.abstract_state.AbstractValue.{AbstractValue}
 use Rattle.bq_states.specs.declared.abstract_state.AbstractState.{AbstractState}
+use Rattle.bq_states.specs.declared.relations.Related.{Related}
 use Rattle.bq_states.proofs.WordLemmas.{describes_number}
 use Rattle.bq_states.proofs.CopyLemmas.{copies_put, copies_same, loaded_copy, put_here, put_same}
 use Rattle.bq_states.specs.Copies.{AreCopies, HasWord}
@@ -37,7 +38,7 @@ contains_put f v s slots dst n k lt contains d = record {
   kept = contains.kept;
   parts = contains.parts;
   maps = contains.maps;
-  copies = copies_put v.classes s slots dst n contains.copies;
+  copies = copies_put v.classes v.related s slots dst n contains.copies;
 }
 
 -- a register that is written with what it holds
@@ -48,7 +49,7 @@ contains_same f v s slots dst n is contains = record {
   kept = contains.kept;
   parts = contains.parts;
   maps = contains.maps;
-  copies = copies_same v.classes s slots dst n is contains.copies;
+  copies = copies_same v.classes v.related s slots dst n is contains.copies;
 }
 
 -- an instruction that gives a register such a word transfers the abstract state on
@@ -67,8 +68,8 @@ carries_number shapes context_length insn old new dst src from to calculated bel
     (λ f s suits contains. let word = holds f s contains in (calculated word.0, does f s word.0 word.1, describes_number f.shapes to (calculated word.0) (within word.0 word.2))))
 
 -- the same as the first, where the register is a copy of a slot then
-pub carries_linked : (shapes : List MapShape) (context_length : ℕ) (insn : Insn) (v : AbstractState) (dst slot : ℕ) (k : AbstractValue) (classes : List ℕ) → dst < length v.registers → dst < 11 → ((f : Setting) (s : State) → Suits shapes context_length f → Contains f v s → (n : ℕ) × Does f insn s (put s (slots_of insn) dst n) × Describes f.shapes k n × HasWord s (11 + slot) n) → ((t : State) (n : ℕ) → AreCopies (slice_set v.classes dst 0) t → HasWord t (11 + slot) n → ((m : ℕ) → HasWord t (11 + slot) m → HasWord t dst m) → AreCopies classes t) → Transfers shapes context_length insn v (record (knowing v dst k) { classes = classes })
-carries_linked shapes context_length insn v dst slot k classes lt low gives linked f s suits contains =
+pub carries_linked : (shapes : List MapShape) (context_length : ℕ) (insn : Insn) (v : AbstractState) (dst slot : ℕ) (k : AbstractValue) (classes : List ℕ) (related : List (Option Related)) → dst < length v.registers → dst < 11 → ((f : Setting) (s : State) → Suits shapes context_length f → Contains f v s → (n : ℕ) × Does f insn s (put s (slots_of insn) dst n) × Describes f.shapes k n × HasWord s (11 + slot) n) → ((t : State) (n : ℕ) → AreCopies (slice_set v.classes dst 0) v.related t → HasWord t (11 + slot) n → ((m : ℕ) → HasWord t (11 + slot) m → HasWord t dst m) → AreCopies classes related t) → Transfers shapes context_length insn v (record (knowing v dst k) { classes = classes; related = related })
+carries_linked shapes context_length insn v dst slot k classes related lt low gives linked f s suits contains =
     let given = gives f s suits contains in
     let t : State = put s (slots_of insn) dst given.0 in
     let put_contains : Contains f (knowing v dst k) t = contains_put f v s (slots_of insn) dst given.0 k lt contains given.2 in

@@ -23,6 +23,7 @@ use Rattle.bq_ranges.specs.Within.{Within}
 use Rattle.bq_states.specs.declared.abstract_state.ValueKind.{ValueKind}
 use Rattle.bq_states.specs.declared.abstract_state.ValueKind.TheVariants.{Stack, Entry, Number}
 use Rattle.bq_states.specs.declared.abstract_state.AbstractState.{AbstractState}
+use Rattle.bq_states.specs.declared.relations.Related.{Related}
 use Rattle.bq_states.specs.declared.abstract_state.AbstractValue.{AbstractValue}
 use Rattle.bq_states.specs.AbstractStates.{Contains, Describes, Keeps, IsOfKind, keeping}
 use Rattle.bq_transfer.specs.Transfers.{FindsPlace, IsWholeSlot, Stores, Transfers}
@@ -143,19 +144,19 @@ carries_imm shapes context_length dst off imm size k old new slot word stores f 
     let on = stores f s (word_of imm) suits contains (word f) in
     (next on.1, (on.0, on.1, on.2, on.3, refl), on.4, ap (λ (n : ℕ). n + 1) on.5)
 
--- an abstract state with other classes, which are right
-pub contains_classes : (f : Setting) (v : AbstractState) (t : State) (classes : List ℕ) → AreCopies classes t → Contains f v t → Contains f (record v { classes = classes }) t
-contains_classes f v t classes copies contains = record { registers = contains.registers; set = contains.set; kept = contains.kept; parts = contains.parts; maps = contains.maps; copies = copies }
+-- an abstract state with other classes and relations, which are right
+pub contains_classes : (f : Setting) (v : AbstractState) (t : State) (classes : List ℕ) (related : List (Option Related)) → AreCopies classes related t → Contains f v t → Contains f (record v { classes = classes; related = related }) t
+contains_classes f v t classes related copies contains = record { registers = contains.registers; set = contains.set; kept = contains.kept; parts = contains.parts; maps = contains.maps; copies = copies }
 
--- where a register can be stored, the instruction leads to the abstract state after it, with classes that are right there
-pub carries_reg : (shapes : List MapShape) (context_length dst src : ℕ) (off : ℤ) (size : Size) (k : AbstractValue) (old new : AbstractState) (slot : Option ℕ) (classes : List ℕ) → ((f : Setting) (s : State) → Contains f old s → (v : ℕ) × (s.register src ≡ Some v) × Describes f.shapes k v) → Stores shapes context_length dst off size k old new slot → ((t : State) (v : ℕ) → AreCopies new.classes t → t.register src ≡ Some v → ((n : ℕ) → slot ≡ Some n → HasWord t (11 + n) v) → AreCopies classes t) → Transfers shapes context_length (StoreReg size dst off src) old (record new { classes = classes })
-carries_reg shapes context_length dst src off size k old new slot classes word stores linked f s suits contains =
+-- where a register can be stored, the instruction leads to the abstract state after it, with classes and relations that are right there
+pub carries_reg : (shapes : List MapShape) (context_length dst src : ℕ) (off : ℤ) (size : Size) (k : AbstractValue) (old new : AbstractState) (slot : Option ℕ) (classes : List ℕ) (related : List (Option Related)) → ((f : Setting) (s : State) → Contains f old s → (v : ℕ) × (s.register src ≡ Some v) × Describes f.shapes k v) → Stores shapes context_length dst off size k old new slot → ((t : State) (v : ℕ) → AreCopies new.classes new.related t → t.register src ≡ Some v → ((n : ℕ) → slot ≡ Some n → HasWord t (11 + n) v) → AreCopies classes related t) → Transfers shapes context_length (StoreReg size dst off src) old (record new { classes = classes; related = related })
+carries_reg shapes context_length dst src off size k old new slot classes related word stores linked f s suits contains =
     let v = word f s contains in
     let on = stores f s v.0 suits contains v.2 in
     let same : on.1.register ≡ s.register = on.6 in
     let is : on.1.register src ≡ Some v.0 = rw same v.1 in
     let after = on.4 in
-    (next on.1, (on.0, v.0, on.1, on.2, v.1, on.3, refl), contains_classes f new (next on.1) classes (linked (next on.1) v.0 after.copies is on.7) after, ap (λ (n : ℕ). n + 1) on.5)
+    (next on.1, (on.0, v.0, on.1, on.2, v.1, on.3, refl), contains_classes f new (next on.1) classes related (linked (next on.1) v.0 after.copies is on.7) after, ap (λ (n : ℕ). n + 1) on.5)
 
 -- a slot in which a number is kept, and each that had no pointer, has none
 pub plain_kept : (kept : List (Option AbstractValue)) (slot j : ℕ) (k : AbstractValue) → k.kind ≡ Number → Stands NoPointer (slice_index_or kept j None) → Stands NoPointer (slice_index_or (slice_set kept slot (Some k)) j None)

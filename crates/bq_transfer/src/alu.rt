@@ -217,7 +217,14 @@ fn copy(state: &mut AbstractState, width: Width, dst: u8, src: Source) -> Result
         return Err(Obligation::PointerUse);
     };
     learn(state, dst, word);
-    link_copy(&mut state.classes, &mut state.related, width, dst, src, right);
+    link_copy(
+        &mut state.classes,
+        &mut state.related,
+        width,
+        dst,
+        src,
+        right,
+    );
     Ok(())
 }
 

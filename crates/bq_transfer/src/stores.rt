@@ -22,10 +22,10 @@ use bq_insn::{Insn, Size};
 use bq_ranges::Range;
 use bq_states::abstract_state::{AbstractState, AbstractValue, ValueKind};
 use bq_states::copies::link;
-use bq_states::relations::Related;
 use bq_states::parts::store_part;
 use bq_states::places::stays;
 use bq_states::registers::known;
+use bq_states::relations::Related;
 use bq_states::stack::{keep, overwrite};
 
 /// A store of a number from the instruction.
@@ -80,12 +80,7 @@ pub fn store_reg(
 }
 
 /// The slot of the stack, if there is one, is a copy of the register.
-fn link_slot(
-    classes: &mut [u8],
-    related: &mut [Option<Related>],
-    slot: Option<usize>,
-    register: u8,
-)
+fn link_slot(classes: &mut [u8], related: &mut [Option<Related>], slot: Option<usize>, register: u8)
     requires room { length classes.old ≡ 75 }
     requires inside { IfSome slot (λ n. n < 64) }
     ensures copies { (s : State) (word : ℕ) → AreCopies classes.old related.old s → s.register register ≡ Some word → ((n : ℕ) → slot ≡ Some n → HasWord s (11 + n) word) → AreCopies classes.new related.new s }

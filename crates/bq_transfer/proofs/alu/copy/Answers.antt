@@ -42,7 +42,7 @@ returns-clause-exact c = λ i is whole.
     let word = c.in-Some.ensures.immediate i is in
     let same : c.in-Some-copied.word ≡ c.in-Some.right = same_Some c.in-Some-copied.word c.in-Some.right (c.in-Some-copied.ensures.same whole) in
     let stands : Stands (Exact (word_of i)) (Some c.in-Some-copied.word) = subst (λ (k : AbstractValue). Stands (Exact (word_of i)) (Some k)) (sym same) word in
-    made_classes (Exact (word_of i)) c.args.state.now c.learn.new.state c.args.dst c.link_copy.new.classes
+    made_classes (Exact (word_of i)) c.args.state.now c.learn.new.state c.args.dst c.link_copy.new.classes c.link_copy.new.related
     (subst (λ (v : AbstractState). IsMade (Exact (word_of i)) c.args.state.now v c.args.dst) (sym c.learn.ensures.is) (knowing_made (Exact (word_of i)) c.args.state.now c.args.dst c.in-Some-copied.word there stands))
 
 pub returns-then-is_whole-clause-transfers : goal.returns-then-is_whole-clause-transfers

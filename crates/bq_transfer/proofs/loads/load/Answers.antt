@@ -18,7 +18,7 @@ returns-in-Some-clause-transfers c =
     c.in_ok-found.ensures.finds c.in-Some.ensures c.requires.below in
     let linked = rw c.learn.ensures.is at c.link.ensures in
     rw c.learn.ensures.is
-    (carries_linked c.args.shapes.now c.args.context (Load c.args.access.size c.args.signed c.args.dst c.args.access.base c.args.access.off) c.args.state.now c.args.dst slot c.in-Some.word c.link.new.classes there (omega (arith, c.requires.below))
+    (carries_linked c.args.shapes.now c.args.context (Load c.args.access.size c.args.signed c.args.dst c.args.access.base c.args.access.off) c.args.state.now c.args.dst slot c.in-Some.word c.link.new.classes c.link.new.related there (omega (arith, c.requires.below))
     (λ f s suits contains. let given = gives f s suits contains in (given.0, given.1, given.2, given.3 slot first))
     (λ t n copies has copy. linked t n copies has (λ m h. subst (λ (p : ℕ). HasWord t p m) (sym to) (copy m h))))
 
