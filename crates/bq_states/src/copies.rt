@@ -41,12 +41,7 @@ pub fn link(classes: &mut [u8], related: &mut [Option<Related>], to: usize, from
 }
 
 /// The class of a place; if it had none, it gets its own, which is another one than `beside`.
-pub fn class_of(
-    classes: &mut [u8],
-    related: &mut [Option<Related>],
-    place: usize,
-    beside: u8,
-) -> u8
+pub fn class_of(classes: &mut [u8], related: &mut [Option<Related>], place: usize, beside: u8) -> u8
     requires place { place < 75 }
     requires room { length classes.old ≡ 75 }
     ensures some { result ≢ 0 }

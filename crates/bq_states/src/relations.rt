@@ -5,9 +5,8 @@ ghost use Rattle.bq_ranges.specs.Within.{Within, NarrowsTo};
 ghost use Rattle.bq_states.specs.Relations.{AreRelated, IsRelatedBy, Relates};
 
 use bq_insn::{Condition, Width};
-use bq_ranges::Range;
-use bq_ranges::arithmetic;
 use bq_ranges::narrowing::{narrow, narrow_right};
+use bq_ranges::{Range, arithmetic};
 
 /// How one word is related to another.
 #[derive(Clone, Copy, PartialEq, Eq)]
@@ -39,9 +38,7 @@ impl Relation {
         ensures { (a b : ℕ) → Relates self a b → Within left a → Within right b → NarrowsTo result a }
     {
         match self {
-            Relation::Sum(more) => {
-                Some(arithmetic::add(Width::W64, right, Range::single(more)))
-            }
+            Relation::Sum(more) => { Some(arithmetic::add(Width::W64, right, Range::single(more))) }
             Relation::Compared { width, cond, goes } => narrow(cond, width, left, right, goes),
         }
     }

@@ -48,7 +48,12 @@ fn tell_relation(state: &mut AbstractState, dst: u8, src: Source, relation: Rela
         return;
     }
     let left = class_of(&mut state.classes, &mut state.related, usize::from(dst), 0);
-    let right = class_of(&mut state.classes, &mut state.related, usize::from(register), left);
+    let right = class_of(
+        &mut state.classes,
+        &mut state.related,
+        usize::from(register),
+        left,
+    );
     relate(
         &mut state.related,
         Related {
