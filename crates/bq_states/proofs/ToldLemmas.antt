@@ -8,14 +8,19 @@ use Rattle.std.proofs.lemmas.List.{get_or_past, get_or_read}
 use Rattle.std.proofs.lemmas.Option.{same_Some}
 use Rattle.bq_bpf.specs.declared.shape.MapShape.{MapShape}
 use Rattle.bq_bpf.specs.Memory.{Setting, State, number_of}
+use Rattle.bq_ranges.specs.declared.range.Range.{Range}
+use Rattle.bq_ranges.specs.Within.{Within}
+use Rattle.bq_states.specs.declared.abstract_state.ValueKind.TheVariants.{Number}
 use Rattle.bq_states.specs.declared.abstract_state.AbstractValue.{AbstractValue}
 use Rattle.bq_states.specs.declared.abstract_state.AbstractState.{AbstractState}
-use Rattle.bq_states.specs.Copies.{HasWord}
+use Rattle.bq_states.specs.declared.relations.Related.{Related}
+use Rattle.bq_states.specs.Copies.{AreCopies, HasWord}
+use Rattle.bq_states.specs.Relations.{IsRelatedBy}
 use Rattle.bq_states.specs.Certainty.{Certainty, Stands, NoPointer, Fact, Never, AtRegister, IsSetAt, IsPlainAt, Has}
 use Rattle.bq_states.specs.Told.{HasLearnt, IsLasting, IsLastingWord, IsSharper}
 use Rattle.bq_states.specs.AbstractStates.{Contains, Describes, Holds, Keeps}
 use Rattle.bq_states.proofs.LearnLemmas.{learn_at}
-use Rattle.bq_states.proofs.WordLemmas.{word_fits}
+use Rattle.bq_states.proofs.WordLemmas.{number_within, word_fits}
 use Rattle.bq_states.proofs.CopyLemmas.{number_of_word}
 
 -- what is so of each word is so after one is written
@@ -56,6 +61,10 @@ Keeps-sharper shapes told n (Some a) (Some b) stack j sharper small bytes d h =
     (n, sharper shapes n d (subst (λ (k : ℕ). Describes shapes a k) same h.1), bytes)
 
 module _ (f : Setting) (v : AbstractState) (s : State) (told : AbstractValue) (register n : ℕ) (contains : Contains f v s) (is : s.register register ≡ Some n) (d : Describes f.shapes told n) where
+  -- a register of a class holds that class's word, which so is as told
+  pub told_class : register < 11 → slice_index v.classes register ≢ 0 → Describes f.shapes told (contains.copies.0 (slice_index v.classes register))
+  told_class low some = subst (λ (k : ℕ). Describes f.shapes told k) (same_Some n (contains.copies.0 (slice_index v.classes register)) (sym is ∙ (contains.copies.1 register some).0 low)) d
+
   -- more is known of a register of no class
   pub contains_sharper_one : (a x : Option AbstractValue) → register < length v.registers → a ≡ get_or v.registers register a → IsSharper told a x → Contains f (record v { registers = slice_set v.registers register x }) s
   contains_sharper_one a x there read sharper = record {
@@ -70,28 +79,29 @@ module _ (f : Setting) (v : AbstractState) (s : State) (told : AbstractValue) (r
       each : (r : ℕ) → ((k : ℕ) → Holds f.shapes (get_or v.registers k None) (s.register k)) → Holds f.shapes (get_or (set v.registers register x) r None) (s.register r)
       each r all = set_each (λ k old new. Holds f.shapes old (s.register k) → Holds f.shapes new (s.register k)) v.registers v.registers register x a there read refl (λ h. Holds-sharper f.shapes told n a x (s.register register) sharper is d h) (λ k h. h) r (all r)
 
-  -- more is known of all places of a class
-  pub contains_sharper_all : (class : ℕ) (registers kept : List (Option AbstractValue)) → class ≡ slice_index v.classes register → class ≢ 0 → register < 11 → length v.registers ≤ 11
+module _ (f : Setting) (v : AbstractState) (s : State) (told : AbstractValue) (contains : Contains f v s) (class : ℕ) (told_word : Describes f.shapes told (contains.copies.0 class)) where
+  -- more is known of all places of a class, whose word stays
+  pub contains_sharper_all : (registers kept : List (Option AbstractValue)) → class ≢ 0 → length v.registers ≤ 11
       → ((k : ℕ) → IsSharper told (slice_index_or v.registers k None) (slice_index_or registers k None)) → ((k : ℕ) → slice_index v.classes (0 + k) ≢ class → slice_index_or registers k None ≡ slice_index_or v.registers k None)
       → ((k : ℕ) → IsSharper told (slice_index_or v.kept k None) (slice_index_or kept k None)) → ((k : ℕ) → slice_index v.classes (11 + k) ≢ class → slice_index_or kept k None ≡ slice_index_or v.kept k None)
-      → Contains f (record v { registers = registers; kept = kept }) s
-  contains_sharper_all class registers kept class_is some low short sharper others sharper' others' = record {
-    registers = λ r. register_at r _ (eqb_tells (slice_index v.classes (0 + r)) class) (cases_lt r 11);
-    set = contains.set;
-    kept = λ j. slot_at j _ (eqb_tells (slice_index v.classes (11 + j)) class);
-    parts = contains.parts;
-    maps = contains.maps;
-    copies = contains.copies;
-  }
+      → (is : Contains f (record v { registers = registers; kept = kept }) s) × (is.copies.0 ≡ contains.copies.0)
+  contains_sharper_all registers kept some short sharper others sharper' others' = (
+    record {
+      registers = λ r. register_at r _ (eqb_tells (slice_index v.classes (0 + r)) class) (cases_lt r 11);
+      set = contains.set;
+      kept = λ j. slot_at j _ (eqb_tells (slice_index v.classes (11 + j)) class);
+      parts = contains.parts;
+      maps = contains.maps;
+      copies = contains.copies;
+    },
+    refl,
+  )
     where
       word : ℕ
       word = contains.copies.0 class
 
       has : (p : ℕ) → slice_index v.classes p ≡ class → HasWord s p word
       has p e = subst (λ (k : ℕ). HasWord s p (contains.copies.0 k)) e (contains.copies.1 p (λ none. some (sym e ∙ none)))
-
-      told_word : Describes f.shapes told word
-      told_word = subst (λ (k : ℕ). Describes f.shapes told k) (same_Some n word (sym is ∙ (has register (sym class_is)).0 low)) d
 
       register_at : (r : ℕ) (b : Bool) → ((b ≡ true) × (slice_index v.classes (0 + r) ≡ class)) ⊎ ((b ≡ false) × (slice_index v.classes (0 + r) ≢ class)) → (r < 11) ⊎ (11 ≤ r) → Holds f.shapes (slice_index_or registers r None) (s.register r)
       register_at r b either (inr past) = Holds-none f.shapes told (slice_index_or v.registers r None) (slice_index_or registers r None) (s.register r) (get_or_past v.registers r None (omega arith)) (sharper r)
@@ -138,3 +148,45 @@ has_left_told Never v w dst left there there' more lasting has = has
 has_left_told (AtRegister s r) v w dst left there there' more lasting has = learnt_at s v.registers w.registers dst r left _ there there' (eqb_tells r dst) (more (AtRegister s r) lasting) has
 has_left_told (IsSetAt i) v w dst left there there' more lasting has = more (IsSetAt i) tt has
 has_left_told (IsPlainAt j) v w dst left there there' more lasting has = more (IsPlainAt j) tt has
+
+-- an abstract state with other classes and relations, which are right
+pub contains_copies : (f : Setting) (v : AbstractState) (s : State) (classes : List ℕ) (related : List (Option Related)) → AreCopies classes related s → Contains f v s → Contains f (record v { classes = classes; related = related }) s
+contains_copies f v s classes related copies contains = record {
+  registers = contains.registers;
+  set = contains.set;
+  kept = contains.kept;
+  parts = contains.parts;
+  maps = contains.maps;
+  copies = copies;
+}
+
+-- a register of a class, if it is known, is known to hold the class's word
+class_known : (f : Setting) (v : AbstractState) (s : State) (contains : Contains f v s) (register : ℕ) (k : AbstractValue) → register < 11 → slice_index v.classes register ≢ 0 → slice_index_or v.registers register None ≡ Some k → Describes f.shapes k (contains.copies.0 (slice_index v.classes register))
+class_known f v s contains register k low some known =
+    let held : Holds f.shapes (Some k) (s.register register) = rw known at (contains.registers register) in
+    let same : held.0 ≡ contains.copies.0 (slice_index v.classes register) = same_Some _ _ (sym held.1 ∙ (contains.copies.1 register some).0 low) in
+    subst (λ (n : ℕ). Describes f.shapes k n) same held.2
+
+-- the word of a register's class is in a range that has each word that the register may hold
+pub class_within : (f : Setting) (v : AbstractState) (s : State) (contains : Contains f v s) (register : ℕ) (x : Option AbstractValue) (r : Range) → register < 11 → slice_index v.classes register ≢ 0 → x ≡ slice_index_or v.registers register None → ((n : ℕ) → n < 2 ^ 64 → x ≡ None → Within r n) → ((shapes : List MapShape) (k : AbstractValue) (n : ℕ) → x ≡ Some k → Describes shapes k n → Within r n) → contains.copies.0 (slice_index v.classes register) < 2 ^ 64 → Within r (contains.copies.0 (slice_index v.classes register))
+class_within f v s contains register None r low some is any known small = any (contains.copies.0 (slice_index v.classes register)) small refl
+class_within f v s contains register (Some k) r low some is any known small =
+    known f.shapes k (contains.copies.0 (slice_index v.classes register)) refl (class_known f v s contains register k low some (sym is))
+
+-- a state of the one abstract state in which the word of the class is as told is one of the other, with the same words of classes
+abbrev pub Sharpens : AbstractValue → ℕ → AbstractState → AbstractState → Type 0
+Sharpens told class old new = (f : Setting) (s : State) (was : Contains f old s) → Describes f.shapes told (was.copies.0 class) → (is : Contains f new s) × (is.copies.0 ≡ was.copies.0)
+
+-- and so is one in which the two classes are so related, and the class's word is in that range
+abbrev pub SharpensBy : Related → Range → ℕ → AbstractState → AbstractState → Type 0
+SharpensBy known told class old new = (f : Setting) (s : State) (was : Contains f old s) → IsRelatedBy was.copies.0 (Some known) → Within told (was.copies.0 class) → (is : Contains f new s) × (is.copies.0 ≡ was.copies.0)
+
+-- a relation that is known sharpens both its words
+pub sharpens_more : (told : AbstractValue) (class i : ℕ) (known : Related) (v w x y : AbstractState) → told.kind ≡ Number → slice_index_or w.related i None ≡ Some known → Sharpens told class v w → SharpensBy known told.offset class w x → SharpensBy known told.offset class x y → Sharpens told class v y
+sharpens_more told class i known v w x y number there before left right f s was d =
+    let first = before f s was d in
+    let within : Within told.offset (was.copies.0 class) = number_within f.shapes told (was.copies.0 class) number d in
+    let related : IsRelatedBy first.0.copies.0 (Some known) = subst (λ (r : Option Related). IsRelatedBy first.0.copies.0 r) there (first.0.copies.2 i) in
+    let second = left f s first.0 related (subst (λ (word : ℕ → ℕ). Within told.offset (word class)) (sym first.1) within) in
+    let third = right f s second.0 (subst (λ (word : ℕ → ℕ). IsRelatedBy word (Some known)) (sym second.1) related) (subst (λ (word : ℕ → ℕ). Within told.offset (word class)) (sym (second.1 ∙ first.1)) within) in
+    (third.0, third.1 ∙ second.1 ∙ first.1)

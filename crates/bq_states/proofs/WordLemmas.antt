@@ -22,6 +22,12 @@ describes_number shapes r word w =
     let fits = r.fits in
     record { base = 0; offset = word; is_base = refl; within = w; word_is = omega (arith, w) }
 
+-- a number that is within what is known of it
+pub describes_as_number : (shapes : List MapShape) (k : AbstractValue) (word : ℕ) → k.kind ≡ Number → Within k.offset word → Describes shapes k word
+describes_as_number shapes k word e w =
+    let fits = k.offset.fits in
+    record { base = 0; offset = word; is_base = rw e refl; within = w; word_is = omega (arith, w) }
+
 -- a word that is known is known of a kind that counts from no less, in a wider range
 pub describes_more : (shapes : List MapShape) (kind : ValueKind) (k : AbstractValue) (r : Range) (word : ℕ) → ((base : ℕ) → IsBase shapes k.kind base → IsBase shapes kind base) → ((x : ℕ) → Within k.offset x → Within r x) → Describes shapes k word → Describes shapes (record { kind = kind; offset = r }) word
 describes_more shapes kind k r word bases more d = record { base = d.base; offset = d.offset; is_base = bases d.base d.is_base; within = more d.offset d.within; word_is = d.word_is }

@@ -2,9 +2,10 @@
 use Rattle.std.proofs.Common.{◌≡◌, ◌≢◌, ℕ, zero, suc, ◌+◌, ◌^◌, ◌<◌, ◌≤◌, Bool, true, false, List, [], ◌∷◌, ◌++◌, Option, Some, None, Box, Global, length, refl, arith, sym, ap, ◌∙◌, subst, zero-le, ◌⊎◌, inl, inr, ℤ}
 use Rattle.std.specs.Prelude.{slice_index_or}
 use Rattle.std.proofs.lemmas.Bool.Decides.{eqb_tells}
-use Rattle.std.proofs.lemmas.Option.{same_Some, none-some}
+use Rattle.std.proofs.lemmas.Option.{same_Some, none-some, slice_get_past}
 use Rattle.std.proofs.lemmas.Bool.{both_ways}
 use Rattle.bq_insn.specs.declared.Insn.{Insn}
+use Rattle.bq_insn.proofs.OptionLemmas.{some_none}
 use Rattle.bq_insn.specs.declared.Insn.TheVariants.{Alu, MovSx, Neg, End, Load, StoreImm, StoreReg, Imm64, MapRef, Goto, Goto32, Branch, Call, Exit}
 use Rattle.bq_bpf.specs.declared.shape.MapShape.{MapShape}
 use Rattle.bq_bpf.specs.declared.board.Call.{Call as Asked}
@@ -133,13 +134,13 @@ module _ (p : Subject) (sound : IsSound p.slots) (small : p.context < 2 ^ 16) wh
 
   -- at the slot itself the abstract state is what is known
   pub covered_at : (target : ℕ) (pending after : List (Option (Box AbstractState Global))) (state seen : AbstractState) (live arrived : Bool)
-      → ((f : Setting) (s : State) → IsKnown pending state live target f s → IsKnown after seen arrived target f s) → slice_index_or after target None ≡ None
+      → ((f : Setting) (s : State) → f.shapes ≡ p.shapes → IsKnown pending state live target f s → IsKnown after seen arrived target f s) → slice_index_or after target None ≡ None
       → RestIsCovered p target seen target (IsKnown pending state live target)
   covered_at target pending after state seen live arrived arrives empty f s setting le begins known (suc n) calls t chain here =
       absurd (omega (arith, farther f setting s n calls t chain, here, le))
   covered_at target pending after state seen live arrived arrives empty f s setting le begins known zero calls t (none, is) here =
       let there : s.slot ≡ target = ap (λ (x : State). x.slot) (sym is) ∙ here in
-      subst (Contains f seen) (sym is) (is_seen (arrives f s known) there)
+      subst (Contains f seen) (sym is) (is_seen (arrives f s setting.shapes_are known) there)
     where
       is_seen : IsKnown after seen arrived target f s → s.slot ≡ target → Contains f seen s
       is_seen (inl waits) there = absurd (none_waits f s (slice_index_or after target None) empty (waits_at_slot f s after target there waits))
@@ -147,13 +148,13 @@ module _ (p : Subject) (sound : IsSound p.slots) (small : p.context < 2 ^ 16) wh
 
   -- and where nothing is known there, no chain that is left to follow comes to it
   pub covered_by_any : (target : ℕ) (pending after : List (Option (Box AbstractState Global))) (state seen any : AbstractState) (live arrived : Bool)
-      → ((f : Setting) (s : State) → IsKnown pending state live target f s → IsKnown after seen arrived target f s) → slice_index_or after target None ≡ None → arrived ≡ false
+      → ((f : Setting) (s : State) → f.shapes ≡ p.shapes → IsKnown pending state live target f s → IsKnown after seen arrived target f s) → slice_index_or after target None ≡ None → arrived ≡ false
       → RestIsCovered p target any target (IsKnown pending state live target)
   covered_by_any target pending after state seen any live arrived arrives empty not f s setting le begins known (suc n) calls t chain here =
       absurd (omega (arith, farther f setting s n calls t chain, here, le))
   covered_by_any target pending after state seen any live arrived arrives empty not f s setting le begins known zero calls t (none, is) here =
       let there : s.slot ≡ target = ap (λ (x : State). x.slot) (sym is) ∙ here in
-      absurd (is_none (arrives f s known) there)
+      absurd (is_none (arrives f s setting.shapes_are known) there)
     where
       is_none : IsKnown after seen arrived target f s → s.slot ≡ target → ⊥
       is_none (inl waits) there = none_waits f s (slice_index_or after target None) empty (waits_at_slot f s after target there waits)
@@ -167,6 +168,7 @@ nowhere shapes = record {
   kept = [];
   parts = [];
   classes = [];
+  related = [];
 }
 
 contains_none : (f : Setting) (s : State) → Contains f (nowhere f.shapes) s → ⊥
@@ -174,7 +176,7 @@ unfolding nowhere
 contains_none f s contains =
     let word = contains.registers 0 in
     let base = word.2.is_base in
-    omega (arith, base.1)
+    some_none _ _ base.alike.one (slice_get_past f.shapes (length f.shapes) (omega arith))
 
 -- what contains the runs with the abstract state of no state says that there are none
 pub not_reached : (p : Subject) (target : ℕ) → ContainsRuns p target (nowhere p.shapes) → IsNotReached p target

@@ -27,6 +27,9 @@ use Rattle.bq_verify.specs.Subjects.{Subject}
 use Rattle.bq_states.specs.declared.abstract_state.AbstractState.{AbstractState}
 use Rattle.bq_states.specs.declared.abstract_state.AbstractValue.{AbstractValue}
 use Rattle.bq_states.specs.declared.abstract_state.ValueKind.TheVariants.{Context, Stack}
+use Rattle.bq_states.specs.declared.relations.Relation.{Relation}
+use Rattle.bq_states.specs.declared.relations.Relation.TheVariants.{Compared}
+use Rattle.bq_states.specs.Relations.{IsRelated}
 use Rattle.bq_states.specs.AbstractStates.{Contains, Suits, Describes, knowing}
 use Rattle.bq_transfer.specs.Transfers.{Transfers, AsksFrom, IsStraight}
 use Rattle.bq_transfer.specs.Sides.{Fits}
@@ -55,15 +58,15 @@ after_call (Call helper) counter slot = inl (refl, refl)
 after_call _ counter slot = absurd counter
 
 -- the side that the test chooses
-pub test_chooses_side : (f : Setting) (state : AbstractState) (s : State) (slot dst a b : ℕ) (src : Source) (word : Option AbstractValue) (right : AbstractValue) → s.register dst ≡ Some a → IsOperand s src b → Contains f state s → Fits f.shapes word a → Describes f.shapes right b → IsOnSide f state dst src word right (record s { slot = slot })
-test_chooses_side f state s slot dst a b src None right is operand contains fits told = fits
-test_chooses_side f state s slot dst a b src (Some word) right is operand contains fits told = (
+pub test_chooses_side : (f : Setting) (state : AbstractState) (s : State) (slot dst a b : ℕ) (src : Source) (word : Option AbstractValue) (right : AbstractValue) (relation : Relation) → s.register dst ≡ Some a → IsOperand s src b → Contains f state s → Fits f.shapes word a → Describes f.shapes right b → IsRelated relation a b → IsOnSide f state dst src word right relation (record s { slot = slot })
+test_chooses_side f state s slot dst a b src None right relation is operand contains fits told related = fits
+test_chooses_side f state s slot dst a b src (Some word) right relation is operand contains fits told related = (
   Contains-at f state s slot contains,
   record {
     word = a;
     is = is;
     left_is = fits;
-    right_is = λ r same. (b, (let at : IsOperand s (Reg r) b = subst (λ (x : Source). IsOperand s x b) same operand in at), told);
+    right_is = λ r same. (b, (let at : IsOperand s (Reg r) b = subst (λ (x : Source). IsOperand s x b) same operand in at), told, related);
   },
 )
 
@@ -72,7 +75,7 @@ module _ (p : Subject) (slot : ℕ) (state : AbstractState) (K : Setting → Sta
   here_at insn here f s setting same = rw (setting.slots_are, same) here
 
   -- the next instruction, at an abstract state of which the state is known
-  pub goes_on : (insn : Insn) (after : AbstractState) → instruction_at p.slots slot ≡ Some insn → IsStraight insn → Transfers p.shapes p.context insn state after → ((f : Setting) (s : State) → s.slot ≡ slot + slots_of insn → Contains f after s → K f s) → Goes p slot state K
+  pub goes_on : (insn : Insn) (after : AbstractState) → instruction_at p.slots slot ≡ Some insn → IsStraight insn → Transfers p.shapes p.context insn state after → ((f : Setting) (s : State) → f.shapes ≡ p.shapes → s.slot ≡ slot + slots_of insn → Contains f after s → K f s) → Goes p slot state K
   goes_on insn after here straight transfers added f s setting same contains =
       let on = transfers f s (setting_suits p.slots p.shapes p.context f setting) contains in
       let at = here_at insn here f s setting same in
@@ -80,10 +83,10 @@ module _ (p : Subject) (slot : ℕ) (state : AbstractState) (K : Setting → Sta
         on.0,
         record { insn = insn; here = at; takes = on.1 },
         record { insn = insn; here = at; leaves = rw on.3 (straight s.slot) },
-        added f on.0 (rw (← same) on.3) on.2,
+        added f on.0 setting.shapes_are (rw (← same) on.3) on.2,
       ))
 
-  pub goes_there : (off : ℤ) (to : ℕ) → instruction_at p.slots slot ≡ Some (Goto off) → LeadsTo slot off to → ((f : Setting) (s : State) → s.slot ≡ to → Contains f state s → K f s) → Goes p slot state K
+  pub goes_there : (off : ℤ) (to : ℕ) → instruction_at p.slots slot ≡ Some (Goto off) → LeadsTo slot off to → ((f : Setting) (s : State) → f.shapes ≡ p.shapes → s.slot ≡ to → Contains f state s → K f s) → Goes p slot state K
   goes_there off to here leads added f s setting same contains =
       let at = here_at (Goto off) here f s setting same in
       let there : LeadsTo s.slot off to = rw same leads in
@@ -91,10 +94,10 @@ module _ (p : Subject) (slot : ℕ) (state : AbstractState) (K : Setting → Sta
         record s { slot = to },
         record { insn = Goto off; here = at; takes = (to, there, refl) },
         record { insn = Goto off; here = at; leaves = inr (off, refl, there) },
-        added f (record s { slot = to }) refl (Contains-at f state s to contains),
+        added f (record s { slot = to }) setting.shapes_are refl (Contains-at f state s to contains),
       ))
 
-  pub goes_far : (imm : ℤ) (to : ℕ) → instruction_at p.slots slot ≡ Some (Goto32 imm) → LeadsTo slot imm to → ((f : Setting) (s : State) → s.slot ≡ to → Contains f state s → K f s) → Goes p slot state K
+  pub goes_far : (imm : ℤ) (to : ℕ) → instruction_at p.slots slot ≡ Some (Goto32 imm) → LeadsTo slot imm to → ((f : Setting) (s : State) → f.shapes ≡ p.shapes → s.slot ≡ to → Contains f state s → K f s) → Goes p slot state K
   goes_far imm to here leads added f s setting same contains =
       let at = here_at (Goto32 imm) here f s setting same in
       let there : LeadsTo s.slot imm to = rw same leads in
@@ -102,7 +105,7 @@ module _ (p : Subject) (slot : ℕ) (state : AbstractState) (K : Setting → Sta
         record s { slot = to },
         record { insn = Goto32 imm; here = at; takes = (to, there, refl) },
         record { insn = Goto32 imm; here = at; leaves = inr (imm, refl, there) },
-        added f (record s { slot = to }) refl (Contains-at f state s to contains),
+        added f (record s { slot = to }) setting.shapes_are refl (Contains-at f state s to contains),
       ))
 
   pub goes_asking : (insn : Insn) (after : AbstractState) → instruction_at p.slots slot ≡ Some insn → IsCounterCall insn → AsksFrom insn state after → ((f : Setting) (s : State) → s.slot ≡ slot + 1 → Contains f after s → K f s) → Goes p slot state K
@@ -134,12 +137,12 @@ module _ (p : Subject) (slot : ℕ) (state : AbstractState) (K : Setting → Sta
         parts.no (record s { slot = s.slot + 1 }) refl e,
       ))
 
-  pub goes_apart : (w : Width) (c : Condition) (dst : ℕ) (src : Source) (off : ℤ) (to : ℕ) → instruction_at p.slots slot ≡ Some (Branch w c dst src off) → LeadsTo slot off to → ((f : Setting) (s : State) → Contains f state s → PartsTo K f s w c dst src to (slot + 1)) → Goes p slot state K
+  pub goes_apart : (w : Width) (c : Condition) (dst : ℕ) (src : Source) (off : ℤ) (to : ℕ) → instruction_at p.slots slot ≡ Some (Branch w c dst src off) → LeadsTo slot off to → ((f : Setting) (s : State) → f.shapes ≡ p.shapes → Contains f state s → PartsTo K f s w c dst src to (slot + 1)) → Goes p slot state K
   goes_apart w c dst src off to here leads parts f s setting same contains =
-      parted w c dst src off to f s (here_at (Branch w c dst src off) here f s setting same) (rw same leads) (subst (λ (n : ℕ). PartsTo K f s w c dst src to (n + 1)) (sym same) (parts f s contains)) _ refl
+      parted w c dst src off to f s (here_at (Branch w c dst src off) here f s setting same) (rw same leads) (subst (λ (n : ℕ). PartsTo K f s w c dst src to (n + 1)) (sym same) (parts f s setting.shapes_are contains)) _ refl
 
 -- the two sides of a branch
-pub parts_of : (f : Setting) (s : State) (state : AbstractState) (w : Width) (c : Condition) (dst : ℕ) (src : Source) (to next : ℕ) (K : Setting → State → Type 0) (left right : AbstractValue) (yes_word no_word : Option AbstractValue) (yes_right no_right : AbstractValue) → Some left ≡ slice_index_or state.registers dst None → (b : ℕ) → IsOperand s src b → Describes f.shapes right b → ((shapes : List MapShape) (a b : ℕ) → Describes shapes left a → Describes shapes right b → taken w c a b ≡ true → Fits shapes yes_word a) → ((shapes : List MapShape) (a b : ℕ) → Describes shapes left a → Describes shapes right b → taken w c a b ≡ false → Fits shapes no_word a) → ((shapes : List MapShape) (a b : ℕ) → Describes shapes left a → Describes shapes right b → taken w c a b ≡ true → Describes shapes yes_right b) → ((shapes : List MapShape) (a b : ℕ) → Describes shapes left a → Describes shapes right b → taken w c a b ≡ false → Describes shapes no_right b) → ((t : State) → t.slot ≡ to → IsOnSide f state dst src yes_word yes_right t → K f t) → ((t : State) → t.slot ≡ next → IsOnSide f state dst src no_word no_right t → K f t) → Contains f state s → PartsTo K f s w c dst src to next
+pub parts_of : (f : Setting) (s : State) (state : AbstractState) (w : Width) (c : Condition) (dst : ℕ) (src : Source) (to next : ℕ) (K : Setting → State → Type 0) (left right : AbstractValue) (yes_word no_word : Option AbstractValue) (yes_right no_right : AbstractValue) → Some left ≡ slice_index_or state.registers dst None → (b : ℕ) → IsOperand s src b → Describes f.shapes right b → ((shapes : List MapShape) (a b : ℕ) → Describes shapes left a → Describes shapes right b → taken w c a b ≡ true → Fits shapes yes_word a) → ((shapes : List MapShape) (a b : ℕ) → Describes shapes left a → Describes shapes right b → taken w c a b ≡ false → Fits shapes no_word a) → ((shapes : List MapShape) (a b : ℕ) → Describes shapes left a → Describes shapes right b → taken w c a b ≡ true → Describes shapes yes_right b) → ((shapes : List MapShape) (a b : ℕ) → Describes shapes left a → Describes shapes right b → taken w c a b ≡ false → Describes shapes no_right b) → ((t : State) → t.slot ≡ to → IsOnSide f state dst src yes_word yes_right (Compared w c true) t → K f t) → ((t : State) → t.slot ≡ next → IsOnSide f state dst src no_word no_right (Compared w c false) t → K f t) → Contains f state s → PartsTo K f s w c dst src to next
 parts_of f s state w c dst src to next K left right yes_word no_word yes_right no_right known b operand word yes_is no_is yes_told no_told add_yes add_no contains =
     let found = found_at f state s dst left known contains in
     record {
@@ -147,8 +150,8 @@ parts_of f s state w c dst src to next K left right yes_word no_word yes_right n
       right = b;
       left_is = found.1;
       right_is = operand;
-      yes = λ t e test. rw e (add_yes (record s { slot = to }) refl (test_chooses_side f state s to dst found.0 b src yes_word yes_right found.1 operand contains (yes_is f.shapes found.0 b found.2 word test) (yes_told f.shapes found.0 b found.2 word test)));
-      no = λ t e test. rw e (add_no (record s { slot = next }) refl (test_chooses_side f state s next dst found.0 b src no_word no_right found.1 operand contains (no_is f.shapes found.0 b found.2 word test) (no_told f.shapes found.0 b found.2 word test)));
+      yes = λ t e test. rw e (add_yes (record s { slot = to }) refl (test_chooses_side f state s to dst found.0 b src yes_word yes_right (Compared w c true) found.1 operand contains (yes_is f.shapes found.0 b found.2 word test) (yes_told f.shapes found.0 b found.2 word test) test));
+      no = λ t e test. rw e (add_no (record s { slot = next }) refl (test_chooses_side f state s next dst found.0 b src no_word no_right (Compared w c false) found.1 operand contains (no_is f.shapes found.0 b found.2 word test) (no_told f.shapes found.0 b found.2 word test) test));
     }
 
 -- more steps, and fewer calls before
@@ -216,10 +219,10 @@ none_waits f s waiting none here = rw none at here
 pub waits_at_slot : (f : Setting) (s : State) (pending : List (Option (Box AbstractState Global))) (slot : ℕ) → s.slot ≡ slot → WaitsBoxed f pending s → IsIn f (slice_index_or pending slot None) s
 waits_at_slot f s pending slot same waits = subst (λ (n : ℕ). IsIn f (slice_index_or pending n None) s) same waits
 
-module _ (p : Subject) (slot : ℕ) (pending : List (Option (Box AbstractState Global))) (state : AbstractState) (live : Bool) (K : Setting → State → Type 0) (empty : slice_index_or pending slot None ≡ None) (arrives : (f : Setting) (s : State) → K f s → IsKnown pending state live slot f s) where
+module _ (p : Subject) (slot : ℕ) (pending : List (Option (Box AbstractState Global))) (state : AbstractState) (live : Bool) (K : Setting → State → Type 0) (empty : slice_index_or pending slot None ≡ None) (arrives : (f : Setting) (s : State) → f.shapes ≡ p.shapes → K f s → IsKnown pending state live slot f s) where
   -- nothing is known at the slot
   pub passes_over : (after : AbstractState) → live ≡ false → PassesOn p slot K (IsKnown pending after false (slot + 1))
-  passes_over after dead f s setting begins known = (λ other. side (arrives f s known) other, λ same. absurd (here (arrives f s known) same))
+  passes_over after dead f s setting begins known = (λ other. side (arrives f s setting.shapes_are known) other, λ same. absurd (here (arrives f s setting.shapes_are known) same))
     where
       side : IsKnown pending state live slot f s → s.slot ≢ slot → IsKnown pending after false (slot + 1) f s
       side (inl waits) other = inl waits
@@ -229,11 +232,11 @@ module _ (p : Subject) (slot : ℕ) (pending : List (Option (Box AbstractState G
       here (inl waits) same = none_waits f s (slice_index_or pending slot None) empty (waits_at_slot f s pending slot same waits)
       here (inr (e, same', contains)) same = both_ways live dead e
 
-  pub passes_by : (new : List (Option (Box AbstractState Global))) (after : AbstractState) (on : Bool) → KeepsWaiting pending new → Goes p slot state (IsKnown new after on (slot + 1)) → PassesOn p slot K (IsKnown new after on (slot + 1))
-  passes_by new after on kept goes f s setting begins known = (λ other. side (arrives f s known) other, λ same. here (arrives f s known) same)
+  pub passes_by : (new : List (Option (Box AbstractState Global))) (after : AbstractState) (on : Bool) → KeepsWaiting p.shapes pending new → Goes p slot state (IsKnown new after on (slot + 1)) → PassesOn p slot K (IsKnown new after on (slot + 1))
+  passes_by new after on kept goes f s setting begins known = (λ other. side (arrives f s setting.shapes_are known) other, λ same. here (arrives f s setting.shapes_are known) same)
     where
       side : IsKnown pending state live slot f s → s.slot ≢ slot → IsKnown new after on (slot + 1) f s
-      side (inl waits) other = inl (kept f s waits)
+      side (inl waits) other = inl (kept f s setting.shapes_are waits)
       side (inr (e, same, contains)) other = absurd (other same)
 
       here : IsKnown pending state live slot f s → s.slot ≡ slot → LeadsOn (IsKnown new after on (slot + 1)) f s

@@ -76,7 +76,7 @@ IsIn f (Some boxed) s = Contains f boxed.value s
 abbrev pub WaitsBoxed : Setting → List (Option (Box AbstractState Global)) → State → Type 0
 WaitsBoxed f pending s = IsIn f (slice_index_or pending s.slot None) s
 
--- what waited waits still
+-- in a setting of maps of these shapes, what waited waits still
 abbrev pub KeepsWaiting : List MapShape → List (Option (Box AbstractState Global)) → List (Option (Box AbstractState Global)) → Type 0
 KeepsWaiting shapes old new = (f : Setting) (s : State) → f.shapes ≡ shapes → WaitsBoxed f old s → WaitsBoxed f new s
 
@@ -106,7 +106,7 @@ abbrev pub RestIsSafe : Subject → List ℕ → (ℕ → ℕ) → ℕ → (Sett
 RestIsSafe p heights made slot K =
     (f : Setting) (s : State) → IsSetting p.slots p.shapes p.context f → slot ≤ s.slot → IsStart p.slots s.slot → K f s → EndsWithin f s (slice_index heights s.slot) (made s.slot)
 
--- the state is one of the abstract state, and both operands are as told there; of none where control never goes there
+-- the state is one of the abstract state, and both operands are as told there, and so related; of none where control never goes there
 abbrev pub IsOnSide : Setting → AbstractState → ℕ → Source → Option AbstractValue → AbstractValue → Relation → State → Type 0
 IsOnSide f state dst src None right relation s = ⊥
 IsOnSide f state dst src (Some word) right relation s = Contains f state s × IsTold f s dst src word right relation

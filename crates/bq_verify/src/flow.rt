@@ -53,7 +53,7 @@ impl Test {
     }
 }
 
-/// What is known of both operands on one side of a branch; of the left one `None` where control does not go there.
+/// What is known of both operands on one side of a branch, of the left one `None` where control does not go there; and how they are related.
 #[derive(Clone, Copy)]
 struct Told {
     dst: u8,
@@ -257,13 +257,6 @@ fn carry_on(state: &mut AbstractState, told: Told) -> bool
     let Some(left) = told.left else {
         return false;
     };
-    tell(
-        state,
-        told.dst,
-        told.src,
-        left,
-        told.right,
-        told.relation,
-    );
+    tell(state, told.dst, told.src, left, told.right, told.relation);
     true
 }

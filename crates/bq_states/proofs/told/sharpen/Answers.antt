@@ -1,6 +1,5 @@
-use Rattle.std.proofs.Common.{◌≡◌, ◌<◌, ◌≤◌, ℕ, Option, Some, length, refl, sym, subst, arith, rules}
-use Rattle.std.specs.Prelude.{slice_index}
-use Rattle.bq_states.proofs.ToldLemmas.{contains_sharper_all, contains_sharper_one, has_sharper, set_each}
+use Rattle.std.proofs.Common.{◌≡◌, ◌<◌, ℕ, Option, Some, length, refl, sym, subst, arith, rules}
+use Rattle.bq_states.proofs.ToldLemmas.{contains_sharper_one, has_sharper, set_each, told_class}
 use Rattle.bq_states.specs.Certainty.{Stands}
 use Rattle.bq_states.specs.declared.abstract_state.AbstractValue.{AbstractValue}
 use Rattle.bq_states.specs.Told.{IsLastingWord, IsSharper}
@@ -24,8 +23,9 @@ pub returns-clause-contains : goal.returns-clause-contains
 returns-clause-contains c = λ f s n contains is d.
     let same : c.from-register.result ≡ c.args.register = search rules in
     let low : c.from-register.result < 11 = omega arith in
-    let short : length c.args.state.now.registers ≤ 11 = omega arith in
-    contains_sharper_all f c.args.state.now s c.args.told c.from-register.result n contains (subst (λ (r : ℕ). s.register r ≡ Some n) (sym same) is) d (slice_index c.args.state.now.classes c.from-register.result) c.sharpen_all.new.words c.sharpen_all-2.new.words refl c.if-class-eq0.false low short c.sharpen_all.ensures.sharper c.sharpen_all.ensures.others c.sharpen_all-2.ensures.sharper c.sharpen_all-2.ensures.others
+    let d' = told_class f c.args.state.now s c.args.told c.from-register.result n contains (subst (λ (r : ℕ). s.register r ≡ Some n) (sym same) is) d low c.if-class-eq0.false in
+    let is' = c.sharpen_class.ensures.contains f s contains d' in
+    (c.sharpen_related.ensures.contains f s is'.0 (rw is'.1 d')).0
 
 pub returns-clause-has : goal.returns-clause-has
-returns-clause-has c = λ x lasting has. has_sharper x c.args.state.now c.sharpen_all.new.words c.sharpen_all-2.new.words c.sharpen_all.ensures.stands c.sharpen_all-2.ensures.stands lasting has
+returns-clause-has c = λ x lasting has. c.sharpen_related.ensures.has x lasting (c.sharpen_class.ensures.has x lasting has)

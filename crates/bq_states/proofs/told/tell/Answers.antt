@@ -1,18 +1,19 @@
 use Rattle.std.proofs.Common.{◌≡◌, ◌<◌, ℕ, Some, length, sym, subst, arith, rules}
 use Rattle.bq_states.specs.Told.{HasLearnt}
 use Rattle.bq_states.proofs.ToldLemmas.{contains_left, has_left_told}
+use Rattle.bq_states.proofs.WordLemmas.{word_fits}
 use Rattle.bq_states.proofs.told.tell.Goals as goal
 
 pub returns-clause-contains : goal.returns-clause-contains
 returns-clause-contains c = λ f s contains told.
     let same : c.from.result ≡ c.args.dst = search rules in
     let there : c.from.result < length c.sharpen.new.state.registers = omega arith in
-    contains_left f c.sharpen.new.state s c.from.result told.word c.args.left there (subst (λ (r : ℕ). s.register r ≡ Some told.word) (sym same) told.is) (c.sharpen.ensures.contains f s told.word (c.tell_right.ensures.contains f s contains told.right_is) told.is told.left_is) told.left_is
+    contains_left f c.sharpen.new.state s c.from.result told.word c.args.left there (subst (λ (r : ℕ). s.register r ≡ Some told.word) (sym same) told.is) (c.sharpen.ensures.contains f s told.word (c.tell_right.ensures.contains f s (c.tell_relation.ensures.contains f s told.word contains told.is (word_fits f.shapes c.args.left told.word told.left_is) (λ r e. let right = told.right_is r e in (right.0, right.1, word_fits f.shapes c.args.right right.0 right.2, right.3))) (λ r e. let right = told.right_is r e in (right.0, right.1, right.2))) told.is told.left_is) told.left_is
 
 pub returns-clause-has : goal.returns-clause-has
 returns-clause-has c = λ x lasting has.
     let same : c.from.result ≡ c.args.dst = search rules in
     let there : c.from.result < length c.args.state.now.registers = omega arith in
     let there' : c.from.result < length c.sharpen.new.state.registers = omega arith in
-    has_left_told x c.args.state.now c.sharpen.new.state c.from.result c.args.left there there' (λ y lasts had. c.sharpen.ensures.has y lasts (c.tell_right.ensures.has y lasts had)) lasting
+    has_left_told x c.args.state.now c.sharpen.new.state c.from.result c.args.left there there' (λ y lasts had. c.sharpen.ensures.has y lasts (c.tell_right.ensures.has y lasts (c.tell_relation.ensures.has y had))) lasting
     (subst (λ (r : ℕ). HasLearnt x c.args.state.now r c.args.left) (sym same) has)

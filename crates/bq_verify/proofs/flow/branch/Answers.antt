@@ -11,14 +11,14 @@ use Rattle.bq_verify.proofs.PassLemmas.{parts_of}
 use Rattle.bq_verify.proofs.flow.branch.Goals as goal
 
 pub returns-clause-parts : goal.returns-clause-parts
-returns-clause-parts c = λ f s contains.
+returns-clause-parts c = λ f s shapes contains.
     let operand = c.in-Some.ensures.finds f s contains in
     parts_of f s c.args.state.now c.args.test.width c.args.test.cond c.args.test.dst c.args.test.src c.args.to c.args.next
     (IsKnown c.wait_on_side.new.pending c.carry_on.new.state c.carry_on.result c.args.next)
     c.in-Some-known.left c.in-Some.right c.in_ok-yes.yes c.in_ok-no.no c.right_side.result c.right_side-2.result c.in-Some-known.ensures operand.0 operand.1 operand.2
     c.in_ok-yes.ensures.fits c.in_ok-no.ensures.fits c.right_side.ensures c.right_side-2.ensures
-    (λ t at side. inl (c.in_ok-wait_on_side.ensures.added f t at side))
-    (λ t at side. let on = c.carry_on.ensures.contains f t side in inr (on.0, at, on.1))
+    (λ t at side. inl (c.in_ok-wait_on_side.ensures.added f t shapes at (rw c.relation.ensures side)))
+    (λ t at side. let on = c.carry_on.ensures.contains f t (rw c.relation-2.ensures side) in inr (on.0, at, on.1))
     contains
 
 pub returns-clause-sure : goal.returns-clause-sure

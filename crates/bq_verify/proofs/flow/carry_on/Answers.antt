@@ -5,5 +5,5 @@ use Rattle.bq_verify.proofs.flow.carry_on.Goals as goal
 
 pub returns-clause-contains : goal.returns-clause-contains
 returns-clause-contains c = λ f s side.
-    let on = subst (λ (k : Option AbstractValue). IsOnSide f c.args.state.now c.args.told.dst c.args.told.src k c.args.told.right s) c.in-Some.is side in
+    let on = subst (λ (k : Option AbstractValue). IsOnSide f c.args.state.now c.args.told.dst c.args.told.src k c.args.told.right c.args.told.relation s) c.in-Some.is side in
     (refl, c.tell.ensures.contains f s on.0 on.1)

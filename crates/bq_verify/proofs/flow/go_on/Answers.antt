@@ -32,7 +32,7 @@ returns-in_ok-wait-in-Goto-clause-goes c =
     let leads : LeadsTo c.args.slot c.in-Goto.off c.target-to.result = omega (arith, ints, c.target-to.ensures.to) in
     let here : instruction_at c.args.subject.now.slots.now c.args.slot ≡ Some (Goto c.in-Goto.off) = rw c.in-Goto.is at c.requires.here in
     goes_there (judged c.args.subject.now) c.args.slot c.args.state.now (IsKnown c.wait.new.pending c.args.state.now false (c.args.slot + 1))
-    c.in-Goto.off c.target-to.result here leads (λ f s at contains. inl (c.in_ok-wait-in-Goto.ensures.added f s at contains))
+    c.in-Goto.off c.target-to.result here leads (λ f s shapes at contains. inl (c.in_ok-wait-in-Goto.ensures.added f s shapes at contains))
 
 pub returns-in_ok-wait-in-Goto32-clause-goes : goal.returns-in_ok-wait-in-Goto32-clause-goes
 returns-in_ok-wait-in-Goto32-clause-goes c =
@@ -41,7 +41,7 @@ returns-in_ok-wait-in-Goto32-clause-goes c =
     let leads : LeadsTo c.args.slot c.in-Goto32.imm c.target-to-in-Goto32.result = omega (arith, ints, c.target-to-in-Goto32.ensures.to) in
     let here : instruction_at c.args.subject.now.slots.now c.args.slot ≡ Some (Goto32 c.in-Goto32.imm) = rw c.in-Goto32.is at c.requires.here in
     goes_far (judged c.args.subject.now) c.args.slot c.args.state.now (IsKnown c.wait-in-Goto32.new.pending c.args.state.now false (c.args.slot + 1))
-    c.in-Goto32.imm c.target-to-in-Goto32.result here leads (λ f s at contains. inl (c.in_ok-wait-in-Goto32.ensures.added f s at contains))
+    c.in-Goto32.imm c.target-to-in-Goto32.result here leads (λ f s shapes at contains. inl (c.in_ok-wait-in-Goto32.ensures.added f s shapes at contains))
 
 pub wait-requires-in_default : goal.wait-requires-in_default
 wait-requires-in_default c =
@@ -56,7 +56,7 @@ returns-in_ok-wait-in_default c = record {
   kept = c.in_ok-wait-in_default.ensures.kept;
   goes = goes_on (judged c.args.subject.now) c.args.slot c.args.state.now (IsKnown c.wait-in_default.new.pending c.transfer.new.state false (c.args.slot + 1))
       c.args.insn c.transfer.new.state c.requires.here c.in_ok-transfer-in_default.ensures.straight c.in_ok-transfer-in_default.ensures.transfers
-      (λ f s at contains. inl (c.in_ok-wait-in_default.ensures.added f s (rw c.slots-count.ensures at) contains));
+      (λ f s shapes at contains. inl (c.in_ok-wait-in_default.ensures.added f s shapes (rw c.slots-count.ensures at) contains));
   obligations = tt;
   accepts = λ ready. tt;
   sure = λ ready x k waits after.
@@ -85,10 +85,10 @@ returns-in-Branch-clause-goes c =
 pub returns-then-count-eq1 : goal.returns-then-count-eq1
 returns-then-count-eq1 c = record {
   long = search rules;
-  kept = λ f s waits. waits;
+  kept = λ f s shapes waits. waits;
   goes = goes_on (judged c.args.subject.now) c.args.slot c.args.state.now (IsKnown c.args.pending.now c.transfer.new.state true (c.args.slot + 1))
       c.args.insn c.transfer.new.state c.requires.here c.in_ok-transfer-in_default.ensures.straight c.in_ok-transfer-in_default.ensures.transfers
-      (λ f s at contains. inr (refl, at ∙ ap (λ (n : ℕ). c.args.slot + n) one, contains));
+      (λ f s shapes at contains. inr (refl, at ∙ ap (λ (n : ℕ). c.args.slot + n) one, contains));
   obligations = tt;
   accepts = λ ready. tt;
   sure = λ ready x k waits after.

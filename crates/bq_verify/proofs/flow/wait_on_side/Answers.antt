@@ -8,9 +8,9 @@ use Rattle.bq_verify.proofs.flow.wait_on_side.Goals as goal
 pub returns-clause-added : goal.returns-clause-added
 returns-clause-added c =
     on_ok_weaker c.wait.result
-    (λ added f s at side.
-    let on = subst (λ (k : Option AbstractValue). IsOnSide f c.args.state.now c.args.told.dst c.args.told.src k c.args.told.right s) c.in-Some.is side in
-    added f s at (c.tell.ensures.contains f s on.0 on.1))
+    (λ added f s shapes at side.
+    let on = subst (λ (k : Option AbstractValue). IsOnSide f c.args.state.now c.args.told.dst c.args.told.src k c.args.told.right c.args.told.relation s) c.in-Some.is side in
+    added f s shapes at (c.tell.ensures.contains f s on.0 on.1))
     c.wait.ensures.added
 
 pub returns-clause-has : goal.returns-clause-has

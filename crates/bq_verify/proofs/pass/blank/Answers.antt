@@ -7,5 +7,5 @@ returns-clause-contains c = λ f s have. record {
   kept = λ j. rw (c.nothing-2.ensures j) tt;
   parts = λ j. rw (c.no_parts.ensures j) tt;
   maps = have;
-  copies = (λ k. 0, λ p some. absurd (some (c.no_copies.ensures p)));
+  copies = (λ k. 0, λ p some. absurd (some (c.no_copies.ensures p)), λ k. rw (c.no_relations.ensures k) tt);
 }
