@@ -1,5 +1,5 @@
 -- Calls.
-use Rattle.std.proofs.Common.{◌≡◌, ◌≢◌, ℕ, zero, suc, ◌+◌, ◌-◌, ◌*◌, ◌^◌, ◌<◌, ◌≤◌, Bool, true, false, List, [], ◌∷◌, Option, Some, None, length, get_or, set, refl, arith, ap, ◌∙◌, cond, ◌⊎◌, inl, inr, pos, zero-le, get_or-set_same, get_or-set_other}
+use Rattle.std.proofs.Common.{◌≡◌, ◌≢◌, ℕ, suc, ◌+◌, ◌-◌, ◌*◌, ◌^◌, ◌<◌, ◌≤◌, Bool, true, false, List, Option, Some, None, length, get_or, set, refl, sym, arith, ap, ◌∙◌, cond, ◌⊎◌, inl, inr, pos, zero-le, get_or-set_same, get_or-set_other}
 use Rattle.std.specs.Prelude.{slice_get, slice_set, slice_index}
 use Rattle.std.proofs.lemmas.Bool.Decides.{eqb_tells, leb_tells, nat_tests}
 use Rattle.std.proofs.lemmas.Bool.{cases_lt}
@@ -13,33 +13,29 @@ use Rattle.bq_states.specs.declared.abstract_state.AbstractValue.{AbstractValue}
 use Rattle.bq_states.specs.declared.abstract_state.ValueKind.TheVariants.{EntryOrNull}
 use Rattle.bq_states.specs.Copies.{PartsFirst}
 use Rattle.bq_states.proofs.CopyLemmas.{copies_called}
-use Rattle.bq_states.specs.AbstractStates.{Describes, Holds, Contains, Clears, FindsBytes}
+use Rattle.bq_states.specs.AbstractStates.{AreAlike, Describes, Holds, Contains, Clears, FindsBytes}
 use Rattle.bq_transfer.specs.Transfers.{Transfers, IsBelow}
 use Rattle.bq_states.proofs.AccessLemmas.{entry_low}
 use Rattle.bq_transfer.proofs.WriteLemmas.{contains_entry}
 
-answer_at : (shapes : List MapShape) (m k : ℕ) (shape : MapShape) (r : Range) (b : Bool) → slice_get shapes m ≡ Some shape → m < 256 → r.lo ≡ 0 → ((b ≡ true) × (suc k ≤ shape.entries)) ⊎ ((b ≡ false) × (shape.entries < suc k)) → Describes shapes (record { kind = EntryOrNull m; offset = r }) (cond b (values_base m + k * shape.value_size) 0)
-answer_at shapes m k shape r b known few lo (inl (e, there)) =
-    let entry : IsEntry shapes m (k * shape.value_size) shape.value_size = record { shape = shape; known = known; number = k; there = there; first_is = refl; size_is = refl } in
-    let low = entry_low shapes m (k * shape.value_size) shape.value_size entry in
+answer_at : (shapes : List MapShape) (m n k : ℕ) (r : Range) (b : Bool) (alike : AreAlike shapes m n) → r.lo ≡ 0 → ((b ≡ true) × (suc k ≤ alike.shape.entries)) ⊎ ((b ≡ false) × (alike.shape.entries < suc k)) → Describes shapes (record { kind = EntryOrNull m; offset = r }) (cond b (values_base n + k * alike.shape.value_size) 0)
+answer_at shapes m n k r b alike lo (inl (e, there)) =
+    let size : ℕ = alike.shape.value_size in
+    let entry : IsEntry shapes n (k * size) size = record { shape = alike.shape; known = alike.other; number = k; there = there; first_is = refl; size_is = refl } in
+    let start = entry_low shapes n (k * size) size entry in
     rw e (record {
-      base = values_base m + k * shape.value_size;
+      base = values_base n + k * size;
       offset = 0;
-      is_base = inr (record { first = k * shape.value_size; size = shape.value_size; entry = entry; base_is = refl });
+      is_base = inr (record { map = n; alike = alike; first = k * size; size = size; entry = entry; base_is = refl });
       within = (omega arith, zero-le);
-      word_is = omega (arith, low);
+      word_is = omega (arith, start, alike.low);
     })
-answer_at shapes m k shape r b known few lo (inr (e, past)) =
+answer_at shapes m n k r b alike lo (inr (e, past)) =
     rw e (record { base = 0; offset = 0; is_base = inl refl; within = (omega arith, zero-le); word_is = refl })
 
 -- the answer of a look-up
-pub answer_is : (shapes : List MapShape) (m k : ℕ) (shape : MapShape) (r : Range) → slice_get shapes m ≡ Some shape → m < 256 → r.lo ≡ 0 → Describes shapes (record { kind = EntryOrNull m; offset = r }) (entry_address shape m k)
-answer_is shapes m k shape r known few lo = answer_at shapes m k shape r _ known few lo (leb_tells (suc k) shape.entries)
-
-shape_at : (shapes : List MapShape) (m : ℕ) → m < length shapes → (shape : MapShape) × (slice_get shapes m ≡ Some shape)
-shape_at [] m lt = absurd (omega arith)
-shape_at (x ∷ xs) zero lt = (x, refl)
-shape_at (x ∷ xs) (suc m) lt = shape_at xs m (omega arith)
+pub answer_is : (shapes : List MapShape) (m n k : ℕ) (r : Range) (alike : AreAlike shapes m n) → r.lo ≡ 0 → Describes shapes (record { kind = EntryOrNull m; offset = r }) (entry_address alike.shape n k)
+answer_is shapes m n k r alike lo = answer_at shapes m n k r _ alike lo (leb_tells (suc k) alike.shape.entries)
 
 called_at : (shapes : List MapShape) (old cleared : List (Option AbstractValue)) (register : ℕ → Option ℕ) (answer : ℕ) (k : AbstractValue) (r : ℕ) (b c : Bool) → 0 < length cleared → Clears old cleared → Holds shapes (get_or old r None) (register r) → Describes shapes k answer → ((b ≡ true) × (r ≡ 0)) ⊎ ((b ≡ false) × (r ≢ 0)) → ((c ≡ true) × (suc r ≤ 6)) ⊎ ((c ≡ false) × (6 < suc r)) → Holds shapes (get_or (set cleared 0 (Some k)) r None) (cond b (Some answer) (cond c None (register r)))
 called_at shapes old cleared register answer k r b c lt clears h d (inl (e, same)) q = rw (e, same, get_or-set_same cleared 0 (Some k) None lt) (answer, refl, d)
@@ -60,15 +56,15 @@ contains_called f v s cleared parts answer k lt clears first contains d = record
 }
 
 -- a look-up transfers the abstract state on
-pub carries_look_up : (shapes : List MapShape) (context_length : ℕ) (v : AbstractState) (cleared : List (Option AbstractValue)) (parts : List ℕ) (m : ℕ) (r : Range) → 0 < length cleared → Clears v.registers cleared → PartsFirst v.classes parts → r.lo ≡ 0 → m < 256 → ((f : Setting) (s : State) → Contains f v s → (s.register 1 ≡ Some (reference m)) × (m < length f.shapes)) → FindsBytes shapes context_length v 2 4 → Transfers shapes context_length (Call (pos 1)) v (record v { registers = slice_set cleared 0 (Some (record { kind = EntryOrNull m; offset = r })); classes = slice_set parts 0 0 })
-carries_look_up shapes context_length v cleared parts m r lt clears first lo few names finds f s suits contains =
+pub carries_look_up : (shapes : List MapShape) (context_length : ℕ) (v : AbstractState) (cleared : List (Option AbstractValue)) (parts : List ℕ) (m : ℕ) (r : Range) → 0 < length cleared → Clears v.registers cleared → PartsFirst v.classes parts → r.lo ≡ 0 → ((f : Setting) (s : State) → Contains f v s → (n : ℕ) × (s.register 1 ≡ Some (reference n)) × AreAlike f.shapes m n) → FindsBytes shapes context_length v 2 4 → Transfers shapes context_length (Call (pos 1)) v (record v { registers = slice_set cleared 0 (Some (record { kind = EntryOrNull m; offset = r })); classes = slice_set parts 0 0 })
+carries_look_up shapes context_length v cleared parts m r lt clears first lo names finds f s suits contains =
     let named = names f s contains in
     let found = finds f s suits contains in
-    let shape = shape_at f.shapes m named.1 in
+    let shape : MapShape = named.2.shape in
     let k : ℕ = number_of found.1 in
-    let entry : NamesEntry f s m shape.0 k = record {
-      known = shape.1;
-      reference_is = named.0;
+    let entry : NamesEntry f s named.0 shape k = record {
+      known = named.2.other;
+      reference_is = named.1;
       address = found.0;
       address_is = found.2;
       bytes = found.1;
@@ -76,9 +72,9 @@ carries_look_up shapes context_length v cleared parts m r lt clears first lo few
       reads = found.4;
       number_is = refl;
     } in (
-      called s (entry_address shape.0 m k),
-      inl (refl, (m, shape.0, k, entry, refl)),
-      contains_called f v s cleared parts (entry_address shape.0 m k) (record { kind = EntryOrNull m; offset = r }) lt clears first contains (answer_is f.shapes m k shape.0 r shape.1 few lo),
+      called s (entry_address shape named.0 k),
+      inl (refl, (named.0, shape, k, entry, refl)),
+      contains_called f v s cleared parts (entry_address shape named.0 k) (record { kind = EntryOrNull m; offset = r }) lt clears first contains (answer_is f.shapes m named.0 k r named.2 lo),
       refl,
     )
 
@@ -115,7 +111,7 @@ update_by f s v new m k shape from value entry is long reads none small contains
 )
 
 -- an update transfers the abstract state on
-pub carries_update : (shapes : List MapShape) (context_length : ℕ) (v new : AbstractState) (m : ℕ) (shape : MapShape) → slice_get shapes m ≡ Some shape → ((f : Setting) (s : State) → Contains f v s → (s.register 1 ≡ Some (reference m)) × (m < length f.shapes)) → FindsBytes shapes context_length v 2 4 → FindsBytes shapes context_length v 3 shape.value_size → IsBelow v 4 1 → ((f : Setting) (s : State) (x : ℕ) → Contains f v s → x < 2 ^ 64 → Contains f new (called s x)) → Transfers shapes context_length (Call (pos 2)) v new
+pub carries_update : (shapes : List MapShape) (context_length : ℕ) (v new : AbstractState) (m : ℕ) (shape : MapShape) → slice_get shapes m ≡ Some shape → ((f : Setting) (s : State) → Contains f v s → (n : ℕ) × (s.register 1 ≡ Some (reference n)) × AreAlike f.shapes m n) → FindsBytes shapes context_length v 2 4 → FindsBytes shapes context_length v 3 shape.value_size → IsBelow v 4 1 → ((f : Setting) (s : State) (x : ℕ) → Contains f v s → x < 2 ^ 64 → Contains f new (called s x)) → Transfers shapes context_length (Call (pos 2)) v new
 carries_update shapes context_length v new m shape known names finds values below answered f s suits contains =
     let named = names f s contains in
     let found = finds f s suits contains in
@@ -123,10 +119,10 @@ carries_update shapes context_length v new m shape known names finds values belo
     let last = below f s contains in
     let none : s.register 4 ≡ Some 0 = last.1 ∙ ap Some (omega arith) in
     let k : ℕ = number_of found.1 in
-    let at : slice_get f.shapes m ≡ Some shape = rw suits.shapes_are known in
-    let entry : NamesEntry f s m shape k = record {
+    let at : slice_get f.shapes named.0 ≡ Some shape = named.2.other ∙ sym named.2.one ∙ rw suits.shapes_are known in
+    let entry : NamesEntry f s named.0 shape k = record {
       known = at;
-      reference_is = named.0;
+      reference_is = named.1;
       address = found.0;
       address_is = found.2;
       bytes = found.1;
@@ -134,4 +130,4 @@ carries_update shapes context_length v new m shape known names finds values belo
       reads = found.4;
       number_is = refl;
     } in
-    update_by f s v new m k shape value.0 value.1 entry value.2 value.3 value.4 none value.5 contains (answered f) (cases_lt k shape.entries)
+    update_by f s v new named.0 k shape value.0 value.1 entry value.2 value.3 value.4 none value.5 contains (answered f) (cases_lt k shape.entries)

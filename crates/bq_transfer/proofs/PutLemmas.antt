@@ -2,8 +2,8 @@
 use Rattle.bq_ranges.specs.Within.{Within}
 use Rattle.bq_ranges.specs.declared.range.Range.{Range}
 use Rattle.bq_states.specs.declared.abstract_state.ValueKind.TheVariants.{Map, Number}
-use Rattle.std.proofs.Common.{zero-le, ◌≡◌, ◌≢◌, ℕ, ◌+◌, ◌<◌, Bool, true, false, List, Option, Some, None, length, get_or, set, refl, arith, get_or-set_same, get_or-set_other, ◌⊎◌, inl, inr, cond}
-use Rattle.std.specs.Prelude.{slice_set}
+use Rattle.std.proofs.Common.{zero-le, ◌≡◌, ◌≢◌, ℕ, zero, suc, ◌+◌, ◌<◌, Bool, true, false, List, [], ◌∷◌, Option, Some, None, length, get_or, set, refl, arith, get_or-set_same, get_or-set_other, ◌⊎◌, inl, inr, cond}
+use Rattle.std.specs.Prelude.{slice_get, slice_set}
 use Rattle.std.proofs.lemmas.Bool.Decides.{eqb_tells}
 use Rattle.bq_insn.specs.declared.Insn.{Insn}
 use Rattle.bq_insn.specs.Slots.{slots_of}
@@ -77,6 +77,13 @@ carries_linked shapes context_length insn v dst slot k classes related lt low gi
     let copies = linked t given.0 put_contains.copies there (λ m has. loaded_copy t dst slot given.0 m low (put_here s (slots_of insn) dst given.0) there has) in
     (t, given.1, record { registers = put_contains.registers; set = put_contains.set; kept = put_contains.kept; parts = put_contains.parts; maps = put_contains.maps; copies = copies }, refl)
 
+shape_at : (shapes : List MapShape) (m : ℕ) → m < length shapes → (shape : MapShape) × (slice_get shapes m ≡ Some shape)
+shape_at [] m lt = absurd (omega arith)
+shape_at (x ∷ xs) zero lt = (x, refl)
+shape_at (x ∷ xs) (suc m) lt = shape_at xs m (omega arith)
+
 -- the reference of a map
 pub reference_is : (shapes : List MapShape) (m : ℕ) (r : Range) → m < length shapes → m < 256 → r.lo ≡ 0 → Describes shapes (record { kind = Map m; offset = r }) (reference m)
-reference_is shapes m r there few lo = record { base = reference m; offset = 0; is_base = (refl, there); within = (omega arith, zero-le); word_is = omega arith }
+reference_is shapes m r there few lo =
+    let shape = shape_at shapes m there in
+    record { base = reference m; offset = 0; is_base = record { map = m; alike = record { shape = shape.0; one = shape.1; other = shape.1; low = few }; base_is = refl }; within = (omega arith, zero-le); word_is = omega arith }

@@ -126,13 +126,13 @@ stores_if_ok shapes context_length dst off size k at kind old new (Err obligatio
 pub stores_in_entry : (shapes : List MapShape) (context_length dst : ℕ) (off : ℤ) (size : Size) (k : AbstractValue) (at : Range) (kind : ValueKind) (m : ℕ) (state : AbstractState) → kind ≡ Entry m → FindsPlace shapes context_length state dst off size kind at → Stores shapes context_length dst off size k state state None
 stores_in_entry shapes context_length dst off size k at kind m state entry finds f s v suits contains d =
     let found = finds f s suits contains in
-    let into : (first : ℕ) × (found.1 ≡ InEntry m first) = subst (λ (x : ValueKind). IsOfKind x found.1) entry found.5 in
-    let good = subst (λ (r : Region). IsGood f (address_of found.0 off) (byte_count size) r found.2) into.1 found.4 in (
+    let into : (map : ℕ) × (first : ℕ) × (found.1 ≡ InEntry map first) = subst (λ (x : ValueKind). IsOfKind x found.1) entry found.5 in
+    let good = subst (λ (r : Region). IsGood f (address_of found.0 off) (byte_count size) r found.2) into.2 found.4 in (
       found.0,
-      written s (InEntry m into.0) found.2 (low_bytes size v),
+      written s (InEntry into.0 into.1) found.2 (low_bytes size v),
       found.3,
-      record { region = InEntry m into.0; offset = found.2; writable = tt; good = rw (low_long size v) good; after = refl },
-      contains_entry f state s m into.0 (address_of found.0 off) (byte_count size) found.2 (low_bytes size v) good (low_long size v) (low_small size v) contains,
+      record { region = InEntry into.0 into.1; offset = found.2; writable = tt; good = rw (low_long size v) good; after = refl },
+      contains_entry f state s into.0 into.1 (address_of found.0 off) (byte_count size) found.2 (low_bytes size v) good (low_long size v) (low_small size v) contains,
       refl,
       refl,
       λ n is. absurd (let no : ⊥ = cc in no),

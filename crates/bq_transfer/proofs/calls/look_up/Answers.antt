@@ -10,7 +10,7 @@ pub returns-clause-transfers : goal.returns-clause-transfers
 returns-clause-transfers c =
     let there : 0 < length c.clear.new.registers = omega arith in
     rw c.learn.ensures.is
-    (carries_look_up c.args.shapes.now c.args.context c.args.state.now c.clear.new.registers c.part_first.new.classes c.in-Some.map c.single.result there c.clear.ensures c.part_first.ensures c.single.ensures.lo (omega arith) c.in-Some.ensures.names (c.reads.ensures.finds c.if-not-reads.false))
+    (carries_look_up c.args.shapes.now c.args.context c.args.state.now c.clear.new.registers c.part_first.new.classes c.in-Some.map c.single.result there c.clear.ensures c.part_first.ensures c.single.ensures.lo c.in-Some.ensures.names (c.reads.ensures.finds c.if-not-reads.false))
 
 pub returns-in_default-clause-accepts : goal.returns-in_default-clause-accepts
 returns-in_default-clause-accepts c = λ m naming. absurd (c.in_default.not-Some m (c.map_of.ensures.found m naming.names))
