@@ -25,7 +25,7 @@ struct bq_place {
     u64 mask;       /* the processors that it may use, by bits */
     u64 slice;
     u32 waker;      /* the processor that wakes it */
-    u32 previous;   /* the processor that it last left, or none */
+    u32 previous;   /* the processor where it last blocked, or none */
     u32 processors; /* how many there are */
     u32 own;        /* the rule's choice */
     u32 load[16];   /* of each processor, 0 where there is none */

@@ -1,5 +1,5 @@
 /* hook: place
- * A task goes back to the processor that it last left, unless that has two tasks more than the waking one. What is in its
+ * A task goes back to the processor where it last blocked, unless that has two tasks more than the waking one. What is in its
  * caches is still there; a busy processor keeps its queue longer. */
 #include "bqsim.h"
 
