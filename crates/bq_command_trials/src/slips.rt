@@ -460,9 +460,9 @@ static TRAILS: [(&str, &[&str], &[&str]); 5] = [
         &["made at line 3, slot 1:  mov64 r3, 7    r3 then is 7\n"],
         &["slot 3"],
     ),
-    // the reference of one map on one way, and of the other on the other: it is set on each
+    // the reference of one map on one way, and on the other of one of another shape: it is set on each
     (
-        ";@ hook place\n;@ maps 8:1,8:1\nstw [r10-4], 0\nmov64 r2, r10\nadd64 r2, -4\nldxw r3, [r1+0]\njeq64 r3, 1, b\nldmap r1, 0\nja c\nb:\nldmap r1, 1\nc:\ncall 1\nmov64 r0, 0\nexit\n",
+        ";@ hook place\n;@ maps 8:1,8:2\nstw [r10-4], 0\nmov64 r2, r10\nadd64 r2, -4\nldxw r3, [r1+0]\njeq64 r3, 1, b\nldmap r1, 0\nja c\nb:\nldmap r1, 1\nc:\ncall 1\nmov64 r0, 0\nexit\n",
         &[
             "calls helper 1, which wants a map in r1, by ldmap; here nothing is known of r1\n",
             "r1 is map 0 on the way over line 9, slot 7, and map 1 on the way over line 11, slot 8; where they meet, at slot 10, nothing is known of it\n",

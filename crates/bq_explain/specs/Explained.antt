@@ -108,13 +108,13 @@ pub record Explains (p : PolicySource) (l : Limits) (e : Explanation) : Type 0 w
   pub is_verdict : IsVerdict p l e.verdict
   pub is_detail : IsDetail p e.verdict e.detail
 
--- a line tells the need, and behind it lines tell what is known: in each state that this allows they are so
+-- a line tells the need, and behind it lines tell what is known: in each state of a program of these maps that this allows they are so
 pub record TellsNeedAndState (p : PolicySource) (insn : Insn) (need : Need) (known : AbstractState) (text : List ℕ) : Type 0 where
   pub told : List ℕ
   pub tells_need : TellsNeed p known insn need told
   pub lines : List ℕ
-  pub are_state : IsStateText known lines
-  pub hold : (f : Setting) (s : State) → Allows f known s → TellsState f s lines
+  pub are_state : IsStateText p.form.shapes.items known lines
+  pub hold : (f : Setting) (s : State) → f.shapes ≡ p.form.shapes.items → Allows f known s → TellsState f s lines
   pub before : List ℕ
   pub after : List ℕ
   pub text_is : text ≡ before ++ (codes "\n  " ++ (told ++ (codes "\n" ++ (lines ++ after))))

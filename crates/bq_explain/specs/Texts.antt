@@ -2,20 +2,21 @@
 use Rattle.std.specs.Prelude.{◌≡◌, ℕ, zero, suc, ◌+◌, ◌-◌, ◌*◌, ◌<◌, ◌≤◌, ◌==◌, Bool, false, List, [], ◌∷◌, ◌++◌, ◌⊎◌, Option, Some, None, codes, slice_index_or, if◌then◌else◌}
 use Rattle.std.specs.Fmt.{decimal}
 use Rattle.bq_bpf.specs.Memory.{stack_size}
+use Rattle.bq_bpf.specs.declared.shape.MapShape.{MapShape}
 use Rattle.bq_states.specs.declared.abstract_state.AbstractValue.{AbstractValue}
 use Rattle.bq_states.specs.declared.abstract_state.AbstractState.{AbstractState}
 use Rattle.bq_needs.specs.Accesses.{AreSet}
 use Rattle.bq_needs.specs.Texts.{known_text}
 
 -- of a register of which nothing is known nothing is printed
-abbrev pub register_text : ℕ → Option AbstractValue → List ℕ
-register_text register None = []
-register_text register (Some k) = codes " r" ++ (decimal register ++ (codes " " ++ (known_text k ++ codes "  ")))
+abbrev pub register_text : List MapShape → ℕ → Option AbstractValue → List ℕ
+register_text shapes register None = []
+register_text shapes register (Some k) = codes " r" ++ (decimal register ++ (codes " " ++ (known_text shapes k ++ codes "  ")))
 
 -- the first registers, this many of them
-abbrev pub registers_below : ℕ → List (Option AbstractValue) → List ℕ
-registers_below zero registers = []
-registers_below (suc n) registers = registers_below n registers ++ register_text n (slice_index_or registers n None)
+abbrev pub registers_below : List MapShape → ℕ → List (Option AbstractValue) → List ℕ
+registers_below shapes zero registers = []
+registers_below shapes (suc n) registers = registers_below shapes n registers ++ register_text shapes n (slice_index_or registers n None)
 
 -- of a register of which nothing is known the name is printed
 abbrev pub unknown_name : ℕ → Option AbstractValue → List ℕ
@@ -37,13 +38,13 @@ abbrev pub unknown_text : List (Option AbstractValue) → List ℕ
 unknown_text registers = called_unknown (unknown_below 11 registers)
 
 -- a word that is kept whole on the stack, by how far its first byte is below the end
-abbrev pub kept_text : ℕ → Option AbstractValue → List ℕ
-kept_text slot None = []
-kept_text slot (Some k) = codes "  the 8 bytes at stack end - " ++ (decimal (stack_size - slot * 8) ++ (codes ": " ++ (known_text k ++ codes "\n")))
+abbrev pub kept_text : List MapShape → ℕ → Option AbstractValue → List ℕ
+kept_text shapes slot None = []
+kept_text shapes slot (Some k) = codes "  the 8 bytes at stack end - " ++ (decimal (stack_size - slot * 8) ++ (codes ": " ++ (known_text shapes k ++ codes "\n")))
 
-abbrev pub kept_below : ℕ → List (Option AbstractValue) → List ℕ
-kept_below zero slots = []
-kept_below (suc n) slots = kept_below n slots ++ kept_text n (slice_index_or slots n None)
+abbrev pub kept_below : List MapShape → ℕ → List (Option AbstractValue) → List ℕ
+kept_below shapes zero slots = []
+kept_below shapes (suc n) slots = kept_below shapes n slots ++ kept_text shapes n (slice_index_or slots n None)
 
 -- bytes of the stack from the first up to the one past the last, by how far they are below the end
 abbrev pub run_text : ℕ → ℕ → List ℕ
@@ -71,7 +72,7 @@ abbrev pub IsStackText : List Bool → List ℕ → Type 0
 IsStackText set text = (runs : List ℕ) × AreRuns set stack_size runs × (text ≡ stack_text runs)
 
 -- what is known: each register that is known, those that are not, the stack's bytes that are set, and the words that are kept there
-pub record IsStateText (v : AbstractState) (text : List ℕ) : Type 0 where
+pub record IsStateText (shapes : List MapShape) (v : AbstractState) (text : List ℕ) : Type 0 where
   pub stack : List ℕ
-  pub text_is : text ≡ codes " " ++ (registers_below 11 v.registers ++ (unknown_text v.registers ++ (stack ++ kept_below 64 v.kept)))
+  pub text_is : text ≡ codes " " ++ (registers_below shapes 11 v.registers ++ (unknown_text v.registers ++ (stack ++ kept_below shapes 64 v.kept)))
   pub is_stack : IsStackText v.set stack

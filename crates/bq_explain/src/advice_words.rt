@@ -100,7 +100,7 @@ fn lack_text(alloc: Global, missing: &Missing, register: usize) -> Result<String
     }
     if missing.mixed[register] {
         return format!(in alloc;
-            "use r{register} on each way before the ways meet, or bring the same kind of word on both: a number, a pointer into the same place, or the same map"
+            "use r{register} on each way before the ways meet, or bring the same kind of word on both: a number, a pointer into the same place, or a map of the same shape"
         );
     }
     Ok(String::new(alloc))

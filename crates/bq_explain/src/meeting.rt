@@ -7,9 +7,11 @@ ghost use Rattle.bq_explain.specs.Makers.{IsLaidOut};
 use crate::after::known_after;
 use crate::place::{Place, place_at};
 use crate::ways::{Ways, is_marked, reaching, spares};
+use bq_bpf::MapShape;
 use bq_insn::{Insn, SLOTS};
 use bq_policy_file::PolicySource;
 use bq_states::abstract_state::AbstractValue;
+use bq_states::joins::is_alike;
 use bq_states::registers::known;
 use bq_verify::edges::instruction;
 use bq_verify::passes::targets;
@@ -72,7 +74,7 @@ pub(crate) fn meeting_of(
                     here,
                     register,
                 )?;
-                if let Some(both) = differing(comings.as_slice()) {
+                if let Some(both) = differing(policy.form.shapes.as_slice(), comings.as_slice()) {
                     let known = known_at(alloc, program, here, register)?;
                     return Ok(Some(both.meet(register, here, known)));
                 }
@@ -172,12 +174,12 @@ pub(crate) fn known_at(
 }
 
 /// The first of the ways, and another on which the register is another word.
-fn differing(comings: &[Coming]) -> Option<Both> {
+fn differing(shapes: &[MapShape], comings: &[Coming]) -> Option<Both> {
     let [first, rest @ ..] = comings else {
         return None;
     };
     for second in rest {
-        if differ(first.known, second.known) {
+        if differ(shapes, first.known, second.known) {
             return Some(Both {
                 first: *first,
                 second: *second,
@@ -207,7 +209,8 @@ impl Both {
     }
 }
 
-/// Whether not the same is known of two words.
-fn differ(one: AbstractValue, other: AbstractValue) -> bool {
-    one.kind != other.kind || one.offset.lo != other.offset.lo || one.offset.hi != other.offset.hi
+/// Whether not the same is known of two words; of maps of one shape it is.
+fn differ(shapes: &[MapShape], one: AbstractValue, other: AbstractValue) -> bool {
+    let is_of_one_kind = one.kind == other.kind || is_alike(shapes, one.kind, other.kind);
+    !is_of_one_kind || one.offset.lo != other.offset.lo || one.offset.hi != other.offset.hi
 }

@@ -6,6 +6,7 @@ ghost use Rattle.bq_explain.specs.Telling.{TellsState};
 ghost use Rattle.bq_needs.specs.Accesses.{AreSet};
 ghost use Rattle.bq_explain.specs.Texts.{AreRuns, EndsAt, IsStackText, IsStateText, kept_below, kept_text, register_text, registers_below, run_text, unknown_below, unknown_name, unknown_text};
 
+use bq_bpf::MapShape;
 use bq_bpf::addresses::STACK_SIZE;
 use bq_needs::known_text;
 use bq_states::abstract_state::{AbstractState, AbstractValue};
@@ -15,35 +16,43 @@ use std::alloc::{AllocError, Global};
 const STACK: usize = STACK_SIZE as usize;
 
 /// One line with what each register is known to be and the stack's written bytes, and a line for each word that is kept there.
-/// It holds of every state that the abstract state contains.
+/// It holds of every state of a program of such maps that the abstract state contains.
 #[tactic(auto, using(crate::proofs::StateTextLemmas::tells_state))]
-pub(crate) fn state_text(alloc: Global, state: &AbstractState) -> Result<String, AllocError>
-    ensures text { IfOk result (λ text. IsStateText state.now (string_bytes text)) }
-    ensures tells { IfOk result (λ text. (f : Setting) (s : State) → Contains f state.now s → TellsState f s (string_bytes text)) }
+pub(crate) fn state_text(
+    alloc: Global,
+    shapes: &[MapShape],
+    state: &AbstractState,
+) -> Result<String, AllocError>
+    ensures text { IfOk result (λ text. IsStateText shapes.now state.now (string_bytes text)) }
+    ensures tells { IfOk result (λ text. (f : Setting) (s : State) → f.shapes ≡ shapes.now → Contains f state.now s → TellsState f s (string_bytes text)) }
 {
-    let text = lines_of(alloc, state)?;
+    let text = lines_of(alloc, shapes, state)?;
     Ok(text)
 }
 
 /// The same, by what is printed.
 #[tactic(auto, using(crate::proofs::StateTextLemmas::is_state_text))]
-fn lines_of(alloc: Global, state: &AbstractState) -> Result<String, AllocError>
-    ensures { IfOk result (λ text. IsStateText state.now (string_bytes text)) }
+fn lines_of(alloc: Global, shapes: &[MapShape], state: &AbstractState) -> Result<String, AllocError>
+    ensures { IfOk result (λ text. IsStateText shapes.now state.now (string_bytes text)) }
 {
-    let registers = registers_text(alloc, state)?;
+    let registers = registers_text(alloc, shapes, state)?;
     let unknown = unknown_text(alloc, state)?;
     let stack = stack_line(alloc, state)?;
-    let kept = kept_lines(alloc, state)?;
+    let kept = kept_lines(alloc, shapes, state)?;
     format!(in alloc; " {registers}{unknown}{stack}{kept}")
 }
 
 /// The registers of which something is known.
-fn registers_text(alloc: Global, state: &AbstractState) -> Result<String, AllocError>
-    ensures { IfOk result (λ text. string_bytes text ≡ registers_below 11 state.now.registers) }
+fn registers_text(
+    alloc: Global,
+    shapes: &[MapShape],
+    state: &AbstractState,
+) -> Result<String, AllocError>
+    ensures { IfOk result (λ text. string_bytes text ≡ registers_below shapes.now 11 state.now.registers) }
 {
     let mut text = String::new(alloc);
     for number in 0..11usize {
-        let told = register_text(alloc, number, &state.registers[number])?;
+        let told = register_text(alloc, shapes, number, &state.registers[number])?;
         text.push_str(told.as_str())?;
     }
     Ok(text)
@@ -52,15 +61,16 @@ fn registers_text(alloc: Global, state: &AbstractState) -> Result<String, AllocE
 /// A register, if something is known of it.
 fn register_text(
     alloc: Global,
+    shapes: &[MapShape],
     number: usize,
     known: &Option<AbstractValue>,
 ) -> Result<String, AllocError>
-    ensures { IfOk result (λ text. string_bytes text ≡ register_text number known.now) }
+    ensures { IfOk result (λ text. string_bytes text ≡ register_text shapes.now number known.now) }
 {
     match known {
         None => Ok(String::new(alloc)),
         Some(known) => {
-            let told = known_text(alloc, known)?;
+            let told = known_text(alloc, shapes, known)?;
             format!(in alloc; " r{number} {told}  ")
         }
     }
@@ -169,12 +179,16 @@ fn run_text(alloc: Global, first: usize, past: usize) -> Result<String, AllocErr
 }
 
 /// The words that are kept whole on the stack, a line for each.
-fn kept_lines(alloc: Global, state: &AbstractState) -> Result<String, AllocError>
-    ensures { IfOk result (λ text. string_bytes text ≡ kept_below 64 state.now.kept) }
+fn kept_lines(
+    alloc: Global,
+    shapes: &[MapShape],
+    state: &AbstractState,
+) -> Result<String, AllocError>
+    ensures { IfOk result (λ text. string_bytes text ≡ kept_below shapes.now 64 state.now.kept) }
 {
     let mut text = String::new(alloc);
     for slot in 0..64usize {
-        let told = kept_line(alloc, slot, &state.kept[slot])?;
+        let told = kept_line(alloc, shapes, slot, &state.kept[slot])?;
         text.push_str(told.as_str())?;
     }
     Ok(text)
@@ -183,16 +197,17 @@ fn kept_lines(alloc: Global, state: &AbstractState) -> Result<String, AllocError
 /// The word that is kept in a slot of the stack, if one is known.
 fn kept_line(
     alloc: Global,
+    shapes: &[MapShape],
     slot: usize,
     known: &Option<AbstractValue>,
 ) -> Result<String, AllocError>
     requires { slot < 64 }
-    ensures { IfOk result (λ text. string_bytes text ≡ kept_text slot known.now) }
+    ensures { IfOk result (λ text. string_bytes text ≡ kept_text shapes.now slot known.now) }
 {
     match known {
         None => Ok(String::new(alloc)),
         Some(known) => {
-            let told = known_text(alloc, known)?;
+            let told = known_text(alloc, shapes, known)?;
             let below = STACK - slot * 8;
             format!(in alloc; "  the 8 bytes at stack end - {below}: {told}\n")
         }

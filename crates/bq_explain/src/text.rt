@@ -16,6 +16,7 @@ use crate::state_words::state_text;
 use crate::summary::{accepted_words, summary_text};
 use crate::trail::{Made, Trail};
 use crate::verdict::{Verdict, verdict_line};
+use bq_bpf::MapShape;
 use bq_needs::{Need, known_text, need_text};
 use bq_policy_file::{PolicySource, instruction_text};
 use bq_states::abstract_state::{AbstractState, AbstractValue};
@@ -134,7 +135,7 @@ fn refusal_text(
         Finding::Unknown => format!(in alloc; "{line}{at}\n  is not shown to be safe\n{after}"),
         Finding::State { need, known } => {
             let told = need_text(alloc, policy, &known, refusal.place.insn, need)?;
-            let state = state_text(alloc, &known)?;
+            let state = state_text(alloc, policy.form.shapes.as_slice(), &known)?;
             format!(in alloc; "{line}{at}\n  {told}\n{state}{after}")
         }
     }
@@ -161,16 +162,16 @@ fn after_text(
     policy: &PolicySource,
     refusal: &Refusal,
 ) -> Result<String, AllocError> {
-    let trail = trail_text(alloc, &refusal.trail)?;
+    let trail = trail_text(alloc, policy.form.shapes.as_slice(), &refusal.trail)?;
     let help = advice_text(alloc, policy, refusal.advice)?;
     format!(in alloc; "{trail}  helps: {help}\n")
 }
 
 /// A line for each instruction that made a register, for each register that is unset on some way, and for each place where ways meet.
-fn trail_text(alloc: Global, trail: &Trail) -> Result<String, AllocError> {
+fn trail_text(alloc: Global, shapes: &[MapShape], trail: &Trail) -> Result<String, AllocError> {
     let mut text = String::new(alloc);
     for made in trail.made.as_slice() {
-        let line = made_text(alloc, made)?;
+        let line = made_text(alloc, shapes, made)?;
         text.push_str(line.as_str())?;
     }
     for register in 0..11usize {
@@ -182,26 +183,26 @@ fn trail_text(alloc: Global, trail: &Trail) -> Result<String, AllocError> {
         }
     }
     for meeting in trail.meetings.as_slice() {
-        let line = meeting_text(alloc, meeting)?;
+        let line = meeting_text(alloc, shapes, meeting)?;
         text.push_str(line.as_str())?;
     }
     Ok(text)
 }
 
 /// An instruction that made a register, and what it made of it.
-fn made_text(alloc: Global, made: &Made) -> Result<String, AllocError> {
+fn made_text(alloc: Global, shapes: &[MapShape], made: &Made) -> Result<String, AllocError> {
     let place = place_text(alloc, &made.place)?;
     let insn = instruction_text(alloc, made.place.insn)?;
-    let outcome = outcome_text(alloc, made)?;
+    let outcome = outcome_text(alloc, shapes, made)?;
     format!(in alloc; "  made at {place}:  {insn}{outcome}\n")
 }
 
 /// What the register is right behind it.
-fn outcome_text(alloc: Global, made: &Made) -> Result<String, AllocError> {
+fn outcome_text(alloc: Global, shapes: &[MapShape], made: &Made) -> Result<String, AllocError> {
     let register = made.register;
     match made.known {
         Some(known) => {
-            let told = known_text(alloc, &known)?;
+            let told = known_text(alloc, shapes, &known)?;
             format!(in alloc; "    r{register} then is {told}")
         }
         None if made.is_unset() => format!(in alloc; "    r{register} then is unset"),
@@ -210,29 +211,37 @@ fn outcome_text(alloc: Global, made: &Made) -> Result<String, AllocError> {
 }
 
 /// Two ways that meet, with what the register is on each and where they meet.
-fn meeting_text(alloc: Global, meeting: &Meeting) -> Result<String, AllocError> {
+fn meeting_text(
+    alloc: Global,
+    shapes: &[MapShape],
+    meeting: &Meeting,
+) -> Result<String, AllocError> {
     let register = meeting.register;
     let slot = meeting.slot;
-    let first = coming_text(alloc, &meeting.first)?;
-    let second = coming_text(alloc, &meeting.second)?;
-    let met = met_text(alloc, meeting.known)?;
+    let first = coming_text(alloc, shapes, &meeting.first)?;
+    let second = coming_text(alloc, shapes, &meeting.second)?;
+    let met = met_text(alloc, shapes, meeting.known)?;
     format!(in alloc;
         "  r{register} is {first}, and {second}; where they meet, at slot {slot}, {met}\n"
     )
 }
 
 /// What the register is on a way.
-fn coming_text(alloc: Global, coming: &Coming) -> Result<String, AllocError> {
-    let known = known_text(alloc, &coming.known)?;
+fn coming_text(alloc: Global, shapes: &[MapShape], coming: &Coming) -> Result<String, AllocError> {
+    let known = known_text(alloc, shapes, &coming.known)?;
     let place = place_text(alloc, &coming.place)?;
     format!(in alloc; "{known} on the way over {place}")
 }
 
 /// What is known of it where the ways meet.
-fn met_text(alloc: Global, known: Option<AbstractValue>) -> Result<String, AllocError> {
+fn met_text(
+    alloc: Global,
+    shapes: &[MapShape],
+    known: Option<AbstractValue>,
+) -> Result<String, AllocError> {
     match known {
         Some(known) => {
-            let told = known_text(alloc, &known)?;
+            let told = known_text(alloc, shapes, &known)?;
             format!(in alloc; "it is {told}")
         }
         None => String::from_str(alloc, "nothing is known of it"),

@@ -3,6 +3,7 @@ use Rattle.std.proofs.Common.{◌≡◌, ℕ, ℤ, ◌+◌, ◌-◌, ◌%◌, �
 use Rattle.std.specs.Prelude.{IfNone, MatchOption}
 use Rattle.std.specs.Int.{w16}
 use Rattle.std.proofs.lemmas.Int.{ints}
+use Rattle.bq_bpf.specs.declared.shape.MapShape.{MapShape}
 use Rattle.bq_bpf.specs.Meaning.{word_of}
 use Rattle.bq_bpf.specs.Steps.{address_of}
 use Rattle.bq_ranges.specs.Within.{Within}
@@ -61,17 +62,17 @@ range_of_followed off offsets F follows None range wraps = inr wraps
 range_of_followed off offsets F follows (Some at) range wraps = (follows, range)
 
 -- the range says where the access begins
-pub tells_counted : (a : Access) (k : AbstractValue) (at : Range) (text : List ℕ) → Follows k.kind × IsMoved a.off k.offset at → text ≡ kind_text k.kind at → TellsBegin a k text
-tells_counted a k at text (follows, moved) is = subst (λ (t : List ℕ). TellsBegin a k t) (sym is) (counted at follows moved)
+pub tells_counted : (shapes : List MapShape) (a : Access) (k : AbstractValue) (at : Range) (text : List ℕ) → Follows k.kind × IsMoved a.off k.offset at → text ≡ kind_text shapes k.kind at → TellsBegin shapes a k text
+tells_counted shapes a k at text (follows, moved) is = subst (λ (t : List ℕ). TellsBegin shapes a k t) (sym is) (counted at follows moved)
 
 -- or from below to above, where no range has it
-pub tells_across : (a : Access) (k : AbstractValue) (text : List ℕ) → Follows k.kind → (Follows k.kind → ⊥) ⊎ Wraps a.off k.offset → text ≡ across_text a k → TellsBegin a k text
-tells_across a k text follows (inl not) is = absurd (not follows)
-tells_across a k text follows (inr wraps) is = subst (λ (t : List ℕ). TellsBegin a k t) (sym is) (across follows wraps)
+pub tells_across : (shapes : List MapShape) (a : Access) (k : AbstractValue) (text : List ℕ) → Follows k.kind → (Follows k.kind → ⊥) ⊎ Wraps a.off k.offset → text ≡ across_text shapes a k → TellsBegin shapes a k text
+tells_across shapes a k text follows (inl not) is = absurd (not follows)
+tells_across shapes a k text follows (inr wraps) is = subst (λ (t : List ℕ). TellsBegin shapes a k t) (sym is) (across follows wraps)
 
 -- or by the register
-pub tells_register : (a : Access) (k : AbstractValue) (text : List ℕ) → (Follows k.kind → ⊥) → text ≡ register_text a.register k → TellsBegin a k text
-tells_register a k text not is = subst (λ (t : List ℕ). TellsBegin a k t) (sym is) (by_register not)
+pub tells_register : (shapes : List MapShape) (a : Access) (k : AbstractValue) (text : List ℕ) → (Follows k.kind → ⊥) → text ≡ register_text shapes a.register k → TellsBegin shapes a k text
+tells_register shapes a k text not is = subst (λ (t : List ℕ). TellsBegin shapes a k t) (sym is) (by_register not)
 
 -- a read of the context within its length
 pub shown_in_context : (p : PolicySource) (state : AbstractState) (a : Access) (k : AbstractValue) → k.kind ≡ kind.Context → a.writes ≡ false → Stays a k.offset (context_of p.form) → IsShown p state a k

@@ -1,17 +1,21 @@
 -- What is printed of a word is right about each word that it may be.
-use Rattle.std.proofs.Common.{◌≡◌, ℕ, ◌+◌, ◌-◌, ◌%◌, ◌^◌, ◌≤◌, ◌==◌, ◌&&◌, nat_lt, true, false, List, [], ◌++◌, if◌then◌else◌, refl, ◌∙◌, ap, arith}
-use Rattle.std.specs.Prelude.{codes}
+use Rattle.std.proofs.Common.{◌≡◌, ℕ, zero, suc, ◌+◌, ◌-◌, ◌%◌, ◌^◌, ◌<◌, ◌≤◌, ◌⊎◌, ◌==◌, ◌&&◌, nat_lt, Bool, true, false, cond, List, [], ◌∷◌, ◌++◌, length, Option, Some, None, inl, inr, slice_get, if◌then◌else◌, refl, sym, subst, ◌∙◌, ap, arith}
+use Rattle.std.specs.Prelude.{codes, count_by}
+use Rattle.std.specs.Fmt.{decimal}
+use Rattle.std.proofs.lemmas.Bool.{cases_lt}
+use Rattle.std.proofs.lemmas.List.Sums.{sum_by-cons}
+use Rattle.std.proofs.lemmas.Option.{same_Some, slice_get_within}
 use Rattle.std.proofs.Math.Nat.{mod-add-mod, add-mod_right}
 use Rattle.bq_bpf.specs.declared.shape.MapShape.{MapShape}
 use Rattle.bq_bpf.specs.Memory.{reference, context_base, stack_base}
 use Rattle.bq_ranges.specs.Within.{Within}
 use Rattle.bq_ranges.specs.declared.range.Range.{Range}
-use Rattle.bq_states.specs.AbstractStates.{Describes, IsBase}
+use Rattle.bq_states.specs.AbstractStates.{AreAlike, Describes, IsBase, IsEntryBase}
 use Rattle.bq_states.specs.declared.abstract_state.ValueKind.{ValueKind}
 use Rattle.bq_states.specs.declared.abstract_state.ValueKind.TheVariants.{Number, Context, Stack, Entry, EntryOrNull, Map}
 use Rattle.bq_states.specs.declared.abstract_state.AbstractValue.{AbstractValue}
-use Rattle.bq_needs.specs.Saying.{Says, any_number, number, number_below, context, stack_begin, stack_end, entry, entry_or_null, map_reference, TellsPlace, there, above, under}
-use Rattle.bq_needs.specs.Texts.{below_text, minus_text, range_text, number_text, offset_text, stack_text, kind_text, known_text}
+use Rattle.bq_needs.specs.Saying.{Says, any_number, number, number_below, context, stack_begin, stack_end, entry, entry_or_null, map_reference, IsEntryOf, TellsMap, itself, alike, TellsPlace, there, above, under}
+use Rattle.bq_needs.specs.Texts.{below_text, is_shared, map_name, minus_text, range_text, number_text, offset_text, same_shape, stack_text, kind_text, known_text}
 
 -- with what made the sum wrap taken away, the address is the place itself
 pub wrap_taken_away : (place o n : ℕ) → o + n ≡ 2 ^ 64 → ((place + o) % 2 ^ 64 + n) % 2 ^ 64 ≡ place % 2 ^ 64
@@ -80,8 +84,77 @@ tells_number shapes r word within =
           ]
     ]
 
+count_first : (p : MapShape → Bool) (shape : MapShape) (rest : List MapShape) → p shape ≡ true → count_by p (shape ∷ rest) ≡ 1 + count_by p rest
+count_first p shape rest counts = sum_by-cons (λ s. cond (p s) 1 0) shape rest ∙ ap (λ (b : Bool). cond b 1 0 + count_by p rest) counts
+
+count_rest : (p : MapShape → Bool) (first : MapShape) (rest : List MapShape) → count_by p rest ≤ count_by p (first ∷ rest)
+count_rest p first rest = let sum = sum_by-cons (λ s. cond (p s) 1 0) first rest in omega (arith, sum)
+
+one_counted : (p : MapShape → Bool) (shapes : List MapShape) (m : ℕ) (shape : MapShape) → slice_get shapes m ≡ Some shape → p shape ≡ true → 1 ≤ count_by p shapes
+one_counted p [] m shape is counts = absurd cc
+one_counted p (x ∷ rest) zero shape is counts =
+    let first = count_first p x rest (ap p (same_Some x shape is) ∙ counts) in
+    omega (arith, first)
+one_counted p (x ∷ rest) (suc m) shape is counts =
+    let later = one_counted p rest m shape is counts in
+    let more = count_rest p x rest in
+    omega (arith, later, more)
+
+-- where two maps have the shape, more than one is counted
+two_counted : (p : MapShape → Bool) (shapes : List MapShape) (m n : ℕ) (shape : MapShape) → slice_get shapes m ≡ Some shape → slice_get shapes n ≡ Some shape → p shape ≡ true → m < n → 1 < count_by p shapes
+two_counted p [] m n shape is also counts less = absurd cc
+two_counted p (x ∷ rest) m zero shape is also counts less = absurd (omega (arith, less))
+two_counted p (x ∷ rest) zero (suc n) shape is also counts less =
+    let first = count_first p x rest (ap p (same_Some x shape is) ∙ counts) in
+    let later = one_counted p rest n shape also counts in
+    omega (arith, first, later)
+two_counted p (x ∷ rest) (suc m) (suc n) shape is also counts less =
+    let later = two_counted p rest m n shape is also counts (omega (arith, less)) in
+    let more = count_rest p x rest in
+    omega (arith, later, more)
+
+same_itself : (shape : MapShape) → same_shape shape shape ≡ true
+same_itself shape = grind arith
+
+-- where two maps have one shape, and not more than one has it, they are one
+one_alone : (shapes : List MapShape) (m n : ℕ) → AreAlike shapes m n → is_shared shapes (slice_get shapes m) ≡ false → m ≡ n
+one_alone shapes m n both alone =
+    let few : nat_lt 1 (count_by (same_shape both.shape) shapes) ≡ false = rw both.one at alone in
+    let most : count_by (same_shape both.shape) shapes ≤ 1 = grind (arith, few) in
+    elim (cases_lt m n) [
+      | inl less ↦
+          let more = two_counted (same_shape both.shape) shapes m n both.shape both.one both.other (same_itself both.shape) less in
+          absurd (omega (arith, most, more))
+      | inr least ↦
+          elim (cases_lt n m) [
+            | inl less ↦
+                let more = two_counted (same_shape both.shape) shapes n m both.shape both.other both.one (same_itself both.shape) less in
+                absurd (omega (arith, most, more))
+            | inr greatest ↦ omega (arith, least, greatest)
+          ]
+    ]
+
+-- the name that is printed tells each map of that shape
+tells_map : (shapes : List MapShape) (m n : ℕ) → AreAlike shapes m n → TellsMap shapes (map_name shapes m) n
+tells_map shapes m n both =
+    elim (is_shared shapes (slice_get shapes m)) as (λ b. is_shared shapes (slice_get shapes m) ≡ b → TellsMap shapes (if b then codes "map " ++ (decimal m ++ codes " or a map like it") else codes "map " ++ decimal m) n) [
+      | true ↦ λ shared. alike m n (both.other ∙ sym both.one)
+      | false ↦ λ alone. subst (λ (k : ℕ). TellsMap shapes (codes "map " ++ decimal m) k) (one_alone shapes m n both alone) (itself m)
+    ] refl
+
+-- and that map itself
+tells_itself : (shapes : List MapShape) (m : ℕ) → TellsMap shapes (map_name shapes m) m
+tells_itself shapes m =
+    elim (is_shared shapes (slice_get shapes m)) as (λ b. TellsMap shapes (if b then codes "map " ++ (decimal m ++ codes " or a map like it") else codes "map " ++ decimal m) m) [
+      | true ↦ alike m m refl
+      | false ↦ itself m
+    ]
+
+entry_of : (shapes : List MapShape) (m base : ℕ) → (from : IsEntryBase shapes m base) → IsEntryOf shapes from.map base
+entry_of shapes m base from = record { first = from.first; size = from.size; entry = from.entry; base_is = from.base_is }
+
 -- a word of each kind is said
-pub tells_kind : (shapes : List MapShape) (kind : ValueKind) (r : Range) (base o word : ℕ) → IsBase shapes kind base → Within r o → word ≡ (base + o) % 2 ^ 64 → Says shapes (kind_text kind r) word
+pub tells_kind : (shapes : List MapShape) (kind : ValueKind) (r : Range) (base o word : ℕ) → IsBase shapes kind base → Within r o → word ≡ (base + o) % 2 ^ 64 → Says shapes (kind_text shapes kind r) word
 tells_kind shapes Number r base o word from within is =
     let fits = r.fits in
     let same : word ≡ o = omega (arith, from, within, is, fits) in
@@ -91,12 +164,15 @@ tells_kind shapes Context r base o word from within is =
 tells_kind shapes Stack r base o word from within is =
     tells_stack shapes r o word within (is ∙ ap (λ (b : ℕ). (b + o) % 2 ^ 64) from)
 tells_kind shapes (Entry map) r base o word from within is =
-    entry shapes (offset_text r) map base word from (tells_offset r o base word within is)
-tells_kind shapes (EntryOrNull map) r base o word from within is =
-    entry_or_null shapes (offset_text r) map base word from (tells_offset r o base word within is)
+    entry shapes (map_name shapes map) (offset_text r) from.map base word (tells_map shapes map from.map from.alike) (entry_of shapes map base from) (tells_offset r o base word within is)
+tells_kind shapes (EntryOrNull map) r base o word (inl null) within is =
+    entry_or_null shapes (map_name shapes map) (offset_text r) map base word (tells_itself shapes map) (inl null) (tells_offset r o base word within is)
+tells_kind shapes (EntryOrNull map) r base o word (inr from) within is =
+    entry_or_null shapes (map_name shapes map) (offset_text r) from.map base word (tells_map shapes map from.map from.alike) (inr (entry_of shapes map base from)) (tells_offset r o base word within is)
 tells_kind shapes (Map map) r base o word from within is =
-    map_reference shapes (offset_text r) map word from.1 (tells_offset r o (reference map) word within (is ∙ ap (λ (b : ℕ). (b + o) % 2 ^ 64) from.0))
+    map_reference shapes (map_name shapes map) (offset_text r) from.map word (tells_map shapes map from.map from.alike) (slice_get_within shapes from.map from.alike.shape from.alike.other)
+    (tells_offset r o (reference from.map) word within (is ∙ ap (λ (b : ℕ). (b + o) % 2 ^ 64) from.base_is))
 
 -- what is printed of a word says of each word that it may be what it is
-pub says_known : (k : AbstractValue) (shapes : List MapShape) (word : ℕ) → Describes shapes k word → Says shapes (known_text k) word
-says_known k shapes word d = tells_kind shapes k.kind k.offset d.base d.offset word d.is_base d.within d.word_is
+pub says_known : (shapes : List MapShape) (k : AbstractValue) (word : ℕ) → Describes shapes k word → Says shapes (known_text shapes k) word
+says_known shapes k word d = tells_kind shapes k.kind k.offset d.base d.offset word d.is_base d.within d.word_is

@@ -1,6 +1,7 @@
 -- When the abstract state shows an access to be good, and what a text tells of one that it does not.
 use Rattle.std.specs.Prelude.{◌≡◌, ◌≢◌, ℕ, ℤ, ◌+◌, ◌-◌, ◌%◌, ◌^◌, ◌<◌, ◌≤◌, ◌==◌, Bool, true, false, List, ◌++◌, Some, None, codes, if◌then◌else◌, slice_get, slice_index_or}
 use Rattle.std.specs.Fmt.{decimal}
+use Rattle.bq_bpf.specs.declared.shape.MapShape.{MapShape}
 use Rattle.bq_bpf.specs.Steps.{address_of}
 use Rattle.bq_ranges.specs.Within.{Within}
 use Rattle.bq_ranges.specs.declared.range.Range.{Range}
@@ -16,7 +17,7 @@ use Rattle.bq_policy_file.specs.declared.policy_source.PolicySource.{PolicySourc
 use Rattle.bq_needs.specs.declared.accesses.Lack.TheVariants as lack
 use Rattle.bq_needs.specs.declared.accesses.Lack.{Lack}
 use Rattle.bq_needs.specs.declared.operands.Access.{Access}
-use Rattle.bq_needs.specs.Texts.{kind_text, known_text}
+use Rattle.bq_needs.specs.Texts.{kind_text, known_text, map_name}
 
 -- where the access begins, counted from where its pointer counts from, if the pointer is so far above that
 abbrev pub begin_of : Access → ℕ → ℕ
@@ -98,26 +99,27 @@ may_be_null (kind.EntryOrNull map) = true
 may_be_null _ = false
 
 -- the register and what is known of it; of the answer of a look-up that it may be null
-abbrev pub register_text : ℕ → AbstractValue → List ℕ
-register_text r k = if may_be_null k.kind then codes "r" ++ (decimal r ++ codes ", which may be null") else codes "r" ++ (decimal r ++ (codes ", which is " ++ known_text k))
+abbrev pub register_text : List MapShape → ℕ → AbstractValue → List ℕ
+register_text shapes r k =
+    if may_be_null k.kind then codes "r" ++ (decimal r ++ codes ", which may be null") else codes "r" ++ (decimal r ++ (codes ", which is " ++ known_text shapes k))
 
 -- what a pointer that may be followed counts from
-abbrev pub place_text : ValueKind → List ℕ
-place_text (kind.Entry map) = codes "entry of map " ++ decimal map
-place_text kind.Stack = codes "stack begin"
-place_text _ = codes "context"
+abbrev pub place_text : List MapShape → ValueKind → List ℕ
+place_text shapes (kind.Entry map) = codes "entry of " ++ map_name shapes map
+place_text shapes kind.Stack = codes "stack begin"
+place_text shapes _ = codes "context"
 
 -- from so far below that to so far above it
-abbrev pub across_text : Access → AbstractValue → List ℕ
-across_text a k =
-    place_text k.kind ++ (codes " -" ++ (decimal ((2 ^ 64 - address_of k.offset.lo a.off) % 2 ^ 64) ++ (codes ".." ++ decimal (address_of k.offset.hi a.off))))
+abbrev pub across_text : List MapShape → Access → AbstractValue → List ℕ
+across_text shapes a k =
+    place_text shapes k.kind ++ (codes " -" ++ (decimal ((2 ^ 64 - address_of k.offset.lo a.off) % 2 ^ 64) ++ (codes ".." ++ decimal (address_of k.offset.hi a.off))))
 
 -- the text tells where it begins: of a pointer that may be followed, how far from what that counts from, as a range of words, or, where its words begin again
 -- from 0 on the way, from so far below to so far above; of one that may not, by which register and what is known of that
-pub data TellsBegin (a : Access) (k : AbstractValue) : List ℕ → Type 0 where
-  counted : (at : Range) → Follows k.kind → IsMoved a.off k.offset at → TellsBegin a k (kind_text k.kind at)
-  across : Follows k.kind → Wraps a.off k.offset → TellsBegin a k (across_text a k)
-  by_register : (Follows k.kind → ⊥) → TellsBegin a k (register_text a.register k)
+pub data TellsBegin (shapes : List MapShape) (a : Access) (k : AbstractValue) : List ℕ → Type 0 where
+  counted : (at : Range) → Follows k.kind → IsMoved a.off k.offset at → TellsBegin shapes a k (kind_text shapes k.kind at)
+  across : Follows k.kind → Wraps a.off k.offset → TellsBegin shapes a k (across_text shapes a k)
+  by_register : (Follows k.kind → ⊥) → TellsBegin shapes a k (register_text shapes a.register k)
 
 abbrev pub verb : Bool → List ℕ
 verb true = codes "writes"

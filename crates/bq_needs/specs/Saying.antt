@@ -1,9 +1,8 @@
 -- What a text says of a word, as it is read.
-use Rattle.std.specs.Prelude.{◌≡◌, ℕ, ◌+◌, ◌%◌, ◌^◌, ◌<◌, ◌≤◌, ◌⊎◌, List, [], ◌++◌, length, codes}
+use Rattle.std.specs.Prelude.{◌≡◌, ℕ, ◌+◌, ◌%◌, ◌^◌, ◌<◌, ◌≤◌, ◌⊎◌, List, [], ◌++◌, length, codes, slice_get}
 use Rattle.std.specs.Fmt.{decimal}
 use Rattle.bq_bpf.specs.declared.shape.MapShape.{MapShape}
-use Rattle.bq_bpf.specs.Memory.{reference, context_base, stack_base, stack_size}
-use Rattle.bq_states.specs.AbstractStates.{IsEntryBase}
+use Rattle.bq_bpf.specs.Memory.{IsEntry, reference, values_base, context_base, stack_base, stack_size}
 use Rattle.bq_needs.specs.Texts.{below_text, between, minus_text}
 
 -- the word is so far from a place: nothing is added, or a number of a range, or a number of a range is taken away
@@ -11,6 +10,18 @@ pub data TellsPlace : List ℕ → ℕ → ℕ → Type 0 where
   there : (place word : ℕ) → word ≡ place % 2 ^ 64 → TellsPlace [] place word
   above : (lo hi n place word : ℕ) → lo ≤ n → n ≤ hi → word ≡ (place + n) % 2 ^ 64 → TellsPlace (codes " + " ++ between lo hi) place word
   under : (far near n place word : ℕ) → near ≤ n → n ≤ far → (word + n) % 2 ^ 64 ≡ place % 2 ^ 64 → TellsPlace (below_text far near) place word
+
+-- the text names the map, or a map of its shape and that it may be another one
+pub data TellsMap (shapes : List MapShape) : List ℕ → ℕ → Type 0 where
+  itself : (map : ℕ) → TellsMap shapes (codes "map " ++ decimal map) map
+  alike : (named map : ℕ) → slice_get shapes map ≡ slice_get shapes named → TellsMap shapes (codes "map " ++ (decimal named ++ codes " or a map like it")) map
+
+-- the first address of some entry of that very map
+pub record IsEntryOf (shapes : List MapShape) (map base : ℕ) : Type 0 where
+  pub first : ℕ
+  pub size : ℕ
+  pub entry : IsEntry shapes map first size
+  pub base_is : base ≡ values_base map + first
 
 -- the word is as the text says; a number below zero is the word that makes 2^64 with what is taken away
 pub data Says : List MapShape → List ℕ → ℕ → Type 0 where
@@ -20,6 +31,6 @@ pub data Says : List MapShape → List ℕ → ℕ → Type 0 where
   context : (shapes : List MapShape) (text : List ℕ) (word : ℕ) → TellsPlace text context_base word → Says shapes (codes "context" ++ text) word
   stack_begin : (shapes : List MapShape) (text : List ℕ) (word : ℕ) → TellsPlace text stack_base word → Says shapes (codes "stack begin" ++ text) word
   stack_end : (shapes : List MapShape) (text : List ℕ) (word : ℕ) → TellsPlace text (stack_base + stack_size) word → Says shapes (codes "stack end" ++ text) word
-  entry : (shapes : List MapShape) (text : List ℕ) (map base word : ℕ) → IsEntryBase shapes map base → TellsPlace text base word → Says shapes (codes "entry of map " ++ (decimal map ++ text)) word
-  entry_or_null : (shapes : List MapShape) (text : List ℕ) (map base word : ℕ) → (base ≡ 0) ⊎ IsEntryBase shapes map base → TellsPlace text base word → Says shapes (codes "entry of map " ++ (decimal map ++ (codes " or null" ++ (text ++ codes ", not tested")))) word
-  map_reference : (shapes : List MapShape) (text : List ℕ) (map word : ℕ) → map < length shapes → TellsPlace text (reference map) word → Says shapes (codes "map " ++ (decimal map ++ text)) word
+  entry : (shapes : List MapShape) (name text : List ℕ) (map base word : ℕ) → TellsMap shapes name map → IsEntryOf shapes map base → TellsPlace text base word → Says shapes (codes "entry of " ++ (name ++ text)) word
+  entry_or_null : (shapes : List MapShape) (name text : List ℕ) (map base word : ℕ) → TellsMap shapes name map → (base ≡ 0) ⊎ IsEntryOf shapes map base → TellsPlace text base word → Says shapes (codes "entry of " ++ (name ++ (codes " or null" ++ (text ++ codes ", not tested")))) word
+  map_reference : (shapes : List MapShape) (name text : List ℕ) (map word : ℕ) → TellsMap shapes name map → map < length shapes → TellsPlace text (reference map) word → Says shapes (name ++ text) word

@@ -1,6 +1,7 @@
 -- How what is known of a word is printed.
-use Rattle.std.specs.Prelude.{ℕ, ◌-◌, ◌^◌, ◌==◌, ◌&&◌, nat_lt, List, [], ◌++◌, codes, if◌then◌else◌}
+use Rattle.std.specs.Prelude.{ℕ, ◌-◌, ◌^◌, ◌==◌, ◌&&◌, nat_lt, Bool, false, List, [], ◌++◌, Option, Some, None, codes, count_by, slice_get, if◌then◌else◌}
 use Rattle.std.specs.Fmt.{decimal}
+use Rattle.bq_bpf.specs.declared.shape.MapShape.{MapShape}
 use Rattle.bq_bpf.specs.Memory.{stack_size}
 use Rattle.bq_ranges.specs.declared.range.Range.{Range}
 use Rattle.bq_states.specs.declared.abstract_state.ValueKind.{ValueKind}
@@ -41,15 +42,28 @@ stack_text r =
     if nat_lt stack_size r.hi then codes "stack begin" ++ offset_text r
     else if r.lo == stack_size then codes "stack end" else codes "stack end" ++ below_text (stack_size - r.lo) (stack_size - r.hi)
 
+abbrev pub same_shape : MapShape → MapShape → Bool
+same_shape a b = (a.value_size == b.value_size) && (a.entries == b.entries)
+
+-- more than one of the maps has that shape
+abbrev pub is_shared : List MapShape → Option MapShape → Bool
+is_shared shapes None = false
+is_shared shapes (Some shape) = nat_lt 1 (count_by (same_shape shape) shapes)
+
+-- a map by its number; where another one has its shape, that it may be that one
+abbrev pub map_name : List MapShape → ℕ → List ℕ
+map_name shapes map =
+    if is_shared shapes (slice_get shapes map) then codes "map " ++ (decimal map ++ codes " or a map like it") else codes "map " ++ decimal map
+
 -- a word of a kind, by the range of its offset
-abbrev pub kind_text : ValueKind → Range → List ℕ
-kind_text Number r = number_text r
-kind_text Context r = codes "context" ++ offset_text r
-kind_text Stack r = stack_text r
-kind_text (Entry map) r = codes "entry of map " ++ (decimal map ++ offset_text r)
-kind_text (EntryOrNull map) r = codes "entry of map " ++ (decimal map ++ (codes " or null" ++ (offset_text r ++ codes ", not tested")))
-kind_text (Map map) r = codes "map " ++ (decimal map ++ offset_text r)
+abbrev pub kind_text : List MapShape → ValueKind → Range → List ℕ
+kind_text shapes Number r = number_text r
+kind_text shapes Context r = codes "context" ++ offset_text r
+kind_text shapes Stack r = stack_text r
+kind_text shapes (Entry map) r = codes "entry of " ++ (map_name shapes map ++ offset_text r)
+kind_text shapes (EntryOrNull map) r = codes "entry of " ++ (map_name shapes map ++ (codes " or null" ++ (offset_text r ++ codes ", not tested")))
+kind_text shapes (Map map) r = map_name shapes map ++ offset_text r
 
 -- what is known of a word
-abbrev pub known_text : AbstractValue → List ℕ
-known_text k = kind_text k.kind k.offset
+abbrev pub known_text : List MapShape → AbstractValue → List ℕ
+known_text shapes k = kind_text shapes k.kind k.offset

@@ -5,6 +5,7 @@ use Rattle.bq_insn.specs.declared.Insn.{Insn}
 use Rattle.bq_insn.specs.declared.Insn.TheVariants.{Alu, StoreReg, Branch}
 use Rattle.bq_insn.specs.declared.Width.TheVariants.{W64}
 use Rattle.bq_insn.specs.declared.Operation.TheVariants.{Add, Sub}
+use Rattle.bq_bpf.specs.declared.shape.MapShape.{MapShape}
 use Rattle.bq_states.specs.declared.abstract_state.ValueKind.{ValueKind}
 use Rattle.bq_states.specs.declared.abstract_state.ValueKind.TheVariants as kind
 use Rattle.bq_states.specs.declared.abstract_state.AbstractValue.{AbstractValue}
@@ -37,8 +38,8 @@ abbrev pub address_text : Accessed → List ℕ
 address_text a = verb a.writes ++ (codes " " ++ (decimal a.bytes ++ (codes " " ++ (noun a.bytes ++ (codes " at r" ++ (decimal a.register ++ codes ", of which nothing is known here"))))))
 
 -- an access and where it begins
-abbrev pub TellsAccess : Accessed → AbstractValue → List ℕ → Type 0
-TellsAccess a k text = (begin : List ℕ) × TellsBegin a k begin × (text ≡ access_text a begin)
+abbrev pub TellsAccess : List MapShape → Accessed → AbstractValue → List ℕ → Type 0
+TellsAccess shapes a k text = (begin : List ℕ) × TellsBegin shapes a k begin × (text ≡ access_text a begin)
 
 -- the instruction adds to the register or takes from it, or adds it to a number, in 64 bits: the reference of a map aside, a pointer takes that
 abbrev pub moves : Insn → ℕ → Bool
@@ -63,8 +64,8 @@ pointer_rule (Branch w c dst src off) p = codes "of pointers only the answer of 
 pointer_rule insn p = other_rule insn p
 
 -- a pointer that is worked on
-abbrev pub pointer_text : Pointer → Insn → List ℕ
-pointer_text pointer insn = codes "works on " ++ (register_text pointer.register pointer.known ++ (codes "; " ++ pointer_rule insn pointer))
+abbrev pub pointer_text : List MapShape → Pointer → Insn → List ℕ
+pointer_text shapes pointer insn = codes "works on " ++ (register_text shapes pointer.register pointer.known ++ (codes "; " ++ pointer_rule insn pointer))
 
 -- how many maps a program has, and their numbers
 abbrev pub maps_text : ℕ → List ℕ
@@ -77,27 +78,27 @@ abbrev pub map_text : ℤ → ℕ → List ℕ
 map_text index count = codes "names map " ++ (signed_decimal index ++ (codes "; the program has " ++ maps_text count))
 
 -- what is known of an argument
-abbrev pub here_text : ℕ → Option AbstractValue → List ℕ
-here_text r None = codes "nothing is known of r" ++ decimal r
-here_text r (Some k) = codes "r" ++ (decimal r ++ (codes " is " ++ known_text k))
+abbrev pub here_text : List MapShape → ℕ → Option AbstractValue → List ℕ
+here_text shapes r None = codes "nothing is known of r" ++ decimal r
+here_text shapes r (Some k) = codes "r" ++ (decimal r ++ (codes " is " ++ known_text shapes k))
 
 -- what a helper needs an argument to be, and what is known of it
-abbrev pub argument_text : AbstractState → ℤ → Wanted → List ℕ
-argument_text state helper a =
-    codes "calls helper " ++ (signed_decimal helper ++ (codes ", which wants " ++ (wanted_text a ++ (codes "; here " ++ here_text (register_of a) (known_in state (register_of a))))))
+abbrev pub argument_text : List MapShape → AbstractState → ℤ → Wanted → List ℕ
+argument_text shapes state helper a =
+    codes "calls helper " ++ (signed_decimal helper ++ (codes ", which wants " ++ (wanted_text a ++ (codes "; here " ++ here_text shapes (register_of a) (known_in state (register_of a))))))
 
 -- what is known of register 0 at an EXIT
-abbrev pub answer_text : Option AbstractValue → List ℕ
-answer_text None = codes "ends, and nothing is known of r0, the answer"
-answer_text (Some k) = codes "ends, and r0, the answer, is " ++ (known_text k ++ codes "; an answer is a number")
+abbrev pub answer_text : List MapShape → Option AbstractValue → List ℕ
+answer_text shapes None = codes "ends, and nothing is known of r0, the answer"
+answer_text shapes (Some k) = codes "ends, and r0, the answer, is " ++ (known_text shapes k ++ codes "; an answer is a number")
 
 -- the text tells the need of the instruction
 abbrev pub TellsNeed : PolicySource → AbstractState → Insn → Need → List ℕ → Type 0
 TellsNeed p state insn (Unknown registers) text = text ≡ unknown_text registers
 TellsNeed p state insn (Address a) text = text ≡ address_text a
-TellsNeed p state insn (Access a k lack) text = (told : List ℕ) × TellsAccess a k told × (text ≡ told ++ (codes "; " ++ lack_text p lack))
-TellsNeed p state insn (Number pointer) text = text ≡ pointer_text pointer insn
+TellsNeed p state insn (Access a k lack) text = (told : List ℕ) × TellsAccess p.form.shapes.items a k told × (text ≡ told ++ (codes "; " ++ lack_text p lack))
+TellsNeed p state insn (Number pointer) text = text ≡ pointer_text p.form.shapes.items pointer insn
 TellsNeed p state insn (Map index) text = text ≡ map_text index (length p.form.shapes.items)
-TellsNeed p state insn (Argument helper a) text = text ≡ argument_text state helper a
-TellsNeed p state insn (Answer known) text = text ≡ answer_text known
+TellsNeed p state insn (Argument helper a) text = text ≡ argument_text p.form.shapes.items state helper a
+TellsNeed p state insn (Answer known) text = text ≡ answer_text p.form.shapes.items known
 TellsNeed p state insn Unshown text = text ≡ codes "is not shown to be safe"

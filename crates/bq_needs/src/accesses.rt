@@ -2,11 +2,11 @@
 ghost use Rattle.std.specs.Prelude.{◌≡◌, ◌⊎◌, ◌↔◌, ◌<◌, ◌≤◌, ◌+◌, IfOk, IfNone, IsTrue, MatchBool, MatchOption, Some, false, true, string_bytes};
 ghost use Rattle.bq_needs.specs.Accesses.{AreSet, Follows, GoesBeyond, IsMoved, IsShown, Lacks, ReachesLast, Stays, TellsBegin, TouchesUnset, Wraps, across_text, begin_of, lack_text, may_be_null, place_text, register_text};
 
-use crate::known::{kind_text, known_text};
+use crate::known::{kind_text, known_text, map_name};
 use crate::operands::Access;
 use bq_bpf::addresses::STACK_SIZE;
-use bq_bpf::with_stack_size;
 use bq_bpf::words::address;
+use bq_bpf::{MapShape, with_stack_size};
 use bq_policy_file::PolicySource;
 use bq_ranges::Range;
 use bq_states::abstract_state::{AbstractState, AbstractValue, ValueKind};
@@ -180,36 +180,45 @@ fn moved(offsets: Range, off: i16) -> Option<Range>
 #[tactic(auto, using(crate::proofs::AccessLemmas::tells_counted, crate::proofs::AccessLemmas::tells_register, crate::proofs::AccessLemmas::tells_across))]
 pub(crate) fn begin_text(
     alloc: Global,
+    shapes: &[MapShape],
     access: Access,
     pointer: AbstractValue,
 ) -> Result<String, AllocError>
-    ensures { IfOk result (λ text. TellsBegin access pointer (string_bytes text)) }
+    ensures { IfOk result (λ text. TellsBegin shapes.now access pointer (string_bytes text)) }
 {
     if !is_followed(pointer.kind) {
-        return register_text(alloc, access.register, pointer);
+        return register_text(alloc, shapes, access.register, pointer);
     }
     match begin_range(access, pointer) {
-        Some(at) => kind_text(alloc, pointer.kind, at),
-        None => across_text(alloc, access, pointer),
+        Some(at) => kind_text(alloc, shapes, pointer.kind, at),
+        None => across_text(alloc, shapes, access, pointer),
     }
 }
 
 /// Where an access begins that may begin below what its pointer counts from, and above: `context -7..0`.
-fn across_text(alloc: Global, access: Access, pointer: AbstractValue) -> Result<String, AllocError>
-    ensures { IfOk result (λ text. string_bytes text ≡ across_text access pointer) }
+fn across_text(
+    alloc: Global,
+    shapes: &[MapShape],
+    access: Access,
+    pointer: AbstractValue,
+) -> Result<String, AllocError>
+    ensures { IfOk result (λ text. string_bytes text ≡ across_text shapes.now access pointer) }
 {
-    let place = place_text(alloc, pointer.kind)?;
+    let place = place_text(alloc, shapes, pointer.kind)?;
     let below = address(pointer.offset.lo, access.off).wrapping_neg();
     let above = address(pointer.offset.hi, access.off);
     format!(in alloc; "{place} -{below}..{above}")
 }
 
 /// What a pointer that may be followed counts from.
-fn place_text(alloc: Global, kind: ValueKind) -> Result<String, AllocError>
-    ensures { IfOk result (λ text. string_bytes text ≡ place_text kind) }
+fn place_text(alloc: Global, shapes: &[MapShape], kind: ValueKind) -> Result<String, AllocError>
+    ensures { IfOk result (λ text. string_bytes text ≡ place_text shapes.now kind) }
 {
     match kind {
-        ValueKind::Entry(map) => format!(in alloc; "entry of map {map}"),
+        ValueKind::Entry(map) => {
+            let name = map_name(alloc, shapes, map)?;
+            format!(in alloc; "entry of {name}")
+        }
         ValueKind::Stack => String::from_str(alloc, "stack begin"),
         _ => String::from_str(alloc, "context"),
     }
@@ -229,15 +238,16 @@ fn begin_range(access: Access, pointer: AbstractValue) -> Option<Range>
 /// The register, and what is known of it; of the answer of a look-up that it may be null.
 pub(crate) fn register_text(
     alloc: Global,
+    shapes: &[MapShape],
     register: u8,
     known: AbstractValue,
 ) -> Result<String, AllocError>
-    ensures { IfOk result (λ text. string_bytes text ≡ register_text register known) }
+    ensures { IfOk result (λ text. string_bytes text ≡ register_text shapes.now register known) }
 {
     if may_be_null(known.kind) {
         return format!(in alloc; "r{register}, which may be null");
     }
-    let told = known_text(alloc, &known)?;
+    let told = known_text(alloc, shapes, &known)?;
     format!(in alloc; "r{register}, which is {told}")
 }
 

@@ -1,14 +1,15 @@
 //! What is known of one word, as text.
-ghost use Rattle.std.specs.Prelude.{◌≡◌, ◌-◌, ◌^◌, ◌<◌, ◌++◌, ℕ, List, IfOk};
+ghost use Rattle.std.specs.Prelude.{◌≡◌, ◌-◌, ◌^◌, ◌<◌, ◌++◌, ℕ, IfOk, count_by, slice_get};
 ghost use Rattle.std.specs.String.{string_bytes};
-ghost use Rattle.bq_bpf.specs.declared.shape.MapShape.{MapShape};
 ghost use Rattle.bq_states.specs.AbstractStates.{Describes};
 ghost use Rattle.bq_needs.specs.Saying.{Says};
-ghost use Rattle.bq_needs.specs.Texts.{below_text, between, kind_text, known_text, minus_text, number_text, offset_text, range_text, stack_text};
+ghost use Rattle.bq_needs.specs.Texts.{below_text, between, is_shared, kind_text, known_text, map_name, minus_text, number_text, offset_text, range_text, same_shape, stack_text};
 
+use bq_bpf::MapShape;
 use bq_bpf::addresses::STACK_SIZE;
 use bq_ranges::Range;
 use bq_states::abstract_state::{AbstractValue, ValueKind};
+use bq_states::places::shape_of;
 use std::alloc::{AllocError, Global};
 
 /// Words from here on are printed as numbers below zero.
@@ -31,38 +32,90 @@ pub fn range_text(alloc: Global, range: Range) -> Result<String, AllocError>
     between(alloc, range.lo, range.hi)
 }
 
-/// What is known of a word: a number, or a pointer by what it counts from and how far above or below that it is. Each word of which
-/// that is known is as the text says.
+/// What is known of a word in a program of such maps: a number, or a pointer by what it counts from and how far above or below that it is.
+/// Each word of which that is known is as the text says.
 #[tactic(auto, using(crate::proofs::SayingLemmas::says_known))]
-pub fn known_text(alloc: Global, known: &AbstractValue) -> Result<String, AllocError>
-    ensures text { IfOk result (λ text. string_bytes text ≡ known_text known.now) }
-    ensures says { IfOk result (λ text. (shapes : List MapShape) (word : ℕ) → Describes shapes known.now word → Says shapes (string_bytes text) word) }
+pub fn known_text(
+    alloc: Global,
+    shapes: &[MapShape],
+    known: &AbstractValue,
+) -> Result<String, AllocError>
+    ensures text { IfOk result (λ text. string_bytes text ≡ known_text shapes.now known.now) }
+    ensures says { IfOk result (λ text. (word : ℕ) → Describes shapes.now known.now word → Says shapes.now (string_bytes text) word) }
 {
-    let text = kind_text(alloc, known.kind, known.offset)?;
+    let text = kind_text(alloc, shapes, known.kind, known.offset)?;
     Ok(text)
 }
 
 /// A word of a kind, by the range of its offset.
-pub(crate) fn kind_text(alloc: Global, kind: ValueKind, range: Range) -> Result<String, AllocError>
-    ensures { IfOk result (λ text. string_bytes text ≡ kind_text kind range) }
+pub(crate) fn kind_text(
+    alloc: Global,
+    shapes: &[MapShape],
+    kind: ValueKind,
+    range: Range,
+) -> Result<String, AllocError>
+    ensures { IfOk result (λ text. string_bytes text ≡ kind_text shapes.now kind range) }
 {
     match kind {
         ValueKind::Number => number_text(alloc, range),
         ValueKind::Context => pointer_text(alloc, "context", range),
         ValueKind::Stack => stack_text(alloc, range),
         ValueKind::Entry(map) => {
+            let name = map_name(alloc, shapes, map)?;
             let offset = offset_text(alloc, range)?;
-            format!(in alloc; "entry of map {map}{offset}")
+            format!(in alloc; "entry of {name}{offset}")
         }
         ValueKind::EntryOrNull(map) => {
+            let name = map_name(alloc, shapes, map)?;
             let offset = offset_text(alloc, range)?;
-            format!(in alloc; "entry of map {map} or null{offset}, not tested")
+            format!(in alloc; "entry of {name} or null{offset}, not tested")
         }
         ValueKind::Map(map) => {
+            let name = map_name(alloc, shapes, map)?;
             let offset = offset_text(alloc, range)?;
-            format!(in alloc; "map {map}{offset}")
+            format!(in alloc; "{name}{offset}")
         }
     }
+}
+
+/// A map by its number; where another one has its shape, that it may be that one.
+pub(crate) fn map_name(alloc: Global, shapes: &[MapShape], map: u8) -> Result<String, AllocError>
+    ensures { IfOk result (λ text. string_bytes text ≡ map_name shapes.now map) }
+{
+    if is_shared(shapes, shape_of(shapes, map)) {
+        format!(in alloc; "map {map} or a map like it")
+    } else {
+        format!(in alloc; "map {map}")
+    }
+}
+
+/// Whether more than one of the maps has that shape.
+fn is_shared(shapes: &[MapShape], shape: Option<MapShape>) -> bool
+    ensures { result ≡ is_shared shapes.now shape }
+{
+    match shape {
+        Some(shape) => count_of(shapes, shape) > 1,
+        None => false,
+    }
+}
+
+/// How many of the maps have that shape.
+fn count_of(shapes: &[MapShape], shape: MapShape) -> usize
+    ensures { result ≡ count_by (same_shape shape) shapes.now }
+{
+    let mut count: usize = 0;
+    for other in shapes {
+        if is_same(shape, *other) {
+            count += 1;
+        }
+    }
+    count
+}
+
+fn is_same(shape: MapShape, other: MapShape) -> bool
+    ensures { result ≡ same_shape shape other }
+{
+    shape.value_size == other.value_size && shape.entries == other.entries
 }
 
 /// A number; of one of which nothing else is known it says so. A word of the upper half is below zero.

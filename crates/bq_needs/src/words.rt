@@ -9,6 +9,7 @@ use crate::arguments::{Argument, wanted_text};
 use crate::known::known_text;
 use crate::needs::{Need, Pointer};
 use crate::operands::{Access, Registers};
+use bq_bpf::MapShape;
 use bq_insn::{Insn, Operation, Width};
 use bq_policy_file::PolicySource;
 use bq_states::abstract_state::{AbstractState, AbstractValue, ValueKind};
@@ -25,6 +26,7 @@ pub fn need_text(
 ) -> Result<String, AllocError>
     ensures { IfOk result (λ text. TellsNeed policy.now state.now insn need (string_bytes text)) }
 {
+    let shapes = policy.form.shapes.as_slice();
     match need {
         Need::Unknown(registers) => unknown_text(alloc, &registers),
         Need::Address(access) => address_text(alloc, access),
@@ -33,14 +35,16 @@ pub fn need_text(
             pointer,
             lack,
         } => {
-            let told = access_text(alloc, access, pointer)?;
+            let told = access_text(alloc, shapes, access, pointer)?;
             let why = lack_text(alloc, policy, lack)?;
             format!(in alloc; "{told}; {why}")
         }
-        Need::Number(pointer) => pointer_text(alloc, pointer, insn),
+        Need::Number(pointer) => pointer_text(alloc, shapes, pointer, insn),
         Need::Map(index) => map_text(alloc, index, policy.form.shapes.len()),
-        Need::Argument { helper, argument } => argument_text(alloc, state, helper, argument),
-        Need::Answer(known) => answer_text(alloc, known),
+        Need::Argument { helper, argument } => argument_text(
+            alloc, shapes, state, helper, argument,
+        ),
+        Need::Answer(known) => answer_text(alloc, shapes, known),
         Need::Unshown => String::from_str(alloc, "is not shown to be safe"),
     }
 }
@@ -94,13 +98,18 @@ fn address_text(alloc: Global, access: Access) -> Result<String, AllocError>
 }
 
 /// How many bytes an access reads or writes, and from where.
-fn access_text(alloc: Global, access: Access, pointer: AbstractValue) -> Result<String, AllocError>
-    ensures { IfOk result (λ text. TellsAccess access pointer (string_bytes text)) }
+fn access_text(
+    alloc: Global,
+    shapes: &[MapShape],
+    access: Access,
+    pointer: AbstractValue,
+) -> Result<String, AllocError>
+    ensures { IfOk result (λ text. TellsAccess shapes.now access pointer (string_bytes text)) }
 {
     let verb = verb(access.writes);
     let bytes = access.bytes;
     let noun = noun(bytes);
-    let begin = begin_text(alloc, access, pointer)?;
+    let begin = begin_text(alloc, shapes, access, pointer)?;
     format!(in alloc; "{verb} {bytes} {noun} at {begin}")
 }
 
@@ -119,10 +128,15 @@ fn noun(bytes: usize) -> &'static str
 }
 
 /// A pointer that is worked on, and what may be done with it.
-fn pointer_text(alloc: Global, pointer: Pointer, insn: Insn) -> Result<String, AllocError>
-    ensures { IfOk result (λ text. string_bytes text ≡ pointer_text pointer insn) }
+fn pointer_text(
+    alloc: Global,
+    shapes: &[MapShape],
+    pointer: Pointer,
+    insn: Insn,
+) -> Result<String, AllocError>
+    ensures { IfOk result (λ text. string_bytes text ≡ pointer_text shapes.now pointer insn) }
 {
-    let told = register_text(alloc, pointer.register, pointer.known)?;
+    let told = register_text(alloc, shapes, pointer.register, pointer.known)?;
     let rule = pointer_rule(insn, pointer);
     format!(in alloc; "works on {told}; {rule}")
 }
@@ -215,24 +229,30 @@ fn maps_text(alloc: Global, count: usize) -> Result<String, AllocError>
 /// What a helper needs an argument to be, and what is known of it.
 fn argument_text(
     alloc: Global,
+    shapes: &[MapShape],
     state: &AbstractState,
     helper: i32,
     argument: Argument,
 ) -> Result<String, AllocError>
-    ensures { IfOk result (λ text. string_bytes text ≡ argument_text state.now helper argument) }
+    ensures { IfOk result (λ text. string_bytes text ≡ argument_text shapes.now state.now helper argument) }
 {
     let wanted = wanted_text(argument);
-    let here = here_text(alloc, state, argument.register())?;
+    let here = here_text(alloc, shapes, state, argument.register())?;
     format!(in alloc; "calls helper {helper}, which wants {wanted}; here {here}")
 }
 
 /// What is known of the register.
-fn here_text(alloc: Global, state: &AbstractState, register: u8) -> Result<String, AllocError>
-    ensures { IfOk result (λ text. string_bytes text ≡ here_text register (known_in state.now register)) }
+fn here_text(
+    alloc: Global,
+    shapes: &[MapShape],
+    state: &AbstractState,
+    register: u8,
+) -> Result<String, AllocError>
+    ensures { IfOk result (λ text. string_bytes text ≡ here_text shapes.now register (known_in state.now register)) }
 {
     match known(state, register) {
         Some(word) => {
-            let told = known_text(alloc, &word)?;
+            let told = known_text(alloc, shapes, &word)?;
             format!(in alloc; "r{register} is {told}")
         }
         None => format!(in alloc; "nothing is known of r{register}"),
@@ -240,12 +260,16 @@ fn here_text(alloc: Global, state: &AbstractState, register: u8) -> Result<Strin
 }
 
 /// What is known of the answer, which is not shown to be a number.
-fn answer_text(alloc: Global, known: Option<AbstractValue>) -> Result<String, AllocError>
-    ensures { IfOk result (λ text. string_bytes text ≡ answer_text known) }
+fn answer_text(
+    alloc: Global,
+    shapes: &[MapShape],
+    known: Option<AbstractValue>,
+) -> Result<String, AllocError>
+    ensures { IfOk result (λ text. string_bytes text ≡ answer_text shapes.now known) }
 {
     match known {
         Some(word) => {
-            let told = known_text(alloc, &word)?;
+            let told = known_text(alloc, shapes, &word)?;
             format!(in alloc; "ends, and r0, the answer, is {told}; an answer is a number")
         }
         None => String::from_str(alloc, "ends, and nothing is known of r0, the answer"),

@@ -60,9 +60,10 @@ pub(crate) fn fields_of_refusal(
     put_place(&mut fields, alloc, &refusal.place)?;
     let need = need_words(alloc, policy, refusal)?;
     put_text(&mut fields, alloc, "need", need.as_str())?;
-    let registers = registers_value(alloc, refusal.finding)?;
+    let shapes = policy.form.shapes.as_slice();
+    let registers = registers_value(alloc, shapes, refusal.finding)?;
     put(&mut fields, alloc, "registers", registers)?;
-    let trail = trail_value(alloc, refusal.trail.made.as_slice())?;
+    let trail = trail_value(alloc, shapes, refusal.trail.made.as_slice())?;
     put(&mut fields, alloc, "trail", trail)?;
     let advice = advice_text(alloc, policy, refusal.advice)?;
     put_text(&mut fields, alloc, "advice", advice.as_str())?;
@@ -137,20 +138,28 @@ pub(crate) fn number_value(number: Option<usize>) -> Value {
 }
 
 /// What is known of each register, by its name; null where nothing is known before the instruction.
-fn registers_value(alloc: Global, finding: Finding) -> Result<Value, AllocError> {
+fn registers_value(
+    alloc: Global,
+    shapes: &[MapShape],
+    finding: Finding,
+) -> Result<Value, AllocError> {
     match finding {
-        Finding::State { known, .. } => known_value(alloc, &known),
+        Finding::State { known, .. } => known_value(alloc, shapes, &known),
         Finding::Graph(_) | Finding::Unknown => Ok(Value::Null),
     }
 }
 
 /// What is known of each register of which something is.
-fn known_value(alloc: Global, state: &AbstractState) -> Result<Value, AllocError> {
+fn known_value(
+    alloc: Global,
+    shapes: &[MapShape],
+    state: &AbstractState,
+) -> Result<Value, AllocError> {
     let mut registers = Map::new(alloc);
     for register in 0..11usize {
         if let Some(known) = state.registers[register] {
             let name = format!(in alloc; "r{register}")?;
-            let text = known_text(alloc, &known)?;
+            let text = known_text(alloc, shapes, &known)?;
             put_text(&mut registers, alloc, name.as_str(), text.as_str())?;
         }
     }
@@ -158,16 +167,16 @@ fn known_value(alloc: Global, state: &AbstractState) -> Result<Value, AllocError
 }
 
 /// The instructions that made registers, the nearest first.
-fn trail_value(alloc: Global, trail: &[Made]) -> Result<Value, AllocError> {
+fn trail_value(alloc: Global, shapes: &[MapShape], trail: &[Made]) -> Result<Value, AllocError> {
     let mut values = Vec::new(alloc);
     for made in trail {
-        values.push(made_value(alloc, made)?)?;
+        values.push(made_value(alloc, shapes, made)?)?;
     }
     Ok(Value::Array(values))
 }
 
 /// An instruction that made a register, and what that is known to be right behind it.
-fn made_value(alloc: Global, made: &Made) -> Result<Value, AllocError> {
+fn made_value(alloc: Global, shapes: &[MapShape], made: &Made) -> Result<Value, AllocError> {
     let mut fields = Map::new(alloc);
     put_place(&mut fields, alloc, &made.place)?;
     let register = made.register;
@@ -177,16 +186,20 @@ fn made_value(alloc: Global, made: &Made) -> Result<Value, AllocError> {
         &mut fields,
         alloc,
         "known",
-        known_or_null(alloc, made.known)?,
+        known_or_null(alloc, shapes, made.known)?,
     )?;
     Ok(Value::Object(fields))
 }
 
 /// What is known of a word, or null.
-fn known_or_null(alloc: Global, known: Option<AbstractValue>) -> Result<Value, AllocError> {
+fn known_or_null(
+    alloc: Global,
+    shapes: &[MapShape],
+    known: Option<AbstractValue>,
+) -> Result<Value, AllocError> {
     match known {
         Some(known) => {
-            let text = known_text(alloc, &known)?;
+            let text = known_text(alloc, shapes, &known)?;
             Value::try_from_str(alloc, text.as_str())
         }
         None => Ok(Value::Null),

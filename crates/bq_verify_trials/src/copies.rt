@@ -48,8 +48,8 @@ Access 5
 ; a copy that is written is none
 ldxw r3, [r1+0]
 mov64 r2, r3
-add64 r2, 1
-jgt64 r3, 54, out
+lsh64 r2, 1
+jgt64 r3, 55, out
 
 Access 5
 ; nor is one of a register that is written

@@ -125,8 +125,13 @@ mov64 r0, 0
 exit
 ";
 
-/// Each program, of such a beginning and that end, has its answer beside two maps of one entry of 16 bytes each.
+/// Each program, of such a beginning and that end, has its answer beside a map of one entry of 16 bytes and a map of two.
 pub fn follows(rt: &impl Abort, alloc: Global, trials: &str, end: &str) {
-    let shape = shape(rt, 16, 1);
-    expect(rt, alloc, &[shape, shape], trials, end);
+    expect(
+        rt,
+        alloc,
+        &[shape(rt, 16, 1), shape(rt, 16, 2)],
+        trials,
+        end,
+    );
 }

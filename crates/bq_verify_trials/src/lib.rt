@@ -4,6 +4,8 @@
 #![tactic(auto)]
 
 #[cfg(test)]
+mod alike;
+#[cfg(test)]
 mod asserting;
 #[cfg(test)]
 mod copies;
@@ -21,6 +23,8 @@ mod parts;
 mod ranges;
 #[cfg(test)]
 mod readers;
+#[cfg(test)]
+mod relations;
 #[cfg(test)]
 mod runs;
 #[cfg(test)]

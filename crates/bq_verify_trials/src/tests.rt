@@ -200,7 +200,7 @@ ldxdw r0, [r6+8]
 exit
 
 Unset 14
-; in another map
+; in a map of another shape
 stw [r10-4], 0
 ldmap r1, 0
 mov64 r2, r10
