@@ -10,8 +10,8 @@ use crate::ways::{Ways, is_marked, reaching, spares};
 use bq_bpf::MapShape;
 use bq_insn::{Insn, SLOTS};
 use bq_policy_file::PolicySource;
-use bq_states::abstract_state::AbstractValue;
-use bq_states::joins::is_alike;
+use bq_states::abstract_state::{AbstractValue, ValueKind};
+use bq_states::places::shape_of;
 use bq_states::registers::known;
 use bq_verify::edges::instruction;
 use bq_verify::passes::targets;
@@ -211,6 +211,19 @@ impl Both {
 
 /// Whether not the same is known of two words; of maps of one shape it is.
 fn differ(shapes: &[MapShape], one: AbstractValue, other: AbstractValue) -> bool {
-    let is_of_one_kind = one.kind == other.kind || is_alike(shapes, one.kind, other.kind);
-    !is_of_one_kind || one.offset.lo != other.offset.lo || one.offset.hi != other.offset.hi
+    !is_of_one_kind(shapes, one.kind, other.kind)
+        || one.offset.lo != other.offset.lo
+        || one.offset.hi != other.offset.hi
+}
+
+/// Whether both count from the same, or from the same of two maps of one shape.
+fn is_of_one_kind(shapes: &[MapShape], one: ValueKind, other: ValueKind) -> bool {
+    match (one, other) {
+        (ValueKind::Entry(map), ValueKind::Entry(like))
+        | (ValueKind::EntryOrNull(map), ValueKind::EntryOrNull(like))
+        | (ValueKind::Map(map), ValueKind::Map(like)) => {
+            shape_of(shapes, map) == shape_of(shapes, like)
+        }
+        _ => one == other,
+    }
 }

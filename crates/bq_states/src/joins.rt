@@ -35,7 +35,7 @@ pub fn join(
 }
 
 /// Whether both count from the same of two maps of one shape.
-pub fn is_alike(shapes: &[MapShape], a: ValueKind, b: ValueKind) -> bool
+fn is_alike(shapes: &[MapShape], a: ValueKind, b: ValueKind) -> bool
     ensures left { IsTrue result → (base : ℕ) → IsBase shapes.now b base → IsBase shapes.now a base }
 {
     match (a, b) {
