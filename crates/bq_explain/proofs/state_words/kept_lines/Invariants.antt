@@ -4,4 +4,4 @@ use Rattle.bq_explain.specs.Texts.{kept_below}
 use Rattle.bq_explain.proofs.state_words.kept_lines.Given as goal
 
 abbrev pub invariant-loop-slot : goal.invariant-loop-slot
-invariant-loop-slot l = string_bytes l.text ≡ kept_below l.slot l.state.kept
+invariant-loop-slot l = string_bytes l.text ≡ kept_below l.shapes l.slot l.state.kept

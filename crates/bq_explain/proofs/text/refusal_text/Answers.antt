@@ -1,7 +1,9 @@
-use Rattle.std.proofs.Common.{◌≡◌, ◌∙◌, ◌++◌, append_assoc, sym}
+use Rattle.std.proofs.Common.{◌≡◌, ◌∙◌, ◌++◌, List, append_assoc, subst, sym}
 use Rattle.std.specs.Prelude.{codes, string_bytes}
 use Rattle.std.proofs.lemmas.Result.{IfOk-weaker}
+use Rattle.bq_bpf.specs.declared.shape.MapShape.{MapShape}
 use Rattle.bq_explain.specs.Explained.{TellsNeedAndState}
+use Rattle.bq_explain.specs.Texts.{IsStateText}
 use Rattle.bq_explain.proofs.text.refusal_text.Goals as goal
 
 pub returns-clause-tells : goal.returns-clause-tells
@@ -18,8 +20,8 @@ returns-clause-tells c =
       told = told;
       tells_need = c.in_ok-told-in-State.ensures;
       lines = lines;
-      are_state = c.in_ok-state-in-State.ensures.text;
-      hold = c.in_ok-state-in-State.ensures.tells;
+      are_state = subst (λ (shapes : List MapShape). IsStateText shapes c.in-State.known lines) c.as_slice.ensures.value c.in_ok-state-in-State.ensures.text;
+      hold = λ f s same contains. c.in_ok-state-in-State.ensures.tells f s (same ∙ sym c.as_slice.ensures.value) contains;
       before = line ++ at;
       after = after;
       text_is = is ∙ sym (append_assoc line at rest);
