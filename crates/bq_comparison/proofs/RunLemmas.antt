@@ -1,18 +1,12 @@
 -- Runs, and more of them at the end.
-use Rattle.std.proofs.Common.{◌≡◌, Bool, Option, None, Some, true, false, true≢false, ℕ, ◌+◌, List, [], ◌∷◌, ◌++◌, length, map, Ok, Err, Result, IfOk, ◌⊎◌, inl, inr, ap, sym, refl, zero, suc, subst, ◌∙◌, arith}
+use Rattle.std.proofs.Common.{◌≡◌, ℕ, ◌+◌, List, [], ◌∷◌, ◌++◌, length, map, Ok, Err, Result, IfOk, ◌⊎◌, inl, inr, ap, sym, refl, zero, suc, subst, ◌∙◌, arith}
 use Rattle.std.proofs.lemmas.List.{length-append, length-map}
-use Rattle.std.specs.Prelude.{◌≢◌}
-use Rattle.bq_workload.specs.declared.sound.Unsound.{Unsound}
 use Rattle.bq_workload.specs.declared.workload.Workload.{Workload}
 use Rattle.bq_comparison.specs.declared.naming.Figure.{Figure}
 use Rattle.bq_comparison.specs.declared.runs.RunFigures.{RunFigures}
 use Rattle.bq_comparison.specs.declared.fault.SeedsFault.{SeedsFault}
 use Rattle.bq_comparison.specs.declared.fault.SeedsFault.TheVariants as fault
-use Rattle.bq_comparison.specs.Faults.{HasFault, IsNoRun, IsNoSummary, fault_of_run}
-use Rattle.bq_workload.specs.Soundness.{first_flaw}
-use Rattle.bq_simulate.specs.Faults.{flaw_told}
-use Rattle.bq_simulate.specs.declared.fault.SimulateFault.{SimulateFault}
-use Rattle.bq_simulate.specs.declared.fault.SimulateFault.TheVariants as run_fault
+use Rattle.bq_comparison.specs.Faults.{HasFault, IsNoRun, IsNoSummary}
 use Rattle.bq_simulate.specs.Simulations.{Accepted, with_seed}
 use Rattle.bq_comparison.specs.Seeds.{AreResults, AreRuns, Comes, IsRun}
 
@@ -53,22 +47,6 @@ AreRuns-come policies w most figures seed next before after results at h k (more
     let Q : ℕ → Type 0 = λ s. AreResults policies w most figures s results in
     let R : List (Result RunFigures SeedsFault) → Type 0 = λ l. AreResults policies w most figures (seed + length before) l in
     subst P (sym is) (AreRuns-append policies w most figures seed before more h (subst R ok (subst Q at k)))
-
--- the fault of a run, in the words of a summary, says as much
-pub refused_is_no_run : (w : Workload) (why : SimulateFault) → flaw_told why ≡ first_flaw w → IsNoRun w (fault_of_run why)
-refused_is_no_run w run_fault.OutOfMemory h = tt
-refused_is_no_run w (run_fault.Unsound flaw) h = h
-refused_is_no_run w (run_fault.Drive fault) h = h
-refused_is_no_run w run_fault.BrokenInvariant h = h
-refused_is_no_run w run_fault.Endless h = h
-
--- where a run is cut off, the workload has no flaw, since before a flaw the sink gets nothing
-pub cut_is_sound : (w : Workload) (old new : Bool) → (first_flaw w ≢ None → new ≡ old) → old ≡ false → new ≡ true → first_flaw w ≡ None
-cut_is_sound w old new untold before after = of (first_flaw w) refl
-  where
-    of : (flaw : Option Unsound) → first_flaw w ≡ flaw → first_flaw w ≡ None
-    of None is = is
-    of (Some flaw) is = absurd (true≢false (sym after ∙ untold (λ none. let clash : Some flaw ≡ None = sym is ∙ none in absurd (cc)) ∙ before))
 
 -- where a run is refused, so are all
 refused_all : (w : Workload) (count : ℕ) (why : SeedsFault) → IsNoRun w why → IsNoSummary w count why
