@@ -10,6 +10,7 @@ pub mod escaped;
 pub mod events;
 pub mod frame;
 pub mod heading;
+pub mod history;
 pub mod lanes;
 pub mod legend;
 pub mod links;
