@@ -10,7 +10,6 @@ use Rattle.bq_schedule.specs.declared.change.PulledTask.{PulledTask}
 use Rattle.bq_schedule.specs.declared.change.Start.{Start}
 use Rattle.bq_schedule.specs.declared.change.Stop.{Stop}
 use Rattle.bq_schedule.specs.declared.change.Wake.{Wake}
-use Rattle.bq_schedule.specs.declared.figures.ProcessorFigures.{ProcessorFigures}
 use Rattle.bq_schedule.specs.declared.slice.Slice.{Slice}
 use Rattle.bq_schedule.specs.Figures.{Figures, processor_of, task_of}
 use Rattle.bq_schedule.specs.Steps.{was_overruled}
@@ -22,6 +21,7 @@ use Rattle.bq_report.specs.Windows.{IsShownPart, Shows, ShowsProcessor}
 use Rattle.bq_drawing.specs.declared.history.Arrows.{Arrows}
 use Rattle.bq_drawing.specs.declared.perfetto.ShownParts.{ShownParts}
 use Rattle.bq_drawing.specs.Events.{act_name, beginning_text, counter_text, end_text, event_track, mark_text, overruled_text, run_event, run_name, run_object, task_args, tracks_text}
+use Rattle.bq_drawing.specs.Runs.{ended_run, run_on}
 use Rattle.bq_drawing.specs.Histories.{Past, after_count, after_run, after_start, after_wake, arrows_to, last_run, next_arrow, told_count}
 
 -- ---- what of a change is shown
@@ -47,14 +47,6 @@ IsShownPull w (Some p) part = SomeIff part (Shows w p.to p.task p.at) p
 abbrev pub IsShownReading : Window → Option ClockReading → Option ClockReading → Type 0
 IsShownReading w None part = part ≡ None
 IsShownReading w (Some r) part = SomeIff part (ShowsMoment w r.processor r.to) r
-
--- a run that began so and is over at a moment
-abbrev pub run_to : ℕ → Start → Slice
-run_to at start = record { processor = start.processor; task = start.task; from = start.at; to = at }
-
--- the run that a change ends
-abbrev pub ended_run : Option Stop → Option Slice
-ended_run stop = option_map (λ (s : Stop). run_to s.at s.start) stop
 
 -- what of a change is shown, each part by its own rule
 pub record ShowsChange (w : Window) (change : Change) (shown : ShownParts) : Type 0 where
@@ -174,11 +166,7 @@ abbrev pub IsPerfettoHead : ℕ → List ℕ → Type 0
 IsPerfettoHead processors text =
     (tracks : List ℕ) × AreParts (λ processor own. own ≡ tracks_text processor) processors tracks × (text ≡ perfetto_head ++ tracks)
 
--- the run that goes on at a processor, as far as its clock was read
-abbrev pub run_on : ProcessorFigures → Option Slice
-run_on p = option_map (run_to p.last) p.running
-
--- its part that is shown
+-- the part that is shown of the run that goes on at a processor
 abbrev pub IsPerfettoRunner : Window → NamedTasks → Figures → Past → ℕ → List ℕ → Type 0
 IsPerfettoRunner w names s h processor text =
     (part : Option Slice) × IsShownPart w (run_on (processor_of s processor)) part

@@ -17,6 +17,7 @@ pub mod links;
 pub mod look;
 pub mod perfetto;
 pub mod picture_name;
+pub mod runs;
 pub mod scale;
 pub mod shapes;
 pub mod sheet;

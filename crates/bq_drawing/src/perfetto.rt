@@ -9,13 +9,15 @@ ghost use Rattle.bq_report.specs.Timehist.{IsShownMigration, IsShownWake};
 ghost use Rattle.bq_report.specs.Windows.{IsShownPart};
 ghost use Rattle.bq_drawing.specs.Events.{act_name, json_text, label_of, run_name, run_object};
 ghost use Rattle.bq_drawing.specs.Histories.{next_arrow, untold};
-ghost use Rattle.bq_drawing.specs.Perfetto.{IsPerfettoHead, IsPerfettoOf, IsPerfettoRunner, IsPerfettoTail, ShowsChange, IsShownDecision, IsShownPull, IsShownReading, ShowsMoment, ended_run, left_run, past_reading, past_start, past_stop, past_wake, perfetto_count, perfetto_end, perfetto_ends, perfetto_ends_if, perfetto_migration, perfetto_overruled, perfetto_pull, perfetto_reading, perfetto_run, perfetto_wake, run_on, run_to};
+ghost use Rattle.bq_drawing.specs.Runs.{run_on};
+ghost use Rattle.bq_drawing.specs.Perfetto.{IsPerfettoHead, IsPerfettoOf, IsPerfettoRunner, IsPerfettoTail, ShowsChange, IsShownDecision, IsShownPull, IsShownReading, ShowsMoment, left_run, past_reading, past_start, past_stop, past_wake, perfetto_count, perfetto_end, perfetto_ends, perfetto_ends_if, perfetto_migration, perfetto_overruled, perfetto_pull, perfetto_reading, perfetto_run, perfetto_wake};
 
 use crate::events::{
     EVENTS, task_args, write_beginning, write_counter, write_end, write_mark, write_overruled,
     write_run_event, write_tracks,
 };
 use crate::history::{Arrows, History};
+use crate::runs::{ended_run, run_on};
 use bq_disc::limits::PROCESSORS;
 use bq_report::{Names, ScheduleForm, Window};
 use bq_schedule::{
@@ -278,34 +280,6 @@ fn shows_moment(window: &Window, reading: &ClockReading) -> bool
     window.from <= reading.to
         && reading.to <= window.to
         && window.shows_processor(reading.processor)
-}
-
-/// A run that began so and is over at a moment.
-fn run_to(at: u64, start: &Start) -> Slice
-    ensures { result ≡ run_to at start.now }
-{
-    Slice {
-        processor: start.processor,
-        task: start.task,
-        from: start.at,
-        to: at,
-    }
-}
-
-/// The run that a change ends.
-fn ended_run(stop: Option<Stop>) -> Option<Slice>
-    ensures { result ≡ ended_run stop }
-{
-    let stop = stop?;
-    Some(run_to(stop.at, &stop.start))
-}
-
-/// The run that goes on at a processor, as far as its clock was read.
-fn run_on(figures: &ProcessorFigures) -> Option<Slice>
-    ensures { result ≡ run_on figures.now }
-{
-    let start = figures.running?;
-    Some(run_to(figures.last, &start))
 }
 
 /// The name of a task, or its number where it has none.
