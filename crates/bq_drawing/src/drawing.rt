@@ -1,4 +1,7 @@
 //! What is drawn, and where.
+ghost use Rattle.std.specs.Prelude.{◌≡◌, ◌∷◌, ◌++◌, [], IfOk, OnOk, Some, length, replicate, slice_get, string_bytes};
+ghost use Rattle.bq_report.specs.Reports.{Adds};
+ghost use Rattle.bq_drawing.specs.Pictures.{AreRunElements, IsElementIf, with_run};
 
 use crate::axis::{AXIS, write_axis};
 use crate::frame::Frame;
@@ -8,13 +11,14 @@ use crate::legend::{Key, legend_height, write_legend};
 use crate::links::{Link, LinkKind};
 use crate::scale::Scale;
 use crate::shapes::{
-    BAND, DrawnRun, LANE, LEVEL, write_row_name, write_run, write_wait, write_wake,
+    BAND, DrawnRun, LANE, LEVEL, write_label, write_row_name, write_run, write_wait, write_wake,
 };
 use crate::unit::TimeUnit;
 use bq_report::{Extent, Names, Roster, Window, round_step};
 use bq_schedule::{Slice, Start, Wake};
 use std::alloc::{AllocError, Global};
 use std::collections::{BTreeMap, BTreeSet};
+use std::marker::Model;
 
 /// Above the first row.
 const TOP: usize = 84;
@@ -25,7 +29,7 @@ const GAP: usize = 24;
 /// How many steps of time an axis has at most.
 const STEPS: u16 = 10;
 
-/// What is drawn of a processor.
+/// What is drawn of a processor. Contracts see its runs.
 #[derive(Drop)]
 pub struct ProcessorRow {
     runs: Vec<DrawnRun>,
@@ -33,13 +37,30 @@ pub struct ProcessorRow {
     wakes: Vec<Stretch>,
 }
 
-/// What is drawn.
+impl Model for ProcessorRow {
+    ghost use Rattle.std.specs.Prelude.{List};
+    ghost use Rattle.bq_drawing.specs.declared.shapes.DrawnRun.{DrawnRun};
+
+    ghost Value = { List DrawnRun };
+
+    ghost view = { λ r. r.runs.items };
+}
+
+/// What is drawn. Contracts see the runs of each processor.
 #[derive(Drop)]
 pub struct Drawing {
     alloc: Global,
     rows: Vec<ProcessorRow>,
     links: Vec<Link>,
     tasks: BTreeSet<u16>,
+}
+
+impl Model for Drawing {
+    ghost use Rattle.bq_drawing.specs.Pictures.{Rows};
+
+    ghost Value = { Rows };
+
+    ghost view = { λ d. d.rows.items };
 }
 
 /// What is written of a drawing, and how high it is.
@@ -64,8 +85,10 @@ struct Rows {
 }
 
 impl Drawing {
-    /// Nothing.
-    pub fn new(alloc: Global) -> Drawing {
+    /// Nothing, of no processor.
+    pub fn new(alloc: Global) -> Drawing
+        ensures { result ≡ [] }
+    {
         Drawing {
             alloc,
             rows: Vec::new(alloc),
@@ -74,55 +97,59 @@ impl Drawing {
         }
     }
 
-    /// One processor more.
-    pub fn push_row(&mut self) -> Result<(), AllocError> {
-        self.rows.push(ProcessorRow {
-            runs: Vec::new(self.alloc),
-            waits: Vec::new(self.alloc),
-            wakes: Vec::new(self.alloc),
-        })?;
-        Ok(())
+    /// Nothing, of this many processors.
+    pub fn of(alloc: Global, processors: usize) -> Result<Drawing, AllocError>
+        ensures { IfOk result (λ d. d ≡ replicate processors []) }
+    {
+        let mut rows = Vec::with_capacity(alloc, processors)?;
+        'processors: for _ in 0..processors {
+            rows.push(ProcessorRow::new(alloc))?;
+        }
+        Ok(Drawing {
+            alloc,
+            rows,
+            links: Vec::new(alloc),
+            tasks: BTreeSet::new(alloc),
+        })
     }
 
-    /// A run that began so.
-    pub fn push_run(&mut self, run: &Slice, start: &Start) -> Result<(), AllocError> {
-        if let Some(row) = self.rows.get_mut(usize::from(run.processor)) {
-            self.tasks.insert(run.task)?;
-            row.runs.push(DrawnRun {
-                task: run.task,
-                from: run.from,
-                to: run.to,
-                waited: start.waited,
-                latency: start.latency,
-            })?;
+    /// The part of a run that began so.
+    pub fn push_run(&mut self, start: &Start, part: &Slice) -> Result<(), AllocError>
+        ensures { OnOk result (self.new ≡ with_run (Some start.now) (Some part.now) self.old) }
+    {
+        if let Some(row) = self.rows.get_mut(usize::from(part.processor)) {
+            self.tasks.insert(part.task)?;
+            row.push_run(DrawnRun::of(start, part))?;
         }
         Ok(())
     }
 
     /// A wait at a processor.
-    pub fn push_wait(&mut self, processor: u8, wait: Stretch) -> Result<(), AllocError> {
+    pub fn push_wait(&mut self, processor: u8, wait: Stretch) -> Result<(), AllocError>
+        ensures { self.new ≡ self.old }
+    {
         if let Some(row) = self.rows.get_mut(usize::from(processor)) {
             self.tasks.insert(wait.task)?;
-            row.waits.push(wait)?;
+            row.push_wait(wait)?;
         }
         Ok(())
     }
 
     /// A wake, at the processor where its task was placed.
-    pub fn push_wake(&mut self, wake: &Wake) -> Result<(), AllocError> {
+    pub fn push_wake(&mut self, wake: &Wake) -> Result<(), AllocError>
+        ensures { self.new ≡ self.old }
+    {
         if let Some(row) = self.rows.get_mut(usize::from(wake.to)) {
             self.tasks.insert(wake.task)?;
-            row.wakes.push(Stretch {
-                from: wake.at,
-                to: wake.at,
-                task: wake.task,
-            })?;
+            row.push_wake(wake)?;
         }
         Ok(())
     }
 
     /// A pull or a migration.
-    pub fn push_link(&mut self, link: Link) -> Result<(), AllocError> {
+    pub fn push_link(&mut self, link: Link) -> Result<(), AllocError>
+        ensures { self.new ≡ self.old }
+    {
         self.tasks.insert(link.task)?;
         self.links.push(link)?;
         Ok(())
@@ -196,8 +223,7 @@ impl Drawing {
         let mut number = 0u8;
         for row in self.rows.iter_mut() {
             if window.shows_processor(number) {
-                row.waits.sort_unstable();
-                row.wakes.sort_unstable();
+                row.sort();
                 row.write(self.alloc, number, frame, &mut rows)?;
             }
             number = number.saturating_add(1);
@@ -238,6 +264,93 @@ impl Rows {
 }
 
 impl ProcessorRow {
+    /// Nothing.
+    fn new(alloc: Global) -> ProcessorRow
+        ensures { result ≡ [] }
+    {
+        ProcessorRow {
+            runs: Vec::new(alloc),
+            waits: Vec::new(alloc),
+            wakes: Vec::new(alloc),
+        }
+    }
+
+    fn push_run(&mut self, run: DrawnRun) -> Result<(), AllocError>
+        ensures { OnOk result (self.new ≡ self.old ++ run ∷ []) }
+    {
+        self.runs.push(run)?;
+        Ok(())
+    }
+
+    fn push_wait(&mut self, wait: Stretch) -> Result<(), AllocError>
+        ensures { self.new ≡ self.old }
+    {
+        self.waits.push(wait)?;
+        Ok(())
+    }
+
+    fn push_wake(&mut self, wake: &Wake) -> Result<(), AllocError>
+        ensures { self.new ≡ self.old }
+    {
+        self.wakes.push(Stretch {
+            from: wake.at,
+            to: wake.at,
+            task: wake.task,
+        })?;
+        Ok(())
+    }
+
+    /// Puts the waits and the wakes in the order in which they begin.
+    fn sort(&mut self)
+        ensures { self.new ≡ self.old }
+    {
+        self.waits.sort_unstable();
+        self.wakes.sort_unstable();
+    }
+
+    /// Draws the runs.
+    fn write_runs(
+        &self,
+        alloc: Global,
+        top: usize,
+        frame: &Frame<'_>,
+        text: &mut String,
+    ) -> Result<(), AllocError>
+        ensures { OnOk result (Adds (AreRunElements frame.now.scale.extent frame.now.roster.now top self.now) (string_bytes text.old) (string_bytes text.new)) }
+    {
+        for number in 0..self.count() {
+            write_run_if(alloc, self.run(number), top, frame, text)?;
+        }
+        Ok(())
+    }
+
+    /// How many runs there are.
+    fn count(&self) -> usize
+        ensures { result ≡ length self.now }
+    {
+        self.runs.len()
+    }
+
+    /// A run by its place in the row.
+    fn run(&self, number: usize) -> Option<DrawnRun>
+        ensures { result ≡ slice_get self.now number }
+    {
+        self.runs.get(number).copied()
+    }
+
+    /// The names upon the runs.
+    fn write_labels(
+        &self,
+        top: usize,
+        frame: &Frame<'_>,
+        labels: &mut String,
+    ) -> Result<(), AllocError> {
+        for run in self.runs.iter() {
+            write_label(run, top, frame, labels)?;
+        }
+        Ok(())
+    }
+
     /// Draws the row below those that are written.
     fn write(
         &self,
@@ -253,9 +366,8 @@ impl ProcessorRow {
             .saturating_add(4);
         rows.bands.insert(number, top)?;
         write_row_name(usize::from(number), top, &mut rows.text)?;
-        for run in self.runs.iter() {
-            write_run(run, top, frame, &mut rows.text, &mut rows.labels)?;
-        }
+        self.write_runs(alloc, top, frame, &mut rows.text)?;
+        self.write_labels(top, frame, &mut rows.labels)?;
         let lanes = self.write_waits(alloc, top, frame, rows)?;
         self.write_wakes(alloc, top, frame, rows)?;
         rows.bottom = top
@@ -317,6 +429,22 @@ impl ProcessorRow {
             }
         }
         Ok(lanes.count())
+    }
+}
+
+/// Draws a run, if there is one.
+fn write_run_if(
+    alloc: Global,
+    run: Option<DrawnRun>,
+    top: usize,
+    frame: &Frame<'_>,
+    text: &mut String,
+) -> Result<(), AllocError>
+    ensures { OnOk result (Adds (IsElementIf frame.now.scale.extent frame.now.roster.now top run) (string_bytes text.old) (string_bytes text.new)) }
+{
+    match run {
+        Some(run) => write_run(alloc, &run, top, frame, text),
+        None => Ok(()),
     }
 }
 

@@ -1,6 +1,8 @@
 //! The events of a trace in the format that ui.perfetto.dev and chrome://tracing open, as text.
-ghost use Rattle.std.specs.Prelude.{◌≡◌, IfOk, string_bytes};
-ghost use Rattle.bq_drawing.specs.Events.{run_event};
+ghost use Rattle.std.specs.Prelude.{◌≡◌, ◌++◌, IfOk, OnOk, codes, string_bytes};
+ghost use Rattle.std.specs.Fmt.{decimal};
+ghost use Rattle.bq_hooks.specs.Hooks.{hook_word};
+ghost use Rattle.bq_drawing.specs.Events.{beginning_text, counter_text, end_text, mark_text, overruled_text, run_event, task_args, track_text, tracks_text};
 
 use bq_report::Micros;
 use bq_schedule::{ClockReading, Decision, Slice};
@@ -9,71 +11,96 @@ use std::alloc::{AllocError, Global};
 /// How many processors' tracks there are before those of their events.
 pub const EVENTS: u64 = 64;
 
-/// How an arrow from a wake is called.
-pub const WAKE: &str = "wake";
-
-/// How an arrow from a run at another processor is called.
-pub const MIGRATION: &str = "migration";
-
 /// A track by its name, and its place among all.
-fn write_track(track: u64, name: &str, place: u64, text: &mut String) -> Result<(), AllocError> {
+fn write_track(track: u128, name: &str, place: u128, text: &mut String) -> Result<(), AllocError>
+    ensures { OnOk result (string_bytes text.new ≡ string_bytes text.old ++ track_text track name.now place) }
+{
     write!(
         text,
-        ",\n{{\"ph\":\"M\",\"pid\":0,\"tid\":{track},\"name\":\"thread_name\",\"args\":{{\"name\":\"{name}\"}}}}"
-    )?;
-    write!(
-        text,
-        ",\n{{\"ph\":\"M\",\"pid\":0,\"tid\":{track},\"name\":\"thread_sort_index\",\"args\":{{\"sort_index\":{place}}}}}"
+        ",\n{{\"ph\":\"M\",\"pid\":0,\"tid\":{track},\"name\":\"thread_name\",\"args\":{{\"name\":\"{name}\"}}}},\n{{\"ph\":\"M\",\"pid\":0,\"tid\":{track},\"name\":\"thread_sort_index\",\"args\":{{\"sort_index\":{place}}}}}"
     )
 }
 
 /// The two tracks of a processor.
-pub fn write_tracks(alloc: Global, processor: u64, text: &mut String) -> Result<(), AllocError> {
-    let name = format!(in alloc; "cpu {processor}")?;
-    let place = processor.saturating_mul(2);
-    write_track(processor, name.as_str(), place, text)?;
-    let name = format!(in alloc; "cpu {processor} events")?;
-    let track = processor.saturating_add(EVENTS);
-    write_track(track, name.as_str(), place.saturating_add(1), text)
+pub fn write_tracks(alloc: Global, processor: u64, text: &mut String) -> Result<(), AllocError>
+    ensures { OnOk result (string_bytes text.new ≡ string_bytes text.old ++ tracks_text processor) }
+{
+    let runs = u128::from(processor);
+    let name = format!(in alloc; "cpu {runs}")?;
+    write_track(runs, name.as_str(), runs * 2, text)?;
+    let name = format!(in alloc; "cpu {runs} events")?;
+    write_track(u128::from(EVENTS) + runs, name.as_str(), runs * 2 + 1, text)
 }
 
-/// A slice of a nanosecond, the least that the format can have, up to its arguments.
+/// The event of a run, with this name and these arguments, each JSON already.
+pub fn write_run_event(
+    run: &Slice,
+    name: &str,
+    args: &str,
+    text: &mut String,
+) -> Result<(), AllocError>
+    ensures { OnOk result (string_bytes text.new ≡ string_bytes text.old ++ run_event run.now name.now args.now) }
+{
+    let processor = run.processor;
+    let from = Micros(run.from);
+    let length = Micros(run.to.saturating_sub(run.from));
+    write!(
+        text,
+        ",\n{{\"ph\":\"X\",\"cat\":\"run\",\"name\":{name},\"pid\":0,\"tid\":{processor},\"ts\":{from},\"dur\":{length},\"args\":{args}}}"
+    )
+}
+
+/// A slice of a nanosecond, the least that the format can have.
 pub fn write_mark(
     kind: &str,
     name: &str,
     track: u64,
     at: u64,
+    args: &str,
     text: &mut String,
-) -> Result<(), AllocError> {
+) -> Result<(), AllocError>
+    ensures { OnOk result (string_bytes text.new ≡ string_bytes text.old ++ mark_text kind.now name.now track at args.now) }
+{
     let at = Micros(at);
     write!(
         text,
-        ",\n{{\"ph\":\"X\",\"cat\":\"{kind}\",\"name\":{name},\"pid\":0,\"tid\":{track},\"ts\":{at},\"dur\":0.001,\"args\":"
+        ",\n{{\"ph\":\"X\",\"cat\":\"{kind}\",\"name\":{name},\"pid\":0,\"tid\":{track},\"ts\":{at},\"dur\":0.001,\"args\":{args}}}"
     )
+}
+
+/// The arguments of a mark: a task, and a processor by what it is to it.
+pub fn task_args(alloc: Global, task: u16, name: &str, processor: u8) -> Result<String, AllocError>
+    ensures { IfOk result (λ text. string_bytes text ≡ task_args task name.now processor) }
+{
+    format!(in alloc; "{{\"task\":{task},\"{name}\":{processor}}}")
 }
 
 /// The beginning of the arrow of that number.
 pub fn write_beginning(
     kind: &str,
-    id: u64,
+    arrow: u64,
     track: u64,
     at: u64,
     text: &mut String,
-) -> Result<(), AllocError> {
+) -> Result<(), AllocError>
+    ensures { OnOk result (string_bytes text.new ≡ string_bytes text.old ++ beginning_text kind.now arrow track at) }
+{
     let at = Micros(at);
     write!(
         text,
-        ",\n{{\"ph\":\"s\",\"cat\":\"{kind}\",\"name\":\"{kind}\",\"id\":{id},\"pid\":0,\"tid\":{track},\"ts\":{at}}}"
+        ",\n{{\"ph\":\"s\",\"cat\":\"{kind}\",\"name\":\"{kind}\",\"id\":{arrow},\"pid\":0,\"tid\":{track},\"ts\":{at}}}"
     )
 }
 
 /// The end of the arrow of that number, at the beginning of a run.
-pub fn write_end(kind: &str, id: u64, run: &Slice, text: &mut String) -> Result<(), AllocError> {
+pub fn write_end(kind: &str, arrow: u64, run: &Slice, text: &mut String) -> Result<(), AllocError>
+    ensures { OnOk result (string_bytes text.new ≡ string_bytes text.old ++ end_text kind.now arrow run.now) }
+{
     let processor = run.processor;
     let at = Micros(run.from);
     write!(
         text,
-        ",\n{{\"ph\":\"f\",\"bp\":\"e\",\"cat\":\"{kind}\",\"name\":\"{kind}\",\"id\":{id},\"pid\":0,\"tid\":{processor},\"ts\":{at}}}"
+        ",\n{{\"ph\":\"f\",\"bp\":\"e\",\"cat\":\"{kind}\",\"name\":\"{kind}\",\"id\":{arrow},\"pid\":0,\"tid\":{processor},\"ts\":{at}}}"
     )
 }
 
@@ -82,7 +109,10 @@ pub fn write_overruled(
     decision: &Decision,
     reading: &ClockReading,
     text: &mut String,
-) -> Result<(), AllocError> {
+) -> Result<(), AllocError>
+    ensures { OnOk result (string_bytes text.new
+        ≡ string_bytes text.old ++ overruled_text (hook_word decision.now.hook) decision.now.steps reading.now.processor reading.now.to) }
+{
     let hook = decision.hook.word();
     let steps = decision.steps;
     let track = EVENTS + u64::from(reading.processor);
@@ -98,23 +128,13 @@ pub fn write_counter(
     reading: &ClockReading,
     count: u64,
     text: &mut String,
-) -> Result<(), AllocError> {
+) -> Result<(), AllocError>
+    ensures { OnOk result (string_bytes text.new ≡ string_bytes text.old ++ counter_text reading.now.processor reading.now.to count) }
+{
     let processor = reading.processor;
     let at = Micros(reading.to);
     write!(
         text,
         ",\n{{\"ph\":\"C\",\"name\":\"cpu {processor} runnable\",\"pid\":0,\"ts\":{at},\"args\":{{\"tasks\":{count}}}}}"
-    )
-}
-
-/// The event of a run, with this name and these arguments, each JSON already.
-pub fn event_text(alloc: Global, run: &Slice, name: &str, args: &str) -> Result<String, AllocError>
-    ensures { IfOk result (λ text. string_bytes text ≡ run_event run.now name.now args.now) }
-{
-    let processor = run.processor;
-    let from = Micros(run.from);
-    let length = Micros(run.to.saturating_sub(run.from));
-    format!(in alloc;
-        ",\n{{\"ph\":\"X\",\"cat\":\"run\",\"name\":{name},\"pid\":0,\"tid\":{processor},\"ts\":{from},\"dur\":{length},\"args\":{args}}}"
     )
 }

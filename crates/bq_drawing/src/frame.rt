@@ -1,4 +1,6 @@
 //! What the shapes of a picture share.
+ghost use Rattle.std.specs.Prelude.{◌≡◌};
+ghost use Rattle.bq_drawing.specs.Pictures.{colour_of};
 
 use crate::colours::COLOURS;
 use crate::escaped::Escaped;
@@ -18,7 +20,9 @@ pub struct Frame<'a> {
 
 impl Frame<'_> {
     /// The number of a task's colour: by its place among all tasks of the trace, whichever of them are shown.
-    pub fn colour(&self, task: u16) -> usize {
+    pub fn colour(&self, task: u16) -> usize
+        ensures { result ≡ colour_of self.now.roster.now task }
+    {
         self.roster.place(task).unwrap_or(0) % COLOURS
     }
 

@@ -1,14 +1,31 @@
 //! The trace format that ui.perfetto.dev and chrome://tracing open.
+ghost use Rattle.std.specs.Prelude.{◌≡◌, ◌↔◌, ◌++◌, ℕ, List, Option, IfOk, IsTrue, OnOk, codes, length, option_map, string_bytes};
+ghost use Rattle.serde_json.specs.View.{view};
+ghost use Rattle.serde_json.specs.Written.{compact_text};
+ghost use Rattle.bq_schedule.specs.declared.slice.Slice.{Slice};
+ghost use Rattle.bq_report.specs.Names.{name_of};
+ghost use Rattle.bq_report.specs.Reports.{Adds};
+ghost use Rattle.bq_report.specs.Timehist.{IsShownMigration, IsShownWake};
+ghost use Rattle.bq_report.specs.Windows.{IsShownPart};
+ghost use Rattle.bq_drawing.specs.Events.{act_name, json_text, label_of, run_name, run_object};
+ghost use Rattle.bq_drawing.specs.Histories.{next_arrow, untold};
+ghost use Rattle.bq_drawing.specs.Runs.{run_on};
+ghost use Rattle.bq_drawing.specs.Perfetto.{IsPerfettoHead, IsPerfettoOf, IsPerfettoRunner, IsPerfettoTail, ShowsChange, IsShownDecision, IsShownPull, IsShownReading, ShowsMoment, left_run, past_reading, past_start, past_stop, past_wake, perfetto_count, perfetto_end, perfetto_ends, perfetto_ends_if, perfetto_migration, perfetto_overruled, perfetto_pull, perfetto_reading, perfetto_run, perfetto_wake};
+
 use crate::events::{
-    EVENTS, MIGRATION, WAKE, event_text, write_beginning, write_counter, write_end, write_mark,
-    write_overruled, write_tracks,
+    EVENTS, task_args, write_beginning, write_counter, write_end, write_mark, write_overruled,
+    write_run_event, write_tracks,
 };
+use crate::history::{Arrows, History};
+use crate::runs::{ended_run, run_on};
 use bq_disc::limits::PROCESSORS;
-use bq_report::{Label, Names, ScheduleForm, Window};
-use bq_schedule::{Change, ClockReading, Decision, PulledTask, Schedule, Slice, Start, Wake};
+use bq_report::{Names, ScheduleForm, Window};
+use bq_schedule::{
+    Change, ClockReading, Decision, ProcessorFigures, PulledTask, Schedule, Slice, Start, Stop,
+    TaskFigures, Wake,
+};
 use serde_json::{Value, json};
 use std::alloc::{AllocError, Global};
-use std::collections::BTreeMap;
 
 /// Two tracks a processor. On one a slice is a run. On the other, that of its events, a slice of a nanosecond is a wake that ended
 /// there or a pull by it, and an instant is an answer of a policy that was overruled. An arrow leads from each wake to the task's
@@ -22,276 +39,429 @@ use std::collections::BTreeMap;
 pub struct Perfetto {
     alloc: Global,
     window: Window,
-    /// For each processor the arrows that end where the run that goes on began.
-    ends: Vec<Arrows>,
-    /// For each processor how many tasks were runnable when it was reported last.
-    runnable: Vec<u64>,
-    /// For each task that was woken and has not run since: the arrow of that wake.
-    woken: BTreeMap<u16, u64>,
-    /// The last run of each task that has ceased to run, as far as it is shown.
-    runs: BTreeMap<u16, Slice>,
-    /// How many arrows have begun.
-    arrows: u64,
+    history: History,
 }
 
-/// The arrows that end at the beginning of a run, by their numbers.
+/// What of a change is shown.
 #[derive(Clone, Copy)]
-struct Arrows {
-    wake: Option<u64>,
-    migration: Option<u64>,
+struct ShownParts {
+    overruled: Option<Decision>,
+    wake: Option<Wake>,
+    pull: Option<PulledTask>,
+    run: Option<Slice>,
+    migration: Option<Start>,
+    reading: Option<ClockReading>,
 }
 
 impl Perfetto {
     /// What is in the window.
-    pub fn new(alloc: Global, window: Window) -> Perfetto {
+    pub fn new(alloc: Global, window: Window) -> Perfetto
+        ensures window { result.window ≡ window }
+        ensures history { result.history ≡ untold 0 0 }
+    {
         Perfetto {
             alloc,
             window,
-            ends: Vec::new(alloc),
-            runnable: Vec::new(alloc),
-            woken: BTreeMap::new(alloc),
-            runs: BTreeMap::new(alloc),
-            arrows: 0,
+            history: History::new(alloc),
         }
     }
 
-    /// A value as JSON.
-    fn json(&self, value: &Value) -> Result<String, AllocError> {
-        value.to_string(self.alloc)
-    }
-
-    /// A text as JSON.
-    fn quoted(&self, text: &str) -> Result<String, AllocError> {
-        self.json(&Value::try_from_str(self.alloc, text)?)
-    }
-
-    /// The name of a task, as JSON.
-    fn task_name(&self, task: u16, names: &Names) -> Result<String, AllocError> {
-        let label = Label { names, task };
-        let name = format!(in self.alloc; "{label}")?;
-        self.quoted(name.as_str())
-    }
-
-    /// What happens to a task, as JSON.
-    fn act_name(&self, act: &str, task: u16, names: &Names) -> Result<String, AllocError> {
-        let label = Label { names, task };
-        let name = format!(in self.alloc; "{act} {label}")?;
-        self.quoted(name.as_str())
-    }
-
-    /// One processor more.
-    fn push_processor(&mut self) -> Result<(), AllocError> {
-        self.ends.push(Arrows {
-            wake: None,
-            migration: None,
-        })?;
-        self.runnable.push(0)?;
-        Ok(())
-    }
-
-    /// A run, with the ends of the arrows that lead to it.
-    fn write_run(
+    /// A wake, and the beginning of its arrow, if it is shown.
+    fn take_wake(
         &mut self,
-        start: &Start,
-        at: u64,
+        wake: Option<Wake>,
+        shown: Option<Wake>,
+        names: &Names,
+        text: &mut String,
+    ) -> Result<(), AllocError>
+        ensures history { self.new ≡ record self.old { history = past_wake wake shown self.old.history } }
+        ensures text { OnOk result (string_bytes text.new
+            ≡ string_bytes text.old ++ perfetto_wake names.now (next_arrow self.old.history) shown) }
+    {
+        let arrow = self.history.next_arrow();
+        if let Some(wake) = wake {
+            self.history.keep_wake(wake.task, shown.is_some());
+        }
+        write_wake(self.alloc, shown, arrow, names, text)
+    }
+
+    /// The run that ends, as far as it is shown.
+    fn take_stop(
+        &mut self,
+        stop: Option<Stop>,
+        shown: Option<Slice>,
         schedule: &Schedule,
         names: &Names,
         text: &mut String,
-    ) -> Result<(), AllocError> {
-        let run = Slice {
-            processor: start.processor,
-            task: start.task,
-            from: start.at,
-            to: at,
-        };
-        let Some(run) = self.window.clip(&run) else {
-            let _ = self.runs.remove(&start.task);
+    ) -> Result<(), AllocError>
+        ensures history { OnOk result (self.new ≡ record self.old { history = past_stop stop shown self.old.history }) }
+        ensures text { OnOk result (string_bytes text.new
+            ≡ string_bytes text.old ++ perfetto_run names.now schedule.now self.old.history (option_map (λ s. s.start) stop) shown) }
+    {
+        let Some(stop) = stop else {
             return Ok(());
         };
-        let event = self.run_event(&run, start, schedule, names)?;
-        text.push_str(event.as_str())?;
-        self.runs.insert(start.task, run)?;
-        if run.from == start.at {
-            self.write_ends(&run, text)?;
-        }
+        self.write_run(Some(stop.start), shown, schedule, names, text)?;
+        self.history.keep_run(stop.start.task, shown);
         Ok(())
     }
 
-    /// The ends of the arrows that lead to the beginning of a run.
-    fn write_ends(&self, run: &Slice, text: &mut String) -> Result<(), AllocError> {
-        let Some(arrows) = self.ends.get(usize::from(run.processor)).copied() else {
-            return Ok(());
-        };
-        if let Some(id) = arrows.wake {
-            write_end(WAKE, id, run, text)?;
-        }
-        if let Some(id) = arrows.migration {
-            write_end(MIGRATION, id, run, text)?;
-        }
-        Ok(())
-    }
-
-    fn run_event(
-        &self,
-        run: &Slice,
-        start: &Start,
-        schedule: &Schedule,
-        names: &Names,
-    ) -> Result<String, AllocError> {
-        let name = self.task_name(run.task, names)?;
-        let args = self.run_figures(run, start, schedule)?;
-        event_text(self.alloc, run, name.as_str(), args.as_str())
-    }
-
-    /// The figures of a run, as JSON.
-    fn run_figures(
-        &self,
-        run: &Slice,
-        start: &Start,
-        schedule: &Schedule,
-    ) -> Result<String, AllocError> {
-        let figures = schedule.task(run.task);
-        let args = json!(in self.alloc; {
-            "task": (run.task),
-            "nice": (figures.nice),
-            "weight": (figures.weight),
-            "waited_ns": (start.waited)
-        })?;
-        self.json(&args)
-    }
-
-    /// The number of an arrow more.
-    fn new_arrow(&mut self) -> u64 {
-        self.arrows = self.arrows.saturating_add(1);
-        self.arrows
-    }
-
-    /// A wake, and the beginning of its arrow.
-    fn write_wake(
+    /// The beginning of the arrow of a migration by which a run begins.
+    fn take_start(
         &mut self,
-        wake: &Wake,
-        names: &Names,
+        start: Option<Start>,
+        migration: Option<Start>,
         text: &mut String,
-    ) -> Result<(), AllocError> {
-        if !self.window.shows(wake.from, wake.task, wake.at) {
-            let _ = self.woken.remove(&wake.task);
-            return Ok(());
+    ) -> Result<(), AllocError>
+        ensures history { self.new ≡ record self.old { history = past_start start migration self.old.history } }
+        ensures text { OnOk result (string_bytes text.new
+            ≡ string_bytes text.old ++ perfetto_migration (next_arrow self.old.history) (left_run self.old.history migration)) }
+    {
+        let arrow = self.history.next_arrow();
+        let run = self.left_run(migration);
+        if let Some(start) = start {
+            self.history
+                .keep_start(start.processor, start.task, run.is_some());
         }
-        let id = self.new_arrow();
-        self.woken.insert(wake.task, id)?;
-        let name = self.act_name("wake", wake.task, names)?;
-        let track = EVENTS + u64::from(wake.from);
-        let task = wake.task;
-        let to = wake.to;
-        write_mark(WAKE, name.as_str(), track, wake.at, text)?;
-        write!(text, "{{\"task\":{task},\"to\":{to}}}}}")?;
-        write_beginning(WAKE, id, track, wake.at, text)
-    }
-
-    /// A pull.
-    fn write_pull(
-        &self,
-        pull: &PulledTask,
-        names: &Names,
-        text: &mut String,
-    ) -> Result<(), AllocError> {
-        if !self.window.shows(pull.to, pull.task, pull.at) {
-            return Ok(());
-        }
-        let name = self.act_name("pull", pull.task, names)?;
-        let track = EVENTS + u64::from(pull.to);
-        let task = pull.task;
-        let from = pull.from;
-        write_mark("pull", name.as_str(), track, pull.at, text)?;
-        write!(text, "{{\"task\":{task},\"from\":{from}}}}}")
-    }
-
-    /// A run begins: keeps the arrows that end there, and begins that of a migration.
-    fn begin_run(&mut self, start: &Start, text: &mut String) -> Result<(), AllocError> {
-        let wake = self.woken.remove(&start.task);
-        let migration = self.begin_migration(start, text)?;
-        if let Some(ends) = self.ends.get_mut(usize::from(start.processor)) {
-            *ends = Arrows { wake, migration };
-        }
-        Ok(())
-    }
-
-    /// The beginning of a migration's arrow, in the last nanosecond of the task's last run, where that and the new run are shown.
-    fn begin_migration(
-        &mut self,
-        start: &Start,
-        text: &mut String,
-    ) -> Result<Option<u64>, AllocError> {
-        if !start.has_migrated() || !self.window.shows(start.processor, start.task, start.at) {
-            return Ok(None);
-        }
-        let Some(run) = self.runs.get(&start.task).copied() else {
-            return Ok(None);
-        };
-        let id = self.new_arrow();
-        let track = u64::from(run.processor);
-        write_beginning(MIGRATION, id, track, run.to.saturating_sub(1), text)?;
-        Ok(Some(id))
-    }
-
-    /// An instant for a policy's answer, if it was overruled.
-    fn write_decision(
-        &self,
-        decision: &Decision,
-        reading: &ClockReading,
-        text: &mut String,
-    ) -> Result<(), AllocError> {
-        if !decision.was_overruled() || !self.shows_moment(reading) {
-            return Ok(());
-        }
-        write_overruled(decision, reading, text)
+        write_migration(arrow, run, text)
     }
 
     /// How many tasks are runnable at a processor, where that has changed.
-    fn write_count(
+    fn take_reading(
         &mut self,
-        reading: &ClockReading,
+        reading: Option<ClockReading>,
         schedule: &Schedule,
         text: &mut String,
-    ) -> Result<(), AllocError> {
-        if !self.shows_moment(reading) {
-            return Ok(());
-        }
-        let processor = reading.processor;
-        let count = schedule.processor(processor).runnable;
-        let Some(told) = self.runnable.get_mut(usize::from(processor)) else {
+    ) -> Result<(), AllocError>
+        ensures history { self.new ≡ record self.old { history = past_reading schedule.now reading self.old.history } }
+        ensures text { OnOk result (string_bytes text.new
+            ≡ string_bytes text.old ++ perfetto_reading schedule.now self.old.history reading) }
+    {
+        let Some(reading) = reading else {
             return Ok(());
         };
-        if *told == count {
-            return Ok(());
-        }
-        *told = count;
-        write_counter(reading, count, text)
+        let told = self.history.told_count(reading.processor);
+        let count = schedule.processor(reading.processor).runnable;
+        self.history.keep_count(reading.processor, count);
+        write_count(&reading, count, told, text)
     }
 
-    /// What a change has of wakes, pulls and policies.
-    fn take_events(
-        &mut self,
-        change: &Change,
+    /// The run from whose end an arrow leads to a migration.
+    fn left_run(&self, migration: Option<Start>) -> Option<Slice>
+        ensures { result ≡ left_run self.now.history migration }
+    {
+        let start = migration?;
+        self.history.last_run(start.task)
+    }
+
+    /// The part of a run that is shown, and the ends of the arrows that lead to it where it is shown from its beginning on.
+    fn write_run(
+        &self,
+        start: Option<Start>,
+        run: Option<Slice>,
+        schedule: &Schedule,
         names: &Names,
         text: &mut String,
-    ) -> Result<(), AllocError> {
-        if let (Some(decision), Some(reading)) = (&change.decision, &change.reading) {
-            self.write_decision(decision, reading, text)?;
-        }
-        if let Some(wake) = &change.wake {
-            self.write_wake(wake, names, text)?;
-        }
-        match &change.pull {
-            Some(pull) => self.write_pull(pull, names, text),
-            None => Ok(()),
-        }
+    ) -> Result<(), AllocError>
+        ensures { OnOk result (string_bytes text.new
+            ≡ string_bytes text.old ++ perfetto_run names.now schedule.now self.now.history start run) }
+    {
+        let (Some(start), Some(run)) = (start, run) else {
+            return Ok(());
+        };
+        let name = run_name(self.alloc, run.task, names)?;
+        let args = run_args(self.alloc, &schedule.task(run.task), run.task, start.waited)?;
+        write_run_event(&run, name.as_str(), args.as_str(), text)?;
+        let arrows = self.history.arrows_to(run.processor);
+        write_ends_if(run.from == start.at, arrows, &run, text)
     }
 
-    fn shows_moment(&self, reading: &ClockReading) -> bool {
-        self.window.from <= reading.to
-            && reading.to <= self.window.to
-            && self.window.shows_processor(reading.processor)
+    /// What is written of the run that goes on at a processor.
+    fn write_runner(
+        &self,
+        figures: &ProcessorFigures,
+        schedule: &Schedule,
+        names: &Names,
+        text: &mut String,
+    ) -> Result<(), AllocError>
+        ensures { OnOk result ((part : Option Slice) × IsShownPart self.now.window (run_on figures.now) part
+            × (string_bytes text.new
+            ≡ string_bytes text.old ++ perfetto_run names.now schedule.now self.now.history figures.now.running part)) }
+    {
+        let part = self.window.shown_part(run_on(figures));
+        self.write_run(figures.running, part, schedule, names, text)
+    }
+}
+
+/// What of a change is shown in a window.
+fn shown_of(window: &Window, change: &Change) -> ShownParts
+    ensures { ShowsChange window.now change.now result }
+{
+    ShownParts {
+        overruled: shown_decision(window, change.decision, change.reading),
+        wake: shown_wake(window, change.wake),
+        pull: shown_pull(window, change.pull),
+        run: window.shown_part(ended_run(change.stop)),
+        migration: shown_migration(window, change.start),
+        reading: shown_reading(window, change.reading),
+    }
+}
+
+/// A decision, if a policy's answer was overruled by it and that is shown.
+fn shown_decision(
+    window: &Window,
+    decision: Option<Decision>,
+    reading: Option<ClockReading>,
+) -> Option<Decision>
+    ensures { IsShownDecision window.now decision reading result }
+{
+    let (Some(decision), Some(reading)) = (decision, reading) else {
+        return None;
+    };
+    if decision.was_overruled() && shows_moment(window, &reading) {
+        Some(decision)
+    } else {
+        None
+    }
+}
+
+/// A wake, if it is shown.
+fn shown_wake(window: &Window, wake: Option<Wake>) -> Option<Wake>
+    ensures { IsShownWake window.now wake result }
+{
+    let wake = wake?;
+    if window.shows(wake.from, wake.task, wake.at) {
+        Some(wake)
+    } else {
+        None
+    }
+}
+
+/// A pull, if it is shown.
+fn shown_pull(window: &Window, pull: Option<PulledTask>) -> Option<PulledTask>
+    ensures { IsShownPull window.now pull result }
+{
+    let pull = pull?;
+    if window.shows(pull.to, pull.task, pull.at) {
+        Some(pull)
+    } else {
+        None
+    }
+}
+
+/// How a task began to run at another processor than before, if that is shown.
+fn shown_migration(window: &Window, start: Option<Start>) -> Option<Start>
+    ensures { IsShownMigration window.now start result }
+{
+    let start = start?;
+    if start.has_migrated() && window.shows(start.processor, start.task, start.at) {
+        Some(start)
+    } else {
+        None
+    }
+}
+
+/// A reading of a clock, if it is shown.
+fn shown_reading(window: &Window, reading: Option<ClockReading>) -> Option<ClockReading>
+    ensures { IsShownReading window.now reading result }
+{
+    let reading = reading?;
+    if shows_moment(window, &reading) {
+        Some(reading)
+    } else {
+        None
+    }
+}
+
+/// Whether the moment of a reading is shown.
+fn shows_moment(window: &Window, reading: &ClockReading) -> bool
+    ensures { IsTrue result ↔ ShowsMoment window.now reading.now.processor reading.now.to }
+{
+    window.from <= reading.to
+        && reading.to <= window.to
+        && window.shows_processor(reading.processor)
+}
+
+/// The name of a task, or its number where it has none.
+fn label(alloc: Global, task: u16, names: &Names) -> Result<String, AllocError>
+    ensures { IfOk result (λ text. string_bytes text ≡ label_of task (name_of names.now task)) }
+{
+    match names.of(task) {
+        Some(name) => String::from_str(alloc, name),
+        None => format!(in alloc; "task {task}"),
+    }
+}
+
+/// A text as JSON.
+fn quoted(alloc: Global, text: &str) -> Result<String, AllocError>
+    ensures { IfOk result (λ quoted. string_bytes quoted ≡ json_text text.now) }
+{
+    let value = Value::try_from_str(alloc, text)?;
+    value.to_string(alloc)
+}
+
+/// The name of a task's run, as JSON.
+fn run_name(alloc: Global, task: u16, names: &Names) -> Result<String, AllocError>
+    ensures { IfOk result (λ text. string_bytes text ≡ run_name names.now task) }
+{
+    let label = label(alloc, task, names)?;
+    quoted(alloc, label.as_str())
+}
+
+/// The name of what happens to a task, as JSON.
+fn act_name(alloc: Global, act: &str, task: u16, names: &Names) -> Result<String, AllocError>
+    ensures { IfOk result (λ text. string_bytes text ≡ act_name names.now act.now task) }
+{
+    let label = label(alloc, task, names)?;
+    let name = format!(in alloc; "{act} {label}")?;
+    quoted(alloc, name.as_str())
+}
+
+/// The figures of a run, as JSON.
+fn run_args(
+    alloc: Global,
+    figures: &TaskFigures,
+    task: u16,
+    waited: u64,
+) -> Result<String, AllocError>
+    ensures { IfOk result (λ text. string_bytes text ≡ compact_text (run_object figures.now task waited)) }
+{
+    let value = run_value(alloc, figures, task, waited)?;
+    value.to_string(alloc)
+}
+
+fn run_value(
+    alloc: Global,
+    figures: &TaskFigures,
+    task: u16,
+    waited: u64,
+) -> Result<Value, AllocError>
+    ensures { IfOk result (λ value. view value ≡ run_object figures.now task waited) }
+{
+    json!(in alloc; {
+        "nice": (figures.nice),
+        "task": task,
+        "waited_ns": waited,
+        "weight": (figures.weight)
+    })
+}
+
+/// The instant of an answer that was overruled, if there is one.
+fn write_decision(
+    decision: Option<Decision>,
+    reading: Option<ClockReading>,
+    text: &mut String,
+) -> Result<(), AllocError>
+    ensures { OnOk result (string_bytes text.new ≡ string_bytes text.old ++ perfetto_overruled decision reading) }
+{
+    match (decision, reading) {
+        (Some(decision), Some(reading)) => write_overruled(&decision, &reading, text),
+        _ => Ok(()),
+    }
+}
+
+/// A wake, if there is one, and the beginning of its arrow.
+fn write_wake(
+    alloc: Global,
+    wake: Option<Wake>,
+    arrow: u64,
+    names: &Names,
+    text: &mut String,
+) -> Result<(), AllocError>
+    ensures { OnOk result (string_bytes text.new ≡ string_bytes text.old ++ perfetto_wake names.now arrow wake) }
+{
+    let Some(wake) = wake else {
+        return Ok(());
+    };
+    let name = act_name(alloc, "wake", wake.task, names)?;
+    let args = task_args(alloc, wake.task, "to", wake.to)?;
+    let track = EVENTS + u64::from(wake.from);
+    write_mark("wake", name.as_str(), track, wake.at, args.as_str(), text)?;
+    write_beginning("wake", arrow, track, wake.at, text)
+}
+
+/// A pull, if there is one.
+fn write_pull(
+    alloc: Global,
+    pull: Option<PulledTask>,
+    names: &Names,
+    text: &mut String,
+) -> Result<(), AllocError>
+    ensures { OnOk result (string_bytes text.new ≡ string_bytes text.old ++ perfetto_pull names.now pull) }
+{
+    let Some(pull) = pull else {
+        return Ok(());
+    };
+    let name = act_name(alloc, "pull", pull.task, names)?;
+    let args = task_args(alloc, pull.task, "from", pull.from)?;
+    let track = EVENTS + u64::from(pull.to);
+    write_mark("pull", name.as_str(), track, pull.at, args.as_str(), text)
+}
+
+/// The ends of the arrows that lead to a run, where it is shown from its beginning on.
+fn write_ends_if(
+    is_whole: bool,
+    arrows: Arrows,
+    run: &Slice,
+    text: &mut String,
+) -> Result<(), AllocError>
+    ensures { OnOk result (string_bytes text.new ≡ string_bytes text.old ++ perfetto_ends_if is_whole arrows run.now) }
+{
+    if is_whole {
+        write_ends(arrows, run, text)
+    } else {
+        Ok(())
+    }
+}
+
+/// The ends of the arrows that lead to a run.
+fn write_ends(arrows: Arrows, run: &Slice, text: &mut String) -> Result<(), AllocError>
+    ensures { OnOk result (string_bytes text.new ≡ string_bytes text.old ++ perfetto_ends arrows run.now) }
+{
+    write_end_if("wake", arrows.wake, run, text)?;
+    write_end_if("migration", arrows.migration, run, text)
+}
+
+/// The end of an arrow at the beginning of a run, if there is one.
+fn write_end_if(
+    kind: &str,
+    arrow: Option<u64>,
+    run: &Slice,
+    text: &mut String,
+) -> Result<(), AllocError>
+    ensures { OnOk result (string_bytes text.new ≡ string_bytes text.old ++ perfetto_end kind.now arrow run.now) }
+{
+    match arrow {
+        Some(arrow) => write_end(kind, arrow, run, text),
+        None => Ok(()),
+    }
+}
+
+/// The beginning of a migration's arrow, in the last nanosecond of the run that it leads from, if there is one.
+fn write_migration(arrow: u64, run: Option<Slice>, text: &mut String) -> Result<(), AllocError>
+    ensures { OnOk result (string_bytes text.new ≡ string_bytes text.old ++ perfetto_migration arrow run) }
+{
+    let Some(run) = run else {
+        return Ok(());
+    };
+    let track = u64::from(run.processor);
+    let at = run.to.saturating_sub(1);
+    write_beginning("migration", arrow, track, at, text)
+}
+
+/// How many tasks are runnable at a processor that is there, if another number was told last.
+fn write_count(
+    reading: &ClockReading,
+    count: u64,
+    told: Option<u64>,
+    text: &mut String,
+) -> Result<(), AllocError>
+    ensures { OnOk result (string_bytes text.new
+        ≡ string_bytes text.old ++ perfetto_count reading.now.processor reading.now.to count told) }
+{
+    match told {
+        Some(told) if told != count => write_counter(reading, count, text),
+        _ => Ok(()),
     }
 }
 
@@ -301,16 +471,12 @@ impl ScheduleForm for Perfetto {
         schedule: &Schedule,
         _names: &Names,
         text: &mut String,
-    ) -> Result<(), AllocError> {
-        text.push_str("{\"displayTimeUnit\":\"ns\",\"traceEvents\":[\n")?;
-        text.push_str(
-            "{\"ph\":\"M\",\"pid\":0,\"name\":\"process_name\",\"args\":{\"name\":\"bqsim\"}}",
-        )?;
-        for processor in 0..schedule.processors() {
-            self.push_processor()?;
-            write_tracks(self.alloc, processor as u64, text)?;
-        }
-        Ok(())
+    ) -> Result<(), AllocError>
+        ensures head { OnOk result (Adds (IsPerfettoHead (length schedule.now.processors)) (string_bytes text.old) (string_bytes text.new)) }
+        ensures history { OnOk result (self.new ≡ record self.old { history = untold (length schedule.now.processors) 1024 }) }
+    {
+        self.history = History::of(self.alloc, schedule.processors())?;
+        write_head(self.alloc, schedule.processors(), text)
     }
 
     fn take(
@@ -319,18 +485,19 @@ impl ScheduleForm for Perfetto {
         schedule: &Schedule,
         names: &Names,
         text: &mut String,
-    ) -> Result<(), AllocError> {
-        self.take_events(change, names, text)?;
-        if let Some(stop) = &change.stop {
-            self.write_run(&stop.start, stop.at, schedule, names, text)?;
-        }
-        if let Some(start) = &change.start {
-            self.begin_run(start, text)?;
-        }
-        match &change.reading {
-            Some(reading) => self.write_count(reading, schedule, text),
-            None => Ok(()),
-        }
+    ) -> Result<(), AllocError>
+        ensures events { OnOk result (Adds
+            (IsPerfettoOf self.old.window names.now schedule.now change.now self.old.history self.new.history)
+            (string_bytes text.old) (string_bytes text.new)) }
+        ensures same { OnOk result (self.new.window ≡ self.old.window) }
+    {
+        let shown = shown_of(&self.window, change);
+        write_decision(shown.overruled, change.reading, text)?;
+        self.take_wake(change.wake, shown.wake, names, text)?;
+        write_pull(self.alloc, shown.pull, names, text)?;
+        self.take_stop(change.stop, shown.run, schedule, names, text)?;
+        self.take_start(change.start, shown.migration, text)?;
+        self.take_reading(shown.reading, schedule, text)
     }
 
     fn end(
@@ -338,13 +505,37 @@ impl ScheduleForm for Perfetto {
         schedule: &Schedule,
         names: &Names,
         text: &mut String,
-    ) -> Result<(), AllocError> {
+    ) -> Result<(), AllocError>
+        ensures tail { OnOk result (Adds (IsPerfettoTail self.old.window names.now schedule.now self.old.history)
+            (string_bytes text.old) (string_bytes text.new)) }
+        ensures same { self.new ≡ self.old }
+    {
         for number in 0..PROCESSORS {
             let figures = schedule.processor(number);
-            if let Some(start) = figures.running {
-                self.write_run(&start, figures.last, schedule, names, text)?;
-            }
+            self.write_runner(&figures, schedule, names, text)?;
         }
-        text.push_str("\n]}\n")
+        write_tail(text)
     }
 }
+
+/// What stands before all events, and the tracks of this many processors.
+fn write_head(alloc: Global, processors: usize, text: &mut String) -> Result<(), AllocError>
+    ensures { OnOk result (Adds (IsPerfettoHead processors) (string_bytes text.old) (string_bytes text.new)) }
+{
+    text.push_str(HEAD)?;
+    for processor in 0..processors {
+        write_tracks(alloc, processor as u64, text)?;
+    }
+    Ok(())
+}
+
+/// What stands behind all events.
+fn write_tail(text: &mut String) -> Result<(), AllocError>
+    ensures { OnOk result (string_bytes text.new ≡ string_bytes text.old ++ codes "\n]}\n") }
+{
+    text.push_str("\n]}\n")
+}
+
+/// What stands before all events.
+const HEAD: &str =
+    "{\"displayTimeUnit\":\"ns\",\"traceEvents\":[\n{\"ph\":\"M\",\"pid\":0,\"name\":\"process_name\",\"args\":{\"name\":\"bqsim\"}}";

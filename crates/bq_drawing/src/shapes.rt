@@ -1,9 +1,13 @@
 //! The shapes of a row: its name, its runs, the waits below them, and the wakes above.
+ghost use Rattle.std.specs.Prelude.{◌≡◌, ◌++◌, OnOk, codes, string_bytes};
+ghost use Rattle.bq_report.specs.Reports.{Adds};
+ghost use Rattle.bq_drawing.specs.Pictures.{IsRunElement, rectangle_text};
 
 use crate::frame::Frame;
 use crate::lanes::Stretch;
 use crate::scale::{Hundredths, LEFT, WIDTH};
-use std::alloc::AllocError;
+use bq_schedule::{Slice, Start};
+use std::alloc::{AllocError, Global};
 
 /// How high a run is drawn.
 pub const BAND: usize = 36;
@@ -14,7 +18,7 @@ pub const LANE: usize = 12;
 /// How high a wake is drawn, with the space below it.
 pub const LEVEL: usize = 13;
 
-/// A run, and how it began.
+/// The part of a run that is shown, and how the run began.
 #[derive(Clone, Copy)]
 pub struct DrawnRun {
     pub task: u16,
@@ -22,6 +26,23 @@ pub struct DrawnRun {
     pub to: u64,
     pub waited: u64,
     pub latency: Option<u64>,
+}
+
+impl DrawnRun {
+    ghost use Rattle.bq_drawing.specs.Pictures.{drawn_run};
+
+    /// This part of a run that began so.
+    pub fn of(start: &Start, part: &Slice) -> DrawnRun
+        ensures { result ≡ drawn_run start.now part.now }
+    {
+        DrawnRun {
+            task: part.task,
+            from: part.from,
+            to: part.to,
+            waited: start.waited,
+            latency: start.latency,
+        }
+    }
 }
 
 /// The name of a row, and the band in which its runs lie.
@@ -37,23 +58,56 @@ pub fn write_row_name(number: usize, top: usize, text: &mut String) -> Result<()
     )
 }
 
-/// A run, with all of it in a tooltip. Where there is room, the labels have its task's name.
+/// A run, with all of it in a tooltip.
 pub fn write_run(
+    alloc: Global,
     run: &DrawnRun,
     top: usize,
     frame: &Frame<'_>,
     text: &mut String,
-    labels: &mut String,
-) -> Result<(), AllocError> {
+) -> Result<(), AllocError>
+    ensures { OnOk result (Adds (IsRunElement frame.now.scale.extent frame.now.roster.now top run.now) (string_bytes text.old) (string_bytes text.new)) }
+{
+    let title = run_title(alloc, run, frame)?;
+    write_rectangle(run, top, frame, text)?;
+    write_title(title.as_str(), text)
+}
+
+/// The rectangle of a run.
+fn write_rectangle(
+    run: &DrawnRun,
+    top: usize,
+    frame: &Frame<'_>,
+    text: &mut String,
+) -> Result<(), AllocError>
+    ensures { OnOk result (string_bytes text.new
+        ≡ string_bytes text.old ++ rectangle_text frame.now.scale.extent frame.now.roster.now top run.now) }
+{
     let place = frame.scale.place(run.from);
     let width = frame.scale.width(run.from, run.to);
     let colour = frame.colour(run.task);
     write!(
         text,
         "<g><rect class=\"run c{colour}\" x=\"{place}\" y=\"{top}\" width=\"{width}\" height=\"{BAND}\" rx=\"2\"/>"
-    )?;
-    write_run_title(run, frame, text)?;
-    text.push_str("</g>\n")?;
+    )
+}
+
+/// A tooltip, and the end of what it is about.
+fn write_title(title: &str, text: &mut String) -> Result<(), AllocError>
+    ensures { OnOk result (string_bytes text.new ≡ string_bytes text.old ++ (title.now ++ codes "</g>\n")) }
+{
+    write!(text, "{title}</g>\n")
+}
+
+/// The name of a run's task upon it, where there is room.
+pub fn write_label(
+    run: &DrawnRun,
+    top: usize,
+    frame: &Frame<'_>,
+    labels: &mut String,
+) -> Result<(), AllocError> {
+    let place = frame.scale.place(run.from);
+    let width = frame.scale.width(run.from, run.to);
     let least = frame
         .name_length(run.task)
         .saturating_mul(1000)
@@ -84,12 +138,14 @@ fn write_run_name(
 }
 
 /// The tooltip of a run.
-fn write_run_title(run: &DrawnRun, frame: &Frame<'_>, text: &mut String) -> Result<(), AllocError> {
+fn run_title(alloc: Global, run: &DrawnRun, frame: &Frame<'_>) -> Result<String, AllocError> {
+    let mut text = String::new(alloc);
     text.push_str("<title>")?;
-    frame.write_name(run.task, usize::MAX, text)?;
-    write_run_times(run, frame, text)?;
-    write_run_waits(run, frame, text)?;
-    text.push_str("</title>")
+    frame.write_name(run.task, usize::MAX, &mut text)?;
+    write_run_times(run, frame, &mut text)?;
+    write_run_waits(run, frame, &mut text)?;
+    text.push_str("</title>")?;
+    Ok(text)
 }
 
 /// When a run is.

@@ -1,4 +1,8 @@
 //! The picture of a schedule.
+ghost use Rattle.std.specs.Prelude.{◌≡◌, [], length, replicate, OnOk, option_map};
+ghost use Rattle.bq_report.specs.Rosters.{enlisted};
+ghost use Rattle.bq_drawing.specs.Pictures.{HoldsRun, HoldsRunners};
+ghost use Rattle.bq_drawing.specs.Runs.{ended_run};
 
 use crate::drawing::{Drawing, Written};
 use crate::escaped::Escaped;
@@ -7,6 +11,7 @@ use crate::lanes::Stretch;
 use crate::links::{Link, LinkKind, Spot};
 use crate::look::Look;
 use crate::picture_name::PictureName;
+use crate::runs::{ended_run, run_on};
 use crate::scale::PAGE;
 use crate::sheet::{write_hatches, write_styles};
 use crate::theme::Theme;
@@ -34,7 +39,10 @@ pub struct Svg {
 
 impl Svg {
     /// The picture of what is in the window.
-    pub fn new(alloc: Global, window: Window, look: Look) -> Svg {
+    pub fn new(alloc: Global, window: Window, look: Look) -> Svg
+        ensures window { result.window ≡ window }
+        ensures none { (result.drawing ≡ []) × (result.roster ≡ []) }
+    {
         Svg {
             alloc,
             window,
@@ -47,32 +55,28 @@ impl Svg {
     }
 
     /// The picture names the discipline by which the processors choose.
-    pub fn under(&mut self, rule: Rule) {
+    pub fn under(&mut self, rule: Rule)
+        ensures { self.new ≡ record self.old { rule = self.new.rule } }
+    {
         self.rule = Some(rule);
     }
 
-    /// Holds the part of a run that is shown.
-    fn hold_run(&mut self, start: &Start, at: u64) -> Result<(), AllocError> {
-        let run = Slice {
-            processor: start.processor,
-            task: start.task,
-            from: start.at,
-            to: at,
-        };
-        match self.window.clip(&run) {
-            Some(run) => self.drawing.push_run(&run, start),
-            None => Ok(()),
+    /// Holds the part of a run that is shown, if there is a run.
+    fn hold_run(&mut self, start: Option<Start>, run: Option<Slice>) -> Result<(), AllocError>
+        ensures run { OnOk result (HoldsRun self.old.window start run self.old.drawing self.new.drawing) }
+        ensures same { self.new ≡ record self.old { drawing = self.new.drawing } }
+    {
+        let part = self.window.shown_part(run);
+        match (start, part) {
+            (Some(start), Some(part)) => self.drawing.push_run(&start, &part),
+            _ => Ok(()),
         }
     }
 
     /// Holds the part of a wait that is shown.
-    fn hold_wait(
-        &mut self,
-        processor: u8,
-        task: u16,
-        from: u64,
-        to: u64,
-    ) -> Result<(), AllocError> {
+    fn hold_wait(&mut self, processor: u8, task: u16, from: u64, to: u64) -> Result<(), AllocError>
+        ensures { self.new ≡ self.old }
+    {
         let wait = Slice {
             processor,
             task,
@@ -92,14 +96,21 @@ impl Svg {
         }
     }
 
-    /// Holds a run that is over.
-    fn hold_stop(&mut self, stop: &Stop) -> Result<(), AllocError> {
-        self.stops.insert(stop.start.task, stop.at)?;
-        self.hold_run(&stop.start, stop.at)
+    /// Holds a run that is over, as far as it is shown, and when it ended.
+    fn hold_stop(&mut self, stop: Option<Stop>) -> Result<(), AllocError>
+        ensures run { OnOk result (HoldsRun self.old.window (option_map (λ s. s.start) stop) (ended_run stop) self.old.drawing self.new.drawing) }
+        ensures same { self.new ≡ record self.old { drawing = self.new.drawing; stops = self.new.stops } }
+    {
+        if let Some(stop) = stop {
+            self.stops.insert(stop.start.task, stop.at)?;
+        }
+        self.hold_run(start_of(stop), ended_run(stop))
     }
 
     /// Holds the wait before a run, and that its task has migrated, if it has.
-    fn hold_start(&mut self, start: &Start) -> Result<(), AllocError> {
+    fn hold_start(&mut self, start: &Start) -> Result<(), AllocError>
+        ensures { self.new ≡ self.old }
+    {
         let from = start.at.saturating_sub(start.waited);
         self.hold_wait(start.processor, start.task, from, start.at)?;
         let Some(before) = start.before else {
@@ -124,7 +135,9 @@ impl Svg {
     }
 
     /// Holds the wait before a pull, and the pull.
-    fn hold_pull(&mut self, pull: &PulledTask) -> Result<(), AllocError> {
+    fn hold_pull(&mut self, pull: &PulledTask) -> Result<(), AllocError>
+        ensures { self.new ≡ self.old }
+    {
         let from = pull.at.saturating_sub(pull.waited);
         self.hold_wait(pull.from, pull.task, from, pull.at)?;
         self.hold_link(Link {
@@ -142,7 +155,9 @@ impl Svg {
     }
 
     /// Holds a pull or a migration that is shown: it ends in the window, and both of its processors are shown.
-    fn hold_link(&mut self, link: Link) -> Result<(), AllocError> {
+    fn hold_link(&mut self, link: Link) -> Result<(), AllocError>
+        ensures { self.new ≡ self.old }
+    {
         let is_shown = self.window.shows(link.to.processor, link.task, link.to.at)
             && self.window.shows_processor(link.from.processor);
         if is_shown {
@@ -151,15 +166,31 @@ impl Svg {
         Ok(())
     }
 
-    fn hold_wake(&mut self, wake: &Wake) -> Result<(), AllocError> {
+    fn hold_wake(&mut self, wake: &Wake) -> Result<(), AllocError>
+        ensures { self.new ≡ self.old }
+    {
         if self.window.shows(wake.to, wake.task, wake.at) {
             self.drawing.push_wake(wake)?;
         }
         Ok(())
     }
 
+    /// Holds the runs that go on, as far as they are shown.
+    fn hold_runners(&mut self, schedule: &Schedule) -> Result<(), AllocError>
+        ensures runs { OnOk result (HoldsRunners self.old.window schedule.now 64 self.old.drawing self.new.drawing) }
+        ensures same { self.new ≡ record self.old { drawing = self.new.drawing } }
+    {
+        for number in 0..PROCESSORS {
+            let figures = schedule.processor(number);
+            self.hold_run(figures.running, run_on(&figures))?;
+        }
+        Ok(())
+    }
+
     /// Holds the waits that are not over.
-    fn hold_waiting(&mut self, schedule: &Schedule) -> Result<(), AllocError> {
+    fn hold_waiting(&mut self, schedule: &Schedule) -> Result<(), AllocError>
+        ensures { self.new ≡ self.old }
+    {
         for id in 0..TASKS {
             let task = schedule.task(id);
             if let Some(place) = task.place {
@@ -219,6 +250,14 @@ fn write_root_title(title: &str, text: &mut String) -> Result<(), AllocError> {
     write!(text, "<title>{title}</title>\n")
 }
 
+/// How the run began that is over.
+fn start_of(stop: Option<Stop>) -> Option<Start>
+    ensures { result ≡ option_map (λ s. s.start) stop }
+{
+    let stop = stop?;
+    Some(stop.start)
+}
+
 fn runs(running: Option<Start>, task: u16) -> bool {
     match running {
         Some(start) => start.task == task,
@@ -231,15 +270,18 @@ impl ScheduleForm for Svg {
         &mut self,
         schedule: &Schedule,
         _names: &Names,
-        _text: &mut String,
-    ) -> Result<(), AllocError> {
-        for _ in 0..schedule.processors() {
-            self.drawing.push_row()?;
-        }
+        text: &mut String,
+    ) -> Result<(), AllocError>
+        ensures rows { OnOk result (self.new ≡ record self.old { drawing = replicate (length schedule.now.processors) [] }) }
+        ensures none { text.new ≡ text.old }
+    {
+        self.drawing = Drawing::of(self.alloc, schedule.processors())?;
         Ok(())
     }
 
-    fn admit(&mut self, task: u16) -> Result<(), AllocError> {
+    fn admit(&mut self, task: u16) -> Result<(), AllocError>
+        ensures { OnOk result (self.new ≡ record self.old { roster = enlisted task self.old.roster }) }
+    {
         self.roster.admit(task)
     }
 
@@ -248,17 +290,20 @@ impl ScheduleForm for Svg {
         change: &Change,
         _schedule: &Schedule,
         _names: &Names,
-        _text: &mut String,
-    ) -> Result<(), AllocError> {
+        text: &mut String,
+    ) -> Result<(), AllocError>
+        ensures run { OnOk result (HoldsRun self.old.window (option_map (λ s. s.start) change.now.stop) (ended_run change.now.stop)
+            self.old.drawing self.new.drawing) }
+        ensures same { self.new ≡ record self.old { drawing = self.new.drawing; stops = self.new.stops } }
+        ensures none { text.new ≡ text.old }
+    {
         if let Some(wake) = change.wake {
             self.hold_wake(&wake)?;
         }
         if let Some(pull) = change.pull {
             self.hold_pull(&pull)?;
         }
-        if let Some(stop) = change.stop {
-            self.hold_stop(&stop)?;
-        }
+        self.hold_stop(change.stop)?;
         match change.start {
             Some(start) => self.hold_start(&start),
             None => Ok(()),
@@ -271,12 +316,7 @@ impl ScheduleForm for Svg {
         names: &Names,
         text: &mut String,
     ) -> Result<(), AllocError> {
-        for number in 0..PROCESSORS {
-            let figures = schedule.processor(number);
-            if let Some(start) = figures.running {
-                self.hold_run(&start, figures.last)?;
-            }
-        }
+        self.hold_runners(schedule)?;
         self.hold_waiting(schedule)?;
         let extent = match Extent::of(schedule, &self.window) {
             Some(extent) => extent,

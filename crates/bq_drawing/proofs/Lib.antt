@@ -1,0 +1,2 @@
+pub mod PerfettoLemmas
+pub mod PictureLemmas

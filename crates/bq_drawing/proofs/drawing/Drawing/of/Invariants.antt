@@ -1,0 +1,5 @@
+use Rattle.std.proofs.Common.{◌≡◌, [], replicate}
+use Rattle.bq_drawing.proofs.drawing.Drawing.of.Given as goal
+
+abbrev pub invariant-processors : goal.invariant-processors
+invariant-processors l = l.rows.items ≡ replicate l.counter []

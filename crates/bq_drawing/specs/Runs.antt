@@ -1,0 +1,19 @@
+-- Runs, by how they began.
+use Rattle.std.specs.Prelude.{ℕ, Option}
+use Rattle.std.specs.Option.{option_map}
+use Rattle.bq_schedule.specs.declared.change.Start.{Start}
+use Rattle.bq_schedule.specs.declared.change.Stop.{Stop}
+use Rattle.bq_schedule.specs.declared.figures.ProcessorFigures.{ProcessorFigures}
+use Rattle.bq_schedule.specs.declared.slice.Slice.{Slice}
+
+-- a run that began so and is over at a moment
+abbrev pub run_to : ℕ → Start → Slice
+run_to at start = record { processor = start.processor; task = start.task; from = start.at; to = at }
+
+-- the run that a change ends
+abbrev pub ended_run : Option Stop → Option Slice
+ended_run stop = option_map (λ (s : Stop). run_to s.at s.start) stop
+
+-- the run that goes on at a processor, as far as its clock was read
+abbrev pub run_on : ProcessorFigures → Option Slice
+run_on p = option_map (run_to p.last) p.running

@@ -1,0 +1,183 @@
+//! What the events of a trace need to know of those before them.
+ghost use Rattle.std.specs.Prelude.{◌≡◌, IfOk};
+ghost use Rattle.bq_drawing.specs.Histories.{after_count, after_run, after_start, after_wake, arrow_if, arrows_to, last_run, next_arrow, told_count, untold, wake_arrow};
+
+use bq_disc::limits::TASKS;
+use bq_schedule::Slice;
+use std::alloc::{AllocError, Global};
+use std::marker::Model;
+
+/// The arrows that end at the beginning of a run, by their numbers.
+#[derive(Clone, Copy)]
+pub struct Arrows {
+    pub wake: Option<u64>,
+    pub migration: Option<u64>,
+}
+
+/// None.
+const NO_ARROWS: Arrows = Arrows {
+    wake: None,
+    migration: None,
+};
+
+/// What the events of a trace need to know of those before them.
+#[derive(Drop)]
+pub struct History {
+    /// For each processor the arrows that end where the run that goes on began.
+    ends: Vec<Arrows>,
+    /// For each processor how many tasks were runnable when it was told last.
+    counts: Vec<u64>,
+    /// For each task that was woken and has not run since: the arrow of that wake.
+    woken: Vec<Option<u64>>,
+    /// The last run of each task that has ceased to run, as far as it is shown.
+    runs: Vec<Option<Slice>>,
+    /// How many arrows have begun.
+    arrows: u64,
+}
+
+impl Model for History {
+    ghost use Rattle.bq_drawing.specs.Histories.{Past};
+
+    ghost Value = { Past };
+
+    ghost view = { λ h. record { ends = h.ends.items; counts = h.counts.items; woken = h.woken.items; runs = h.runs.items; arrows = h.arrows } };
+}
+
+impl History {
+    /// Nothing has been told, of no processor and no task.
+    pub fn new(alloc: Global) -> History
+        ensures { result ≡ untold 0 0 }
+    {
+        History {
+            ends: Vec::new(alloc),
+            counts: Vec::new(alloc),
+            woken: Vec::new(alloc),
+            runs: Vec::new(alloc),
+            arrows: 0,
+        }
+    }
+
+    /// Nothing has been told, of this many processors and of every task.
+    pub fn of(alloc: Global, processors: usize) -> Result<History, AllocError>
+        ensures { IfOk result (λ h. h ≡ untold processors 1024) }
+    {
+        let mut ends = Vec::with_capacity(alloc, processors)?;
+        let mut counts = Vec::with_capacity(alloc, processors)?;
+        'processors: for _ in 0..processors {
+            ends.push(NO_ARROWS)?;
+            counts.push(0)?;
+        }
+        let mut woken = Vec::with_capacity(alloc, usize::from(TASKS))?;
+        let mut runs = Vec::with_capacity(alloc, usize::from(TASKS))?;
+        'tasks: for _ in 0..usize::from(TASKS) {
+            woken.push(None)?;
+            runs.push(None)?;
+        }
+        Ok(History {
+            ends,
+            counts,
+            woken,
+            runs,
+            arrows: 0,
+        })
+    }
+
+    /// The number of the next arrow.
+    pub fn next_arrow(&self) -> u64
+        ensures { result ≡ next_arrow self.now }
+    {
+        self.arrows.saturating_add(1)
+    }
+
+    /// The same, where an arrow begins.
+    fn arrow_if(&self, begins: bool) -> Option<u64>
+        ensures { result ≡ arrow_if begins self.now }
+    {
+        if begins {
+            Some(self.next_arrow())
+        } else {
+            None
+        }
+    }
+
+    /// A task was woken; the arrow of its wake begins if that is shown.
+    pub fn keep_wake(&mut self, task: u16, begins: bool)
+        ensures { self.new ≡ after_wake task begins self.old }
+    {
+        let arrow = self.arrow_if(begins);
+        self.arrows = arrow.unwrap_or(self.arrows);
+        if let Some(place) = self.woken.get_mut(usize::from(task)) {
+            *place = arrow;
+        }
+    }
+
+    /// The arrow that leads to a task's next run from its wake.
+    fn wake_arrow(&self, task: u16) -> Option<u64>
+        ensures { result ≡ wake_arrow self.now task }
+    {
+        match self.woken.get(usize::from(task)) {
+            Some(arrow) => *arrow,
+            None => None,
+        }
+    }
+
+    /// A task began to run at a processor; an arrow leads there from its last run, if that is so.
+    pub fn keep_start(&mut self, processor: u8, task: u16, begins: bool)
+        ensures { self.new ≡ after_start processor task begins self.old }
+    {
+        let wake = self.wake_arrow(task);
+        let migration = self.arrow_if(begins);
+        self.arrows = migration.unwrap_or(self.arrows);
+        if let Some(place) = self.ends.get_mut(usize::from(processor)) {
+            *place = Arrows { wake, migration };
+        }
+        if let Some(place) = self.woken.get_mut(usize::from(task)) {
+            *place = None;
+        }
+    }
+
+    /// The arrows that lead to the run at a processor.
+    pub fn arrows_to(&self, processor: u8) -> Arrows
+        ensures { result ≡ arrows_to self.now processor }
+    {
+        match self.ends.get(usize::from(processor)) {
+            Some(arrows) => *arrows,
+            None => NO_ARROWS,
+        }
+    }
+
+    /// A run of a task is over, of which this part is shown.
+    pub fn keep_run(&mut self, task: u16, part: Option<Slice>)
+        ensures { self.new ≡ after_run task part self.old }
+    {
+        if let Some(place) = self.runs.get_mut(usize::from(task)) {
+            *place = part;
+        }
+    }
+
+    /// The last run of a task that is over, as far as it is shown.
+    pub fn last_run(&self, task: u16) -> Option<Slice>
+        ensures { result ≡ last_run self.now task }
+    {
+        match self.runs.get(usize::from(task)) {
+            Some(run) => *run,
+            None => None,
+        }
+    }
+
+    /// How many tasks were runnable at a processor when it was told last, if the processor is there.
+    pub fn told_count(&self, processor: u8) -> Option<u64>
+        ensures { result ≡ told_count self.now processor }
+    {
+        self.counts.get(usize::from(processor)).copied()
+    }
+
+    /// So many are told.
+    pub fn keep_count(&mut self, processor: u8, count: u64)
+        ensures { self.new ≡ after_count processor count self.old }
+    {
+        if let Some(place) = self.counts.get_mut(usize::from(processor)) {
+            *place = count;
+        }
+    }
+}
