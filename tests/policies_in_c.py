@@ -28,6 +28,8 @@ class Drawn:
         self.hook = draw.choice(sorted(HEADS))
         self.struct, self.words, self.wide, self.rows = HEADS[self.hook]
         self.maps = [f'{draw.choice((8, 16, 24))}:{draw.choice((1, 4, 16, 64))}' for _ in range(draw.choice((0, 1, 1, 2)))]
+        if len(self.maps) == 2 and draw.randrange(2):
+            self.maps[1] = self.maps[0]
 
     def name(self, stem):
         self.names += 1
@@ -106,6 +108,20 @@ class Drawn:
                 f'u32 {two} = {a}[0] % {entries};\nu64 *{b} = bq_lookup(BQ_MAP({m}), &{two});\nif (!{b}) return {self.draw.randrange(3)};\n'
                 f'{b}[0] = {a}[0] + {self.word()};\nbest += {b}[0] & 3;\n')
 
+    def either(self):
+        """One of two maps of one shape, by a test: one look-up, or the entry of one of two."""
+        if len(self.maps) < 2 or self.maps[0] != self.maps[1]:
+            return self.entry()
+        draw = self.draw
+        number, value, other, chosen = (self.name(s) for s in ('number', 'value', 'other', 'chosen'))
+        test = f'{self.word()} > {draw.randrange(4)}'
+        return f'u32 {number} = {draw.randrange(3)};\n' + draw.choice((
+            f'u64 *{value} = bq_lookup({test} ? BQ_MAP(0) : BQ_MAP(1), &{number});\nif (!{value}) return ask->own;\n{value}[0] += 1;\n',
+            f'u64 *{value} = {test} ? bq_lookup(BQ_MAP(0), &{number}) : bq_lookup(BQ_MAP(1), &{number});\nif ({value}) {value}[0] += 1;\n',
+            f'u64 *{value} = bq_lookup(BQ_MAP(0), &{number});\nu64 *{other} = bq_lookup(BQ_MAP(1), &{number});\n'
+            f'if (!{value} || !{other}) return ask->own;\nu64 *{chosen} = {test} ? {value} : {other};\nbest += {chosen}[0]++ & 1;\n',
+        ))
+
     def gap(self):
         """A difference of two numbers, compared or limited."""
         draw = self.draw
@@ -119,7 +135,7 @@ class Drawn:
         ))
 
     def text(self):
-        pieces = [self.clamped, self.scan, self.entry, self.entry, self.histogram, self.second, self.gap]
+        pieces = [self.clamped, self.scan, self.entry, self.entry, self.histogram, self.second, self.either, self.gap]
         body = ''.join(self.draw.choice(pieces)() for _ in range(self.draw.randrange(1, 5)))
         last = self.draw.choice(('return best;', 'return best & 1;', 'return best ? ask->own : 0;', 'if (best > 9) return ask->own;\nreturn best;'))
         return f'#include "bqsim.h"\nu64 policy(const {self.struct} *ask)\n{{\nu64 best = 0;\n{body}{last}\n}}\n'
