@@ -24,7 +24,7 @@ run = "1ms"
 name = "b"
 run = "1ms"
 """
-SHORT, LONG, ENDLESS = "1ms", "60ms", "100s"
+SHORT, LONG, LONGER, ENDLESS = "1ms", "60ms", "400ms", "100s"
 SECONDS = 60
 CUT = "the run was cut off: it has more events than --max-events allows"
 ERASED = b"\r\x1b[K"
@@ -39,7 +39,7 @@ class LongWork:
     def __init__(self, program, folder):
         self.program, self.folder = program, folder
         self.passed = self.failed = 0
-        for name in (SHORT, LONG, ENDLESS):
+        for name in (SHORT, LONG, LONGER, ENDLESS):
             with open(os.path.join(folder, name), "w", encoding="ascii") as file:
                 file.write(WORKLOAD % name)
 
@@ -111,7 +111,7 @@ class LongWork:
         self.case(f"{name}: the same text without a terminal", (ended, piped.encode(), said) == (0, text, ""), (ended, said))
 
     def progress(self):
-        self.shows(b"% simulated", "simulate", LONG)
+        self.shows(b"% simulated", "simulate", LONGER)
         self.shows(b"of 4 runs done", "simulate", LONG, "--seeds", "2", "--against", "none")
         trace = os.path.join(self.folder, "trace")
         with open(trace, "wb") as file:
