@@ -167,7 +167,7 @@ begins r p w =
 
 -- The bound in time
 
-numbers : (W M w v V g a r m o x : ℕ) → W ≡ w + o → W * V ≤ M → V ≡ v + g → 1024 * x ≤ w * g → w * M ≤ w * (W * v) + o * (W * a) + 1024 * r * (m * W + w) → x * (1024 * W) ≤ (o * a * W + 1024 * r * w) + m * r * (1024 * W)
+numbers : (W M w v V g a r m o x : ℕ) → W ≡ w + o → W * V ≤ M → V ≡ v + g → 1024 * x ≤ w * g → w * M ≤ w * (W * v) + (o * (W * a) + 1024 * r * (m * W + w)) → x * (1024 * W) ≤ (o * a * W + 1024 * r * w) + m * r * (1024 * W)
 numbers W M w v V g a r m o x split mean up lag law =
     let b = mul-le-mul_left w mean in
     let c = ap (λ n. w * (W * n)) up in
@@ -184,7 +184,7 @@ within_by : (x k D num : ℕ) (b : Bool) → leb x k ≡ b → 1 ≤ D → x * D
 within_by x k D num true e pos h = let le : x ≤ k = grind (arith, nat_tests) in omega arith
 within_by x k D num false e pos h = let le : k ≤ x = grind (arith, nat_tests) in part x k (x - k) D num (omega arith) pos h
 
-behind_by : (W M w v a r m o : ℕ) (b : Bool) → leb (M / W) v ≡ b → 1 ≤ W → W ≡ w + o → w * M ≤ w * (W * v) + o * (W * a) + 1024 * r * (m * W + w) → w * (M / W - v) / 1024 ≤ m * r + (o * a * W + 1024 * r * w) / (1024 * W)
+behind_by : (W M w v a r m o : ℕ) (b : Bool) → leb (M / W) v ≡ b → 1 ≤ W → W ≡ w + o → w * M ≤ w * (W * v) + (o * (W * a) + 1024 * r * (m * W + w)) → w * (M / W - v) / 1024 ≤ m * r + (o * a * W + 1024 * r * w) / (1024 * W)
 behind_by W M w v a r m o true e pos split law =
     let le : M / W ≤ v = grind (arith, nat_tests) in
     let none : M / W - v ≡ 0 = omega arith in
@@ -202,7 +202,7 @@ mean_is : (j : ℕ) (xs : List Task) (b : Task) → with_id j xs ≡ Some b → 
 mean_is j [] b f = cc
 mean_is j (t ∷ xs) b f = refl
 
-finish : (r a W : ℕ) (q : Running) (j : ℕ) (b : Task) → task_at j q ≡ Some b → 15 ≤ b.weight → weight_at q ≡ W → b.weight * moment_at q ≤ b.weight * (weight_at q * b.v) + (weight_at q - b.weight) * (W * a) + 1024 * r * ((length (present_at q) - 2) * weight_at q + b.weight) → owed (mean_at (present_at q)) b ≤ allowed a r (length (present_at q)) (weight_at q) b.weight
+finish : (r a W : ℕ) (q : Running) (j : ℕ) (b : Task) → task_at j q ≡ Some b → 15 ≤ b.weight → weight_at q ≡ W → b.weight * moment_at q ≤ b.weight * (weight_at q * b.v) + ((weight_at q - b.weight) * (W * a) + 1024 * r * ((length (present_at q) - 2) * weight_at q + b.weight)) → owed (mean_at (present_at q)) b ≤ allowed a r (length (present_at q)) (weight_at q) b.weight
 finish r a W q j b f low same law =
     let xs = present_at q in
     let split = weights_split j xs b f in

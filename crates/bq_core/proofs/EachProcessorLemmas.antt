@@ -112,7 +112,7 @@ settled_stands : (s : PolicySemantics) (hook : Hook) (policy : Option Accepted) 
 settled_stands s hook None context attached now processor permitted own settled is h m = rw h m
 settled_stands s hook (Some p) context attached now processor permitted own settled is h m =
     let had : IsEquipped (Some p) attached.maps = subst (λ (o : Option Accepted). IsEquipped o attached.maps) is m.1 in
-    rw h.3 (m.0, subst (λ (o : Option Accepted). IsEquipped o h.1) (sym is) (had.0, h.7))
+    rw h.leaves (m.0, subst (λ (o : Option Accepted). IsEquipped o h.maps) (sym is) (had.0, h.shapes))
 
 preempt_stands : (s : PolicySemantics) (processor : ℕ) (p : Processor) (o : Option Task) (settled : Decision) → SettlesPreempt s processor p o settled → AreReady p.hooks → MayStand Preempt settled.attached
 preempt_stands s processor p None settled h ready = rw h (ready Preempt)
@@ -145,15 +145,15 @@ performs_well s w (event.Install processor h g policy) calls r w' all k =
     rw k.3 (well_at w processor k.0 all q)
 performs_well s w (event.BeginWake processor id) calls r w' all k =
     let well = all processor in
-    let q : IsWell k.0 = rw k.2.4 (record { rising = well.rising; ready = well.ready }) in
+    let q : IsWell k.0 = rw k.2.in_hand (record { rising = well.rising; ready = well.ready }) in
     rw k.4 (well_at w processor k.0 all q)
 performs_well s w (event.EndWake processor now) calls r w' all k =
     let p = processor_at w processor in
     let c = after_time s.discipline now p in
     let well = all processor in
     let b = k.2 in
-    let new = settled_stands s Place c.hooks.place.policy _ c.hooks.place c.running.last processor _ _ b.1 refl b.4.0 (well.ready Place) in
-    let q : IsWell k.1 = rw b.4.5 (record { rising = well.rising; ready = ready_with c.hooks Place b.1.attached well.ready new }) in
+    let new = settled_stands s Place c.hooks.place.policy _ c.hooks.place c.running.last processor _ _ b.settled refl b.settles (well.ready Place) in
+    let q : IsWell k.1 = rw b.here (record { rising = well.rising; ready = ready_with c.hooks Place b.settled.attached well.ready new }) in
     rw k.4 (well_at w processor k.1 all q)
 performs_well s w (event.Drain processor now) calls r w' all k =
     let c = after_time s.discipline now (processor_at w processor) in
@@ -174,14 +174,14 @@ performs_well s w (event.Pull processor from now) calls r w' all k =
     let other = processor_at w from in
     let x = k.2 in
     let source : Running = (remarked d other).running in
-    let task = task_numbered x.0.choice in
+    let task = task_numbered x.settled.choice in
     let taken = taken_from source task in
     let well = all processor in
     let there = all from in
-    let new = settled_stands s Pull c.hooks.pull.policy _ c.hooks.pull c.running.last processor _ _ x.0 refl x.1.0 (well.ready Pull) in
-    let q : IsWell k.0 = rw x.1.3 (record {
+    let new = settled_stands s Pull c.hooks.pull.policy _ c.hooks.pull c.running.last processor _ _ x.settled refl x.settles (well.ready Pull) in
+    let q : IsWell k.0 = rw x.here (record {
       rising = rising_started d (with_pulled d c.running taken) c.running.current (rising_pulled d c.running taken well.rising);
-      ready = ready_with c.hooks Pull x.0.attached well.ready new;
+      ready = ready_with c.hooks Pull x.settled.attached well.ready new;
     }) in
-    let o : IsWell k.1 = rw x.1.4 (record { rising = rising_taken source task there.rising; ready = there.ready }) in
+    let o : IsWell k.1 = rw x.there (record { rising = rising_taken source task there.rising; ready = there.ready }) in
     rw k.3 (well_at (with_processor w processor k.0) from k.1 (well_at w processor k.0 all q) o)

@@ -31,7 +31,7 @@ use Rattle.bq_parts.specs.Processors.{Processor, size_of}
 use Rattle.bq_parts.specs.World.{World}
 use Rattle.bq_parts.specs.Refusals.{refusal}
 use Rattle.bq_parts.specs.Choices.{Decision, SettlesBy, SettlesPlace, SettlesPreempt, SettlesPull, place_bytes, own_pull, policies, decided_by}
-use Rattle.bq_parts.specs.Shares.{after_time, remarked, Decides, Ticks, Drains, Blocks, Begins, Places, Pulls}
+use Rattle.bq_parts.specs.Shares.{after_time, remarked, Decides, Ticks, Drains, Blocks, BeginsWake, Places, Pulls}
 use Rattle.bq_parts.specs.Steps.{Performs, WorldStep}
 use Rattle.bq_core.specs.Laws.{HadMemory, StepIsOne}
 
@@ -54,13 +54,13 @@ module _ (d : Discipline) where
       SettlesBy (policies d) policy context attached now processor permitted own x → SettlesBy (policies d) policy context attached now processor permitted own y → AnswerAlike x.calls y.calls → x ≡ y
   settles_one None context attached now processor permitted own x y small h k alike = h ∙ sym k
   settles_one (Some p) context attached now processor permitted own x y small h k alike =
-      let one = one_run (setting_of p (context p.version) now processor) (start attached.maps) x.steps y.steps x.calls y.calls h.0 k.0 h.1 k.1 (small p.version) h.2 k.2 alike in
+      let one = one_run (setting_of p (context p.version) now processor) (start attached.maps) x.steps y.steps x.calls y.calls h.r0 k.r0 h.maps k.maps (small p.version) h.answers k.answers alike in
       same_settled x y
-      (h.4 ∙ ap (λ r. (chosen permitted (Some r) own).choice) one.2 ∙ sym k.4)
-      (h.5 ∙ ap (λ r. (chosen permitted (Some r) own).by) one.2 ∙ sym k.5)
+      (h.choice ∙ ap (λ r. (chosen permitted (Some r) own).choice) one.2 ∙ sym k.choice)
+      (h.by ∙ ap (λ r. (chosen permitted (Some r) own).by) one.2 ∙ sym k.by)
       one.0
       one.1
-      (h.3 ∙ ap (λ maps. record attached { maps = maps }) one.3 ∙ sym k.3)
+      (h.leaves ∙ ap (λ maps. record attached { maps = maps }) one.3 ∙ sym k.leaves)
 
   preempt_one : (processor : ℕ) (p : Processor) (o : Option Task) (x y : Decision) → SettlesPreempt (policies d) processor p o x → SettlesPreempt (policies d) processor p o y → AnswerAlike x.calls y.calls → x ≡ y
   preempt_one processor p None x y h k alike = h ∙ sym k
@@ -119,24 +119,24 @@ module _ (d : Discipline) where
       let cpus : q ≡ q' = h.1.1 ∙ sym k.1.1 in
       (h.1.2 ∙ rw (task, cpus) refl ∙ sym k.1.2, cpus, h.1.3 ∙ rw task refl ∙ sym k.1.3)
 
-  begins_one : (id : ℕ) (loads : List ℕ) (p : Processor) (lobby : List LobbyEntry) (r r' : Reply) (q q' : Processor) (left left' : List LobbyEntry) → Begins id loads p lobby (Ok r) q left → Begins id loads p lobby (Ok r') q' left' →
+  begins_one : (id : ℕ) (loads : List ℕ) (p : Processor) (lobby : List LobbyEntry) (r r' : Reply) (q q' : Processor) (left left' : List LobbyEntry) → BeginsWake id loads p lobby (Ok r) q left → BeginsWake id loads p lobby (Ok r') q' left' →
       (r ≡ r') × (q ≡ q') × (left ≡ left')
   begins_one id loads p lobby r r' q q' left left' h k =
-      let task = blocked_one h.0 k.0 _ h.2 k.2 in
-      (h.3 ∙ sym k.3, h.4 ∙ rw task refl ∙ sym k.4, h.5 ∙ sym k.5)
+      let task = blocked_one h.task k.task _ h.sleeps k.sleeps in
+      (h.replies ∙ sym k.replies, h.in_hand ∙ rw task refl ∙ sym k.in_hand, h.away ∙ sym k.away)
 
   places_one : (count processor now : ℕ) (p : Processor) (calls calls' : List Asked) (x x' : Placement) (q q' : Processor) → Places (policies d) count processor now p calls (Some x) q → Places (policies d) count processor now p calls' (Some x') q' → AnswerAlike calls calls' →
       (x ≡ x') × (q ≡ q') × (calls ≡ calls')
   places_one count processor now p calls calls' x x' q q' h k alike =
       let c : Processor = after_time d now p in
-      let carried = some_one h.0 k.0 p.hand h.2 k.2 in
-      let there = subst (λ (x : Carried). SettlesPlace (policies d) count processor c x k.1) (sym carried) k.4.0 in
-      let same = place_one count processor c h.0 h.1 k.1 h.4.0 there (alike_settled calls calls' h.1 k.1 h.4.4 k.4.4 alike) in
-      let task : x.task ≡ x'.task = h.3 ∙ ap (λ (c : Carried). c.task) carried ∙ sym k.3 in
-      let to : x.to ≡ x'.to = h.4.1 ∙ ap (λ (s : Decision). s.choice) same ∙ sym k.4.1 in
-      let by : x.by ≡ x'.by = h.4.2 ∙ ap (λ (s : Decision). s.by) same ∙ sym k.4.2 in
-      let steps : x.steps ≡ x'.steps = h.4.3 ∙ ap (λ (s : Decision). s.steps) same ∙ sym k.4.3 in
-      (same_placement x x' task to by steps, h.4.5 ∙ rw same refl ∙ sym k.4.5, h.4.4 ∙ ap (λ (s : Decision). s.calls) same ∙ sym k.4.4)
+      let carried = some_one h.carried k.carried p.hand h.in_hand k.in_hand in
+      let there = subst (λ (x : Carried). SettlesPlace (policies d) count processor c x k.settled) (sym carried) k.settles in
+      let same = place_one count processor c h.carried h.settled k.settled h.settles there (alike_settled calls calls' h.settled k.settled h.asks k.asks alike) in
+      let task : x.task ≡ x'.task = h.task ∙ ap (λ (c : Carried). c.task) carried ∙ sym k.task in
+      let to : x.to ≡ x'.to = h.to ∙ ap (λ (s : Decision). s.choice) same ∙ sym k.to in
+      let by : x.by ≡ x'.by = h.by ∙ ap (λ (s : Decision). s.by) same ∙ sym k.by in
+      let steps : x.steps ≡ x'.steps = h.steps ∙ ap (λ (s : Decision). s.steps) same ∙ sym k.steps in
+      (same_placement x x' task to by steps, h.here ∙ rw same refl ∙ sym k.here, h.asks ∙ ap (λ (s : Decision). s.calls) same ∙ sym k.asks)
     where
       same_placement : (x y : Placement) → x.task ≡ y.task → x.to ≡ y.to → x.by ≡ y.by → x.steps ≡ y.steps → x ≡ y
       same_placement x y task to by steps =
@@ -145,9 +145,9 @@ module _ (d : Discipline) where
   pulls_one : (processor from now : ℕ) (p o : Processor) (calls calls' : List Asked) (r r' : Reply) (q q' u u' : Processor) → Pulls (policies d) processor from now p o calls r q u → Pulls (policies d) processor from now p o calls' r' q' u' → AnswerAlike calls calls' →
       (r ≡ r') × (q ≡ q') × (u ≡ u') × (calls ≡ calls')
   pulls_one processor from now p o calls calls' r r' q q' u u' h k alike =
-      let same = pull_one processor from (after_time d now p) (remarked d o) h.0 k.0 h.1.0 k.1.0 (alike_settled calls calls' h.0 k.0 h.1.1 k.1.1 alike) in
-      let here : q ≡ q' = h.1.3 ∙ rw same refl ∙ sym k.1.3 in
-      (h.1.2 ∙ rw (same, here) refl ∙ sym k.1.2, here, h.1.4 ∙ rw same refl ∙ sym k.1.4, h.1.1 ∙ ap (λ (x : Decision). x.calls) same ∙ sym k.1.1)
+      let same = pull_one processor from (after_time d now p) (remarked d o) h.settled k.settled h.settles k.settles (alike_settled calls calls' h.settled k.settled h.asks k.asks alike) in
+      let here : q ≡ q' = h.here ∙ rw same refl ∙ sym k.here in
+      (h.replies ∙ rw (same, here) refl ∙ sym k.replies, here, h.there ∙ rw same refl ∙ sym k.there, h.asks ∙ ap (λ (x : Decision). x.calls) same ∙ sym k.asks)
 
   -- Events
 

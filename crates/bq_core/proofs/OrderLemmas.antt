@@ -93,8 +93,8 @@ begin_wake_keeps : (s : PolicySemantics) (w : World) (processor id : ℕ) (calls
 begin_wake_keeps s w processor id calls r w' y h k =
     let b = k.2 in
     let l = (not_refused_is_there (count_in w) processor _ (accepted w (BeginWake processor id) h).0).0 in
-    let later = (first_refusal_passed (is_away (entry w id)) no.NotBlocked _ (first_refusal_passed (is_absent (entry w id)) no.NoTask _ b.1).1).1 in
-    rw (k.4, b.4, b.5) (EventLemmas.begin_wake_tidy (count_in w) w processor id b.0 (loads_of w.processors w.inboxes) y l b.2 (first_refusal_passed (is_some (processor_at w processor).hand) no.InHand None later).0)
+    let later = (first_refusal_passed (is_away (entry w id)) no.NotBlocked _ (first_refusal_passed (is_absent (entry w id)) no.NoTask _ b.not_refused).1).1 in
+    rw (k.4, b.in_hand, b.away) (EventLemmas.begin_wake_tidy (count_in w) w processor id b.task (loads_of w.processors w.inboxes) y l b.sleeps (first_refusal_passed (is_some (processor_at w processor).hand) no.InHand None later).0)
 
 end_wake_keeps : (s : PolicySemantics) (w : World) (processor now : ℕ) (calls : List Asked) (r : Reply) (w' : World) → IsTidy (count_in w) [] w → refusal w (EndWake processor now) ≡ None →
     Performs s w (EndWake processor now) calls r w' → Keeps w w'
@@ -103,13 +103,13 @@ end_wake_keeps s w processor now calls r w' y h k =
     let p : Processor = after_time s.discipline now (processor_at w processor) in
     let b = k.2 in
     let to = k.0.to in
-    let carried : Carried = b.0 in
-    let settled : Decision = b.1 in
+    let carried : Carried = b.carried in
+    let settled : Decision = b.settled in
     let own : ℕ = unwrap_or (own_place (count_in w) carried.loads carried.task) 0 in
     let goes = settled_permitted s (place_bytes (record { task = carried.task; waking = processor; processors = count_in w; own = own; loads = carried.loads })) p.hooks.place p.running.last processor (may_place (count_in w) carried.task) own settled
-    (own_place_permitted (count_in w) carried.loads carried.task (y.hand processor carried b.2)) b.4.0 in
-    let fits = may_place_fits (count_in w) carried.task to (subst (λ n. may_place (count_in w) carried.task n ≡ true) (sym b.4.1) goes) in
-    rw (k.4, b.4.5, b.3) (EventLemmas.end_wake_tidy s.discipline (count_in w) w processor now to carried (record p.hooks { place = settled.attached }) y l b.2 fits.0 fits.1)
+    (own_place_permitted (count_in w) carried.loads carried.task (y.hand processor carried b.in_hand)) b.settles in
+    let fits = may_place_fits (count_in w) carried.task to (subst (λ n. may_place (count_in w) carried.task n ≡ true) (sym b.to) goes) in
+    rw (k.4, b.here, b.task) (EventLemmas.end_wake_tidy s.discipline (count_in w) w processor now to carried (record p.hooks { place = settled.attached }) y l b.in_hand fits.0 fits.1)
 
 drain_keeps : (s : PolicySemantics) (w : World) (processor now : ℕ) (calls : List Asked) (r : Reply) (w' : World) → IsTidy (count_in w) [] w → refusal w (Drain processor now) ≡ None → Performs s w (Drain processor now) calls r w' → Keeps w w'
 drain_keeps s w processor now calls r w' y h k =
@@ -136,10 +136,10 @@ pull_keeps s w processor from now calls r w' o y h k =
     let p : Processor = after_time s.discipline now (processor_at w processor) in
     let source : Processor = remarked s.discipline (processor_at w from) in
     let x = k.2 in
-    let settled : Decision = x.0 in
+    let settled : Decision = x.settled in
     let once : HasEachOnce source.running.queue = each_once_queue (processor_at w from).running (each_once_running w from o) in
-    let may = settled_permitted s _ p.hooks.pull p.running.last processor (may_pull processor source.running.queue) (or_nobody (own_pull processor p source)) settled (own_pull_permitted processor p source once) x.1.0 in
-    rw (k.3, x.1.3, x.1.4) (EventLemmas.pull_tidy s.discipline (count_in w) w processor from now settled.choice (task_numbered settled.choice) (record p.hooks { pull = settled.attached }) y f.0 g.0 apart may refl)
+    let may = settled_permitted s _ p.hooks.pull p.running.last processor (may_pull processor source.running.queue) (or_nobody (own_pull processor p source)) settled (own_pull_permitted processor p source once) x.settles in
+    rw (k.3, x.here, x.there) (EventLemmas.pull_tidy s.discipline (count_in w) w processor from now settled.choice (task_numbered settled.choice) (record p.hooks { pull = settled.attached }) y f.0 g.0 apart may refl)
 
 -- an event that is not refused keeps a world tidy
 performs_tidy : (s : PolicySemantics) (w : World) (e : Event) (calls : List Asked) (r : Reply) (w' : World) → IsOrderly w → IsTidy (count_in w) [] w → refusal w e ≡ None → Performs s w e calls r w' → Keeps w w'

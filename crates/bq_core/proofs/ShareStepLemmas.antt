@@ -20,7 +20,7 @@ use Rattle.bq_parts.specs.Refusals.{argument_refusal}
 use Rattle.bq_parts.specs.Choices.{policies}
 use Rattle.bq_parts.specs.Moves.{admitted}
 use Rattle.bq_parts.specs.Steps.{WorldStep}
-use Rattle.bq_parts.specs.Shares.{Admits, Retires, Ticks, Drains, Blocks, Begins, Places, Installs, Pulls}
+use Rattle.bq_parts.specs.Shares.{Admits, Retires, Ticks, Drains, Blocks, BeginsWake, Places, Installs, Pulls}
 use Rattle.bq_hooks.specs.declared.hook.Hook.{Hook}
 use Rattle.bq_verify.specs.Accepted.{Accepted}
 use Rattle.bq_installed.specs.Answers.{fresh_maps}
@@ -62,15 +62,15 @@ blocks_step d w processor now (Ok r) q lobby h b = (rw (in_range_not_refused w p
 blocks_step d w processor now (Err e) q lobby h b = (refl, same_lobby_too w processor q lobby b.2 b.3, rw b.1 (block_idle d w processor now h b.0).2)
 
 -- what a wake's beginning makes of the hand and the lobby is the world's step, done or refused, for an id of an entry
-pub begins_step : (d : Discipline) (w : World) (processor id : ℕ) (r : Result Reply Refusal) (q : Processor) (lobby : List LobbyEntry) → processor < count_in w → id < 1024 → Begins id (loads_of w.processors w.inboxes) (processor_at w processor) w.lobby r q lobby →
+pub begins_step : (d : Discipline) (w : World) (processor id : ℕ) (r : Result Reply Refusal) (q : Processor) (lobby : List LobbyEntry) → processor < count_in w → id < 1024 → BeginsWake id (loads_of w.processors w.inboxes) (processor_at w processor) w.lobby r q lobby →
     WorldStep (policies d) w (BeginWake processor id) [] r (with_lobby (with_processor w processor q) lobby)
-begins_step d w processor id (Ok r) q lobby h l b = (rw (in_range_not_refused w processor h, lt-leb 1024 id l, b.1) refl, (q, lobby, b, refl, refl))
+begins_step d w processor id (Ok r) q lobby h l b = (rw (in_range_not_refused w processor h, lt-leb 1024 id l, b.not_refused) refl, (q, lobby, b, refl, refl))
 begins_step d w processor id (Err e) q lobby h l b = (refl, same_lobby_too w processor q lobby b.1 b.2, inl (rw (in_range_not_refused w processor h, lt-leb 1024 id l, b.0) refl))
 
 -- a processor's share of a wake's end is the world's step, which puts the task at the end of the chosen inbox
 pub places_step : (d : Discipline) (w : World) (processor now : ℕ) (calls : List Asked) (x : Placement) (q : Processor) → processor < count_in w → Places (policies d) (count_in w) processor now (processor_at w processor) calls (Some x) q →
     WorldStep (policies d) w (EndWake processor now) calls (Ok (Placed x.task.id x.to x.by x.steps)) (with_inbox (with_processor w processor q) x.to (inbox w x.to ++ x.task ∷ []))
-places_step d w processor now calls x q h k = (rw (in_range_not_refused w processor h, k.2) refl, (x, q, k, refl, refl))
+places_step d w processor now calls x q h k = (rw (in_range_not_refused w processor h, k.in_hand) refl, (x, q, k, refl, refl))
 
 -- the same of a drain, where the parts are known by equations
 pub drains_at : (d : Discipline) (w w' : World) (processor now : ℕ) (calls : List Asked) (r : Reply) (q p : Processor) (xs : List Task) → processor < count_in w → p ≡ processor_at w processor → xs ≡ inbox w processor →
@@ -118,11 +118,11 @@ places_none_at d w w' processor now count calls q p h at k e = rw e (places_none
 
 -- and of a wake's beginning
 pub begins_at : (d : Discipline) (w w' : World) (processor id : ℕ) (loads : List ℕ) (r : Result Reply Refusal) (q p : Processor) (lobby lobby' : List LobbyEntry) → processor < count_in w → id < 1024 →
-    loads ≡ loads_of w.processors w.inboxes → p ≡ processor_at w processor → lobby ≡ w.lobby → Begins id loads p lobby r q lobby' → w' ≡ with_lobby (with_processor w processor q) lobby' → WorldStep (policies d) w (BeginWake processor id) [] r w'
+    loads ≡ loads_of w.processors w.inboxes → p ≡ processor_at w processor → lobby ≡ w.lobby → BeginsWake id loads p lobby r q lobby' → w' ≡ with_lobby (with_processor w processor q) lobby' → WorldStep (policies d) w (BeginWake processor id) [] r w'
 begins_at d w w' processor id loads r q p lobby lobby' h l count at is b e =
-    let found = subst (λ (ns : List ℕ). Begins id ns p lobby r q lobby') count b in
-    let there = subst (λ (x : Processor). Begins id (loads_of w.processors w.inboxes) x lobby r q lobby') at found in
-    rw e (begins_step d w processor id r q lobby' h l (subst (λ (xs : List LobbyEntry). Begins id (loads_of w.processors w.inboxes) (processor_at w processor) xs r q lobby') is there))
+    let found = subst (λ (ns : List ℕ). BeginsWake id ns p lobby r q lobby') count b in
+    let there = subst (λ (x : Processor). BeginsWake id (loads_of w.processors w.inboxes) x lobby r q lobby') at found in
+    rw e (begins_step d w processor id r q lobby' h l (subst (λ (xs : List LobbyEntry). BeginsWake id (loads_of w.processors w.inboxes) (processor_at w processor) xs r q lobby') is there))
 
 -- and of a pull
 pub pulls_at : (d : Discipline) (w w' : World) (processor from now : ℕ) (calls : List Asked) (r : Reply) (ps qs : List Processor) (q other : Processor) → processor < count_in w → from < count_in w → processor ≢ from → ps ≡ w.processors →

@@ -14,7 +14,7 @@ use Rattle.bq_parts.specs.declared.refusal.Refusal.{Refusal}
 use Rattle.bq_parts.specs.declared.lobby_entry.LobbyEntry.{LobbyEntry}
 use Rattle.bq_parts.specs.declared.lobby_entry.LobbyEntry.TheVariants.{Blocked, Away}
 use Rattle.bq_parts.specs.Processors.{Processor}
-use Rattle.bq_parts.specs.Shares.{Admits, Blocks, Begins}
+use Rattle.bq_parts.specs.Shares.{Admits, Blocks, BeginsWake}
 use Rattle.bq_parts.specs.World.{World, count_in, with_processor}
 use Rattle.bq_parts.specs.Choices.{PolicySemantics}
 use Rattle.bq_parts.specs.Steps.{Performs, WorldStep, WorldRun}
@@ -60,6 +60,6 @@ entries_blocked d processor now p q lobby lobby' (Ok r) h = ap length h.1.3 ∙ 
 entries_blocked d processor now p q lobby lobby' (Err e) h = ap length h.3
 
 -- and that of a wake that begins
-pub entries_begun : (id : ℕ) (loads : List ℕ) (p q : Processor) (lobby lobby' : List LobbyEntry) (r : Result Reply Refusal) → Begins id loads p lobby r q lobby' → length lobby' ≡ length lobby
-entries_begun id loads p q lobby lobby' (Ok r) h = ap length h.5 ∙ length-set lobby id Away
+pub entries_begun : (id : ℕ) (loads : List ℕ) (p q : Processor) (lobby lobby' : List LobbyEntry) (r : Result Reply Refusal) → BeginsWake id loads p lobby r q lobby' → length lobby' ≡ length lobby
+entries_begun id loads p q lobby lobby' (Ok r) h = ap length h.away ∙ length-set lobby id Away
 entries_begun id loads p q lobby lobby' (Err e) h = ap length h.2

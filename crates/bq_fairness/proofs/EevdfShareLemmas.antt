@@ -1,11 +1,10 @@
 -- EEVDF: each task is served its share of what is booked, two of them in proportion, and none waits long.
-use Rattle.std.proofs.Common.{◌≡◌, ℕ, ◌+◌, ◌-◌, ◌*◌, ◌≤◌, length, arith}
+use Rattle.std.proofs.Common.{◌≡◌, ℕ, ◌+◌, ◌*◌, ◌≤◌, arith}
 use Rattle.std.proofs.Math.Nat.{mul-le-mul_left}
-use Rattle.bq_disc.specs.OneProcessor.{present_at}
 use Rattle.bq_eevdf.specs.Eevdf.{eevdf}
 use Rattle.bq_fairness.specs.Histories.{history, served}
 use Rattle.bq_fairness.specs.Work.{weight_at, moment_at, booked, elapsed}
-use Rattle.bq_fairness.specs.EevdfFairness.{most_ahead, EevdfServesItsShare, EevdfServesInProportion, EevdfWaiting}
+use Rattle.bq_fairness.specs.EevdfFairness.{most_ahead, most_behind, most_lost, EevdfServesItsShare, EevdfServesInProportion, EevdfWaiting}
 use Rattle.bq_fairness.proofs.SoundLemmas.{of_each, each_has_room, well_formed, got_to}
 use Rattle.bq_fairness.proofs.SumLemmas.{length-history}
 use Rattle.bq_fairness.proofs.WorkLemmas.{moves_the_sum, books_the_time}
@@ -37,7 +36,7 @@ eevdf_serves_in_proportion E r p nows i j a b s room bal le f g =
     let ahead = of_each (λ x. weight_at q * x.v ≤ moment_at q + most_ahead E r (weight_at q) x.weight) q i u.0 end.1.each u.1 in
     let ahead_here = rw (u.3, u.2, moved.0, moved.1) at ahead in
     let owed = eevdf_serves_its_share E r p nows j b s room bal le g in
-    let B = (weight_at p - b.weight) * E + 1024 * r * ((length (present_at p) - 2) * weight_at p + b.weight) in
+    let B = most_behind E r p b.weight in
     let law = proportion_by b.weight (weight_at p) (a.v + served i eevdf p nows) (b.v + served j eevdf p nows) (moment_at p + booked eevdf p nows) (most_ahead E r (weight_at p) a.weight) B ahead_here (omega (arith, owed)) in
     omega (arith, law)
 
@@ -53,6 +52,6 @@ pub eevdf_waiting : EevdfWaiting
 eevdf_waiting E r p nows j b s room bal le busy f none =
     let owed = eevdf_serves_its_share E r p nows j b s room bal le f in
     let near = books_the_time eevdf p nows s busy in
-    let rest = (weight_at p - b.weight) * E + 1024 * r * ((length (present_at p) - 2) * weight_at p + b.weight) in
-    let law = waiting_by b.weight (moment_at p) (weight_at p) b.v (1024 * elapsed eevdf p nows) (booked eevdf p nows) (88760 * length nows) (served j eevdf p nows) rest none near.1 (omega (arith, owed)) in
+    let rest = most_behind E r p b.weight in
+    let law = waiting_by b.weight (moment_at p) (weight_at p) b.v (1024 * elapsed eevdf p nows) (booked eevdf p nows) (most_lost nows) (served j eevdf p nows) rest none near.1 (omega (arith, owed)) in
     omega (arith, law)

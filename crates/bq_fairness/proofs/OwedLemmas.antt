@@ -58,7 +58,7 @@ long E r W (x ∷ xs) h =
     let n = ap (λ k. 1024 * r * k) (length_times x xs W) in
     omega (arith, one, n, long E r W xs h.1)
 
-long_by : (E r W w v M T n B : ℕ) → W ≡ w + T → w * M ≤ w * (W * v) + B → B + 1024 * r * T ≤ T * E + 1024 * r * (n * W) → (n ≡ 0 → B ≡ 0) → w * M ≤ w * (W * v) + T * E + 1024 * r * ((n + 1 - 2) * W + w)
+long_by : (E r W w v M T n B : ℕ) → W ≡ w + T → w * M ≤ w * (W * v) + B → B + 1024 * r * T ≤ T * E + 1024 * r * (n * W) → (n ≡ 0 → B ≡ 0) → w * M ≤ w * (W * v) + (T * E + 1024 * r * ((n + 1 - 2) * W + w))
 long_by E r W w v M T zero B split owed h none = let z = none refl in omega arith
 long_by E r W w v M T (suc n) B split owed h none =
     let a = ap (λ k. 1024 * r * k) split in

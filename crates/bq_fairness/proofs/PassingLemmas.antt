@@ -41,7 +41,7 @@ own_by_test false permitted r0 own e h = rw e refl
 own_choice : (s : PolicySemantics) (policy : Option Accepted) (context : Version → List ℕ) (attached : Attached) (now processor : ℕ) (permitted : ℕ → Bool) (own : ℕ) (settled : Decision) →
     SettlesBy s policy context attached now processor permitted own settled → settled.by ≡ who.Discipline → settled.choice ≡ own
 own_choice s None context attached now processor permitted own settled h e = ap (λ (x : Decision). x.choice) h
-own_choice s (Some policy) context attached now processor permitted own settled h e = h.4 ∙ own_by_test (permitted h.0) permitted h.0 own refl (sym h.5 ∙ e)
+own_choice s (Some policy) context attached now processor permitted own settled h e = h.choice ∙ own_by_test (permitted h.r0) permitted h.r0 own refl (sym h.by ∙ e)
 
 as_bool : (b : Bool) → (as_number b == 1) ≡ b
 as_bool true = refl

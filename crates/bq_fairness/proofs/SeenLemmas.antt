@@ -126,18 +126,18 @@ pull_seen : (d : Discipline) (at : ℕ) (w : World) (processor from now : ℕ) (
     Pulls (policies d) processor from now (processor_at w processor) (processor_at w from) calls r q other →
     running_at (with_processor (with_processor w processor q) from other) at ≡ after d (running_at w at) (steps_at d at w (Pull processor from now) (Ok r))
 pull_seen d at w processor from now q other calls r o l apart h =
-    let settled : Decision = h.0 in
+    let settled : Decision = h.settled in
     let task = task_numbered settled.choice in
     let c = after_time d now (processor_at w processor) in
     let source = remarked d (processor_at w from) in
     let queue = (running_at w from).queue in
     let once = each_once_queue (running_at w from) (each_once_running w from o) in
     let may : may_pull processor queue settled.choice ≡ true =
-    settled_permitted (policies d) _ c.hooks.pull c.running.last processor (may_pull processor queue) (or_nobody (own_pull processor c source)) settled (own_pull_permitted processor c source once) h.1.0 in
-    subst (λ x. running_at (with_processor (with_processor w processor q) from other) at ≡ after d (running_at w at) (steps_at d at w (Pull processor from now) (Ok x))) (sym h.1.2)
+    settled_permitted (policies d) _ c.hooks.pull c.running.last processor (may_pull processor queue) (or_nobody (own_pull processor c source)) settled (own_pull_permitted processor c source once) h.settles in
+    subst (λ x. running_at (with_processor (with_processor w processor q) from other) at ≡ after d (running_at w at) (steps_at d at w (Pull processor from now) (Ok x))) (sym h.replies)
     (pull_cases d w processor from at q other (Pass now ∷ entry d c.running (taken_from source.running task) ++ begins c.running.current) (leaving task) (at == processor) (at == from) refl refl apart l
-    (ap (λ (x : Processor). x.running) h.1.3 ∙ entered_then d c.running (taken_from source.running task) c.running.current refl)
-    (ap (λ (x : Processor). x.running) h.1.4 ∙ goes_away d processor settled.choice (running_at w from) task (distinct_at w from o) may refl))
+    (ap (λ (x : Processor). x.running) h.here ∙ entered_then d c.running (taken_from source.running task) c.running.current refl)
+    (ap (λ (x : Processor). x.running) h.there ∙ goes_away d processor settled.choice (running_at w from) task (distinct_at w from o) may refl))
 
 -- the two processors of a pull that is not refused differ
 pub pulls_apart : (w : World) (processor from now : ℕ) → refusal w (Pull processor from now) ≡ None → processor ≢ from
@@ -157,10 +157,10 @@ event_is_steps d at w w' Draw calls (Ok r) o l h alone = ap (λ v. running_at v 
 event_is_steps d at w w' (Install processor hook g policy) calls (Ok r) o l h alone =
     ap (λ v. running_at v at) h.1.3 ∙ unseen w processor at h.1.0 (at == processor) refl l (ap (λ (x : Processor). x.running) h.1.1.2)
 event_is_steps d at w w' (BeginWake processor id) calls (Ok r) o l h alone =
-    ap (λ v. running_at v at) h.1.4 ∙ unseen w processor at h.1.0 (at == processor) refl l (ap (λ (x : Processor). x.running) h.1.2.4)
+    ap (λ v. running_at v at) h.1.4 ∙ unseen w processor at h.1.0 (at == processor) refl l (ap (λ (x : Processor). x.running) h.1.2.in_hand)
 event_is_steps d at w w' (EndWake processor now) calls (Ok r) o l h alone =
     ap (λ v. running_at v at) h.1.4
-    ∙ seen_there d w processor at h.1.1 (Pass now ∷ []) (at == processor) refl l (λ same. ap (λ (x : Processor). x.running) h.1.2.4.5)
+    ∙ seen_there d w processor at h.1.1 (Pass now ∷ []) (at == processor) refl l (λ same. ap (λ (x : Processor). x.running) h.1.2.here)
 event_is_steps d at w w' (Drain processor now) calls (Ok r) o l h alone =
     ap (λ v. running_at v at) h.1.2
     ∙ seen_there d w processor at h.1.0 (own_steps d w (Drain processor now) r) (at == processor) refl l (drain_seen d at processor now (processor_at w processor) h.1.0 (inbox w processor) calls r h.1.1 alone)

@@ -75,9 +75,9 @@ event_due at w w' (Block processor now) calls (Ok r) h =
     (either_due (own_steps eevdf w (Block processor now) (Went h.1.2.0.id (id_of h.1.0.running.current))) [] (at == processor) tt tt)
 event_due at w w' (Pull processor from now) calls (Ok r) h =
     let c = charge eevdf (running_at w processor) now in
-    let settled : Decision = h.1.2.0 in
+    let settled : Decision = h.1.2.settled in
     let task = task_numbered settled.choice in
-    subst (λ x. EntersDue (steps_at eevdf at w (Pull processor from now) (Ok x))) (sym h.1.2.1.2)
+    subst (λ x. EntersDue (steps_at eevdf at w (Pull processor from now) (Ok x))) (sym h.1.2.replies)
     (either_due (own_steps eevdf w (Pull processor from now) (Moved task (id_of h.1.0.running.current) settled.by settled.steps)) (cond (at == from) (leaving task) []) (at == processor)
     (entry_due c (taken_from (marked eevdf (running_at w from)) task) (begins c.current) (begins_due c.current))
     (either_due (leaving task) [] (at == from) (leaving_due task) tt))

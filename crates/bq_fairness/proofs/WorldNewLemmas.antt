@@ -117,10 +117,10 @@ event_new d P k at w w' (Pull processor from now) calls (Ok r) o s h =
     let source = marked d (running_at w from) in
     let apart = pulls_apart w processor from now h.0 in
     let there : Holds P source = record { current = (s.running from).current; queue = (s.running from).queue } in
-    let settled : Decision = h.1.2.0 in
+    let settled : Decision = h.1.2.settled in
     let task = task_numbered settled.choice in
     let taken = taken_from source task in
-    subst (λ x. EachEntersNew d (running_at w at) (steps_at d at w (Pull processor from now) (Ok x))) (sym h.1.2.1.2)
+    subst (λ x. EachEntersNew d (running_at w at) (steps_at d at w (Pull processor from now) (Ok x))) (sym h.1.2.replies)
     (own_new d w at processor (own_steps d w (Pull processor from now) (Moved task (id_of h.1.0.running.current) settled.by settled.steps)) (cond (at == from) (leaving task) []) (
       tt,
       EachEntersNew-append d c (entry d c taken) (begins c.current)

@@ -216,14 +216,14 @@ performs_sound s P k w (event.Install processor hook g policy) calls r w' y free
     rw (h.3, h.1.2) (sound_processor P w processor _ y (y.running processor) (y.hand processor))
 performs_sound s P k w (event.BeginWake processor id) calls r w' y free h =
     let b = h.2 in
-    let t : Task = b.0 in
-    let one = sound_processor P w processor (record (processor_at w processor) { hand = Some (record { task = t; loads = _ }) }) y (y.running processor) (λ c e. subst HasWeight (held_task _ c e) (y.lobby id t b.2)) in
-    rw (h.4, b.4, b.5) (sound_entry P _ id Away one (λ t e. cc))
+    let t : Task = b.task in
+    let one = sound_processor P w processor (record (processor_at w processor) { hand = Some (record { task = t; loads = _ }) }) y (y.running processor) (λ c e. subst HasWeight (held_task _ c e) (y.lobby id t b.sleeps)) in
+    rw (h.4, b.in_hand, b.away) (sound_entry P _ id Away one (λ t e. cc))
 performs_sound s P k w (event.EndWake processor now) calls r w' y free h =
     let b = h.2 in
-    let carried : Carried = b.0 in
-    let one = sound_processor P w processor h.1 y (rw b.4.5 (holds_charge s.discipline P k (processor_at w processor).running now (y.running processor))) (rw b.4.5 (λ c e. cc)) in
-    let task : HasWeight h.0.task = rw b.3 (y.hand processor carried b.2) in
+    let carried : Carried = b.carried in
+    let one = sound_processor P w processor h.1 y (rw b.here (holds_charge s.discipline P k (processor_at w processor).running now (y.running processor))) (rw b.here (λ c e. cc)) in
+    let task : HasWeight h.0.task = rw b.task (y.hand processor carried b.in_hand) in
     rw h.4 (sound_inbox P (with_processor w processor h.1) h.0.to _ one (each_append HasWeight (inbox w h.0.to) (h.0.task ∷ []) (y.placed h.0.to) (task, tt)))
 performs_sound s P k w (event.Drain processor now) calls r w' y free h =
     let d = s.discipline in
@@ -256,8 +256,8 @@ performs_sound s P k w (event.Pull processor from now) calls r w' y free h =
     let charged = holds_charge d P k (processor_at w processor).running now (y.running processor) in
     let taken = taken_from source.running _ in
     let in_it = holds_started d P (with_pulled d c.running taken) c.running.current (holds_pulled d P k c.running taken (taken_weight d P k source.running _ there) charged) in
-    let one = sound_processor P w processor h.0 y (rw x.1.3 in_it) (rw x.1.3 (y.hand processor)) in
-    rw h.3 (sound_processor P (with_processor w processor h.0) from h.1 one (rw x.1.4 (holds_taken P source.running _ there)) (rw x.1.4 (y.hand from)))
+    let one = sound_processor P w processor h.0 y (rw x.here in_it) (rw x.here (y.hand processor)) in
+    rw h.3 (sound_processor P (with_processor w processor h.0) from h.1 one (rw x.there (holds_taken P source.running _ there)) (rw x.there (y.hand from)))
 
 -- The opening
 

@@ -60,11 +60,24 @@ NoneIsOwedMore =
     (E r : ℕ) (p : Running) (j : ℕ) (b : Task) → IsSound p → IsBalanced E r p → task_at j p ≡ Some b →
     b.weight * moment_at p ≤ b.weight * (weight_at p * b.v) + ahead_together E r (weight_at p) (without j (present_at p))
 
--- In time, 1024 to one: where n are present, by E for the weight of the others, and by n - 2 rises and its own share of one
+-- the most that a task of a weight may be owed, times that weight and W: where n are present, E for the weight of the others,
+-- and n - 2 rises and its own share of one, 1024 for each nanosecond
+abbrev pub most_behind : ℕ → ℕ → Running → ℕ → ℕ
+most_behind E r p weight = (weight_at p - weight) * E + 1024 * r * ((length (present_at p) - 2) * weight_at p + weight)
+
+-- In time, none is owed more than that
 abbrev pub NoneIsOwedLong : Type 0
 NoneIsOwedLong =
     (E r : ℕ) (p : Running) (j : ℕ) (b : Task) → IsSound p → IsBalanced E r p → task_at j p ≡ Some b →
-    b.weight * moment_at p ≤ b.weight * (weight_at p * b.v) + (weight_at p - b.weight) * E + 1024 * r * ((length (present_at p) - 2) * weight_at p + b.weight)
+    b.weight * moment_at p ≤ b.weight * (weight_at p * b.v) + most_behind E r p b.weight
+
+-- the virtual time to which a task of an id comes in a history, times W: where it stood, and what it is served
+abbrev pub comes_to : ℕ → Task → Running → List ℕ → ℕ
+comes_to id t p nows = weight_at p * (t.v + served id eevdf p nows)
+
+-- the most that rounding takes from what is booked: less than the greatest weight at each Tick
+abbrev pub most_lost : List ℕ → ℕ
+most_lost nows = 88760 * length nows
 
 -- Service by share: what a task is served, times its weight and W, is at least its weight of what is booked, except for what it
 -- was ahead of the mean at the start and what one may be owed
@@ -72,18 +85,18 @@ abbrev pub EevdfServesItsShare : Type 0
 EevdfServesItsShare =
     (E r : ℕ) (p : Running) (nows : List ℕ) (j : ℕ) (b : Task) →
     IsSound p → HasRoom p → IsBalanced E r p → RisesByAtMost r eevdf p nows → task_at j p ≡ Some b →
-    b.weight * (moment_at p + booked eevdf p nows) ≤ b.weight * (weight_at p * (b.v + served j eevdf p nows)) + (weight_at p - b.weight) * E + 1024 * r * ((length (present_at p) - 2) * weight_at p + b.weight)
+    b.weight * (moment_at p + booked eevdf p nows) ≤ b.weight * comes_to j b p nows + most_behind E r p b.weight
 
 -- Proportional service: of two tasks a and b, a comes beyond b by no more than it may be ahead and b may be owed
 abbrev pub EevdfServesInProportion : Type 0
 EevdfServesInProportion =
     (E r : ℕ) (p : Running) (nows : List ℕ) (i j : ℕ) (a b : Task) →
     IsSound p → HasRoom p → IsBalanced E r p → RisesByAtMost r eevdf p nows → task_at i p ≡ Some a → task_at j p ≡ Some b →
-    b.weight * (weight_at p * (a.v + served i eevdf p nows)) ≤ b.weight * (weight_at p * (b.v + served j eevdf p nows)) + b.weight * most_ahead E r (weight_at p) a.weight + (weight_at p - b.weight) * E + 1024 * r * ((length (present_at p) - 2) * weight_at p + b.weight)
+    b.weight * comes_to i a p nows ≤ b.weight * comes_to j b p nows + b.weight * most_ahead E r (weight_at p) a.weight + most_behind E r p b.weight
 
 -- Bounded waiting: while a task is served nothing the clock rises by no more than this
 abbrev pub EevdfWaiting : Type 0
 EevdfWaiting =
     (E r : ℕ) (p : Running) (nows : List ℕ) (j : ℕ) (b : Task) →
     IsSound p → HasRoom p → IsBalanced E r p → RisesByAtMost r eevdf p nows → IsSome p.current → task_at j p ≡ Some b → served j eevdf p nows ≡ 0 →
-    b.weight * (moment_at p + 1024 * elapsed eevdf p nows) ≤ b.weight * (weight_at p * b.v + 88760 * length nows) + (weight_at p - b.weight) * E + 1024 * r * ((length (present_at p) - 2) * weight_at p + b.weight)
+    b.weight * (moment_at p + 1024 * elapsed eevdf p nows) ≤ b.weight * (weight_at p * b.v + most_lost nows) + most_behind E r p b.weight

@@ -86,9 +86,11 @@ module _ {R : Type 0} (telling : List (Receipt R) → ℕ) where
       omega (arith, more, one, rest)
 
   -- the callers' lists tell as much as the lists of all numbers
-  pub callers_lists : (log : List R) (n : ℕ) (callers : List Listed) (shares : SharesOutAmong log n callers) → EachOnce n callers → total (λ (c : Listed). telling c.1) callers ≡ total telling shares.0
-  callers_lists log n callers (lists, long, shares, each) all =
-      callers_pick lists callers each ∙ picks_all 0 lists callers (λ m low high. all m (omega (arith, long)))
+  pub callers_lists : (log : List R) (n : ℕ) (callers : List Listed) (shares : SharesOutAmong log n callers) → EachOnce n callers → total (λ (c : Listed). telling c.1) callers ≡ total telling shares.lists
+  callers_lists log n callers shares all =
+      let lists = shares.lists in
+      let long = shares.many in
+      callers_pick lists callers shares.theirs ∙ picks_all 0 lists callers (λ m low high. all m (omega (arith, long)))
 
 module _ {A : Type 0} where
   total_same : (f g : A → ℕ) (xs : List A) → ((x : A) → f x ≡ g x) → total f xs ≡ total g xs
@@ -114,11 +116,11 @@ place_none p n b (inr (e, other)) apart = rw e refl
 module _ {R : Type 0} where
   -- the callers tell as much as the history
   pub callers_total : (f : Receipt R → ℕ) (log : List R) (n : ℕ) (callers : List (ℕ × List (Receipt R))) → SharesOutAmong log n callers → EachOnce n callers → total (λ (c : ℕ × List (Receipt R)). total f c.1) callers ≡ total f (receipts_from 0 log)
-  callers_total f log n callers shares all = callers_lists (λ l. total f l) log n callers shares all ∙ shared_total f log shares.0 shares.2
+  callers_total f log n callers shares all = callers_lists (λ l. total f l) log n callers shares all ∙ shared_total f log shares.lists shares.share_out
 
   -- there are as many callers as numbers
   pub many_callers : (log : List R) (n : ℕ) (callers : List (ℕ × List (Receipt R))) → SharesOutAmong log n callers → EachOnce n callers → length callers ≡ n
-  many_callers log n callers shares all = sym (total_one callers) ∙ (callers_lists (λ l. 1) log n callers shares all ∙ (total_one shares.0 ∙ shares.1))
+  many_callers log n callers shares all = sym (total_one callers) ∙ (callers_lists (λ l. 1) log n callers shares all ∙ (total_one shares.lists ∙ shares.many))
 
   receipts_many : (n : ℕ) (log : List R) → length (receipts_from n log) ≡ length log
   receipts_many n [] = refl
@@ -143,8 +145,8 @@ module _ {R : Type 0} where
   -- callers of all numbers, each once, have the receipts of the history
   pub are_receipts : (log : List R) (n : ℕ) (callers : List (ℕ × List (Receipt R))) → SharesOutAmong log n callers → EachOnce n callers → AreReceiptsOf log callers
   are_receipts log n callers shares all = record {
-    stand = each_map (λ (c : ℕ × List (Receipt R)). get_elem? shares.0 c.0 ≡ some c.1) (λ (c : ℕ × List (Receipt R)). Each (Stands log) c.1 × PlacesRise 0 c.1) callers
-        (λ c at. let own = shares.2.1 c.0 c.1 at in (own.1, own.0)) shares.3;
+    stand = each_map (λ (c : ℕ × List (Receipt R)). get_elem? shares.lists c.0 ≡ some c.1) (λ (c : ℕ × List (Receipt R)). Each (Stands log) c.1 × PlacesRise 0 c.1) callers
+        (λ c at. let share = shares.share_out.shares c.0 c.1 at in (share.stand, share.rise)) shares.theirs;
     once = λ p lt.
         sym (total_same (λ (c : ℕ × List (Receipt R)). total (λ (x : Receipt R). cond {A = ℕ} (eqb x.place p) 1 0) c.1) (λ (c : ℕ × List (Receipt R)). times_at p c.1) callers (λ c. total_count (λ (x : Receipt R). eqb x.place p) c.1))
         ∙ (callers_total (λ (x : Receipt R). cond {A = ℕ} (eqb x.place p) 1 0) log n callers shares all

@@ -82,12 +82,12 @@ module _ {R P D W : Type 0} (step : W → R → W → Type 0) (kept : W → D) (
             let b = count-append (same_item {R = R} {D = D} same (Part p)) (map part_item ps) (map caller_of cs) in
             let k = count_parts R D same p ps in
             omega arith),
-        (
-          t.lists,
-          e.1.1,
-          subst (λ (k : List R). SharesOut k t.lists) same_log e.1.2,
-          lists_of_callers t cs (each_back (fits_item kept fits t) (map part_item ps) (map caller_of cs) first),
-        ),
+        record {
+          lists = t.lists;
+          many = e.1.1;
+          share_out = subst (λ (k : List R). SharesOut k t.lists) same_log e.1.2;
+          theirs = lists_of_callers t cs (each_back (fits_item kept fits t) (map part_item ps) (map caller_of cs) first);
+        },
       )
 
   -- the same, where the items are known by an equation

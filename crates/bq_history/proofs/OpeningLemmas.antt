@@ -6,7 +6,7 @@ use native.Mathlib.Decide.{ℕ_discrete}
 use lib.ListN.{get_elem?}
 use Rattle.bq_history.specs.Whole.{count, Each, Has}
 use Rattle.bq_history.proofs.MoveLemmas.{count-append, each-append}
-use Rattle.bq_history.specs.History.{PlacesRise, Stands, SharesOut}
+use Rattle.bq_history.specs.History.{IsShare, SharesOut}
 use Rattle.bq_history.specs.Items.{part_item, same_item, callers_from, first_items, IsGood, fits_item}
 use Rattle.bq_history.specs.declared.shared_state.Receipt.{Receipt}
 use Rattle.bq_history.specs.declared.shared_state.SharedState.{SharedState}
@@ -83,13 +83,11 @@ module _ {R P D W : Type 0} (step : W → R → W → Type 0) (kept : W → D) (
   start opening n = record { log = []; lists = replicate n []; world = opening }
 
   nothing_shared : (n : ℕ) → SharesOut {R = R} [] (replicate n [])
-  nothing_shared n = (
-    (λ p. 0),
-    (λ s l e.
-        let P' : List (Receipt R) → Type 0 = λ k. PlacesRise 0 k × Each (Stands []) k × Each (λ (x : Receipt R). 0 ≡ s) k in
-        subst P' (at_replicate n s [] l e) (tt, tt, tt)),
-    λ p b. absurd (omega arith),
-  )
+  nothing_shared n = record {
+    owner = λ p. 0;
+    shares = λ s l e. subst (λ (k : List (Receipt R)). IsShare [] (λ p. 0) s k) (at_replicate n s [] l e) (record { rise = tt; stand = tt; own = tt });
+    each_place = λ p b. absurd (omega arith);
+  }
 
   callers_fit : (opening : W) (all s n : ℕ) → s + n ≡ all → Each (fits_item {P = P} kept fits (start opening all)) (callers_from s n)
   callers_fit opening all s zero e = tt

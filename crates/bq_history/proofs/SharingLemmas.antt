@@ -136,15 +136,18 @@ each_from f owner log (x ∷ xs) (first, others) = ((x.place, omega arith, first
 
 -- the lists tell as much as the history
 pub shared_total : {R : Type 0} (f : Receipt R → ℕ) (log : List R) (lists : List (List (Receipt R))) → SharesOut log lists → total (λ (l : List (Receipt R)). total f l) lists ≡ total f (receipts_from 0 log)
-shared_total f log lists (owner, own, each) =
+shared_total f log lists shared =
+    let owner = shared.owner in
+    let own = shared.shares in
+    let each = shared.each_place in
     let by_list = lists_weigh f owner log 0 lists (λ j l at.
     let list = own j l at in
     let zero_more : 0 + j ≡ j = omega arith in
     subst (λ (k : ℕ). told f owner l ≡ weigh f owner k 0 log) (sym zero_more)
-    (list_weighs f owner j 0 log l list.0 (each_from f owner log l list.1) list.2
-    (λ p low high is. let m = each p (omega arith) in owned_there f owner lists j l at p m.0 (subst (λ (k : ℕ). get_elem? lists k ≡ some m.0) is m.1) m.2)))
+    (list_weighs f owner j 0 log l list.rise (each_from f owner log l list.stand) list.own
+    (λ p low high is. let m = each p (omega arith) in owned_there f owner lists j l at p m.list (subst (λ (k : ℕ). get_elem? lists k ≡ some m.list) is m.is_there) m.has)))
     in
-    by_list ∙ weighs_all f owner (length lists) 0 log (λ p low high. let m = each p (omega arith) in at_below lists (owner p) m.0 m.1)
+    by_list ∙ weighs_all f owner (length lists) 0 log (λ p low high. let m = each p (omega arith) in at_below lists (owner p) m.list m.is_there)
   where
     owned_there : {R : Type 0} (f : Receipt R → ℕ) (owner : ℕ → ℕ) (lists : List (List (Receipt R))) (j : ℕ) (l : List (Receipt R)) → get_elem? lists j ≡ some l → (p : ℕ) (m : List (Receipt R)) → get_elem? lists j ≡ some m → HasReceiptFor p m → HasReceiptFor p l
     owned_there f owner lists j l at p m at' has = subst (λ (x : List (Receipt _)). HasReceiptFor p x) (some-injective m l (sym at' ∙ at)) has

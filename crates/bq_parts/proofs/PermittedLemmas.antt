@@ -31,7 +31,7 @@ answer_is_permitted permitted r0 own o = by_test (permitted r0) permitted r0 own
 settles_by : (s : PolicySemantics) (policy : Option Accepted) (context : Version → List ℕ) (attached : Attached) (now processor : ℕ) (permitted : ℕ → Bool) (own : ℕ) (settled : Decision) →
     permitted own ≡ true → SettlesBy s policy context attached now processor permitted own settled → permitted settled.choice ≡ true
 settles_by s None context attached now processor permitted own settled o h = ap (λ (x : Decision). permitted x.choice) h ∙ o
-settles_by s (Some policy) context attached now processor permitted own settled o h = ap permitted h.4 ∙ answer_is_permitted permitted h.0 own o
+settles_by s (Some policy) context attached now processor permitted own settled o h = ap permitted h.choice ∙ answer_is_permitted permitted h.r0 own o
 
 -- where the own choice is permitted, what is settled is
 pub settled_permitted : (s : PolicySemantics) (context : Version → List ℕ) (attached : Attached) (now processor : ℕ) (permitted : ℕ → Bool) (own : ℕ) (settled : Decision) →

@@ -43,15 +43,23 @@ pub record Decision : Type 0 where
 abbrev pub unasked : ℕ → Attached → Decision
 unasked own attached = record { choice = own; by = who.Discipline; steps = 0; calls = []; attached = attached }
 
--- r0 where it is permitted, and else the own choice. The maps stay as the policy left them, either way: they keep their
--- shapes. The policy answers within its budget, with sixteen calls of counters at most
+-- a policy settles it: it answers r0, which is the choice where it is permitted, and else the own one is
+pub record PolicySettles (s : PolicySemantics) (policy : Accepted) (context : Version → List ℕ) (attached : Attached) (now processor : ℕ) (permitted : ℕ → Bool) (own : ℕ) (settled : Decision) : Type 0 where
+  pub r0 : ℕ
+  pub maps : List (List ℕ)
+  pub answers : s.Answers policy (context policy.version) attached.maps now processor r0 maps settled.steps settled.calls
+  pub choice : settled.choice ≡ (chosen permitted (Some r0) own).choice
+  pub by : settled.by ≡ (chosen permitted (Some r0) own).by
+  -- either way the maps stay as the policy left them, in their shapes
+  pub leaves : settled.attached ≡ record attached { maps = maps }
+  pub shapes : HaveShapes policy.shapes maps
+  -- it answers within its budget, with sixteen calls of counters at most
+  pub within : IsWithin policy settled.steps settled.calls
+
+-- the policy that is installed settles it; where none is, the own choice stands
 abbrev pub SettlesBy : PolicySemantics → Option Accepted → (Version → List ℕ) → Attached → ℕ → ℕ → (ℕ → Bool) → ℕ → Decision → Type 0
 SettlesBy s None context attached now processor permitted own settled = settled ≡ unasked own attached
-SettlesBy s (Some policy) context attached now processor permitted own settled =
-    (r0 : ℕ) × (maps : List (List ℕ)) × s.Answers policy (context policy.version) attached.maps now processor r0 maps settled.steps settled.calls
-    × (settled.attached ≡ record attached { maps = maps })
-    × (settled.choice ≡ (chosen permitted (Some r0) own).choice) × (settled.by ≡ (chosen permitted (Some r0) own).by)
-    × IsWithin policy settled.steps settled.calls × HaveShapes policy.shapes maps
+SettlesBy s (Some policy) context attached now processor permitted own settled = PolicySettles s policy context attached now processor permitted own settled
 
 abbrev pub Settles : PolicySemantics → (Version → List ℕ) → Attached → ℕ → ℕ → (ℕ → Bool) → ℕ → Decision → Type 0
 Settles s context attached = SettlesBy s attached.policy context attached

@@ -67,21 +67,41 @@ Blocks d processor now p lobby (Ok r) q lobby' =
 Blocks d processor now p lobby (Err e) q lobby' = (p.running.current ≡ None) × (e ≡ no.Idle) × (q ≡ p) × (lobby' ≡ lobby)
 
 -- a task of the lobby comes into the hand, with these loads
-abbrev pub Begins : ℕ → List ℕ → Processor → List LobbyEntry → Result Reply Refusal → Processor → List LobbyEntry → Type 0
-Begins id loads p lobby (Ok r) q lobby' =
-    (t : Task) × (begin_refusal (slice_index_or lobby id Absent) p.hand ≡ None) × (slice_index_or lobby id Absent ≡ Blocked t) × (r ≡ Begun id loads)
-    × (q ≡ record p { hand = Some (record { task = t; loads = loads }) }) × (lobby' ≡ slice_set lobby id Away)
-Begins id loads p lobby (Err e) q lobby' = (begin_refusal (slice_index_or lobby id Absent) p.hand ≡ Some e) × (q ≡ p) × (lobby' ≡ lobby)
+pub record TakesInHand (id : ℕ) (loads : List ℕ) (p : Processor) (lobby : List LobbyEntry) (r : Reply) (q : Processor) (lobby' : List LobbyEntry) : Type 0 where
+  pub task : Task
+  pub not_refused : begin_refusal (slice_index_or lobby id Absent) p.hand ≡ None
+  pub sleeps : slice_index_or lobby id Absent ≡ Blocked task
+  pub replies : r ≡ Begun id loads
+  pub in_hand : q ≡ record p { hand = Some (record { task = task; loads = loads }) }
+  pub away : lobby' ≡ slice_set lobby id Away
 
--- the task in the hand is given for the processor that is chosen among this many
+-- it does, or is refused
+abbrev pub BeginsWake : ℕ → List ℕ → Processor → List LobbyEntry → Result Reply Refusal → Processor → List LobbyEntry → Type 0
+BeginsWake id loads p lobby (Ok r) q lobby' = TakesInHand id loads p lobby r q lobby'
+BeginsWake id loads p lobby (Err e) q lobby' = (begin_refusal (slice_index_or lobby id Absent) p.hand ≡ Some e) × (q ≡ p) × (lobby' ≡ lobby)
+
+-- the hand is empty, and at the hook stands what the decision left there
+abbrev pub placed_by : Processor → Decision → Processor
+placed_by p settled = record p { hand = None; hooks = record p.hooks { place = settled.attached } }
+
+-- after the time has passed the task in the hand is given for the processor that is chosen among this many
+pub record PlacesTask (s : PolicySemantics) (count processor now : ℕ) (p : Processor) (calls : List Asked) (x : Placement) (q : Processor) : Type 0 where
+  pub carried : Carried
+  pub settled : Decision
+  pub in_hand : p.hand ≡ Some carried
+  pub settles : SettlesPlace s count processor (after_time s.discipline now p) carried settled
+  -- the placement tells it
+  pub task : x.task ≡ carried.task
+  pub to : x.to ≡ settled.choice
+  pub by : x.by ≡ settled.by
+  pub steps : x.steps ≡ settled.steps
+  pub asks : calls ≡ settled.calls
+  pub here : q ≡ placed_by (after_time s.discipline now p) settled
+
+-- it is, unless the hand is empty
 abbrev pub Places : PolicySemantics → ℕ → ℕ → ℕ → Processor → List Asked → Option Placement → Processor → Type 0
 Places s count processor now p calls None q = (calls ≡ []) × (p.hand ≡ None) × (q ≡ p)
-Places s count processor now p calls (Some x) q =
-    (carried : Carried) × (settled : Decision) × (p.hand ≡ Some carried) × (x.task ≡ carried.task)
-    × (let c = after_time s.discipline now p in
-    SettlesPlace s count processor c carried settled
-    × (x.to ≡ settled.choice) × (x.by ≡ settled.by) × (x.steps ≡ settled.steps) × (calls ≡ settled.calls)
-    × (q ≡ record c { hand = None; hooks = record c.hooks { place = settled.attached } }))
+Places s count processor now p calls (Some x) q = PlacesTask s count processor now p calls x q
 
 -- something else that may stand there stands at a hook, where this many numbers were drawn
 abbrev pub Installs : Hook → ℕ → Processor → Attached → Result Reply Refusal → Processor → Type 0
@@ -89,17 +109,19 @@ Installs h drawn p new (Ok r) q =
     (install_refusal (at_hook h p.hooks).generation drawn new.generation ≡ None) × (r ≡ Installed) × (q ≡ record p { hooks = with_attached h p.hooks new }) × MayStand h new
 Installs h drawn p new (Err e) q = (install_refusal (at_hook h p.hooks).generation drawn new.generation ≡ Some e) × (q ≡ p)
 
--- a task of another processor's queue enters this one's; where nothing runs, the choice does
-abbrev pub Pulls : PolicySemantics → ℕ → ℕ → ℕ → Processor → Processor → List Asked → Reply → Processor → Processor → Type 0
-Pulls s processor from now p other calls r q other' =
-    (settled : Decision)
-    × (let c = after_time s.discipline now p in
-    let source = remarked s.discipline other in
-    let task = task_numbered settled.choice in
-    SettlesPull s processor from c source settled
-    × (calls ≡ settled.calls) × (r ≡ Moved task (id_of q.running.current) settled.by settled.steps)
-    × (q ≡ record c {
-      running = started_if_idle s.discipline (with_pulled s.discipline c.running (taken_from source.running task)) c.running.current;
-      hooks = record c.hooks { pull = settled.attached };
-    })
-    × (other' ≡ record source { running = without_task source.running task }))
+-- a task of the other's queue enters this one's; where nothing runs, the choice does
+abbrev pub pulled_by : PolicySemantics → Processor → Processor → Decision → Processor
+pulled_by s p other settled =
+    record p {
+      running = started_if_idle s.discipline (with_pulled s.discipline p.running (taken_from other.running (task_numbered settled.choice))) p.running.current;
+      hooks = record p.hooks { pull = settled.attached };
+    }
+
+-- after the time has passed here, and the other's mark is computed again, a task goes from the other to here
+pub record Pulls (s : PolicySemantics) (processor from now : ℕ) (p other : Processor) (calls : List Asked) (r : Reply) (q other' : Processor) : Type 0 where
+  pub settled : Decision
+  pub settles : SettlesPull s processor from (after_time s.discipline now p) (remarked s.discipline other) settled
+  pub asks : calls ≡ settled.calls
+  pub replies : r ≡ Moved (task_numbered settled.choice) (id_of q.running.current) settled.by settled.steps
+  pub here : q ≡ pulled_by s (after_time s.discipline now p) (remarked s.discipline other) settled
+  pub there : other' ≡ record (remarked s.discipline other) { running = without_task (remarked s.discipline other).running (task_numbered settled.choice) }

@@ -17,7 +17,7 @@ use Rattle.bq_parts.specs.Counts.{counted}
 use Rattle.bq_parts.specs.Refusals.{refusal, argument_refusal}
 use Rattle.bq_parts.specs.Moves.{admitted}
 use Rattle.bq_parts.specs.Choices.{PolicySemantics}
-use Rattle.bq_parts.specs.Shares.{Admits, Retires, Ticks, Drains, Blocks, Begins, Places, Installs, Pulls}
+use Rattle.bq_parts.specs.Shares.{Admits, Retires, Ticks, Drains, Blocks, BeginsWake, Places, Installs, Pulls}
 
 -- the reply to an event that is not refused, and the world that it leaves
 abbrev pub Performs : PolicySemantics → World → Event → List Asked → Reply → World → Type 0
@@ -34,7 +34,7 @@ Performs s w (Install processor h g policy) calls r w' =
     × (calls ≡ []) × (w' ≡ with_processor w processor q)
 -- the task goes from the lobby to the hand, with all loads of that moment
 Performs s w (BeginWake processor id) calls r w' =
-    (q : Processor) × (lobby : List LobbyEntry) × Begins id (loads_of w.processors w.inboxes) (processor_at w processor) w.lobby (Ok r) q lobby
+    (q : Processor) × (lobby : List LobbyEntry) × BeginsWake id (loads_of w.processors w.inboxes) (processor_at w processor) w.lobby (Ok r) q lobby
     × (calls ≡ []) × (w' ≡ with_lobby (with_processor w processor q) lobby)
 -- the task goes from the hand to the end of the chosen processor's inbox
 Performs s w (EndWake processor now) calls r w' =

@@ -4,7 +4,7 @@ use bq_hooks::{By, Loads};
 
 /// The reply to an event. `run` is the task that runs afterwards; `steps` is the number of instructions that the policy
 /// took, 0 where none was asked.
-#[derive(Drop)]
+#[derive(PartialEq, Drop)]
 pub enum Reply {
     Admitted,
     Retired,

@@ -5,7 +5,7 @@ ghost use Rattle.bq_hooks.specs.OwnPlace.{HasPlace};
 ghost use Rattle.bq_installed.specs.Attachments.{IsFor};
 ghost use Rattle.bq_parts.specs.Refusals.{install_refusal};
 ghost use Rattle.bq_parts.specs.Choices.{policies};
-ghost use Rattle.bq_parts.specs.Shares.{Begins, Installs, Places};
+ghost use Rattle.bq_parts.specs.Shares.{BeginsWake, Installs, Places};
 
 use crate::{Carried, Cpu, Lobby, Refusal, Reply, Unlinked};
 use bq_bpf::Board;
@@ -32,7 +32,7 @@ impl<Q: RunQueue> Cpu<Q> {
         loads: &Loads,
     ) -> Result<Reply, Refusal>
         requires below { task < TASKS }
-        ensures share { Begins task loads.now self.old lobby.old result self.new lobby.new }
+        ensures share { BeginsWake task loads.now self.old lobby.old result self.new lobby.new }
     {
         self.begin_with(lobby, task, loads.copy())
     }
@@ -45,7 +45,7 @@ impl<Q: RunQueue> Cpu<Q> {
         loads: Loads,
     ) -> Result<Reply, Refusal>
         requires below { task < TASKS }
-        ensures share { Begins task loads self.old lobby.old result self.new lobby.new }
+        ensures share { BeginsWake task loads self.old lobby.old result self.new lobby.new }
     {
         if lobby.is_absent(task) {
             return Err(Refusal::NoTask);

@@ -150,10 +150,10 @@ shown-performs s w (Install processor hook g policy) calls r w' h k =
     (like w (with_processor w processor k.0) w' None (ap (λ (v : World). v.processors) (sym k.3)) (kept w processor k.0 (ap (λ (q : Processor). q.running.last) i.2) (ap (λ (q : Processor). id_of q.running.current) i.2)))
 shown-performs s w (BeginWake processor id) calls r w' h k =
     let b = k.2 in
-    shown_as w w' (BeginWake processor id) r (Begun id _) b.3
-    (like w (with_processor w processor k.0) w' None (ap (λ (v : World). v.processors) (sym k.4)) (kept w processor k.0 (ap (λ (q : Processor). q.running.last) b.4) (ap (λ (q : Processor). id_of q.running.current) b.4)))
+    shown_as w w' (BeginWake processor id) r (Begun id _) b.replies
+    (like w (with_processor w processor k.0) w' None (ap (λ (v : World). v.processors) (sym k.4)) (kept w processor k.0 (ap (λ (q : Processor). q.running.last) b.in_hand) (ap (λ (q : Processor). id_of q.running.current) b.in_hand)))
 shown-performs s w (EndWake processor now) calls r w' h k =
-    let written = k.2.4.5 in
+    let written = k.2.here in
     shown_as w w' (EndWake processor now) r (Placed k.0.task.id k.0.to k.0.by k.0.steps) k.3
     (like w (with_processor w processor k.1) w' _ (ap (λ (v : World). v.processors) (sym k.4))
     (read_there w (record { processor = processor; now = now; run = None }) k.1 (ap (λ (q : Processor). q.running.last) written)
@@ -186,20 +186,20 @@ shown-performs s w (Pull processor from now) calls r w' h k =
     let g = not_refused_is_there (count_in w) from _ f.1 in
     let apart : processor ≢ from = eqb-false processor from (first_refusal_passed (processor == from) no.SameProcessor None g.1).0 in
     let x = k.2 in
-    let task = task_numbered x.0.choice in
+    let task = task_numbered x.settled.choice in
     let c : Processor = after_time d now (processor_at w processor) in
     let other : Processor = remarked d (processor_at w from) in
     let taken = taken_from other.running task in
     let u = with_processor w processor k.0 in
     let there' : processor_at u from ≡ processor_at w from = get_or-set_other w.processors processor from k.0 opening (λ e. apart (sym e)) in
-    shown_as w w' (Pull processor from now) r (Moved task (id_of k.0.running.current) x.0.by x.0.steps) x.1.2
+    shown_as w w' (Pull processor from now) r (Moved task (id_of k.0.running.current) x.settled.by x.settled.steps) x.replies
     (then_kept w u w' (Some (record { processor = processor; now = now; run = Some (id_of k.0.running.current) }))
     (read_there w (record { processor = processor; now = now; run = Some (id_of k.0.running.current) }) k.0
-    (ap (λ (q : Processor). q.running.last) x.1.3 ∙ last-started_if_idle d (with_pulled d c.running taken) c.running.current ∙ last-with_pulled d c.running taken) refl)
+    (ap (λ (q : Processor). q.running.last) x.here ∙ last-started_if_idle d (with_pulled d c.running taken) c.running.current ∙ last-with_pulled d c.running taken) refl)
     (like u (with_processor u from k.1) w' None (ap (λ (v : World). v.processors) (sym k.3))
     (kept u from k.1
-    (ap (λ (q : Processor). q.running.last) x.1.4 ∙ last-without_task other.running task ∙ ap (λ (v : Processor). v.running.last) (sym there'))
-    (ap (λ (q : Processor). id_of q.running.current) x.1.4 ∙ ap id_of (current-without_task other.running task) ∙ ap (λ (v : Processor). id_of v.running.current) (sym there')))))
+    (ap (λ (q : Processor). q.running.last) x.there ∙ last-without_task other.running task ∙ ap (λ (v : Processor). v.running.last) (sym there'))
+    (ap (λ (q : Processor). id_of q.running.current) x.there ∙ ap id_of (current-without_task other.running task) ∙ ap (λ (v : Processor). id_of v.running.current) (sym there')))))
 
 within_as : (n : ℕ) (e : Event) (r x : Reply) → r ≡ x → IsWithin n (sight e x) → IsWithin n (sight e r)
 within_as n e r x h k = rw h k
@@ -215,12 +215,12 @@ within-performs s w (Tick processor now) calls r w' h k =
 within-performs s w (Block processor now) calls r w' h k =
     within_as (count_in w) (Block processor now) r (Went k.2.0.id _) k.2.1.2 (not_refused_is_there (count_in w) processor None (accepted w (Block processor now) h).0).0
 within-performs s w (Pull processor from now) calls r w' h k =
-    within_as (count_in w) (Pull processor from now) r (Moved (task_numbered k.2.0.choice) _ k.2.0.by k.2.0.steps) k.2.1.2 (not_refused_is_there (count_in w) processor _ (accepted w (Pull processor from now) h).0).0
+    within_as (count_in w) (Pull processor from now) r (Moved (task_numbered k.2.settled.choice) _ k.2.settled.by k.2.settled.steps) k.2.replies (not_refused_is_there (count_in w) processor _ (accepted w (Pull processor from now) h).0).0
 within-performs s w (Admit id nice mask slice) calls r w' h k = within_as (count_in w) (Admit id nice mask slice) r Admitted k.1.1 tt
 within-performs s w (Retire id) calls r w' h k = within_as (count_in w) (Retire id) r Retired k.1.1 tt
 within-performs s w Draw calls r w' h k = within_as (count_in w) Draw r (Drawn _) k.0 tt
 within-performs s w (Install processor hook g policy) calls r w' h k = within_as (count_in w) (Install processor hook g policy) r Installed k.1.1 tt
-within-performs s w (BeginWake processor id) calls r w' h k = within_as (count_in w) (BeginWake processor id) r (Begun id _) k.2.3 tt
+within-performs s w (BeginWake processor id) calls r w' h k = within_as (count_in w) (BeginWake processor id) r (Begun id _) k.2.replies tt
 
 -- each step shows what its answer says, refused or not
 shown-step : (s : PolicySemantics) (w : World) (e : Event) (calls : List Asked) (a : Result Reply Refusal) (w' : World) → WorldStep s w e calls a w' → Shown w w' (sight_of e a) × IsWithin (count_in w) (sight_of e a)

@@ -21,7 +21,18 @@ returns-clause-share g c =
     let charged : c.charge.new.self ≡ p = c.charge.ensures ∙ ap (λ (x : Processor). record x { running = charge d x.running now }) c.release.ensures.left in
     let settles = subst (λ (x : Processor). SettlesPlace (policies d) c.args.count processor x carried settled) charged placed.ensures.settled in
     let hand : c.args.self.now.hand ≡ Some carried = sym c.in-Some.ensures.carried in
-    (carried, settled, hand, refl, (settles, refl, refl, refl, refl, placed.ensures.rest ∙ ap (λ (x : Processor). record x { hooks = record x.hooks { place = settled.attached } }) charged))
+    record {
+      carried = carried;
+      settled = settled;
+      in_hand = hand;
+      settles = settles;
+      task = refl;
+      to = refl;
+      by = refl;
+      steps = refl;
+      asks = refl;
+      here = placed.ensures.rest ∙ ap (λ (x : Processor). record x { hooks = record x.hooks { place = settled.attached } }) charged;
+    }
 
 pub returns-clause-below : goal.returns-clause-below
 returns-clause-below g c =
