@@ -1,5 +1,5 @@
 //! How many tasks each processor has.
-ghost use Rattle.std.specs.Prelude.{◌≡◌, ◌<◌, ◌≤◌, [], ◌∷◌, ◌++◌, length, slice_index, slice_set, ◌↔◌, IsTrue};
+ghost use Rattle.std.specs.Prelude.{◌≡◌, ◌<◌, ◌≤◌, [], ◌∷◌, ◌++◌, length, slice_index, slice_set};
 
 use arrayvec::ArrayVec;
 use bq_disc::limits::PROCESSORS;
@@ -66,13 +66,6 @@ impl Loads {
         self.counts.as_slice()
     }
 
-    /// Whether both are the same loads.
-    pub fn is_same(&self, other: &Loads) -> bool
-        ensures { IsTrue result ↔ (self.now ≡ other.now) }
-    {
-        self.as_slice() == other.as_slice()
-    }
-
     /// A copy of the loads.
     pub fn copy(&self) -> Loads
         ensures { result ≡ self.now }
@@ -82,5 +75,20 @@ impl Loads {
             loads.push(count);
         }
         loads
+    }
+}
+
+/// Loads are equal where they are the same numbers, in the same order.
+impl PartialEq for Loads {
+    ghost use Rattle.std.specs.Prelude.{◌==◌};
+    ghost use Rattle.std.specs.Cmp.{partial_equiv_from_equiv};
+    ghost use Rattle.std.specs.Cmp.Lexicographic.{pointwise, nat_list_eq_equiv};
+
+    ghost eq = { pointwise ◌==◌ };
+
+    ghost laws = { partial_equiv_from_equiv nat_list_eq_equiv };
+
+    fn eq(&self, other: &Loads) -> bool {
+        self.as_slice() == other.as_slice()
     }
 }

@@ -22,7 +22,7 @@ use Rattle.bq_parts.specs.Refusals.{argument_refusal}
 use Rattle.bq_parts.specs.Choices.{PolicySemantics, Decision, policies, decided_by}
 use Rattle.bq_parts.specs.Moves.{admitted, after_leaving}
 use Rattle.bq_parts.specs.Steps.{WorldStep}
-use Rattle.bq_parts.specs.Shares.{after_time, Admits, Retires, Ticks, Drains, Blocks, Begins, Places, Installs}
+use Rattle.bq_parts.specs.Shares.{after_time, Admits, Retires, Ticks, Drains, Blocks, BeginsWake, Places, Installs}
 use Rattle.bq_parts.proofs.OnceLemmas.{few_at}
 use Rattle.bq_parts.proofs.TallyLemmas.{tally, tally-decided, tally-charge, tally-enter_all}
 use Rattle.bq_core.proofs.StepLemmas.{in_range_not_refused}
@@ -53,8 +53,8 @@ decided_size s p settled =
 pub time_size : (d : Discipline) (now : ℕ) (p : Processor) → size_of (after_time d now p) ≡ size_of p
 time_size d now p = omega (arith, length_is (present_at (charge d p.running now)), length_is (present_at p.running), tally-charge ones d p.running now)
 
-begin_size : (id : ℕ) (loads : List ℕ) (p : Processor) (l : List LobbyEntry) (r : Result Reply Refusal) (q : Processor) (m : List LobbyEntry) → Begins id loads p l r q m → size_of q ≡ size_of p
-begin_size id loads p l (Ok r) q m b = ap size_of b.4
+begin_size : (id : ℕ) (loads : List ℕ) (p : Processor) (l : List LobbyEntry) (r : Result Reply Refusal) (q : Processor) (m : List LobbyEntry) → BeginsWake id loads p l r q m → size_of q ≡ size_of p
+begin_size id loads p l (Ok r) q m b = ap size_of b.in_hand
 begin_size id loads p l (Err e) q m b = ap size_of b.1
 
 -- a task has left the processor
@@ -131,7 +131,7 @@ module _ (d : Discipline) (n : ℕ) where
       moves_cpu_lobby d n c p q l m k (kept_by_block c r k) (record { event = Block c now; reply = r; calls = [] })
       (λ w s kw there at is. ((blocks_step d w c now r q m there (rw (at, is) b), rw (in_range_not_refused w c there) refl, blocks_named d c now p l r q m b), block_kept w c now p q l m k r s kw there at b))
 
-  pub begin_moves : (c id : ℕ) (p q : Processor) (l m : List LobbyEntry) (k : JournalState) (r : Result Reply Refusal) → id < 1024 → Begins id k.loads p l r q m →
+  pub begin_moves : (c id : ℕ) (p q : Processor) (l m : List LobbyEntry) (k : JournalState) (r : Result Reply Refusal) → id < 1024 → BeginsWake id k.loads p l r q m →
       MayCommitHere d n k (cpu_part c p ∷ lobby_part l ∷ []) (record { event = BeginWake c id; reply = r; calls = [] }) k (cpu_part c q ∷ lobby_part m ∷ [])
   begin_moves c id p q l m k r bound b =
       moves_cpu_lobby d n c p q l m k k (record { event = BeginWake c id; reply = r; calls = [] })
@@ -141,7 +141,7 @@ module _ (d : Discipline) (n : ℕ) where
       ))
 
   place_size : (c now : ℕ) (p q : Processor) (calls : List Asked) (x : Placement) → Places (policies d) n c now p calls (Some x) q → size_of q ≡ size_of p
-  place_size c now p q calls x k = ap size_of k.4.5 ∙ time_size d now p
+  place_size c now p q calls x k = ap size_of k.here ∙ time_size d now p
 
   pub place_moves : (c now task : ℕ) (p q : Processor) (xs : List Task) (calls : List Asked) (k : JournalState) (x : Placement) → task ≡ x.task.id → Places (policies d) n c now p calls (Some x) q →
       MayCommitHere d n k (cpu_part c p ∷ inbox_part x.to xs ∷ []) (record { event = EndWake c now; reply = Ok (Placed task x.to x.by x.steps); calls = calls }) (one_more x.to k) (cpu_part c q ∷ inbox_part x.to (xs ++ x.task ∷ []) ∷ [])

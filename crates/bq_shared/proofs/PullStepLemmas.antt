@@ -111,15 +111,15 @@ module _ (d : Discipline) (n : ℕ) where
       Pulls (policies d) c b now p o calls x q r → kept_of (with_processor (with_processor w c q) b r) ≡ kept_by_pull c b x k
   pull_kept w c b now p q o r calls k x s kw here at there at' apart u =
       let source = remarked d o in
-      let task = task_numbered u.0.choice in
+      let task = task_numbered u.settled.choice in
       let taken = taken_from source.running task in
       let once : HasEachOnce o.running.queue = each_once_queue o.running (subst (λ (y : Processor). HasEachOnce (present_at y.running)) at' (each_once_running w b s.orderly)) in
       let some : (id : ℕ) → task ≡ Some id → length (option_to_list taken) ≡ 1 =
-      λ id e. ap (λ (z : Option ℕ). length (option_to_list (taken_from source.running z))) e ∙ chosen_there d c b now id p o u.0 once u.1.0 e in
-      rw u.1.2 (
-      kept_by_task w c b p q o r k task _ u.0.by u.0.steps (length (option_to_list taken)) s kw here at there at' apart
-      (ap size_of u.1.3 ∙ puller_size d now p o task (record (after_time d now p).hooks { pull = u.0.attached }))
-      (ap (λ (y : Processor). size_of y + length (option_to_list taken)) u.1.4 ∙ source_size d o task)
+      λ id e. ap (λ (z : Option ℕ). length (option_to_list (taken_from source.running z))) e ∙ chosen_there d c b now id p o u.settled once u.settles e in
+      rw u.replies (
+      kept_by_task w c b p q o r k task _ u.settled.by u.settled.steps (length (option_to_list taken)) s kw here at there at' apart
+      (ap size_of u.here ∙ puller_size d now p o task (record (after_time d now p).hooks { pull = u.settled.attached }))
+      (ap (λ (y : Processor). size_of y + length (option_to_list taken)) u.there ∙ source_size d o task)
       some
       (λ e. none_taken source.running task e)
       )

@@ -11,12 +11,12 @@ use Rattle.bq_parts.specs.declared.refusal.Refusal.{Refusal}
 use Rattle.bq_parts.specs.declared.lobby_entry.LobbyEntry.{LobbyEntry}
 use Rattle.bq_parts.specs.declared.lobby_entry.LobbyEntry.TheVariants.{Absent, Blocked}
 use Rattle.bq_parts.specs.Processors.{Processor}
-use Rattle.bq_parts.specs.Shares.{Begins}
+use Rattle.bq_parts.specs.Shares.{BeginsWake}
 
 -- the task of an entry that comes into the hand has the entry's id
-pub begun_hand : (id : ℕ) (loads : List ℕ) (p : Processor) (l : List LobbyEntry) (r : Result Reply Refusal) (q : Processor) (m : List LobbyEntry) → Begins id loads p l r q m → ((t : Task) → slice_index_or l id Absent ≡ Blocked t → t.id ≡ id) →
+pub begun_hand : (id : ℕ) (loads : List ℕ) (p : Processor) (l : List LobbyEntry) (r : Result Reply Refusal) (q : Processor) (m : List LobbyEntry) → BeginsWake id loads p l r q m → ((t : Task) → slice_index_or l id Absent ≡ Blocked t → t.id ≡ id) →
     OnOk r (option_map (λ (c : Carried). c.task.id) q.hand ≡ Some id)
-begun_hand id loads p l (Ok r) q m b own = ap (λ (x : Processor). option_map (λ (c : Carried). c.task.id) x.hand) b.4 ∙ ap Some (own b.0 b.2)
+begun_hand id loads p l (Ok r) q m b own = ap (λ (x : Processor). option_map (λ (c : Carried). c.task.id) x.hand) b.in_hand ∙ ap Some (own b.task b.sleeps)
 begun_hand id loads p l (Err e) q m b own = tt
 
 -- the task that leaves the hand has the id of the one that was there

@@ -14,7 +14,7 @@ use Rattle.bq_parts.specs.declared.lobby_entry.LobbyEntry.{LobbyEntry}
 use Rattle.bq_parts.specs.declared.lobby_entry.LobbyEntry.TheVariants.{Absent}
 use Rattle.bq_parts.specs.Processors.{Processor}
 use Rattle.bq_parts.specs.Refusals.{is_absent, is_away, retire_refusal, begin_refusal}
-use Rattle.bq_parts.specs.Shares.{Admits, Retires, Blocks, Begins, Installs}
+use Rattle.bq_parts.specs.Shares.{Admits, Retires, Blocks, BeginsWake, Installs}
 use Rattle.bq_core.specs.Laws.{HadMemory}
 
 -- no task is refused to be admitted for lack of memory
@@ -48,7 +48,7 @@ begin_named s hand e h =
     first_named (is_absent s) no.NoTask e _ (λ h. cc) (first_named (is_away s) no.NotBlocked e _ (λ h. cc) (first_named (is_some hand) no.InHand e None (λ h. cc) (none_named e))) h
 
 -- no wake is refused to begin for lack of memory
-pub begins_named : (id : ℕ) (loads : List ℕ) (p : Processor) (l : List LobbyEntry) (r : Result Reply Refusal) (q : Processor) (m : List LobbyEntry) → Begins id loads p l r q m → HadMemory r
+pub begins_named : (id : ℕ) (loads : List ℕ) (p : Processor) (l : List LobbyEntry) (r : Result Reply Refusal) (q : Processor) (m : List LobbyEntry) → BeginsWake id loads p l r q m → HadMemory r
 begins_named id loads p l (Ok r) q m b = tt
 begins_named id loads p l (Err e) q m b = begin_named (slice_index_or l id Absent) p.hand e b.0
 

@@ -3,7 +3,6 @@ ghost use Rattle.std.specs.Prelude.{◌≡◌, ◌↔◌, true, false, IsTrue, O
 ghost use Rattle.bq_parts.specs.declared.reply.Reply.TheVariants as reply;
 ghost use Rattle.bq_shared.specs.Brief.{has_loads};
 
-use crate::same::is_same_answer;
 use bq_hooks::{By, Loads};
 use bq_parts::{Refusal, Reply};
 use std::marker::Model;
@@ -248,32 +247,24 @@ impl PackedAnswer {
     pub fn is_same(&self, other: &PackedAnswer) -> bool
         ensures { IsTrue result ↔ (self.now ≡ other.now) }
     {
-        match &self.brief {
-            Brief::Ticked { run, by, steps } => other.is_ticked(*run, *by, *steps),
+        match (&self.brief, &other.brief) {
+            // as most answers are to ticks, and others are unpacked
+            (
+                Brief::Ticked { run, by, steps },
+                Brief::Ticked {
+                    run: their_run,
+                    by: their_by,
+                    steps: their_steps,
+                },
+            ) => run == their_run && by == their_by && steps == their_steps,
             _ => is_same_answer(&self.told(), &other.told()),
         }
     }
+}
 
-    /// Whether it is this answer to a tick.
-    fn is_ticked(&self, run: Option<u16>, by: By, steps: u32) -> bool
-        ensures { IsTrue result ↔ (Ok (reply.Ticked run by steps) ≡ self.now) }
-    {
-        match &self.brief {
-            Brief::Ticked {
-                run: own_run,
-                by: own_by,
-                steps: own_steps,
-            } => run == *own_run && by == *own_by && steps == *own_steps,
-            Brief::Admitted => false,
-            Brief::Retired => false,
-            Brief::Drawn { .. } => false,
-            Brief::Installed => false,
-            Brief::Begun { .. } => false,
-            Brief::Placed { .. } => false,
-            Brief::Drained { .. } => false,
-            Brief::Blocked { .. } => false,
-            Brief::Pulled { .. } => false,
-            Brief::Refused(_) => false,
-        }
-    }
+/// Whether both are the same answer, by value.
+fn is_same_answer(answer: &Result<Reply, Refusal>, other: &Result<Reply, Refusal>) -> bool
+    ensures { IsTrue result ↔ (answer.now ≡ other.now) }
+{
+    answer == other
 }

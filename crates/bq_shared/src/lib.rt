@@ -30,6 +30,6 @@ pub use counters::{Counters, UnnamedCounters};
 pub use law::{CpuState, JournalState, Sched, Shared, WorldPart, WorldState};
 pub use opened::seats;
 pub use record::{Record, call_rooms, loads_room, record_room};
-pub use same::{is_same_answer, is_same_event, is_same_reply};
+pub use same::is_same_event;
 pub use seat::{Seat, TellsCalls};
 pub use working::Working;

@@ -1,8 +1,8 @@
-//! Whether two events, replies or answers are the same by their contents.
+//! Whether two events are the same by their contents.
 ghost use Rattle.std.specs.Prelude.{◌≡◌, ◌↔◌, IsTrue};
 
 use bq_installed::Policy;
-use bq_parts::{Event, Refusal, Reply};
+use bq_parts::Event;
 
 /// Whether both are the same event; policies are the same where what was accepted of them is: instructions, shapes of maps, hook,
 /// version and budget.
@@ -90,99 +90,6 @@ pub fn is_same_event(event: &Event, other: &Event) -> bool
                 now: their_now,
             },
         ) => processor == their_processor && from == their_from && now == their_now,
-        _ => false,
-    }
-}
-
-/// Whether both are the same reply.
-pub fn is_same_reply(reply: &Reply, other: &Reply) -> bool
-    ensures { IsTrue result ↔ (reply.now ≡ other.now) }
-{
-    match (reply, other) {
-        (Reply::Admitted, Reply::Admitted) => true,
-        (Reply::Retired, Reply::Retired) => true,
-        (
-            Reply::Drawn { generation },
-            Reply::Drawn {
-                generation: their_generation,
-            },
-        ) => generation == their_generation,
-        (Reply::Installed, Reply::Installed) => true,
-        (
-            Reply::Begun { task, loads },
-            Reply::Begun {
-                task: their_task,
-                loads: their_loads,
-            },
-        ) => task == their_task && loads.is_same(their_loads),
-        (
-            Reply::Placed {
-                task,
-                to,
-                by,
-                steps,
-            },
-            Reply::Placed {
-                task: their_task,
-                to: their_to,
-                by: their_by,
-                steps: their_steps,
-            },
-        ) => task == their_task && to == their_to && by == their_by && steps == their_steps,
-        (
-            Reply::Drained {
-                count,
-                run,
-                by,
-                steps,
-            },
-            Reply::Drained {
-                count: their_count,
-                run: their_run,
-                by: their_by,
-                steps: their_steps,
-            },
-        ) => count == their_count && run == their_run && by == their_by && steps == their_steps,
-        (
-            Reply::Ticked { run, by, steps },
-            Reply::Ticked {
-                run: their_run,
-                by: their_by,
-                steps: their_steps,
-            },
-        ) => run == their_run && by == their_by && steps == their_steps,
-        (
-            Reply::Blocked { task, run },
-            Reply::Blocked {
-                task: their_task,
-                run: their_run,
-            },
-        ) => task == their_task && run == their_run,
-        (
-            Reply::Pulled {
-                task,
-                run,
-                by,
-                steps,
-            },
-            Reply::Pulled {
-                task: their_task,
-                run: their_run,
-                by: their_by,
-                steps: their_steps,
-            },
-        ) => task == their_task && run == their_run && by == their_by && steps == their_steps,
-        _ => false,
-    }
-}
-
-/// Whether both answers are the same.
-pub fn is_same_answer(answer: &Result<Reply, Refusal>, other: &Result<Reply, Refusal>) -> bool
-    ensures { IsTrue result ↔ (answer.now ≡ other.now) }
-{
-    match (answer, other) {
-        (Ok(reply), Ok(their_reply)) => is_same_reply(reply, their_reply),
-        (Err(refusal), Err(their_refusal)) => refusal == their_refusal,
         _ => false,
     }
 }
