@@ -1,1 +1,3 @@
+pub mod AheadLemmas
+pub mod BriefLemmas
 pub mod InstallLemmas

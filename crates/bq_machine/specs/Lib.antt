@@ -1,3 +1,4 @@
 pub mod Calls
 pub mod Loading
+pub mod Placing
 pub mod Waking

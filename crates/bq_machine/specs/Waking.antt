@@ -2,7 +2,7 @@
 use Rattle.std.specs.Prelude.{◌≡◌, ◌⊎◌, ◌↔◌, ℕ, IfErr, IfSome, IsOk, IsSome}
 use Rattle.bq_parts.specs.declared.event.Event.TheVariants.{BeginWake, EndWake}
 use Rattle.bq_parts.specs.declared.refusal.Refusal.TheVariants as no
-use Rattle.bq_recording.specs.Placing.{IsPlaced}
+use Rattle.bq_machine.specs.Placing.{IsPlaced}
 use Rattle.bq_machine.specs.declared.waking_calls.WakeReceipts.{WakeReceipts}
 
 -- A wake of the task at the processor began, or was refused for what the lobby holds; and it ended if and only if it began, at a

@@ -11,15 +11,17 @@ ghost use Rattle.bq_machine.specs.Loading.{IsPolicyOf, IsLoadRefused};
 
 use crate::clock::Clock;
 use crate::locks::Machine;
+use crate::spare::{Spare, spares};
+use crate::told::{answer_twice, both_records, no_calls, quiet_twice};
 use bq_disc::RunQueue;
-use bq_history::{Naming, Receipt};
+use bq_history::{CommitDraft, Naming, Receipt, Room};
 use bq_hooks::Hook;
 use bq_installed::Policy;
 use bq_load::{LoadFault, load};
-use bq_parts::{Event, Refusal};
-use bq_recording::{Seat, Spare, WorkingSeat, one_spare};
+use bq_parts::{Event, Refusal, Reply};
+use bq_recording::{Seat, WorkingSeat};
 use bq_shared::{Counting, Record, record_room};
-use std::alloc::{AllocError, Global};
+use std::alloc::Global;
 use std::sync::Wait;
 use thiserror::Error;
 
@@ -74,16 +76,16 @@ fn policy_of(alloc: Global, hook: Hook, image: Option<&[u8]>) -> Result<Option<P
     }
 }
 
-/// What this many installs hand over.
-fn spares(alloc: Global, policy: &Option<Policy>, count: usize) -> Result<Vec<Spare>, AllocError>
-    ensures many { IfOk result (λ v. vec_len v ≡ count) }
-    ensures policy { IfOk result (λ v. All (λ s. s.installed.policy ≡ policy.now) v.items) }
+/// That a policy, or none, is installed.
+fn install_event(processor: u8, hook: Hook, generation: u64, policy: Option<Policy>) -> Event
+    ensures { result ≡ Event.Install processor hook generation policy }
 {
-    let mut spares = Vec::with_capacity(alloc, count)?;
-    'spares: for _ in 0..count {
-        spares.push(one_spare(alloc, policy)?)?;
+    Event::Install {
+        processor,
+        hook,
+        generation,
+        policy,
     }
-    Ok(spares)
 }
 
 /// One receipt more in a list that has room for it.
@@ -133,7 +135,7 @@ impl<Q: RunQueue + Drop, K: Clock + Drop, N: Naming + Counting, const P: usize> 
         ) else {
             return Err(LoadRefused::Refusal(Refusal::OutOfMemory));
         };
-        let (draw, generation) = self.recorder.draw(rt, &mut seat.working, &mut seat.first);
+        let (draw, generation) = self.draw(rt, &mut seat.working, &mut seat.first);
         let loading = Loading {
             hook,
             generation,
@@ -141,6 +143,40 @@ impl<Q: RunQueue + Drop, K: Clock + Drop, N: Naming + Counting, const P: usize> 
         };
         self.install_all(rt, &mut seat.working, loading, spares, &mut installs);
         Ok(LoadReceipts { draw, installs })
+    }
+
+    /// Draws a number.
+    fn draw<R: Wait>(
+        &self,
+        rt: &R,
+        working: &mut WorkingSeat<N>,
+        room: &mut Room<Record>,
+    ) -> (Receipt<Record>, u64)
+        requires ready { room.old ≡ true }
+        requires tally { working.old.tally ≡ account_of told_calls working.old.caller.1 }
+        ensures caller { working.new.caller ≡ (working.old.caller.0, working.old.caller.1 ++ result.0 ∷ []) }
+        ensures tally { working.new.tally ≡ account_of told_calls working.new.caller.1 }
+        ensures event { result.0.entry.event ≡ Event.Draw }
+        ensures reply { result.0.entry.reply ≡ Ok (Drawn result.1) }
+    {
+        let mut guard = self.recorder.lock_journal(rt);
+        let journal = &mut *guard;
+        let mut kept = journal.kept().again();
+        let generation = kept.drawn.saturating_add(1);
+        kept.drawn = generation;
+        let reply = Ok(Reply::Drawn { generation });
+        let (logged, told) = quiet_twice(Event::Draw, &reply);
+        let receipt = working.commit(
+            &self.recorder.history,
+            journal,
+            CommitDraft {
+                room,
+                logged,
+                told,
+                kept: Some(kept),
+            },
+        );
+        (receipt, generation)
     }
 
     /// Installs at each processor by rising number. The list of receipts has room for them.
@@ -186,7 +222,7 @@ impl<Q: RunQueue + Drop, K: Clock + Drop, N: Naming + Counting, const P: usize> 
         processor: u8,
         hook: Hook,
         generation: u64,
-        mut spare: Spare,
+        spare: Spare,
     ) -> Receipt<Record>
         requires tally { working.old.tally ≡ account_of told_calls working.old.caller.1 }
         requires inside { processor < P }
@@ -195,9 +231,34 @@ impl<Q: RunQueue + Drop, K: Clock + Drop, N: Naming + Counting, const P: usize> 
         ensures tally { working.new.tally ≡ account_of told_calls working.new.caller.1 }
         ensures event { result.entry.event ≡ Event.Install processor hook generation spare.installed.policy }
     {
-        spare.installed.set_generation(generation);
+        let Spare {
+            mut installed,
+            for_record,
+            for_receipt,
+            mut room,
+        } = spare;
+        installed.set_generation(generation);
         let mut guard = self.lock_processor(rt, processor);
         let cpu = &mut *guard;
-        self.recorder.install(rt, working, cpu, hook, spare)
+        let mut journal_guard = self.recorder.lock_journal(rt);
+        let journal = &mut *journal_guard;
+        let drawn = journal.kept().drawn;
+        let reply = cpu.cell.content.state.replace(hook, drawn, installed);
+        let events = (
+            install_event(processor, hook, generation, for_record),
+            install_event(processor, hook, generation, for_receipt),
+        );
+        let (logged, told) = both_records(events, answer_twice(&reply), no_calls());
+        working.commit_one(
+            &self.recorder.history,
+            journal,
+            &mut cpu.cell,
+            CommitDraft {
+                room: &mut room,
+                logged,
+                told,
+                kept: None,
+            },
+        )
     }
 }

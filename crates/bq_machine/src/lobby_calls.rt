@@ -6,14 +6,42 @@ ghost use Rattle.bq_machine.specs.Calls.{IsCallRefused};
 
 use crate::clock::Clock;
 use crate::locks::Machine;
+use crate::told::quiet_twice;
 use bq_disc::RunQueue;
 use bq_disc::limits::PROCESSORS;
-use bq_history::{Naming, Receipt, Room};
+use bq_history::{CommitDraft, Naming, Receipt, Room};
 use bq_parts::{Event, Refusal, Unlinked, argument_refusal, new_task};
-use bq_recording::{Admission, Seat};
+use bq_recording::Seat;
 use bq_shared::{Counting, Record, record_room};
 use std::alloc::Global;
 use std::sync::Wait;
+
+/// What a new task comes with.
+#[derive(Clone, Copy)]
+pub struct Admission {
+    /// Its id.
+    pub task: u16,
+    /// The nice value at which it runs.
+    pub nice: i8,
+    /// The processors on which it may run, a bit for each.
+    pub mask: u64,
+    /// Its slice, in nanoseconds.
+    pub slice: u64,
+}
+
+impl Admission {
+    /// The event by which the task comes.
+    pub fn event(self) -> Event
+        ensures { result ≡ Event.Admit self.task self.nice self.mask self.slice }
+    {
+        Event::Admit {
+            task: self.task,
+            nice: self.nice,
+            mask: self.mask,
+            slice: self.slice,
+        }
+    }
+}
 
 /// A new task of a machine of this many processors, with room for the record of its admission.
 fn new_task_with_room(
@@ -70,16 +98,22 @@ impl<Q: RunQueue + Drop, K: Clock + Drop, N: Naming + Counting, const P: usize> 
         let new = new_task_with_room(alloc, &mut seat.first, count, admission)?;
         let mut guard = self.lobby.lock(rt);
         let lobby = &mut *guard;
-        Ok(
-            self.recorder.admit(
-                rt,
-                &mut seat.working,
-                lobby,
-                admission,
-                new,
-                &mut seat.first,
-            ),
-        )
+        let reply = lobby.cell.content.state.admit(admission.task, new);
+        let (logged, told) = quiet_twice(admission.event(), &reply);
+        let mut journal_guard = self.recorder.lock_journal(rt);
+        let journal = &mut *journal_guard;
+        let receipt = seat.working.commit_one(
+            &self.recorder.history,
+            journal,
+            &mut lobby.cell,
+            CommitDraft {
+                room: &mut seat.first,
+                logged,
+                told,
+                kept: None,
+            },
+        );
+        Ok(receipt)
     }
 
     /// Removes a task of the lobby from the machine for good. Allocates the record.
@@ -106,9 +140,21 @@ impl<Q: RunQueue + Drop, K: Clock + Drop, N: Naming + Counting, const P: usize> 
         record_room(alloc, &mut seat.first)?;
         let mut guard = self.lobby.lock(rt);
         let lobby = &mut *guard;
-        Ok(
-            self.recorder
-                .retire(rt, &mut seat.working, lobby, task, &mut seat.first),
-        )
+        let reply = lobby.cell.content.state.retire(task);
+        let (logged, told) = quiet_twice(event, &reply);
+        let mut journal_guard = self.recorder.lock_journal(rt);
+        let journal = &mut *journal_guard;
+        let receipt = seat.working.commit_one(
+            &self.recorder.history,
+            journal,
+            &mut lobby.cell,
+            CommitDraft {
+                room: &mut seat.first,
+                logged,
+                told,
+                kept: None,
+            },
+        );
+        Ok(receipt)
     }
 }

@@ -7,11 +7,12 @@ ghost use Rattle.bq_machine.specs.Calls.{IsCallRefused};
 use crate::clock::Clock;
 use crate::locks::{LockedProcessor, Machine};
 use crate::needs::rooms_of_event;
+use crate::told::told_twice;
 use bq_disc::RunQueue;
-use bq_history::{Naming, Receipt};
+use bq_history::{CommitDraft, Naming, Receipt, look_at_both};
 use bq_parts::{Event, Refusal};
-use bq_recording::{EventRooms, Seat};
-use bq_shared::{Counting, Record};
+use bq_recording::Seat;
+use bq_shared::{Counting, Record, hold_calls};
 use std::alloc::Global;
 use std::sync::Wait;
 
@@ -44,14 +45,40 @@ impl<Q: RunQueue + Drop, K: Clock + Drop, N: Naming + Counting, const P: usize> 
         let (mut guard, mut source_guard) = self.lock_both(rt, processor, from);
         let cpu = &mut *guard;
         let source = &mut *source_guard;
-        let rooms = EventRooms {
-            record: &mut seat.first,
-            calls: &mut seat.rooms,
+        look_at_both(&self.recorder.history, cpu, source);
+        let content = &mut cpu.cell.content;
+        let scratch = &mut content.scratch;
+        scratch.clear();
+        let mut counter_board = seat.working.open_board(&self.recorder.counters);
+        let other = &mut source.cell.content.state;
+        let reply = content
+            .state
+            .pull(other, processor, from, now, scratch, &mut counter_board);
+        seat.working.close_board(counter_board);
+        let mut journal_guard = self.recorder.lock_journal(rt);
+        let journal = &mut *journal_guard;
+        let kept = journal.kept().after_pull(processor, from, &reply);
+        let reply = Ok(reply);
+        let calls = hold_calls(&mut seat.rooms, scratch.calls());
+        let event = Event::Pull {
+            processor,
+            from,
+            now,
         };
-        Ok(
-            self.recorder
-                .pull(rt, &mut seat.working, cpu, source, now, rooms),
-        )
+        let (logged, told) = told_twice(event, &reply, calls);
+        let receipt = seat.working.commit_two(
+            &self.recorder.history,
+            journal,
+            &mut cpu.cell,
+            &mut source.cell,
+            CommitDraft {
+                room: &mut seat.first,
+                logged,
+                told,
+                kept,
+            },
+        );
+        Ok(receipt)
     }
 
     /// Refuses numbers that name no processor, and two equal ones.

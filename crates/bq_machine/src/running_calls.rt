@@ -4,11 +4,12 @@ ghost use Rattle.bq_machine.specs.Calls.{IsCallRefused};
 
 use crate::clock::Clock;
 use crate::locks::Machine;
+use crate::told::{both_records, event_twice, quiet_twice, told_twice};
 use bq_disc::RunQueue;
-use bq_history::{Naming, Receipt};
-use bq_parts::{Event, Refusal};
-use bq_recording::{EventRooms, Seat};
-use bq_shared::{Counting, Record, record_room};
+use bq_history::{CommitDraft, Naming, Receipt, look_at_both};
+use bq_parts::{Event, Refusal, Reply};
+use bq_recording::Seat;
+use bq_shared::{Counting, PackedAnswer, Record, hold_calls, record_room};
 use std::alloc::Global;
 use std::sync::Wait;
 
@@ -39,11 +40,38 @@ impl<Q: RunQueue + Drop, K: Clock + Drop, N: Naming + Counting, const P: usize> 
         let mut guard = self.lock_processor(rt, processor);
         let cpu = &mut *guard;
         let now = self.clock.now(processor);
-        let rooms = EventRooms {
-            record: &mut seat.first,
-            calls: &mut seat.rooms,
+        cpu.look(&self.recorder.history);
+        let content = &mut cpu.cell.content;
+        content.scratch.clear();
+        let mut counter_board = seat.working.open_board(&self.recorder.counters);
+        let reply = content
+            .state
+            .tick(processor, now, &mut content.scratch, &mut counter_board);
+        seat.working.close_board(counter_board);
+        let Reply::Ticked { run, by, steps } = reply else {
+            unreachable!()
         };
-        Ok(self.recorder.tick(rt, &mut seat.working, cpu, now, rooms))
+        let events = event_twice(Event::Tick { processor, now });
+        let answers = (
+            PackedAnswer::ticked(run, by, steps),
+            PackedAnswer::ticked(run, by, steps),
+        );
+        let calls = hold_calls(&mut seat.rooms, content.scratch.calls());
+        let (logged, told) = both_records(events, answers, calls);
+        let mut journal_guard = self.recorder.lock_journal(rt);
+        let journal = &mut *journal_guard;
+        let receipt = seat.working.commit_one(
+            &self.recorder.history,
+            journal,
+            &mut cpu.cell,
+            CommitDraft {
+                room: &mut seat.first,
+                logged,
+                told,
+                kept: None,
+            },
+        );
+        Ok(receipt)
     }
 
     /// Moves all tasks of a processor's inbox to its queue, and decides who runs. Allocates the record.
@@ -68,14 +96,36 @@ impl<Q: RunQueue + Drop, K: Clock + Drop, N: Naming + Counting, const P: usize> 
         let now = self.clock.now(processor);
         let mut inbox_guard = self.lock_inbox(rt, processor);
         let inbox = &mut *inbox_guard;
-        let rooms = EventRooms {
-            record: &mut seat.first,
-            calls: &mut seat.rooms,
-        };
-        Ok(
-            self.recorder
-                .drain(rt, &mut seat.working, cpu, inbox, now, rooms),
-        )
+        look_at_both(&self.recorder.history, cpu, inbox);
+        let content = &mut cpu.cell.content;
+        content.scratch.clear();
+        let mut counter_board = seat.working.open_board(&self.recorder.counters);
+        let reply = content.state.drain(
+            &mut inbox.cell.content.state,
+            processor,
+            now,
+            &mut content.scratch,
+            &mut counter_board,
+        );
+        seat.working.close_board(counter_board);
+        let reply = Ok(reply);
+        let calls = hold_calls(&mut seat.rooms, content.scratch.calls());
+        let (logged, told) = told_twice(Event::Drain { processor, now }, &reply, calls);
+        let mut journal_guard = self.recorder.lock_journal(rt);
+        let journal = &mut *journal_guard;
+        let receipt = seat.working.commit_two(
+            &self.recorder.history,
+            journal,
+            &mut cpu.cell,
+            &mut inbox.cell,
+            CommitDraft {
+                room: &mut seat.first,
+                logged,
+                told,
+                kept: None,
+            },
+        );
+        Ok(receipt)
     }
 
     /// Puts the running task of a processor to sleep, and runs the queue's choice. Allocates the record.
@@ -101,9 +151,28 @@ impl<Q: RunQueue + Drop, K: Clock + Drop, N: Naming + Counting, const P: usize> 
         let now = self.clock.now(processor);
         let mut lobby_guard = self.lobby.lock(rt);
         let lobby = &mut *lobby_guard;
-        Ok(
-            self.recorder
-                .block(rt, &mut seat.working, cpu, lobby, now, &mut seat.first),
-        )
+        cpu.look(&self.recorder.history);
+        let reply = cpu
+            .cell
+            .content
+            .state
+            .block(&mut lobby.cell.content.state, processor, now);
+        let (logged, told) = quiet_twice(Event::Block { processor, now }, &reply);
+        let mut journal_guard = self.recorder.lock_journal(rt);
+        let journal = &mut *journal_guard;
+        let kept = journal.kept().after_block(processor, &reply);
+        let receipt = seat.working.commit_two(
+            &self.recorder.history,
+            journal,
+            &mut cpu.cell,
+            &mut lobby.cell,
+            CommitDraft {
+                room: &mut seat.first,
+                logged,
+                told,
+                kept,
+            },
+        );
+        Ok(receipt)
     }
 }

@@ -1,24 +1,32 @@
 //! A wake: a task of the lobby comes into a processor's hand, and is placed. The processor's lock is held throughout.
-ghost use Rattle.std.specs.Prelude.{◌≡◌, ◌∷◌, ◌++◌, ◌<◌, ◌⊎◌, ℕ, [], None, Some, IfOk, IfErr, IfSome, IsOk, IsSome, OnOk, OnErr, ◌↔◌, is_some, true};
+ghost use Rattle.std.specs.Prelude.{◌≡◌, ◌∷◌, ◌++◌, ◌<◌, ◌≤◌, ◌⊎◌, ℕ, [], None, Some, IfOk, IfErr, IfSome, IsOk, IsSome, OnOk, OnErr, ◌↔◌, is_some, true};
 ghost use Rattle.std.specs.Option.{option_to_list, option_map};
 ghost use Rattle.bq_history.specs.Items.{part_item};
-ghost use Rattle.bq_shared.specs.Calls.{account_of};
+ghost use Rattle.bq_hooks.specs.OwnPlace.{HasPlace};
+ghost use Rattle.bq_shared.specs.Calls.{account_of, ahead};
+ghost use Rattle.bq_parts.specs.Choices.{policies};
 ghost use Rattle.bq_parts.specs.Refusals.{argument_refusal};
+ghost use Rattle.bq_parts.specs.Shares.{Places};
 ghost use Rattle.bq_parts.specs.declared.refusal.Refusal.TheVariants as no;
 ghost use Rattle.bq_shared.specs.Parts.{cpu_part, told_calls};
-ghost use Rattle.bq_recording.specs.Placing.{IsPlaced};
 ghost use Rattle.bq_machine.specs.Calls.{IsCallRefused};
+ghost use Rattle.bq_machine.specs.Placing.{IsPlaced};
 ghost use Rattle.bq_machine.specs.Waking.{IsWake};
 
 use crate::clock::Clock;
 use crate::locks::Machine;
 use crate::needs::rooms_of_event;
+use crate::rooms::{BeginRooms, EventRooms, LoadRooms};
+use crate::told::{both_records, event_twice, no_calls, told_twice};
 use bq_disc::RunQueue;
-use bq_disc::limits::TASKS;
-use bq_history::{Naming, Receipt, Room};
-use bq_parts::{Event, Refusal, argument_refusal};
-use bq_recording::{BeginRooms, CpuCell, EventRooms, LoadRooms, Placing, Seat, WorkingSeat};
-use bq_shared::{CallRooms, Counting, Record, loads_room, record_room};
+use bq_disc::limits::{PROCESSORS, TASKS};
+use bq_history::{CommitDraft, Naming, Receipt, Room};
+use bq_parts::{Event, Placement, Refusal, Reply, argument_refusal};
+use bq_recording::{CpuCell, Seat, WorkingSeat};
+use bq_shared::{
+    CallRooms, Counters, Counting, NumberedCpu, PackedAnswer, Record, hold_calls, loads_room,
+    record_room,
+};
 use std::alloc::Global;
 use std::sync::Wait;
 
@@ -118,15 +126,7 @@ impl<Q: RunQueue + Drop, K: Clock + Drop, N: Naming + Counting, const P: usize> 
             return WakeReceipts { begin, end: None };
         }
         let now = self.clock.now(processor);
-        let placing = Placing { task, now };
-        let end = self.recorder.end_wake(
-            rt,
-            working,
-            &mut cpu.cell,
-            &self.inboxes,
-            placing,
-            end_rooms,
-        );
+        let end = self.end_in_inbox(rt, working, &mut cpu.cell, task, now, end_rooms);
         WakeReceipts {
             begin,
             end: Some(end),
@@ -142,7 +142,7 @@ impl<Q: RunQueue + Drop, K: Clock + Drop, N: Naming + Counting, const P: usize> 
         task: u16,
         rooms: BeginRooms<'_>,
     ) -> Receipt<Record>
-        requires seat { task < TASKS }
+        requires below { task < TASKS }
         requires ready { rooms.record.now ≡ true }
         requires tally { working.old.tally ≡ account_of told_calls working.old.caller.1 }
         requires says { cpu.old.holder ≡ part_item (cpu_part cpu.old.content.number cpu.old.content.state) ∷ [] }
@@ -158,7 +158,124 @@ impl<Q: RunQueue + Drop, K: Clock + Drop, N: Naming + Counting, const P: usize> 
     {
         let mut guard = self.lobby.lock(rt);
         let lobby = &mut *guard;
-        self.recorder
-            .begin_wake(rt, working, cpu, lobby, task, rooms)
+        lobby.look(&self.recorder.history);
+        let processor = cpu.content.number;
+        let mut journal_guard = self.recorder.lock_journal(rt);
+        let journal = &mut *journal_guard;
+        let reply = cpu
+            .content
+            .state
+            .begin_wake(&mut lobby.cell.content.state, task, &journal.kept().loads);
+        let events = event_twice(Event::BeginWake { processor, task });
+        let answers = (
+            PackedAnswer::with_room(&reply, rooms.loads.for_record),
+            PackedAnswer::with_room(&reply, rooms.loads.for_receipt),
+        );
+        let (logged, told) = both_records(events, answers, no_calls());
+        working.commit_two(
+            &self.recorder.history,
+            journal,
+            cpu,
+            &mut lobby.cell,
+            CommitDraft {
+                room: rooms.record,
+                logged,
+                told,
+                kept: None,
+            },
+        )
+    }
+
+    /// The second half of a wake: the task in the hand is placed. It locks the inbox that is chosen, and unlocks it.
+    fn end_in_inbox<R: Wait>(
+        &self,
+        rt: &R,
+        working: &mut WorkingSeat<N>,
+        cpu: &mut CpuCell<Q, N>,
+        task: u16,
+        now: u64,
+        rooms: EventRooms<'_>,
+    ) -> Receipt<Record>
+        requires calls { is_some rooms.calls.now ≡ true }
+        requires ready { rooms.record.now ≡ true }
+        requires tally { working.old.tally ≡ account_of told_calls working.old.caller.1 }
+        requires says { cpu.old.holder ≡ part_item (cpu_part cpu.old.content.number cpu.old.content.state) ∷ [] }
+        requires hand { option_map (λ c. c.task.id) cpu.old.content.state.hand ≡ Some task }
+        ensures caller { working.new.caller ≡ (working.old.caller.0, working.old.caller.1 ++ result ∷ []) }
+        ensures tally { working.new.tally ≡ account_of told_calls working.new.caller.1 }
+        ensures event { result.entry.event ≡ Event.EndWake cpu.old.content.number now }
+        ensures placed { IsPlaced task result.entry.reply }
+        ensures says { cpu.new.holder ≡ part_item (cpu_part cpu.new.content.number cpu.new.content.state) ∷ [] }
+        ensures rests { cpu.new.content.state.hand ≡ None }
+    {
+        cpu.look(&self.recorder.history);
+        let processor = cpu.content.number;
+        let Placement {
+            task: woken,
+            to,
+            by,
+            steps,
+        } = Self::place_task(&self.recorder.counters, working, &mut cpu.content, now);
+        let mut guard = self.lock_inbox(rt, to);
+        let inbox = &mut *guard;
+        inbox.look(&self.recorder.history);
+        inbox.cell.content.state.push(woken);
+        let reply = Ok(Reply::Placed {
+            task,
+            to,
+            by,
+            steps,
+        });
+        let calls = hold_calls(rooms.calls, cpu.content.scratch.calls());
+        let (logged, told) = told_twice(Event::EndWake { processor, now }, &reply, calls);
+        let mut journal_guard = self.recorder.lock_journal(rt);
+        let journal = &mut *journal_guard;
+        let mut kept = journal.kept().again();
+        kept.one_more(to);
+        working.commit_two(
+            &self.recorder.history,
+            journal,
+            cpu,
+            &mut inbox.cell,
+            CommitDraft {
+                room: rooms.record,
+                logged,
+                told,
+                kept: Some(kept),
+            },
+        )
+    }
+
+    /// Takes the task out of the hand, and chooses where it goes.
+    fn place_task(
+        counters: &Counters<N>,
+        working: &mut WorkingSeat<N>,
+        content: &mut NumberedCpu<Q>,
+        now: u64,
+    ) -> Placement
+        requires few { P ≤ PROCESSORS }
+        requires hand { is_some content.old.state.hand ≡ true }
+        requires usable { IfSome content.old.state.hand (λ c. HasPlace P c.task) }
+        requires tally { working.old.tally ≡ account_of told_calls working.old.caller.1 }
+        ensures number { content.new.number ≡ content.old.number }
+        ensures share { Places (policies Q.R.discipline) P content.old.number now content.old.state content.new.scratch (Some result) content.new.state }
+        ensures below { result.to < P }
+        ensures caller { working.new.caller ≡ working.old.caller }
+        ensures tally { working.new.tally ≡ ahead told_calls working.new.caller.1 content.new.scratch }
+    {
+        content.scratch.clear();
+        let mut counter_board = working.open_board(counters);
+        let placement = content.state.end_wake(
+            content.number,
+            P,
+            now,
+            &mut content.scratch,
+            &mut counter_board,
+        );
+        working.close_board(counter_board);
+        let Some(placement) = placement else {
+            unreachable!()
+        };
+        placement
     }
 }

@@ -2,9 +2,9 @@
 
 use bq_disc::RunQueue;
 use bq_history::{Naming, Receipt};
-use bq_machine::{Clock, Machine};
+use bq_machine::{Admission, Clock, Machine};
 use bq_parts::Refusal;
-use bq_recording::{Admission, Seat};
+use bq_recording::Seat;
 use bq_shared::{Counting, Record};
 use std::alloc::Global;
 use std::sync::Wait;

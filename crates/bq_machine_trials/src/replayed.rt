@@ -9,7 +9,7 @@ use bq_disc::limits::PROCESSORS;
 use bq_hooks::Hook;
 use bq_parts::{Event, Refusal, Reply};
 use bq_recording::Closed;
-use bq_shared::{event_again, is_same_answer};
+use bq_shared::event_again;
 use bq_trace::shows::write_processor;
 use std::alloc::Global;
 use std::process::Abort;
@@ -120,7 +120,7 @@ fn is_answered_so<Q: RunQueue + Drop, const P: usize>(
         is_same: true,
     };
     let answer = core.step(alloc, event, &mut board);
-    is_same_answer(&answer, reply) && board.was_followed()
+    answer == *reply && board.was_followed()
 }
 
 /// Adds what the calls add, modulo 2^64.
@@ -163,7 +163,7 @@ fn is_answered_the_same<Q: RunQueue + Drop, const P: usize>(
         let again = event_again(&event).expect(rt, "memory");
         let answer = core.step(alloc, again, &mut Plain::new());
         let other_answer = other.step(alloc, event, &mut Plain::new());
-        if !is_same_answer(&answer, &other_answer) {
+        if answer != other_answer {
             return false;
         }
     }

@@ -1,4 +1,2 @@
-pub mod AheadLemmas
-pub mod BriefLemmas
 pub mod ClosingLemmas
 pub mod SendLemmas

@@ -19,10 +19,10 @@ pub type WorkingSeat<N> = Working<Record, WorldPart, JournalState, N>;
 pub type CpuCell<Q, N> = Cell<NumberedCpu<Q>, Record, WorldPart, JournalState, N>;
 
 /// The journal, whose lock is held.
-pub(crate) type LockedJournal<'a, N> = MutexGuard<'a, Journal<Record, WorldPart, JournalState, N>>;
+pub type LockedJournal<'a, N> = MutexGuard<'a, Journal<Record, WorldPart, JournalState, N>>;
 
-/// The history with its journal, and the counters. Each event of a machine is recorded by one call here, under the locks of
-/// all parts that it touches; the call takes the journal's lock last.
+/// The history with its journal, and the counters. Each event of a machine is recorded here, under the locks of all parts that
+/// it touches; the journal's lock is taken last.
 #[derive(Drop)]
 pub struct Recorder<Q: RunQueue + Drop, N: Naming + Counting> {
     pub history: Shared<Q, N>,
@@ -35,7 +35,7 @@ pub struct Recorder<Q: RunQueue + Drop, N: Naming + Counting> {
 impl<Q: RunQueue + Drop, N: Naming + Counting> Recorder<Q, N> {
     /// Locks the journal, and waits for ever where no record fits any more.
     #[inline(always)]
-    pub(crate) fn lock_journal<R: Wait>(&self, rt: &R) -> LockedJournal<'_, N>
+    pub fn lock_journal<R: Wait>(&self, rt: &R) -> LockedJournal<'_, N>
         ensures { length (mutex_guard_value result).0 + 1 < 2 ^ 64 }
     {
         let guard = lock(rt, &self.journal);

@@ -6,7 +6,7 @@ use bq_shared::{CallRooms, Record};
 
 /// Room for the record of an event, and for the calls of counters that it tells.
 #[derive(Drop)]
-pub struct EventRooms<'a> {
+pub(crate) struct EventRooms<'a> {
     /// Room for the record.
     pub record: &'a mut Room<Record>,
     /// Room for the calls, which stays for another event where there are none.
@@ -15,7 +15,7 @@ pub struct EventRooms<'a> {
 
 /// Room for the record of the beginning of a wake, and for the loads that it tells.
 #[derive(Drop)]
-pub struct BeginRooms<'a> {
+pub(crate) struct BeginRooms<'a> {
     /// Room for the record.
     pub record: &'a mut Room<Record>,
     /// Room for the loads.
@@ -24,7 +24,7 @@ pub struct BeginRooms<'a> {
 
 /// Room for the loads that the beginning of a wake tells, for its record and for its receipt.
 #[derive(Drop)]
-pub struct LoadRooms {
+pub(crate) struct LoadRooms {
     /// Room for those of the record.
     pub for_record: Box<Loads>,
     /// Room for those of the receipt.

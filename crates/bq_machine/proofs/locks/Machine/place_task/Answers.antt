@@ -1,6 +1,6 @@
 use Rattle.std.proofs.Common.{◌∙◌, ap}
-use Rattle.bq_recording.proofs.AheadLemmas.{ahead_of}
-use Rattle.bq_recording.proofs.recorder.Recorder.place_task.Goals as goal
+use Rattle.bq_machine.proofs.AheadLemmas.{ahead_of}
+use Rattle.bq_machine.proofs.locks.Machine.place_task.Goals as goal
 
 pub returns-clause-tally : goal.returns-clause-tally
 returns-clause-tally g c =

@@ -1,20 +1,20 @@
 use Rattle.std.proofs.Common.{◌∙◌}
-use Rattle.bq_parts.specs.Shares.{Begins}
+use Rattle.bq_parts.specs.Shares.{BeginsWake}
 use Rattle.bq_shared.specs.Parts.{cpu_part, lobby_part}
 use Rattle.bq_shared.proofs.LookLemmas.{SeenLobby, seen_own}
 use Rattle.bq_shared.proofs.WakeLemmas.{begun_hand}
 use Rattle.bq_shared.proofs.CallStepLemmas.{begin_moves}
-use Rattle.bq_recording.proofs.recorder.Recorder.begin_wake.Goals as goal
+use Rattle.bq_machine.proofs.locks.Machine.begin_in_lobby.Goals as goal
 
 pub commit_two-requires-clause-may : goal.commit_two-requires-clause-may
 commit_two-requires-clause-may g c =
     let d = g.Q.R.Discipline.discipline in
-    let n = c.args.self.now.history.about in
+    let n = c.args.self.now.recorder.history.about in
     let own = c.args.cpu.now.content in
     let hall = c.lobby.inside.cell.content.state in
     let b = c.begin_wake-reply in
     let k = c.deref_mut-journal.result.now.1 in
-    let share : Begins c.args.task k.loads own.state hall b.result b.new.self b.new.lobby = rw c.kept.ensures at b.ensures.share in (
+    let share : BeginsWake c.args.task k.loads own.state hall b.result b.new.self b.new.lobby = rw c.kept.ensures at b.ensures.share in (
       cpu_part own.number own.state,
       lobby_part hall,
       c.requires.says,
@@ -29,12 +29,12 @@ commit_two-requires-clause-told g c = rw (c.both_records-logged.ensures.entry, c
 pub returns-clause-hand : goal.returns-clause-hand
 returns-clause-hand g c =
     let d = g.Q.R.Discipline.discipline in
-    let n = c.args.self.now.history.about in
+    let n = c.args.self.now.recorder.history.about in
     let own = c.args.cpu.now.content in
     let hall = c.lobby.inside.cell.content.state in
     let b = c.begin_wake-reply in
     let k = c.deref_mut-journal.result.now.1 in
     let there = c.lobby.view_is ∙ c.look.ensures.same in
     let seen : SeenLobby d n hall = rw there c.look.ensures.world in
-    let share : Begins c.args.task k.loads own.state hall b.result b.new.self b.new.lobby = rw c.kept.ensures at b.ensures.share in
+    let share : BeginsWake c.args.task k.loads own.state hall b.result b.new.self b.new.lobby = rw c.kept.ensures at b.ensures.share in
     rw (c.commit_two.ensures.receipt.1, c.both_records-logged.ensures.entry, c.with_room-2.ensures, c.commit_two.ensures.a.0) (begun_hand c.args.task k.loads own.state hall b.result b.new.self b.new.lobby share (seen_own d n hall seen c.args.task))
