@@ -1,40 +1,27 @@
--- What is gathered of all news.
-use Rattle.std.proofs.Common.{◌≡◌, ◌+◌, ℕ, List, [], ◌∷◌, ◌++◌, None, sym, ap, ◌∙◌, append_assoc, append-nil, arith}
-use Rattle.bq_trace.specs.News.{News, Told, TakesAll, Gets}
+-- What is gathered of all events.
+use Rattle.std.proofs.Common.{◌≡◌, ◌+◌, ℕ, false, List, [], ◌∷◌, ◌++◌, None, sym, ap, ◌∙◌, append_assoc, append-nil, arith}
+use Rattle.bq_trace.specs.TraceEvents.{TraceEvent, Told, TakesAll, Gets}
 use Rattle.bq_workload.specs.declared.workload.Workload.{Workload}
 use Rattle.bq_schedule.specs.WakeLatencies.{TakesStart, latencies_of}
 use Rattle.bq_simulate.specs.Simulations.{Accepted, IsSimulation}
-use Rattle.bq_experiment.specs.Limits.{event_count}
+use Rattle.bq_experiment.specs.Limits.{PassesOn}
 use Rattle.bq_experiment.specs.declared.limited.Limited.{Limited}
-use Rattle.bq_experiment.proofs.PassingLemmas.{lets_through}
+use Rattle.bq_experiment.proofs.LimitLemmas.{lets_through}
 use Rattle.bq_comparison.specs.declared.gathering.Gatherer.{Gatherer}
 use Rattle.bq_comparison.specs.Gathering.{IsGathered, latencies_told, latency_in, start_told}
 use Rattle.bq_comparison.proofs.LatencyLemmas.{takes_start}
 use Rattle.bq_timeline.specs.Watching.{schedule_after, watched}
 
--- what the sink takes of one piece of news
-abbrev pub Takes : Gatherer → ℕ → News → Gatherer → Type 0
-Takes old n news new = (new.schedule ≡ watched old.schedule news) × TakesStart (start_told news old.schedule) old.latencies new.latencies
+-- what the sink takes of one event
+abbrev pub Takes : Gatherer → ℕ → TraceEvent → Gatherer → Type 0
+Takes old n traced new = (new.schedule ≡ watched old.schedule traced) × TakesStart (start_told traced old.schedule) old.latencies new.latencies
 
--- what the gatherer inside a limit takes
-abbrev TakesInside : Limited Gatherer → ℕ → News → Limited Gatherer → Type 0
-TakesInside old n news new = Takes old.sink n news new.sink
-
--- and what the limit takes
-abbrev TakesLimited : Limited Gatherer → ℕ → News → Limited Gatherer → Type 0
-TakesLimited old n news new = TakesInside old n news new × (old.left ≡ event_count news + new.left)
-
--- a gatherer takes what comes through its limit
-inside : (old new : Limited Gatherer) (told : Told) → TakesAll TakesInside old told new → TakesAll Takes old.sink told new.sink
-inside old new [] h = ap (λ (l : Limited Gatherer). l.sink) h
-inside old new ((n, x) ∷ more) h = (h.0.sink, h.1, inside h.0 new more h.2)
-
--- the schedule of a gatherer that took some news is the one after them
+-- the schedule of a gatherer that took some events is the one after them
 pub schedule-after : (old new : Gatherer) (told : Told) → TakesAll Takes old told new → new.schedule ≡ schedule_after old.schedule told
 schedule-after old new [] h = ap (λ (g : Gatherer). g.schedule) h
 schedule-after old new ((n, x) ∷ more) h = schedule-after h.0 new more h.2 ∙ ap (λ s. schedule_after s more) h.1.0
 
--- a task's latencies in a gatherer that took some news are the ones before and those of the news
+-- a task's latencies in a gatherer that took some events are the ones before and those of the events
 pub latencies-after : (old new : Gatherer) (told : Told) → TakesAll Takes old told new → (task : ℕ)
     → latencies_of new.latencies task ≡ latencies_of old.latencies task ++ latencies_told task old.schedule told
 latencies-after old new [] h task = ap (λ (g : Gatherer). latencies_of g.latencies task) h ∙ sym (append-nil (latencies_of old.latencies task))
@@ -46,14 +33,15 @@ latencies-after old new ((n, x) ∷ more) h task =
 
 -- the schedule and the latencies of a whole simulation, of at most as many events as were left
 pub gathers_simulation : (old new : Limited Gatherer) (policies : List Accepted) (w : Workload) → old.sink.schedule ≡ None → ((task : ℕ) → latencies_of old.sink.latencies task ≡ [])
-    → Gets TakesLimited old new (IsSimulation policies w) → IsGathered policies w old.left new.sink.schedule new.sink.latencies
-gathers_simulation old new policies w none empty g =
-    let through = lets_through (λ (l : Limited Gatherer). l.left) TakesInside old new g.told g.taken in
-    let taken = inside old new g.told through.0 in
+    → Gets (PassesOn Takes) old new (IsSimulation policies w) → new.is_over ≡ false → IsGathered policies w old.left new.sink.schedule new.sink.latencies
+gathers_simulation old new policies w none empty g wants =
+    let through = lets_through Takes old new g.told g.taken wants in
+    let taken = through.0 in
+    let left = through.1 in
     record {
       told = g.told;
       simulation = g.holds;
-      few = omega (arith, through.1);
+      few = omega (arith, left);
       schedule_is = schedule-after old.sink new.sink g.told taken ∙ ap (λ s. schedule_after s g.told) none;
       latencies_are = λ task.
           latencies-after old.sink new.sink g.told taken task

@@ -1,12 +1,19 @@
 -- Runs, and more of them at the end.
-use Rattle.std.proofs.Common.{◌≡◌, ℕ, ◌+◌, List, [], ◌∷◌, ◌++◌, length, map, Ok, Err, Result, IfOk, ◌⊎◌, inl, inr, ap, sym, refl, zero, suc, subst, ◌∙◌, arith}
+use Rattle.std.proofs.Common.{◌≡◌, Some, Option, ℕ, ◌+◌, ◌<◌, ◌≤◌, List, [], ◌∷◌, ◌++◌, length, map, Ok, Err, Result, IfErr, IfOk, ◌⊎◌, inl, inr, ap, sym, refl, zero, suc, subst, ◌∙◌, arith}
 use Rattle.std.proofs.lemmas.List.{length-append, length-map}
+use Rattle.std.proofs.lemmas.Option.{slice_get_within}
+use Rattle.std.specs.Option.{IsSomeAnd}
 use Rattle.bq_workload.specs.declared.workload.Workload.{Workload}
 use Rattle.bq_comparison.specs.declared.naming.Figure.{Figure}
 use Rattle.bq_comparison.specs.declared.runs.RunFigures.{RunFigures}
 use Rattle.bq_comparison.specs.declared.fault.SeedsFault.{SeedsFault}
 use Rattle.bq_comparison.specs.declared.fault.SeedsFault.TheVariants as fault
-use Rattle.bq_comparison.specs.Faults.{HasFault, IsNoRun, IsNoSummary}
+use Rattle.bq_comparison.specs.Faults.{HasFault, IsNoRun, IsNoSide, IsNoSummary, fault_of_run}
+use Rattle.bq_experiment.specs.Limits.{IsLonger}
+use Rattle.bq_workload.specs.Soundness.{first_flaw}
+use Rattle.bq_simulate.specs.Faults.{flaw_told}
+use Rattle.bq_simulate.specs.declared.fault.SimulateFault.{SimulateFault}
+use Rattle.bq_simulate.specs.declared.fault.SimulateFault.TheVariants as run_fault
 use Rattle.bq_simulate.specs.Simulations.{Accepted, with_seed}
 use Rattle.bq_comparison.specs.Seeds.{AreResults, AreRuns, Comes, IsRun}
 
@@ -16,8 +23,10 @@ ran policies w most figures seed [] h = tt
 ran policies w most figures seed (x ∷ xs) h =
     let P : ℕ → Type 0 = λ s. IsRun policies (with_seed w s) most figures x in
     let rest : AreResults policies w most figures (seed + 1) (map Ok xs) = λ i r there.
-    let next = h (suc i) r there in
-    (subst (λ s. IfOk r (IsRun policies (with_seed w s) most figures)) (omega arith) next.0, next.1) in
+    let next = h (suc i) r there in (
+      subst (λ s. IfOk r (IsRun policies (with_seed w s) most figures)) (omega arith) next.0,
+      subst (λ s. IfErr r (IsNoRun policies (with_seed w s) most)) (omega arith) next.1,
+    ) in
     let first = h zero (Ok x) refl in
     (subst P (omega arith) first.0, ran policies w most figures (seed + 1) xs rest)
 
@@ -48,15 +57,41 @@ AreRuns-come policies w most figures seed next before after results at h k (more
     let R : List (Result RunFigures SeedsFault) → Type 0 = λ l. AreResults policies w most figures (seed + length before) l in
     subst P (sym is) (AreRuns-append policies w most figures seed before more h (subst R ok (subst Q at k)))
 
--- where a run is refused, so are all
-refused_all : (w : Workload) (count : ℕ) (why : SeedsFault) → IsNoRun w why → IsNoSummary w count why
-refused_all w count (fault.Run why) h = h
-refused_all w count fault.Last h = absurd h
-refused_all w count fault.Events h = h
-refused_all w count fault.OutOfMemory h = tt
+-- the fault of a run, in the words of a summary, says as much
+pub refused_is_no_run : (policies : List Accepted) (w : Workload) (most : ℕ) (why : SimulateFault) → flaw_told why ≡ first_flaw w → (why ≡ run_fault.Enough → IsLonger policies w most) → IsNoRun policies w most (fault_of_run why)
+refused_is_no_run policies w most run_fault.OutOfMemory h k = tt
+refused_is_no_run policies w most (run_fault.Unsound flaw) h k = h
+refused_is_no_run policies w most (run_fault.Drive fault) h k = h
+refused_is_no_run policies w most run_fault.BrokenInvariant h k = h
+refused_is_no_run policies w most run_fault.Endless h k = h
+refused_is_no_run policies w most run_fault.Enough h k = k refl
+
+-- where a run with one of the seeds is refused, so are all
+refused_all : (policies : List Accepted) (w : Workload) (most count i : ℕ) (why : SeedsFault) → i < count → IsNoRun policies (with_seed w (w.machine.seed + i)) most why → IsNoSummary policies w most count why
+refused_all policies w most count i (fault.Run why) few h = h
+refused_all policies w most count i fault.Last few h = absurd h
+refused_all policies w most count i fault.Events few h = (i, few, h)
+refused_all policies w most count i fault.OutOfMemory few h = tt
 
 -- and where one of the results is a fault, or memory runs out
-pub none_comes : (policies : List Accepted) (w : Workload) (most : ℕ) (figures : List Figure) (seed count : ℕ) (results : List (Result RunFigures SeedsFault)) (why : SeedsFault)
-    → AreResults policies w most figures seed results → (why ≡ fault.OutOfMemory) ⊎ HasFault results why → IsNoSummary w count why
-none_comes policies w most figures seed count results why are (inl out) = subst (λ e. IsNoSummary w count e) (sym out) tt
-none_comes policies w most figures seed count results why are (inr (i, there)) = let one = are i (Err why) there in refused_all w count why one.1
+pub none_comes : (policies : List Accepted) (w : Workload) (most : ℕ) (figures : List Figure) (next before count : ℕ) (results : List (Result RunFigures SeedsFault)) (why : SeedsFault)
+    → next ≡ w.machine.seed + before → before + length results ≤ count → AreResults policies w most figures next results → (why ≡ fault.OutOfMemory) ⊎ HasFault results why → IsNoSummary policies w most count why
+none_comes policies w most figures next before count results why at few are (inl out) = subst (λ e. IsNoSummary policies w most count e) (sym out) tt
+none_comes policies w most figures next before count results why at few are (inr (i, there)) =
+    let one = are i (Err why) there in
+    let low : i < length results = slice_get_within results i (Err why) there in
+    let P : ℕ → Type 0 = λ s. IsNoRun policies (with_seed w s) most why in
+    let here : next + i ≡ w.machine.seed + (before + i) = omega (arith, at) in
+    refused_all policies w most count (before + i) why (omega (arith, low, few)) (subst P here one.1)
+
+-- where our side of a comparison is refused, so is the comparison
+pub ours_refused : (policies mine : List Accepted) (others : Option (List Accepted)) (w : Workload) (most count : ℕ) (why : SeedsFault)
+    → mine ≡ policies → IsNoSummary mine w most count why → IsNoSide policies others w most count why
+ours_refused policies mine others w most count why is h = inl (subst (λ (l : List Accepted). IsNoSummary l w most count why) is h)
+
+-- and so it is where theirs is refused
+pub theirs_refused : (policies mine theirs : List Accepted) (others : Option (List Accepted)) (w : Workload) (most count : ℕ) (why : SeedsFault)
+    → others ≡ Some theirs → mine ≡ theirs → IsNoSummary mine w most count why → IsNoSide policies others w most count why
+theirs_refused policies mine theirs others w most count why there is h =
+    let P : List Accepted → Type 0 = λ l. IsNoSummary l w most count why in
+    inr (subst (λ (o : Option (List Accepted)). IsSomeAnd o P) (sym there) (subst P is h))

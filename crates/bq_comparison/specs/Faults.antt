@@ -1,8 +1,11 @@
 -- Why there is no summary.
-use Rattle.std.specs.Prelude.{◌≡◌, ℕ, ◌+◌, ◌<◌, ◌^◌, List, Result, Err, None, Some, slice_get, ⊤}
+use Rattle.std.specs.Prelude.{◌≡◌, ◌⊎◌, ℕ, ◌+◌, ◌<◌, ◌^◌, List, Option, Result, Err, Some, slice_get, ⊤}
+use Rattle.std.specs.Option.{IsSomeAnd}
 use Rattle.bq_workload.specs.Soundness.{first_flaw}
 use Rattle.bq_workload.specs.declared.workload.Workload.{Workload}
+use Rattle.bq_experiment.specs.Limits.{IsLonger}
 use Rattle.bq_simulate.specs.Faults.{flaw_told}
+use Rattle.bq_simulate.specs.Simulations.{Accepted, with_seed}
 use Rattle.bq_simulate.specs.declared.fault.SimulateFault.{SimulateFault}
 use Rattle.bq_simulate.specs.declared.fault.SimulateFault.TheVariants as run_fault
 use Rattle.bq_comparison.specs.declared.fault.SeedsFault.{SeedsFault}
@@ -12,22 +15,31 @@ use Rattle.bq_comparison.specs.declared.runs.RunFigures.{RunFigures}
 -- the fault of a run, in the words of a summary
 abbrev pub fault_of_run : SimulateFault → SeedsFault
 fault_of_run run_fault.OutOfMemory = fault.OutOfMemory
+fault_of_run run_fault.Enough = fault.Events
 fault_of_run why = fault.Run why
 
--- a run of the workload is refused: for the workload's first flaw exactly when it has one, and cut off only when it has none; memory may run
--- out whatever the workload is
-abbrev pub IsNoRun : Workload → SeedsFault → Type 0
-IsNoRun w (fault.Run why) = flaw_told why ≡ first_flaw w
-IsNoRun w fault.Last = ⊥
-IsNoRun w fault.Events = first_flaw w ≡ None
-IsNoRun w fault.OutOfMemory = ⊤
+-- a run of the workload with these policies is refused: for the workload's first flaw exactly when it has one, and cut off after that many
+-- events only when there are more; memory may run out whatever the workload is
+abbrev pub IsNoRun : List Accepted → Workload → ℕ → SeedsFault → Type 0
+IsNoRun policies w most (fault.Run why) = flaw_told why ≡ first_flaw w
+IsNoRun policies w most fault.Last = ⊥
+IsNoRun policies w most fault.Events = IsLonger policies w most
+IsNoRun policies w most fault.OutOfMemory = ⊤
+
+-- of this many seeds, from the workload's own on, there is one with which more than that many events come
+abbrev pub HasLonger : List Accepted → Workload → ℕ → ℕ → Type 0
+HasLonger policies w most count = (i : ℕ) × (i < count) × IsLonger policies (with_seed w (w.machine.seed + i)) most
 
 -- this many runs are refused for what one of them is; or the last seed is not below 2^64
-abbrev pub IsNoSummary : Workload → ℕ → SeedsFault → Type 0
-IsNoSummary w count (fault.Run why) = flaw_told why ≡ first_flaw w
-IsNoSummary w count fault.Last = 2 ^ 64 < w.machine.seed + count
-IsNoSummary w count fault.Events = first_flaw w ≡ None
-IsNoSummary w count fault.OutOfMemory = ⊤
+abbrev pub IsNoSummary : List Accepted → Workload → ℕ → ℕ → SeedsFault → Type 0
+IsNoSummary policies w most count (fault.Run why) = flaw_told why ≡ first_flaw w
+IsNoSummary policies w most count fault.Last = 2 ^ 64 < w.machine.seed + count
+IsNoSummary policies w most count fault.Events = HasLonger policies w most count
+IsNoSummary policies w most count fault.OutOfMemory = ⊤
+
+-- so it is with these policies, or with the others, if there are others
+abbrev pub IsNoSide : List Accepted → Option (List Accepted) → Workload → ℕ → ℕ → SeedsFault → Type 0
+IsNoSide policies others w most count why = IsNoSummary policies w most count why ⊎ IsSomeAnd others (λ theirs. IsNoSummary theirs w most count why)
 
 -- one of them ended in that fault
 abbrev pub HasFault : List (Result RunFigures SeedsFault) → SeedsFault → Type 0

@@ -1,7 +1,7 @@
--- What is kept of the news of a simulation: its schedule, and the latencies of each task, from a wake until it ran.
+-- What is kept of the events of a simulation: its schedule, and the latencies of each task, from a wake until it ran.
 use Rattle.std.specs.Prelude.{◌≡◌, ◌≤◌, ℕ, ◌==◌, List, [], ◌∷◌, ◌++◌, Option, Some, None, if◌then◌else◌}
 use Rattle.bq_workload.specs.declared.workload.Workload.{Workload}
-use Rattle.bq_trace.specs.News.{News, Told, Answered}
+use Rattle.bq_trace.specs.TraceEvents.{TraceEvent, Told, Answered}
 use Rattle.bq_schedule.specs.declared.change.Start.{Start}
 use Rattle.bq_schedule.specs.Figures.{Figures}
 use Rattle.bq_schedule.specs.Steps.{change}
@@ -10,10 +10,10 @@ use Rattle.bq_simulate.specs.Simulations.{Accepted, IsSimulation}
 use Rattle.bq_experiment.specs.Limits.{events_in}
 use Rattle.bq_timeline.specs.Watching.{schedule_after, watched}
 
--- the start that news tell, if they tell one
-abbrev pub start_told : News → Option Figures → Option Start
+-- the start that an event tells, if it tells one
+abbrev pub start_told : TraceEvent → Option Figures → Option Start
 start_told (Answered event answer m) (Some s) = (change s event answer).start
-start_told news s = None
+start_told traced s = None
 
 -- what a task has of a latency of the task of this number
 abbrev pub own_latency : ℕ → ℕ → Option ℕ → List ℕ
@@ -28,7 +28,7 @@ latency_in task (Some start) = own_latency task start.task start.latency
 -- the latencies that a task's starts tell, one after another
 abbrev pub latencies_told : ℕ → Option Figures → Told → List ℕ
 latencies_told task s [] = []
-latencies_told task s ((n, news) ∷ more) = latency_in task (start_told news s) ++ latencies_told task (watched s news) more
+latencies_told task s ((n, traced) ∷ more) = latency_in task (start_told traced s) ++ latencies_told task (watched s traced) more
 
 -- the schedule and each task's latencies of a simulation of that workload with these policies, of at most this many events
 pub record IsGathered (policies : List Accepted) (w : Workload) (most : ℕ) (schedule : Option Figures) (tasks : Tasks) : Type 0 where

@@ -34,7 +34,7 @@ pub record IsSummary (policies : List Accepted) (w : Workload) (most : ℕ) (cou
 
 -- what came of a run with each seed from that one on: its figures, where it came to its end, and else why it did not
 abbrev pub AreResults : List Accepted → Workload → ℕ → List Figure → ℕ → List (Result RunFigures SeedsFault) → Type 0
-AreResults policies w most figures seed results = (i : ℕ) (result : Result RunFigures SeedsFault) → slice_get results i ≡ Some result → IfOk result (IsRun policies (with_seed w (seed + i)) most figures) × IfErr result (IsNoRun w)
+AreResults policies w most figures seed results = (i : ℕ) (result : Result RunFigures SeedsFault) → slice_get results i ≡ Some result → IfOk result (IsRun policies (with_seed w (seed + i)) most figures) × IfErr result (IsNoRun policies (with_seed w (seed + i)) most)
 
 -- each of them came to its end, and they stand behind those before
 abbrev pub Comes : List RunFigures → List (Result RunFigures SeedsFault) → List RunFigures → Type 0

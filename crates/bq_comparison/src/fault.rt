@@ -30,6 +30,7 @@ impl From<SimulateFault> for SeedsFault {
     fn from(fault: SimulateFault) -> SeedsFault {
         match fault {
             SimulateFault::OutOfMemory => SeedsFault::OutOfMemory,
+            SimulateFault::Enough => SeedsFault::Events,
             fault => SeedsFault::Run(fault),
         }
     }

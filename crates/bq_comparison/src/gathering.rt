@@ -10,12 +10,9 @@ ghost use Rattle.bq_simulate.specs.Simulations.{with_seed};
 use crate::fault::SeedsFault;
 use bq_experiment::Limited;
 use bq_installed::Policy;
-use bq_load::LoadFault;
-use bq_parts::{Event, Refusal, Reply};
 use bq_schedule::{Schedule, WakeLatencies};
 use bq_simulate::simulate_seed;
-use bq_trace::{AnyCore, Sink};
-use bq_words::{ProcessorCount, Rule};
+use bq_trace::{Sink, TraceEvent};
 use bq_workload::Workload;
 use std::alloc::{AllocError, Global};
 
@@ -45,69 +42,32 @@ impl Gatherer {
 }
 
 impl Sink for Gatherer {
-    ghost takes = { λ old n news new. (new.schedule ≡ watched old.schedule news) × TakesStart (start_told news old.schedule) old.latencies new.latencies };
+    ghost takes = { λ old n traced new. (new.schedule ≡ watched old.schedule traced) × TakesStart (start_told traced old.schedule) old.latencies new.latencies };
 
-    fn opened(
-        &mut self,
-        _number: u64,
-        _rule: Rule,
-        size: ProcessorCount,
-    ) -> Result<(), AllocError> {
-        self.schedule = Some(Schedule::new(self.alloc, size.processors())?);
-        Ok(())
-    }
-
-    fn skipped(&mut self, _number: u64, _line: &[u8]) -> Result<(), AllocError> {
-        Ok(())
-    }
-
-    fn comes(
-        &mut self,
-        _number: u64,
-        _event: &Event,
-        _machine: &AnyCore,
-    ) -> Result<(), AllocError> {
-        self.events = self.events.saturating_add(1);
-        Ok(())
-    }
-
-    fn answered(
-        &mut self,
-        _number: u64,
-        event: &Event,
-        answer: &Result<Reply, Refusal>,
-        _machine: &AnyCore,
-    ) -> Result<(), AllocError> {
-        let Some(schedule) = &mut self.schedule else {
-            return Ok(());
-        };
-        let change = schedule.take(event, answer);
-        self.latencies.take(&change)
-    }
-
-    fn unspelled(&mut self, _number: u64) -> Result<(), AllocError> {
-        Ok(())
-    }
-
-    fn unloaded(&mut self, _number: u64, _fault: LoadFault) -> Result<(), AllocError> {
-        Ok(())
-    }
-
-    fn shown(
-        &mut self,
-        _number: u64,
-        _processor: u8,
-        _machine: &AnyCore,
-    ) -> Result<(), AllocError> {
-        Ok(())
-    }
-
-    fn counted(&mut self, _number: u64, _counter: u8, _value: u64) -> Result<(), AllocError> {
-        Ok(())
-    }
-
-    fn bad(&mut self, _number: u64, _line: Option<&[u8]>) -> Result<(), AllocError> {
-        Ok(())
+    fn take(&mut self, _number: u64, event: &TraceEvent<'_>) -> Result<(), AllocError> {
+        match event {
+            TraceEvent::Opened { size, .. } => {
+                self.schedule = Some(Schedule::new(self.alloc, size.processors())?);
+                Ok(())
+            }
+            TraceEvent::Comes { .. } => {
+                self.events = self.events.saturating_add(1);
+                Ok(())
+            }
+            TraceEvent::Answered { event, answer, .. } => {
+                let Some(schedule) = &mut self.schedule else {
+                    return Ok(());
+                };
+                let change = schedule.take(event, answer);
+                self.latencies.take(&change)
+            }
+            TraceEvent::Skipped { .. }
+            | TraceEvent::Unspelled
+            | TraceEvent::Unloaded { .. }
+            | TraceEvent::Shown { .. }
+            | TraceEvent::Counted { .. }
+            | TraceEvent::Bad { .. } => Ok(()),
+        }
     }
 }
 
@@ -121,13 +81,12 @@ pub(crate) fn gather(
 ) -> Result<Gatherer, SeedsFault>
     ensures gathered { IfOk result (λ g. IsGathered policies.now (with_seed workload.now seed) most g.schedule g.latencies) }
     ensures sound { IfOk result (λ _. first_flaw workload.now ≡ None) }
-    ensures fault { IfErr result (IsNoRun workload.now) }
+    ensures fault { IfErr result (IsNoRun policies.now (with_seed workload.now seed) most) }
 {
     let gatherer = Gatherer::new(alloc);
     let mut limited = Limited::new(gatherer, most);
     match simulate_seed(alloc, workload, seed, policies, &mut limited) {
         Ok(_) => Ok(limited.sink),
-        Err(_) if limited.is_over => Err(SeedsFault::Events),
         Err(fault) => Err(SeedsFault::from(fault)),
     }
 }

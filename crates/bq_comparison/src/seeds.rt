@@ -57,7 +57,7 @@ pub fn summary<T: Threads + Sync>(
     shown: &RunsShown<'_>,
 ) -> Result<Rows, SeedsFault>
     ensures rows { IfOk result (λ rows. IsSummary experiment.now.policies.now experiment.now.workload.now experiment.now.most count experiment.now.figures.now rows.items) }
-    ensures fault { IfErr result (IsNoSummary experiment.now.workload.now count) }
+    ensures fault { IfErr result (IsNoSummary experiment.now.policies.now experiment.now.workload.now experiment.now.most count) }
 {
     let runs = runs(threads, alloc, experiment, count, shown)?;
     let rows = rows(alloc, experiment.figures, runs.as_slice())?;
@@ -74,7 +74,7 @@ fn runs<T: Threads + Sync>(
 ) -> Result<Vec<RunFigures>, SeedsFault>
     ensures runs { IfOk result (λ runs. AreRuns experiment.now.policies.now experiment.now.workload.now experiment.now.most experiment.now.figures.now experiment.now.workload.now.machine.seed runs.items) }
     ensures count { IfOk result (λ runs. vec_len runs ≡ count) }
-    ensures fault { IfErr result (IsNoSummary experiment.now.workload.now count) }
+    ensures fault { IfErr result (IsNoSummary experiment.now.policies.now experiment.now.workload.now experiment.now.most count) }
 {
     let first = experiment.workload.machine.seed;
     let others = u64::from(count).saturating_sub(1);
@@ -145,7 +145,7 @@ fn nth_run(
     number: usize,
 ) -> Result<RunFigures, SeedsFault>
     ensures run { IfOk result (IsRun experiment.now.policies.now (with_seed experiment.now.workload.now (first + number)) experiment.now.most experiment.now.figures.now) }
-    ensures fault { first + number < 2 ^ 64 → IfErr result (IsNoRun experiment.now.workload.now) }
+    ensures fault { first + number < 2 ^ 64 → IfErr result (IsNoRun experiment.now.policies.now (with_seed experiment.now.workload.now (first + number)) experiment.now.most) }
 {
     let seed = first
         .checked_add(number as u64)
@@ -167,7 +167,7 @@ fn add_all(runs: &mut Vec<RunFigures>, results: Results) -> Result<(), SeedsFaul
 /// One run, with this seed in place of the workload's own.
 fn run(alloc: Global, experiment: &Experiment<'_>, seed: u64) -> Result<RunFigures, SeedsFault>
     ensures run { IfOk result (IsRun experiment.now.policies.now (with_seed experiment.now.workload.now seed) experiment.now.most experiment.now.figures.now) }
-    ensures fault { IfErr result (IsNoRun experiment.now.workload.now) }
+    ensures fault { IfErr result (IsNoRun experiment.now.policies.now (with_seed experiment.now.workload.now seed) experiment.now.most) }
 {
     let Experiment {
         workload,

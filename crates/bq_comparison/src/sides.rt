@@ -1,6 +1,6 @@
 //! The two sides of a comparison.
 ghost use Rattle.std.specs.Prelude.{◌≡◌, IfErr, IfOk, option_map};
-ghost use Rattle.bq_comparison.specs.Faults.{IsNoSummary};
+ghost use Rattle.bq_comparison.specs.Faults.{IsNoSide};
 ghost use Rattle.bq_comparison.specs.Sides.{IsComparison, size_of_machine};
 
 use crate::seeds::{Experiment, RunsShown};
@@ -41,7 +41,7 @@ pub fn compare<T: Threads + Sync>(
     plan: &RunPlan<'_>,
 ) -> Result<Sides, SeedsFault>
     ensures sides { IfOk result (IsComparison policies.now.loaded (option_map (λ p. p.now.loaded) others.entry) workload.now plan.now.most plan.now.seeds) }
-    ensures fault { IfErr result (IsNoSummary workload.now plan.now.seeds) }
+    ensures fault { IfErr result (IsNoSide policies.now.loaded (option_map (λ p. p.now.loaded) others.entry) workload.now plan.now.most plan.now.seeds) }
 {
     let figures = all_figures(alloc, size_of_machine(workload))?;
     let ours = Experiment {

@@ -1,3 +1,4 @@
+pub mod LimitLemmas
 pub mod NameLemmas
 pub mod PassingLemmas
 pub mod StandingLemmas

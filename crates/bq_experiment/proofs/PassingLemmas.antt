@@ -4,30 +4,21 @@ use Rattle.std.specs.Prelude.{OnOk}
 use Rattle.std.specs.Io.KnownBytes.{Appends, append_known}
 use Rattle.std.proofs.KnownBytes.{Appends-nil, Appends-trans}
 use Rattle.std.proofs.lemmas.Grind.{flat_map-append}
-use Rattle.bq_simulate.specs.Texts.{AreFitting, IsFitting, image_at, news_lines, told_lines}
+use Rattle.bq_simulate.specs.Texts.{AreFitting, IsFitting, image_at, traced_lines, told_lines}
 use Rattle.bq_simulate.specs.declared.trace_writer.TraceWriter.{TraceWriter}
 use Rattle.bq_simulate.proofs.TextLemmas.{Takes}
 use Rattle.bq_trace.specs.Feeding.{with_feeds}
-use Rattle.bq_trace.specs.News.{News, Told, TakesAll}
-use Rattle.bq_experiment.specs.Limits.{events_in, event_count}
+use Rattle.bq_trace.specs.TraceEvents.{TraceEvent, Told, TakesAll}
+use Rattle.bq_experiment.specs.Limits.{events_in}
 use Rattle.bq_experiment.specs.Passing.{IsPassedOn, TakesAndPasses}
 
--- a sink that took some news, and whose text was then passed on or kept
-pub OnOk-passed : {S T E : Type 0} (takes : S → ℕ → News → S → Type 0) (pending : S → List ℕ) (Clears : S → S → Type 0) (old mid new : S) (was now : Option (List ℕ)) (n : ℕ) (news : News) (r : Result T E)
-    → takes old n news mid → OnOk r (IsPassedOn pending Clears mid was new now) → OnOk r (TakesAndPasses takes pending Clears old was n news new now)
-OnOk-passed takes pending Clears old mid new was now n news (Ok x) taken passed = record { mid = mid; taken = taken; passed = passed }
-OnOk-passed takes pending Clears old mid new was now n news (Err e) taken passed = tt
+-- a sink that took some events, and whose text was then passed on or kept
+pub OnOk-passed : {S T E : Type 0} (takes : S → ℕ → TraceEvent → S → Type 0) (pending : S → List ℕ) (Clears : S → S → Type 0) (old mid new : S) (was now : Option (List ℕ)) (n : ℕ) (traced : TraceEvent) (r : Result T E)
+    → takes old n traced mid → OnOk r (IsPassedOn pending Clears mid was new now) → OnOk r (TakesAndPasses takes pending Clears old was n traced new now)
+OnOk-passed takes pending Clears old mid new was now n traced (Ok x) taken passed = record { mid = mid; taken = taken; passed = passed }
+OnOk-passed takes pending Clears old mid new was now n traced (Err e) taken passed = tt
 
--- what a limit lets through, and how much of it is left
-pub lets_through : {P : Type 0} (left : P → ℕ) (T : P → ℕ → News → P → Type 0) (old new : P) (told : Told) → TakesAll (λ o n x w. T o n x w × (left o ≡ event_count x + left w)) old told new
-    → TakesAll T old told new × (left old ≡ events_in told + left new)
-lets_through left T old new [] h = let same : left new ≡ left old = ap left h in (h, omega (arith, same))
-lets_through left T old new ((n, x) ∷ more) h =
-    let rest = lets_through left T h.0 new more h.2 in
-    let here : left old ≡ event_count x + left h.0 = h.1.1 in
-    ((h.0, h.1.0, rest.0), omega (arith, here, rest.1))
-
--- the events of news and of others behind
+-- the events of two lists, one behind the other
 pub events_in-append : (xs ys : Told) → events_in (xs ++ ys) ≡ events_in xs + events_in ys
 events_in-append [] ys = omega arith
 events_in-append ((n, x) ∷ xs) ys = let rest = events_in-append xs ys in omega (arith, rest)
@@ -58,20 +49,20 @@ pending s = string_bytes s.text
 abbrev pub Clears : TraceWriter → TraceWriter → Type 0
 Clears old new = new.images ≡ old.images
 
--- the text of a trace that is written and the text that is not grow together, by the lines of some news
+-- the text of a trace that is written and the text that is not grow together, by the lines of some events
 pub record Grows (old : TraceWriter) (was : Option (List ℕ)) (told : Told) (new : TraceWriter) (now : Option (List ℕ)) : Type 0 where
   pub images : new.images ≡ old.images
   pub fits : AreFitting told
   pub added : Appends (append_known was (pending old)) (append_known now (pending new)) (with_feeds (told_lines (image_at old.images) told))
 
-record GrowsByOne (old : TraceWriter) (was : Option (List ℕ)) (news : News) (new : TraceWriter) (now : Option (List ℕ)) : Type 0 where
+record GrowsByOne (old : TraceWriter) (was : Option (List ℕ)) (traced : TraceEvent) (new : TraceWriter) (now : Option (List ℕ)) : Type 0 where
   images : new.images ≡ old.images
-  fits : IsFitting news
-  added : Appends (append_known was (pending old)) (append_known now (pending new)) (with_feeds (news_lines (image_at old.images) news))
+  fits : IsFitting traced
+  added : Appends (append_known was (pending old)) (append_known now (pending new)) (with_feeds (traced_lines (image_at old.images) traced))
 
-grows_by_one : (old new : TraceWriter) (was now : Option (List ℕ)) (n : ℕ) (news : News) → TakesAndPasses Takes pending Clears old was n news new now → GrowsByOne old was news new now
-grows_by_one old new was now n news h =
-    let lines = with_feeds (news_lines (image_at old.images) news) in
+grows_by_one : (old new : TraceWriter) (was now : Option (List ℕ)) (n : ℕ) (traced : TraceEvent) → TakesAndPasses Takes pending Clears old was n traced new now → GrowsByOne old was traced new now
+grows_by_one old new was now n traced h =
+    let lines = with_feeds (traced_lines (image_at old.images) traced) in
     elim h.passed [
       | inl same ↦ record {
         images = ap (λ (s : TraceWriter). s.images) same.0 ∙ h.taken.0;
@@ -101,8 +92,8 @@ grows {P} sink got old new ((n, x) ∷ more) h =
     let one = grows_by_one (sink old) (sink h.0) (got old) (got h.0) n x h.1 in
     let rest = grows sink got h.0 new more h.2 in
     let at = image_at (sink old).images in
-    let lines = ap (λ i. with_feeds (news_lines at x) ++ with_feeds (told_lines (image_at i) more)) one.images
-    ∙ sym (flat_map-append (λ line. line ++ 10 ∷ []) (news_lines at x) (told_lines at more)) in record {
+    let lines = ap (λ i. with_feeds (traced_lines at x) ++ with_feeds (told_lines (image_at i) more)) one.images
+    ∙ sym (flat_map-append (λ line. line ++ 10 ∷ []) (traced_lines at x) (told_lines at more)) in record {
       images = rest.images ∙ one.images;
       fits = (one.fits, rest.fits);
       added = subst (λ (l : List ℕ). Appends (so_far old) (so_far new) l) lines (Appends-trans (so_far old) (so_far h.0) (so_far new) _ _ one.added rest.added);

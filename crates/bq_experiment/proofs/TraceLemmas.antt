@@ -1,5 +1,5 @@
 -- A simulation that is reported as a text.
-use Rattle.std.proofs.Common.{◌≡◌, ◌+◌, ℕ, List, Option, None, [], ◌∷◌, ◌++◌, map, refl, sym, ap, ◌∙◌, subst, string_bytes, arith}
+use Rattle.std.proofs.Common.{◌≡◌, ◌+◌, true, false, ℕ, List, Option, None, [], ◌∷◌, ◌++◌, map, refl, sym, ap, ◌∙◌, subst, string_bytes, arith}
 use Rattle.std.specs.Io.KnownBytes.{Appends}
 use Rattle.bq_workload.specs.Soundness.{first_flaw}
 use Rattle.bq_workload.specs.declared.workload.Workload.{Workload}
@@ -11,17 +11,18 @@ use Rattle.bq_simulate.proofs.RetellingLemmas.{AreFitting-parts, texts_are_repla
 use Rattle.bq_simulate.proofs.TextLemmas.{Takes}
 use Rattle.bq_streams.specs.Counts.{inner_of}
 use Rattle.bq_simulate.specs.Chronicles.{events_of}
-use Rattle.bq_simulate.specs.Simulations.{Accepted}
+use Rattle.bq_simulate.specs.Simulations.{Accepted, IsFollowed, IsSimulation}
 use Rattle.bq_trace.specs.Feeding.{with_feeds}
-use Rattle.bq_trace.specs.News.{Gets, News, Told, texts}
-use Rattle.bq_experiment.specs.Limits.{event_count, events_in}
+use Rattle.bq_trace.specs.TraceEvents.{Gets, TraceEvent, Told, texts}
+use Rattle.bq_experiment.specs.Limits.{IsLonger, PassesOn, events_in}
 use Rattle.bq_experiment.specs.Passing.{TakesAndPasses}
 use Rattle.bq_experiment.specs.declared.limited.Limited.{Limited}
 use Rattle.bq_experiment.specs.declared.passing.Passing.{Passing}
-use Rattle.bq_experiment.specs.Traces.{IsNamedRun, TracesAreReplayed, WritesTrace, skipped}
+use Rattle.bq_experiment.specs.Traces.{IsNamed, TracesAreReplayed, WritesTrace, skipped}
 use Rattle.bq_experiment.specs.Names.{comments_of}
 use Rattle.bq_experiment.proofs.NameLemmas.{are_comments, lines_named}
-use Rattle.bq_experiment.proofs.PassingLemmas.{Clears, Grows, all_written, events_in-append, grows, lets_through, pending}
+use Rattle.bq_experiment.proofs.PassingLemmas.{Clears, Grows, all_written, events_in-append, grows, pending}
+use Rattle.bq_experiment.proofs.LimitLemmas.{lets_through, more_came}
 
 -- comments are no events
 events_skipped : (lines : List (List ℕ)) → events_in (map skipped lines) ≡ 0
@@ -30,7 +31,7 @@ events_skipped (line ∷ lines) = let rest = events_skipped lines in omega (arit
 
 -- comments that name the tasks, and then a simulation whose policies are those of the images, are written as a trace
 pub trace_written : (first last : TraceWriter) (was now final : Option (List ℕ)) (w : Workload) (policies : List Accepted) (images : ByHook) (told : Told) (most left : ℕ)
-    → string_bytes first.text ≡ [] → image_at first.images ≡ images → AreOfImages images policies → first_flaw w ≡ None → IsNamedRun policies w told
+    → string_bytes first.text ≡ [] → image_at first.images ≡ images → AreOfImages images policies → first_flaw w ≡ None → IsNamed w (IsSimulation policies w) told
     → Grows first was told last now → Appends now final (string_bytes last.text) → most ≡ events_in told + left → WritesTrace w policies images most was final
 trace_written first last was now final w policies images told most left empty same of sound named g rest limit =
     let comments = map skipped (comments_of w) in
@@ -45,7 +46,7 @@ trace_written first last was now final w policies images told most left empty sa
       trace = record {
         told = named.more;
         sound = sound;
-        simulation = named.simulation;
+        simulation = named.holds;
         fits = (AreFitting-parts comments named.more (subst AreFitting named.whole g.fits)).1;
         of_images = of;
         whole = refl;
@@ -54,30 +55,37 @@ trace_written first last was now final w policies images told most left empty sa
       added = subst (λ (l : List ℕ). Appends was final l) whole (all_written was now final (string_bytes first.text) (string_bytes last.text) _ empty g.added rest);
     }
 
--- a run whose trace is written
+-- a trace's writer and what its text is passed on to
 abbrev pub TraceRun : Type 0 → Type 0 → Type 0
-TraceRun W E = Limited (Passing TraceWriter W E)
+TraceRun W E = Passing TraceWriter W E
 
 -- what its output has
 abbrev pub got : {W E : Type 0} → (W → Option (List ℕ)) → TraceRun W E → Option (List ℕ)
-got contents run = contents (inner_of run.sink.output)
+got contents run = contents (inner_of run.output)
 
 -- what it takes, and passes on
-abbrev Passes : {W E : Type 0} → (W → Option (List ℕ)) → TraceRun W E → ℕ → News → TraceRun W E → Type 0
-Passes contents old n news new = TakesAndPasses Takes pending Clears old.sink.sink (got contents old) n news new.sink.sink (got contents new)
+abbrev pub TakesRun : {W E : Type 0} → (W → Option (List ℕ)) → TraceRun W E → ℕ → TraceEvent → TraceRun W E → Type 0
+TakesRun contents old n traced new = TakesAndPasses Takes pending Clears old.sink (got contents old) n traced new.sink (got contents new)
 
--- within its limit
-abbrev pub TakesRun : {W E : Type 0} → (W → Option (List ℕ)) → TraceRun W E → ℕ → News → TraceRun W E → Type 0
-TakesRun contents old n news new = Passes contents old n news new × (old.left ≡ event_count news + new.left)
+-- where its limit is not passed, what came is written as a trace, once the rest of the text is
+pub run_written : {W E : Type 0} (contents : W → Option (List ℕ)) (old new : Limited (TraceRun W E)) (final : Option (List ℕ)) (w : Workload) (policies : List Accepted) (images : ByHook)
+    → string_bytes old.sink.sink.text ≡ [] → image_at old.sink.sink.images ≡ images → AreOfImages images policies → first_flaw w ≡ None → new.is_over ≡ false
+    → Gets (PassesOn (TakesRun contents)) old new (IsNamed w (IsSimulation policies w)) → Appends (got contents new.sink) final (string_bytes new.sink.sink.text)
+    → WritesTrace w policies images old.left (got contents old.sink) final
+run_written {W} {E} contents old new final w policies images empty same of sound not g rest =
+    let through = lets_through (TakesRun contents) old new g.told g.taken not in
+    let grown = grows (λ (r : TraceRun W E). r.sink) (got contents) old.sink new.sink g.told through.0 in
+    trace_written old.sink.sink new.sink.sink (got contents old.sink) (got contents new.sink) final w policies images g.told old.left new.left empty same of sound g.holds grown rest through.1
 
--- what it took is written as a trace, once the rest of the text is
-pub run_written : {W E : Type 0} (contents : W → Option (List ℕ)) (old new : TraceRun W E) (final : Option (List ℕ)) (w : Workload) (policies : List Accepted) (images : ByHook)
-    → string_bytes old.sink.sink.text ≡ [] → image_at old.sink.sink.images ≡ images → AreOfImages images policies → first_flaw w ≡ None
-    → Gets (TakesRun contents) old new (IsNamedRun policies w) → Appends (got contents new) final (string_bytes new.sink.sink.text) → WritesTrace w policies images old.left (got contents old) final
-run_written {W} {E} contents old new final w policies images empty same of sound g rest =
-    let through = lets_through (λ (r : TraceRun W E). r.left) (Passes contents) old new g.told g.taken in
-    let grown = grows (λ (r : TraceRun W E). r.sink.sink) (got contents) old new g.told through.0 in
-    trace_written old.sink.sink new.sink.sink (got contents old) (got contents new) final w policies images g.told old.left new.left empty same of sound g.holds grown rest through.1
+-- where it is passed, what came behind the comments is longer
+pub longer_named : {S : Type 0} (takes : S → ℕ → TraceEvent → S → Type 0) (old new : Limited S) (policies : List Accepted) (w : Workload) → first_flaw w ≡ None
+    → old.is_over ≡ false → new.is_over ≡ true → Gets (PassesOn takes) old new (IsNamed w (IsFollowed true policies w)) → IsLonger policies w old.left
+longer_named takes old new policies w sound not over g =
+    let comments = map skipped (comments_of w) in
+    let events : events_in g.told ≡ events_in comments + events_in g.holds.more = ap events_in g.holds.whole ∙ events_in-append comments g.holds.more in
+    let none = events_skipped (comments_of w) in
+    let many = more_came takes old new g.told g.taken not over in
+    record { told = g.holds.more; sound = sound; followed = g.holds.holds; many = omega (arith, events, none, many) }
 
 -- the text that tells a simulation is answered by the answers that it got, and leaves the same machine
 pub traces_are_replayed : TracesAreReplayed

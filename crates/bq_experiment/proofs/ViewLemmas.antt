@@ -1,5 +1,5 @@
 -- What a viewer has of a simulation that is reported to it.
-use Rattle.std.proofs.Common.{◌≡◌, ◌+◌, ℕ, List, [], ◌∷◌, Some, None, Option, inl, inr, sym, ap, ◌∙◌, arith, subst, string_bytes}
+use Rattle.std.proofs.Common.{◌≡◌, ◌+◌, ℕ, false, List, [], ◌∷◌, Some, None, Option, inl, inr, sym, ap, ◌∙◌, arith, subst, string_bytes}
 use Rattle.std.specs.Prelude.{IfSome}
 use Rattle.bq_workload.specs.Soundness.{first_flaw}
 use Rattle.bq_workload.specs.declared.sound.Unsound.{Unsound}
@@ -15,9 +15,9 @@ use Rattle.bq_timeline.specs.Timelines.{Keeps}
 use Rattle.bq_timeline.specs.Watching.{schedule_after, troubles_after}
 use Rattle.bq_timeline.specs.declared.viewer.Viewer.{Viewer}
 use Rattle.bq_timeline.proofs.WatchLemmas.{Takes, takes_all, troubles_after-append}
-use Rattle.bq_trace.specs.News.{Gets, News, TakesAll, Told}
-use Rattle.bq_experiment.specs.Faults.{IsRunFault, IsStopped}
-use Rattle.bq_experiment.specs.Limits.{event_count, events_in}
+use Rattle.bq_trace.specs.TraceEvents.{Gets, TraceEvent, TakesAll, Told}
+use Rattle.bq_experiment.specs.Faults.{IsStopped}
+use Rattle.bq_experiment.specs.Limits.{PassesOn, events_in}
 use Rattle.bq_experiment.specs.Passing.{TakesAndPasses}
 use Rattle.bq_experiment.specs.Views.{IsViewed}
 use Rattle.bq_experiment.specs.declared.fault.RunFault.{RunFault}
@@ -25,12 +25,12 @@ use Rattle.bq_experiment.specs.declared.fault.RunFault.TheVariants as fault
 use Rattle.bq_experiment.specs.declared.later.Later.{Later}
 use Rattle.bq_experiment.specs.declared.limited.Limited.{Limited}
 use Rattle.bq_experiment.specs.declared.passing.Passing.{Passing}
-use Rattle.bq_experiment.proofs.PassingLemmas.{lets_through}
+use Rattle.bq_experiment.proofs.LimitLemmas.{lets_through}
 use Rattle.bq_streams.specs.Counts.{inner_of}
 
--- a viewer further below takes a piece of news
-abbrev pub TakesLater : Later → ℕ → News → Later → Type 0
-TakesLater old n news new = (new.above ≡ old.above) × Keeps old.viewer news new.viewer
+-- a viewer further below takes an event
+abbrev pub TakesLater : Later → ℕ → TraceEvent → Later → Type 0
+TakesLater old n traced new = (new.above ≡ old.above) × Keeps old.viewer traced new.viewer
 
 -- the text of a viewer that is not written yet
 abbrev pub pending : Later → List ℕ
@@ -41,8 +41,8 @@ abbrev pub Clears : Later → Later → Type 0
 Clears old new = (new.viewer.schedule ≡ old.viewer.schedule) × (new.viewer.troubles ≡ old.viewer.troubles)
 
 -- what it takes its viewer takes, whatever is passed on
-keeps_one : (old new : Later) (was now : Option (List ℕ)) (n : ℕ) (news : News) → TakesAndPasses TakesLater pending Clears old was n news new now → Keeps old.viewer news new.viewer
-keeps_one old new was now n news h = elim h.passed [
+keeps_one : (old new : Later) (was now : Option (List ℕ)) (n : ℕ) (traced : TraceEvent) → TakesAndPasses TakesLater pending Clears old was n traced new now → Keeps old.viewer traced new.viewer
+keeps_one old new was now n traced h = elim h.passed [
   | inl same ↦ (ap (λ (l : Later). l.viewer.schedule) same.0 ∙ h.taken.1.0, ap (λ (l : Later). l.viewer.troubles) same.0 ∙ h.taken.1.1)
   | inr emptied ↦ (emptied.cleared.0 ∙ h.taken.1.0, emptied.cleared.1 ∙ h.taken.1.1)
 ]
@@ -51,8 +51,8 @@ keeps_one old new was now n news h = elim h.passed [
 pub viewer_takes : {P : Type 0} (sink : P → Later) (got : P → Option (List ℕ)) (old new : P) (told : Told)
     → TakesAll (λ o n x w. TakesAndPasses TakesLater pending Clears (sink o) (got o) n x (sink w) (got w)) old told new → TakesAll Takes (sink old).viewer told (sink new).viewer
 viewer_takes {P} sink got old new [] h = ap (λ (p : P). (sink p).viewer) h
-viewer_takes sink got old new ((n, news) ∷ more) h =
-    ((sink h.0).viewer, keeps_one (sink old) (sink h.0) (got old) (got h.0) n news h.1, viewer_takes sink got h.0 new more h.2)
+viewer_takes sink got old new ((n, traced) ∷ more) h =
+    ((sink h.0).viewer, keeps_one (sink old) (sink h.0) (got old) (got h.0) n traced h.1, viewer_takes sink got h.0 new more h.2)
 
 -- events that are done, of which none is refused, are no trouble
 troubles_driven : (n : ℕ) (d : Driver) (events : List Event) (told : Told) (e : Driver) → Drives d events told e → troubles_after n told ≡ n
@@ -75,11 +75,11 @@ no_other w why is = of (flaw_told why) is
     of None h = tt
     of (Some flaw) h = sym h
 
--- a fault of the simulation reports no other flaw
-pub IsRunFault-stopped : (w : Workload) (why : SimulateFault) (e : RunFault) (failures : ℕ) → TellsNoOther w why → IsStopped (λ (told : SimulateFault). told ≡ why) e failures → IsRunFault w e failures
-IsRunFault-stopped w why (fault.Simulation told) failures h k = (subst (TellsNoOther w) (sym k.0) h, k.1)
-IsRunFault-stopped w why fault.Write failures h k = k
-IsRunFault-stopped w why fault.Events failures h k = k
+-- what holds of a simulation's fault holds of why a run was stopped by it
+pub IsStopped-by : (P : SimulateFault → Type 0) (why : SimulateFault) (e : RunFault) (failures : ℕ) → P why → IsStopped (λ (told : SimulateFault). told ≡ why) e failures → IsStopped P e failures
+IsStopped-by P why (fault.Simulation told) failures h k = (subst P (sym k.0) h, k.1)
+IsStopped-by P why fault.Write failures h k = k
+IsStopped-by P why fault.Events failures h k = (subst P (sym k.0) h, k.1)
 
 -- a viewer that took a simulation has viewed it
 pub views_simulation : (old new : Viewer) (policies : List Accepted) (w : Workload) (told : Told) (most left : ℕ) → old.schedule ≡ None → old.troubles ≡ 0 → first_flaw w ≡ None
@@ -95,26 +95,22 @@ views_simulation old new policies w told most left empty zero sound taken simula
       clean = all.1 ∙ ap (λ n. troubles_after n told) zero ∙ troubles_simulated policies w told simulation;
     }
 
--- a run that is viewed
+-- a viewer and what its text is passed on to
 abbrev pub ViewedRun : Type 0 → Type 0 → Type 0
-ViewedRun W E = Limited (Passing Later W E)
+ViewedRun W E = Passing Later W E
 
 -- what its output has
 abbrev pub got : {W E : Type 0} → (W → Option (List ℕ)) → ViewedRun W E → Option (List ℕ)
-got contents run = contents (inner_of run.sink.output)
+got contents run = contents (inner_of run.output)
 
 -- what it takes, and passes on
-abbrev Passes : {W E : Type 0} → (W → Option (List ℕ)) → ViewedRun W E → ℕ → News → ViewedRun W E → Type 0
-Passes contents old n news new = TakesAndPasses TakesLater pending Clears old.sink.sink (got contents old) n news new.sink.sink (got contents new)
+abbrev pub TakesRun : {W E : Type 0} → (W → Option (List ℕ)) → ViewedRun W E → ℕ → TraceEvent → ViewedRun W E → Type 0
+TakesRun contents old n traced new = TakesAndPasses TakesLater pending Clears old.sink (got contents old) n traced new.sink (got contents new)
 
--- within its limit
-abbrev pub TakesRun : {W E : Type 0} → (W → Option (List ℕ)) → ViewedRun W E → ℕ → News → ViewedRun W E → Type 0
-TakesRun contents old n news new = Passes contents old n news new × (old.left ≡ event_count news + new.left)
-
--- its viewer has viewed the simulation that it took
-pub run_viewed : {W E : Type 0} (contents : W → Option (List ℕ)) (old new : ViewedRun W E) (policies : List Accepted) (w : Workload) → Gets (TakesRun contents) old new (IsSimulation policies w)
-    → old.sink.sink.viewer.schedule ≡ None → old.sink.sink.viewer.troubles ≡ 0 → first_flaw w ≡ None → IsViewed policies w old.left new.sink.sink.viewer
-run_viewed {W} {E} contents old new policies w g empty zero sound =
-    let through = lets_through (λ (r : ViewedRun W E). r.left) (Passes contents) old new g.told g.taken in
-    let taken = viewer_takes (λ (r : ViewedRun W E). r.sink.sink) (got contents) old new g.told through.0 in
+-- where its limit is not passed, the viewer has viewed the simulation that came
+pub run_viewed : {W E : Type 0} (contents : W → Option (List ℕ)) (old new : Limited (ViewedRun W E)) (policies : List Accepted) (w : Workload) → Gets (PassesOn (TakesRun contents)) old new (IsSimulation policies w)
+    → new.is_over ≡ false → old.sink.sink.viewer.schedule ≡ None → old.sink.sink.viewer.troubles ≡ 0 → first_flaw w ≡ None → IsViewed policies w old.left new.sink.sink.viewer
+run_viewed {W} {E} contents old new policies w g not empty zero sound =
+    let through = lets_through (TakesRun contents) old new g.told g.taken not in
+    let taken = viewer_takes (λ (r : ViewedRun W E). r.sink) (got contents) old.sink new.sink g.told through.0 in
     views_simulation old.sink.sink.viewer new.sink.sink.viewer policies w g.told old.left new.left empty zero sound taken g.holds through.1

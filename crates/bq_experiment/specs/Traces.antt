@@ -14,19 +14,19 @@ use Rattle.bq_experiment.specs.Limits.{events_in}
 use Rattle.bq_experiment.specs.Standing.{image_for}
 use Rattle.bq_experiment.specs.Views.{AreNotesOf}
 use Rattle.bq_trace.specs.Feeding.{with_feeds}
-use Rattle.bq_trace.specs.News.{News, Told, Skipped, texts}
+use Rattle.bq_trace.specs.TraceEvents.{TraceEvent, Told, Skipped, texts}
 
 -- a comment that is reported beside the lines of the trace
-abbrev pub skipped : List ℕ → ℕ × News
+abbrev pub skipped : List ℕ → ℕ × TraceEvent
 skipped line = (0, Skipped line)
 
--- the comments that name the tasks of a workload, and then a simulation of it with these policies
-pub record IsNamedRun (policies : List Accepted) (w : Workload) (told : Told) : Type 0 where
+-- the comments that name the tasks of a workload, and then more, of which this holds
+pub record IsNamed (w : Workload) (Holds : Told → Type 0) (told : Told) : Type 0 where
   pub more : Told
-  pub simulation : IsSimulation policies w more
+  pub holds : Holds more
   pub whole : told ≡ map skipped (comments_of w) ++ more
 
--- The workload has no flaw. The text has the comments that name its tasks, in order, and then the line of each piece of news of a
+-- The workload has no flaw. The text has the comments that name its tasks, in order, and then the line of each event of a
 -- simulation of it with these policies, in order, written with the images that they are of.
 pub record IsTrace (w : Workload) (policies : List Accepted) (images : ByHook) (text : List ℕ) : Type 0 where
   pub told : Told

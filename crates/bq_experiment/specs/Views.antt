@@ -6,7 +6,7 @@ use Rattle.bq_simulate.specs.Simulations.{Accepted, IsSimulation}
 use Rattle.bq_timeline.specs.Notes.{last_notes}
 use Rattle.bq_timeline.specs.Watching.{schedule_after}
 use Rattle.bq_timeline.specs.declared.viewer.Viewer.{Viewer}
-use Rattle.bq_trace.specs.News.{Told}
+use Rattle.bq_trace.specs.TraceEvents.{Told}
 use Rattle.bq_experiment.specs.Limits.{events_in}
 
 -- The workload has no flaw. The viewer has the schedule of a simulation of it with these policies, of at most this many events, and has

@@ -1,14 +1,13 @@
 //! A sink that gets no more events than a limit.
-ghost use Rattle.std.specs.Prelude.{◌≡◌, ◌+◌, OnOk, false};
-ghost use Rattle.bq_experiment.specs.Limits.{event_count};
+ghost use Rattle.std.specs.Prelude.{◌≡◌, ◌+◌, ◌<◌, ◌⊎◌, false, true};
+ghost use Rattle.bq_trace.specs.Borrowed.{event_of};
+ghost use Rattle.bq_experiment.specs.Limits.{PassesOn, event_count};
 
-use bq_load::LoadFault;
-use bq_parts::{Event, Refusal, Reply};
-use bq_trace::{AnyCore, Sink};
-use bq_words::{ProcessorCount, Rule};
+use bq_simulate::Enough;
+use bq_trace::{Sink, TraceEvent};
 use std::alloc::AllocError;
 
-/// A sink that gets what comes, and ends the run by an error if more events come than a limit.
+/// A sink that gets what comes, up to a limit of events: it has enough once one more comes, and gets nothing from there on.
 #[derive(Drop)]
 pub struct Limited<S> {
     pub sink: S,
@@ -32,67 +31,45 @@ impl<S> Limited<S> {
         }
     }
 
-    /// One event comes.
-    fn count(&mut self) -> Result<(), AllocError>
+    /// Counts an event that is about to be done, and nothing else.
+    fn count(&mut self, event: &TraceEvent<'_>)
         ensures sink { self.new.sink ≡ self.old.sink }
-        ensures left { OnOk result (self.old.left ≡ 1 + self.new.left) }
+        ensures within { self.new.is_over ≡ false → (self.old.left ≡ event_count (event_of event.now) + self.new.left) × (self.old.is_over ≡ false) }
+        ensures over { self.new.is_over ≡ true → (self.old.is_over ≡ true) ⊎ (self.old.left < event_count (event_of event.now)) }
     {
-        match self.left.checked_sub(1) {
-            Some(left) => {
-                self.left = left;
-                Ok(())
-            }
-            None => {
-                self.is_over = true;
-                Err(AllocError)
-            }
+        match event {
+            TraceEvent::Comes { .. } => match self.left.checked_sub(1) {
+                Some(left) => self.left = left,
+                None => self.is_over = true,
+            },
+            TraceEvent::Opened { .. }
+            | TraceEvent::Skipped { .. }
+            | TraceEvent::Answered { .. }
+            | TraceEvent::Unspelled
+            | TraceEvent::Unloaded { .. }
+            | TraceEvent::Shown { .. }
+            | TraceEvent::Counted { .. }
+            | TraceEvent::Bad { .. } => {}
         }
     }
 }
 
+impl<S> Enough for Limited<S> {
+    ghost sated = { λ l. l.is_over };
+
+    fn has_enough(&self) -> bool {
+        self.is_over
+    }
+}
+
 impl<S: Sink> Sink for Limited<S> {
-    ghost takes = { λ old n news new. S.takes old.sink n news new.sink × (old.left ≡ event_count news + new.left) };
+    ghost takes = { PassesOn S.takes };
 
-    fn opened(&mut self, number: u64, rule: Rule, size: ProcessorCount) -> Result<(), AllocError> {
-        self.sink.opened(number, rule, size)
-    }
-
-    fn skipped(&mut self, number: u64, line: &[u8]) -> Result<(), AllocError> {
-        self.sink.skipped(number, line)
-    }
-
-    fn comes(&mut self, number: u64, event: &Event, machine: &AnyCore) -> Result<(), AllocError> {
-        self.count()?;
-        self.sink.comes(number, event, machine)
-    }
-
-    fn answered(
-        &mut self,
-        number: u64,
-        event: &Event,
-        answer: &Result<Reply, Refusal>,
-        machine: &AnyCore,
-    ) -> Result<(), AllocError> {
-        self.sink.answered(number, event, answer, machine)
-    }
-
-    fn unspelled(&mut self, number: u64) -> Result<(), AllocError> {
-        self.sink.unspelled(number)
-    }
-
-    fn unloaded(&mut self, number: u64, fault: LoadFault) -> Result<(), AllocError> {
-        self.sink.unloaded(number, fault)
-    }
-
-    fn shown(&mut self, number: u64, processor: u8, machine: &AnyCore) -> Result<(), AllocError> {
-        self.sink.shown(number, processor, machine)
-    }
-
-    fn counted(&mut self, number: u64, counter: u8, value: u64) -> Result<(), AllocError> {
-        self.sink.counted(number, counter, value)
-    }
-
-    fn bad(&mut self, number: u64, line: Option<&[u8]>) -> Result<(), AllocError> {
-        self.sink.bad(number, line)
+    fn take(&mut self, number: u64, event: &TraceEvent<'_>) -> Result<(), AllocError> {
+        self.count(event);
+        if self.is_over {
+            return Ok(());
+        }
+        self.sink.take(number, event)
     }
 }

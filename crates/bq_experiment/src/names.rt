@@ -1,12 +1,12 @@
 //! The names of a workload's tasks.
 ghost use Rattle.std.specs.Prelude.{◌≡◌, ◌<◌, ◌++◌, map, length, IfOk, OnOk, string_bytes};
-ghost use Rattle.bq_trace.specs.News.{TakesAll};
+ghost use Rattle.bq_trace.specs.TraceEvents.{TakesAll};
 ghost use Rattle.bq_experiment.specs.Names.{comments_of, name_in, names_in, names_of, plain_name, plain_of};
 ghost use Rattle.bq_experiment.specs.Traces.{skipped};
 
 use bq_report::Names;
 use bq_timeline::screen::Screen;
-use bq_trace::Sink;
+use bq_trace::{Sink, TraceEvent};
 use bq_workload::{TaskKind, Workload};
 use std::alloc::{AllocError, Global};
 
@@ -56,7 +56,8 @@ pub fn tell_names<S: Sink>(
     'names: for (task, name) in names.iter().enumerate() {
         let name = plain(alloc, name.as_str())?;
         let comment = format!(in alloc; "# task {task} {name}")?;
-        sink.skipped(0, comment.as_bytes())?;
+        let line = comment.as_bytes();
+        sink.take(0, &TraceEvent::Skipped { line })?;
     }
     Ok(names.len() as u64)
 }

@@ -6,11 +6,8 @@ ghost use Rattle.bq_experiment.specs.Passing.{Empties, IsPassedOn, TakesAndPasse
 
 use crate::run_progress::RunProgress;
 use crate::texts::Texts;
-use bq_load::LoadFault;
-use bq_parts::{Event, Refusal, Reply};
 use bq_streams::{Counted, PIECE, StreamFault};
-use bq_trace::{AnyCore, Sink};
-use bq_words::{ProcessorCount, Rule};
+use bq_trace::{Sink, TraceEvent};
 use std::alloc::AllocError;
 use std::io::Write;
 
@@ -101,57 +98,13 @@ impl<S: Texts, W: Write, E: Write> Passing<'_, S, W, E> {
 }
 
 impl<S: Sink + Texts, W: Write, E: Write> Sink for Passing<'_, S, W, E> {
-    ghost takes = { λ old n news new. TakesAndPasses S.takes S.pending S.clears old.sink (W.contents (inner_of old.output)) n news new.sink (W.contents (inner_of new.output)) };
+    ghost takes = { λ old n traced new. TakesAndPasses S.takes S.pending S.clears old.sink (W.contents (inner_of old.output)) n traced new.sink (W.contents (inner_of new.output)) };
 
-    fn opened(&mut self, number: u64, rule: Rule, size: ProcessorCount) -> Result<(), AllocError> {
-        self.sink.opened(number, rule, size)?;
-        self.pass_on()
-    }
-
-    fn skipped(&mut self, number: u64, line: &[u8]) -> Result<(), AllocError> {
-        self.sink.skipped(number, line)?;
-        self.pass_on()
-    }
-
-    fn comes(&mut self, number: u64, event: &Event, machine: &AnyCore) -> Result<(), AllocError> {
-        self.progress.count(event);
-        self.sink.comes(number, event, machine)?;
-        self.pass_on()
-    }
-
-    fn answered(
-        &mut self,
-        number: u64,
-        event: &Event,
-        answer: &Result<Reply, Refusal>,
-        machine: &AnyCore,
-    ) -> Result<(), AllocError> {
-        self.sink.answered(number, event, answer, machine)?;
-        self.pass_on()
-    }
-
-    fn unspelled(&mut self, number: u64) -> Result<(), AllocError> {
-        self.sink.unspelled(number)?;
-        self.pass_on()
-    }
-
-    fn unloaded(&mut self, number: u64, fault: LoadFault) -> Result<(), AllocError> {
-        self.sink.unloaded(number, fault)?;
-        self.pass_on()
-    }
-
-    fn shown(&mut self, number: u64, processor: u8, machine: &AnyCore) -> Result<(), AllocError> {
-        self.sink.shown(number, processor, machine)?;
-        self.pass_on()
-    }
-
-    fn counted(&mut self, number: u64, counter: u8, value: u64) -> Result<(), AllocError> {
-        self.sink.counted(number, counter, value)?;
-        self.pass_on()
-    }
-
-    fn bad(&mut self, number: u64, line: Option<&[u8]>) -> Result<(), AllocError> {
-        self.sink.bad(number, line)?;
+    fn take(&mut self, number: u64, event: &TraceEvent<'_>) -> Result<(), AllocError> {
+        if let TraceEvent::Comes { event, .. } = event {
+            self.progress.count(event);
+        }
+        self.sink.take(number, event)?;
         self.pass_on()
     }
 }

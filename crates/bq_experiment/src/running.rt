@@ -1,13 +1,15 @@
 //! One run of a workload, and what is written of it.
-ghost use Rattle.std.specs.Prelude.{◌≡◌, [], IfErr, IfOk, None, OnOk, string_bytes};
+ghost use Rattle.std.specs.Prelude.{◌≡◌, [], false, true, IfErr, IfOk, None, OnOk, string_bytes};
 ghost use Rattle.bq_streams.specs.Counts.{failures_of, inner_of};
 ghost use Rattle.bq_simulate.specs.Faults.{TellsNoOther};
+ghost use Rattle.bq_simulate.specs.Simulations.{HasEnough, IsFollowed, IsSimulation};
 ghost use Rattle.bq_simulate.specs.Texts.{image_at};
-ghost use Rattle.bq_trace.specs.News.{Gets};
+ghost use Rattle.bq_simulate.specs.declared.fault.SimulateFault.TheVariants as why;
+ghost use Rattle.bq_trace.specs.TraceEvents.{Gets};
 ghost use Rattle.bq_workload.specs.Soundness.{first_flaw};
-ghost use Rattle.bq_experiment.specs.Faults.{IsRunFault, IsStopped};
+ghost use Rattle.bq_experiment.specs.Faults.{IsNoEnd, IsRunFault, IsStopped};
 ghost use Rattle.bq_experiment.specs.Standing.{AreOfTheirImages, image_for};
-ghost use Rattle.bq_experiment.specs.Traces.{IsNamedRun, IsWritten, WritesTrace};
+ghost use Rattle.bq_experiment.specs.Traces.{IsNamed, IsWritten, WritesTrace};
 ghost use Rattle.bq_experiment.specs.Views.{AreNotesOf, IsViewed};
 ghost use Rattle.bq_experiment.specs.declared.asked.ShownAs.TheVariants as shown_as;
 
@@ -21,7 +23,7 @@ use crate::policies::Policies;
 use crate::run_progress::RunProgress;
 use crate::texts::Texts;
 use bq_console::Progress;
-use bq_simulate::{SimulateFault, TraceWriter, simulate};
+use bq_simulate::{Enough, SimulateFault, TraceWriter, simulate};
 use bq_streams::Counted;
 use bq_timeline::Settings;
 use bq_timeline::viewer::Viewer;
@@ -64,8 +66,8 @@ pub fn run_as<W: Write + Drop, E: Write + Drop>(
     // No write has failed then: the first failure ends it.
     ensures writes { OnOk result.outcome (failures_of result.output ≡ 0) }
 
-    // Each fault has its cause. Where a flaw is reported, it is the first that the workload has.
-    ensures fault { IfErr result.outcome (λ e. IsRunFault workload.now e (failures_of result.output)) }
+    // Each fault has its cause. Where a flaw is reported, it is the first that the workload has; and only a longer run is cut off.
+    ensures fault { IfErr result.outcome (λ e. IsRunFault policies.now.loaded workload.now most e (failures_of result.output)) }
 {
     match shown {
         ShownAs::Trace => as_trace(alloc, workload, policies, most, streams),
@@ -85,6 +87,7 @@ fn begun<'a, S, W, E>(
     ensures sink { result.sink.sink ≡ sink }
     ensures output { inner_of result.sink.output ≡ streams.entry.output }
     ensures left { result.left ≡ most }
+    ensures over { result.is_over ≡ false }
 {
     let Streams {
         output,
@@ -105,7 +108,7 @@ fn as_trace<W: Write + Drop, E: Write + Drop>(
 ) -> Ran<W>
     ensures written { IfOk result.outcome (λ notes. IsWritten shown_as.Trace workload.now policies.now most (W.contents streams.entry.output) (W.contents (inner_of result.output)) (string_bytes notes)) }
     ensures writes { OnOk result.outcome (failures_of result.output ≡ 0) }
-    ensures fault { IfErr result.outcome (λ e. IsRunFault workload.now e (failures_of result.output)) }
+    ensures fault { IfErr result.outcome (λ e. IsRunFault policies.now.loaded workload.now most e (failures_of result.output)) }
 {
     let writer = TraceWriter::new(alloc, policies.images());
     let mut run = begun(workload, writer, most, streams);
@@ -129,9 +132,10 @@ fn write_trace<W: Write, E: Write>(
 ) -> Result<(), RunFault>
     requires empty { string_bytes run.old.sink.sink.text ≡ [] }
     requires images { image_at run.old.sink.sink.images ≡ image_for policies.now.images }
+    requires over { run.old.is_over ≡ false }
     ensures written { OnOk result (WritesTrace workload.now policies.now.loaded (image_for policies.now.images) run.old.left (W.contents (inner_of run.old.sink.output)) (W.contents (inner_of run.new.sink.output))) }
     ensures writes { OnOk result (failures_of run.new.sink.output ≡ 0) }
-    ensures fault { IfErr result (λ e. IsRunFault workload.now e (failures_of run.new.sink.output)) }
+    ensures fault { IfErr result (λ e. IsRunFault policies.now.loaded workload.now run.old.left e (failures_of run.new.sink.output)) }
 {
     match tell_run(alloc, workload, policies, run) {
         Ok(()) => {}
@@ -144,13 +148,15 @@ fn write_trace<W: Write, E: Write>(
 }
 
 /// Tells a sink of the run, after the names of the tasks.
-fn tell_run<S: Sink>(
+fn tell_run<S: Sink + Enough>(
     alloc: Global,
     workload: &Workload,
     policies: &Policies,
     sink: &mut S,
 ) -> Result<(), SimulateFault>
-    ensures told { OnOk result (Gets S.takes sink.old sink.new (IsNamedRun policies.now.loaded workload.now)) }
+    ensures told { OnOk result (Gets S.takes sink.old sink.new (IsNamed workload.now (IsSimulation policies.now.loaded workload.now))) }
+    ensures wants { OnOk result (S.sated sink.new ≡ false) }
+    ensures enough { IfErr result (λ e. e ≡ why.Enough → (first_flaw workload.now ≡ None) × HasEnough S.takes S.sated (IsNamed workload.now (IsFollowed true policies.now.loaded workload.now)) sink.old sink.new) }
     ensures sound { OnOk result (first_flaw workload.now ≡ None) }
     ensures of_images { OnOk result (AreOfTheirImages policies.now) }
     ensures flaw { IfErr result (TellsNoOther workload.now) }
@@ -167,10 +173,11 @@ fn stopped<S: Texts, W: Write, E: Write>(
 ) -> RunFault
     ensures { IsStopped (λ why. why ≡ fault) result (failures_of run.new.sink.output) }
 {
-    if run.is_over {
-        if let Ok(()) = run.sink.write_text() {
-            return RunFault::Events;
-        }
+    if let SimulateFault::Enough = fault {
+        return match run.sink.write_text() {
+            Ok(()) => RunFault::Events,
+            Err(_) => RunFault::Write,
+        };
     }
     if run.sink.is_failed {
         return RunFault::Write;
@@ -189,7 +196,7 @@ fn as_timeline<W: Write + Drop, E: Write + Drop>(
 ) -> Ran<W>
     ensures written { IfOk result.outcome (λ notes. AreNotesOf policies.now.loaded workload.now most (string_bytes notes)) }
     ensures writes { OnOk result.outcome (failures_of result.output ≡ 0) }
-    ensures fault { IfErr result.outcome (λ e. IsRunFault workload.now e (failures_of result.output)) }
+    ensures fault { IfErr result.outcome (λ e. IsRunFault policies.now.loaded workload.now most e (failures_of result.output)) }
 {
     let viewer = Viewer::new(alloc, settings);
     let mut run = begun(workload, Later { viewer, above: 0 }, most, streams);
@@ -210,9 +217,10 @@ fn write_timeline<W: Write, E: Write>(
 ) -> Result<String, RunFault>
     requires schedule { run.old.sink.sink.viewer.schedule ≡ None }
     requires troubles { run.old.sink.sink.viewer.troubles ≡ 0 }
+    requires over { run.old.is_over ≡ false }
     ensures written { IfOk result (λ notes. AreNotesOf policies.now.loaded workload.now run.old.left (string_bytes notes)) }
     ensures writes { OnOk result (failures_of run.new.sink.output ≡ 0) }
-    ensures fault { IfErr result (λ e. IsRunFault workload.now e (failures_of run.new.sink.output)) }
+    ensures fault { IfErr result (λ e. IsRunFault policies.now.loaded workload.now run.old.left e (failures_of run.new.sink.output)) }
 {
     let notes = match view(alloc, workload, policies, run) {
         Ok(notes) => notes,
@@ -233,8 +241,9 @@ fn view<W: Write, E: Write>(
 ) -> Result<String, SimulateFault>
     requires schedule { run.old.sink.sink.viewer.schedule ≡ None }
     requires troubles { run.old.sink.sink.viewer.troubles ≡ 0 }
+    requires over { run.old.is_over ≡ false }
     ensures notes { IfOk result (λ notes. AreNotesOf policies.now.loaded workload.now run.old.left (string_bytes notes)) }
-    ensures flaw { IfErr result (TellsNoOther workload.now) }
+    ensures fault { IfErr result (IsNoEnd policies.now.loaded workload.now run.old.left) }
 {
     watch(alloc, workload, policies, run)?;
     let passing = &mut run.sink;
@@ -252,8 +261,9 @@ fn watch<W: Write, E: Write>(
 ) -> Result<(), SimulateFault>
     requires schedule { run.old.sink.sink.viewer.schedule ≡ None }
     requires troubles { run.old.sink.sink.viewer.troubles ≡ 0 }
+    requires over { run.old.is_over ≡ false }
     ensures viewed { OnOk result (IsViewed policies.now.loaded workload.now run.old.left run.new.sink.sink.viewer) }
-    ensures flaw { IfErr result (TellsNoOther workload.now) }
+    ensures fault { IfErr result (IsNoEnd policies.now.loaded workload.now run.old.left) }
 {
     let passing = &mut run.sink;
     name_tasks(alloc, workload, &mut passing.sink)?;

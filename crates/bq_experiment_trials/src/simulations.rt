@@ -1,6 +1,7 @@
 //! Simulations, step by step.
 
 use crate::cases::holds;
+use bq_experiment::Limited;
 use bq_parts::Event;
 use bq_simulate::{Counts, SimulateFault, simulate, write_event};
 use bq_words::{ProcessorCount, Rule};
@@ -147,8 +148,9 @@ fn is_counted(outcome: &Result<Counts, SimulateFault>, wanted: &Option<Counts>) 
 
 /// A row's simulation is told and counted so.
 fn is_simulated(rt: &impl Abort, alloc: Global, workload: &Workload, row: &Row) {
-    let mut text = String::new(alloc);
-    let outcome = simulate(alloc, workload, &[], &mut text);
+    let mut limited = Limited::new(String::new(alloc), u64::MAX);
+    let outcome = simulate(alloc, workload, &[], &mut limited);
+    let text = limited.sink;
     let is = text.as_str() == row.2 && is_counted(&outcome, &row.3);
     holds(rt, is, text.as_str(), row.2);
 }

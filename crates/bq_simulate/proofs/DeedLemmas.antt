@@ -5,7 +5,7 @@ use Rattle.std.specs.Prelude.{slice_get, slice_set}
 use Rattle.bq_parts.specs.declared.event.Event.{Event}
 use Rattle.bq_parts.specs.declared.event.Event.TheVariants.{BeginWake, EndWake, Drain}
 use Rattle.bq_parts.specs.declared.reply.Reply.{Reply}
-use Rattle.bq_trace.specs.News.{News, Told, Gets}
+use Rattle.bq_trace.specs.TraceEvents.{TraceEvent, Told, Gets}
 use Rattle.bq_trace.proofs.TakingLemmas.{TakesAll-append}
 use Rattle.bq_simulate.specs.declared.driver.Driver.{Driver}
 use Rattle.bq_simulate.specs.Drives.{Did, Drives, Drove, Places}
@@ -58,7 +58,7 @@ drives-of-lives kinds seed periods d e a b (Beats at now ∷ xs) told (ticks, li
 drives-of-lives kinds seed periods d e a b (Looks at now source ∷ xs) told (looks, from, lives) = drives-of-lives kinds seed periods d e (after_look periods at now a) b xs told lives
 
 -- from what its streams have given a simulation goes on, and then on
-pub Goes-join : {S : Type 0} (takes : S → ℕ → News → S → Type 0) (kinds : List TaskKind) (A B C : List Deed → Type 0) (x y z : S) (s t u : Simulation) (drawn : List ℕ) (first : Goes takes kinds A x s drawn y t) (second : Goes takes kinds B y t first.after z u) → C (first.deeds ++ second.deeds)
+pub Goes-join : {S : Type 0} (takes : S → ℕ → TraceEvent → S → Type 0) (kinds : List TaskKind) (A B C : List Deed → Type 0) (x y z : S) (s t u : Simulation) (drawn : List ℕ) (first : Goes takes kinds A x s drawn y t) (second : Goes takes kinds B y t first.after z u) → C (first.deeds ++ second.deeds)
     → Goes takes kinds C x s drawn z u
 Goes-join takes kinds A B C x y z s t u drawn first second are =
     let P : Periods → Type 0 = λ periods. Lives kinds t.seed periods t.driver (book_of t first.after) second.deeds second.tells.told u.driver (book_of u second.after) in
@@ -80,7 +80,7 @@ Goes-join takes kinds A B C x y z s t u drawn first second are =
     }
 
 -- a simulation goes on, and then on
-pub Lived-join : {S : Type 0} (takes : S → ℕ → News → S → Type 0) (kinds : List TaskKind) (A B C : List Deed → Type 0) → ((xs ys : List Deed) → A xs → B ys → C (xs ++ ys)) → (x y z : S) (s t u : Simulation)
+pub Lived-join : {S : Type 0} (takes : S → ℕ → TraceEvent → S → Type 0) (kinds : List TaskKind) (A B C : List Deed → Type 0) → ((xs ys : List Deed) → A xs → B ys → C (xs ++ ys)) → (x y z : S) (s t u : Simulation)
     → Lived takes kinds A x s y t → Lived takes kinds B y t z u → Lived takes kinds C x s z u
 Lived-join takes kinds A B C join x y z s t u goes more drawn had firsts =
     let first = goes drawn had firsts in
@@ -88,19 +88,19 @@ Lived-join takes kinds A B C join x y z s t u goes more drawn had firsts =
     Goes-join takes kinds A B C x y z s t u drawn first second (join first.deeds second.deeds first.are second.are)
 
 -- what holds of the deeds by which it goes on holds in other words
-pub Goes-weaker : {S : Type 0} (takes : S → ℕ → News → S → Type 0) (kinds : List TaskKind) (A B : List Deed → Type 0) → ((xs : List Deed) → A xs → B xs) → (x y : S) (s : Simulation) (drawn : List ℕ) (t : Simulation) → Goes takes kinds A x s drawn y t → Goes takes kinds B x s drawn y t
+pub Goes-weaker : {S : Type 0} (takes : S → ℕ → TraceEvent → S → Type 0) (kinds : List TaskKind) (A B : List Deed → Type 0) → ((xs : List Deed) → A xs → B xs) → (x y : S) (s : Simulation) (drawn : List ℕ) (t : Simulation) → Goes takes kinds A x s drawn y t → Goes takes kinds B x s drawn y t
 Goes-weaker takes kinds A B weaker x y s drawn t h = record { deeds = h.deeds; after = h.after; periods = h.periods; seed = h.seed; streams = h.streams; firsts = h.firsts; agrees = h.agrees; tells = h.tells; are = weaker h.deeds h.are }
 
 -- what holds of its deeds holds in other words
-pub Lived-weaker : {S : Type 0} (takes : S → ℕ → News → S → Type 0) (kinds : List TaskKind) (A B : List Deed → Type 0) → ((xs : List Deed) → A xs → B xs) → (x y : S) (s t : Simulation) → Lived takes kinds A x s y t → Lived takes kinds B x s y t
+pub Lived-weaker : {S : Type 0} (takes : S → ℕ → TraceEvent → S → Type 0) (kinds : List TaskKind) (A B : List Deed → Type 0) → ((xs : List Deed) → A xs → B xs) → (x y : S) (s t : Simulation) → Lived takes kinds A x s y t → Lived takes kinds B x s y t
 Lived-weaker takes kinds A B weaker x y s t goes drawn had firsts = Goes-weaker takes kinds A B weaker x y s drawn t (goes drawn had firsts)
 
 -- what holds of its events holds in other words
-pub Befell-weaker : {S : Type 0} (takes : S → ℕ → News → S → Type 0) (A B : List Deed → Type 0) → ((xs : List Deed) → A xs → B xs) → (x y : S) (s t : Simulation) → Befell takes A x s y t → Befell takes B x s y t
+pub Befell-weaker : {S : Type 0} (takes : S → ℕ → TraceEvent → S → Type 0) (A B : List Deed → Type 0) → ((xs : List Deed) → A xs → B xs) → (x y : S) (s t : Simulation) → Befell takes A x s y t → Befell takes B x s y t
 Befell-weaker takes A B weaker x y s t befell kinds = Lived-weaker takes kinds A B weaker x y s t (befell kinds)
 
 -- of deeds of which nothing is reported a sink gets nothing
-pub Lived-silent : {S : Type 0} (takes : S → ℕ → News → S → Type 0) (kinds : List TaskKind) (A : List Deed → Type 0) (x : S) (s t : Simulation) → Silent kinds A s t → Lived takes kinds A x s x t
+pub Lived-silent : {S : Type 0} (takes : S → ℕ → TraceEvent → S → Type 0) (kinds : List TaskKind) (A : List Deed → Type 0) (x : S) (s t : Simulation) → Silent kinds A s t → Lived takes kinds A x s x t
 Lived-silent takes kinds A x s t silent drawn had firsts =
     let h = silent drawn had firsts in
     record { deeds = h.deeds; after = h.after; periods = h.periods; seed = h.seed; streams = h.streams; firsts = h.firsts; agrees = h.agrees; tells = record { told = []; taken = refl; holds = h.lives }; are = h.are }
@@ -114,7 +114,7 @@ firsts-stay : (kinds : List TaskKind) (s t : Simulation) → Stays s t → HasFi
 firsts-stay kinds s t stays had number first there = had number first (ap (λ v. slice_get v.items number) (sym stays.firsts) ∙ there)
 
 -- nothing was done
-pub Lived-same : {S : Type 0} (takes : S → ℕ → News → S → Type 0) (A : List Deed → Type 0) → A [] → (x : S) (s t : Simulation) → Same s t → Befell takes A x s x t
+pub Lived-same : {S : Type 0} (takes : S → ℕ → TraceEvent → S → Type 0) (A : List Deed → Type 0) → A [] → (x : S) (s t : Simulation) → Same s t → Befell takes A x s x t
 Lived-same takes A none x s t same kinds drawn had firsts = record {
   deeds = [];
   after = drawn;
@@ -132,12 +132,12 @@ abbrev AreNone : List Deed → Type 0
 AreNone deeds = deeds ≡ []
 
 -- nothing was done before
-pub Lived-after : {S : Type 0} (takes : S → ℕ → News → S → Type 0) (kinds : List TaskKind) (A : List Deed → Type 0) (x y : S) (s t u : Simulation) → Same s t → Lived takes kinds A x t y u → Lived takes kinds A x s y u
+pub Lived-after : {S : Type 0} (takes : S → ℕ → TraceEvent → S → Type 0) (kinds : List TaskKind) (A : List Deed → Type 0) (x y : S) (s t u : Simulation) → Same s t → Lived takes kinds A x t y u → Lived takes kinds A x s y u
 Lived-after takes kinds A x y s t u same more =
     Lived-join takes kinds AreNone A A (λ xs ys none are. subst (λ (l : List Deed). A (l ++ ys)) (sym none) are) x x y s t u (Lived-same takes AreNone refl x s t same kinds) more
 
 -- or after
-pub Lived-then : {S : Type 0} (takes : S → ℕ → News → S → Type 0) (kinds : List TaskKind) (A : List Deed → Type 0) (x y : S) (s t u : Simulation) → Lived takes kinds A x s y t → Same t u → Lived takes kinds A x s y u
+pub Lived-then : {S : Type 0} (takes : S → ℕ → TraceEvent → S → Type 0) (kinds : List TaskKind) (A : List Deed → Type 0) (x y : S) (s t u : Simulation) → Lived takes kinds A x s y t → Same t u → Lived takes kinds A x s y u
 Lived-then takes kinds A x y s t u first same =
     Lived-join takes kinds A AreNone A (λ xs ys are none. subst (λ (l : List Deed). A (xs ++ l)) (sym none) (subst A (sym (append-nil xs)) are)) x y y s t u first (Lived-same takes AreNone refl y t u same kinds)
 
@@ -146,7 +146,7 @@ abbrev follows : List TaskKind → TaskProgress → ℕ → ℕ → Option Actio
 follows kinds c processor now action deeds = Follow action (aim_of kinds c action) processor now deeds
 
 -- an action is followed by what follows that action
-pub Follow-same : {S : Type 0} (takes : S → ℕ → News → S → Type 0) (kinds : List TaskKind) (c : TaskProgress) (a b : Option Action) (processor now : ℕ) (x y : S) (s t : Simulation) → a ≡ b
+pub Follow-same : {S : Type 0} (takes : S → ℕ → TraceEvent → S → Type 0) (kinds : List TaskKind) (c : TaskProgress) (a b : Option Action) (processor now : ℕ) (x y : S) (s t : Simulation) → a ≡ b
     → Lived takes kinds (Follow b (aim_of kinds c b) processor now) x s y t → Lived takes kinds (Follow a (aim_of kinds c a) processor now) x s y t
 Follow-same takes kinds c a b processor now x y s t is lived = subst (λ (o : Option Action). Lived takes kinds (follows kinds c processor now o) x s y t) (sym is) lived
 
@@ -218,7 +218,7 @@ Silent-begins kinds s t number long roster seed streams driver pushed drawn had 
 }
 
 -- one deed of which nothing is reported and for which no length is drawn, and then what befalls
-pub Befell-first : {S : Type 0} (takes : S → ℕ → News → S → Type 0) (A B : List Deed → Type 0) (x y : S) (s t u : Simulation) (deed : Deed) → Stays s t
+pub Befell-first : {S : Type 0} (takes : S → ℕ → TraceEvent → S → Type 0) (A B : List Deed → Type 0) (x y : S) (s t u : Simulation) (deed : Deed) → Stays s t
     → ((kinds : List TaskKind) (drawn : List ℕ) → Lives kinds s.seed s.roster.periods s.driver (book_of s drawn) (deed ∷ []) [] t.driver (book_of t drawn))
     → ((xs : List Deed) → A xs → B (deed ∷ xs)) → Befell takes A x t y u → Befell takes B x s y u
 Befell-first takes A B x y s t u deed stays lives first befell kinds =
@@ -232,21 +232,21 @@ pub Stays-here : (s : Simulation) → Stays s s
 Stays-here s = record { agrees = λ h. h; periods = refl; seed = refl; streams = refl; firsts = refl }
 
 -- a clock beats, and then what befalls
-pub Befell-beats : {S : Type 0} (takes : S → ℕ → News → S → Type 0) (A B : List Deed → Type 0) (x y : S) (s t u : Simulation) (processor now : ℕ) → TicksAt (accounts_of s.roster) processor now → Stays s t
+pub Befell-beats : {S : Type 0} (takes : S → ℕ → TraceEvent → S → Type 0) (A B : List Deed → Type 0) (x y : S) (s t u : Simulation) (processor now : ℕ) → TicksAt (accounts_of s.roster) processor now → Stays s t
     → t.driver ≡ s.driver → accounts_of t.roster ≡ beaten processor now s.roster.periods.tick (accounts_of s.roster)
     → ((xs : List Deed) → A xs → B (Beats processor now ∷ xs)) → Befell takes A x t y u → Befell takes B x s y u
 Befell-beats takes A B x y s t u processor now ticks stays driver accounts first befell =
     Befell-first takes A B x y s t u (Beats processor now) stays (λ kinds drawn. (ticks, (refl, driver, ap (λ (a : Accounts). record { accounts = a; drawn = drawn }) accounts))) first befell
 
 -- a processor looks for a task to pull, and then what befalls
-pub Befell-looks : {S : Type 0} (takes : S → ℕ → News → S → Type 0) (A B : List Deed → Type 0) (x y : S) (s t u : Simulation) (processor now : ℕ) (source : Option ℕ) → LooksAt (accounts_of s.roster) processor now → IsSource s.roster.by_processor.items processor source → Stays s t
+pub Befell-looks : {S : Type 0} (takes : S → ℕ → TraceEvent → S → Type 0) (A B : List Deed → Type 0) (x y : S) (s t u : Simulation) (processor now : ℕ) (source : Option ℕ) → LooksAt (accounts_of s.roster) processor now → IsSource s.roster.by_processor.items processor source → Stays s t
     → t.driver ≡ s.driver → accounts_of t.roster ≡ looked processor now s.roster.periods.balance (accounts_of s.roster)
     → ((xs : List Deed) → A xs → B (Looks processor now source ∷ xs)) → Befell takes A x t y u → Befell takes B x s y u
 Befell-looks takes A B x y s t u processor now source looks from stays driver accounts first befell =
     Befell-first takes A B x y s t u (Looks processor now source) stays (λ kinds drawn. (looks, from, (refl, driver, ap (λ (a : Accounts). record { accounts = a; drawn = drawn }) accounts))) first befell
 
 -- an event happens
-pub Lived-event : {S : Type 0} (takes : S → ℕ → News → S → Type 0) (A : List Deed → Type 0) (x y : S) (s t : Simulation) (event : Event) (reply : Reply) → A (Happens event reply ∷ []) → IsDue event (accounts_of s.roster) → Stays s t → Did takes x s.driver event reply y t.driver
+pub Lived-event : {S : Type 0} (takes : S → ℕ → TraceEvent → S → Type 0) (A : List Deed → Type 0) (x y : S) (s t : Simulation) (event : Event) (reply : Reply) → A (Happens event reply ∷ []) → IsDue event (accounts_of s.roster) → Stays s t → Did takes x s.driver event reply y t.driver
     → accounts_of t.roster ≡ after_event s.roster.periods event reply (accounts_of s.roster) → Befell takes A x s y t
 Lived-event takes A x y s t event reply are due stays did accounts kinds drawn had firsts = record {
   deeds = Happens event reply ∷ [];
@@ -265,7 +265,7 @@ Lived-event takes A x y s t event reply are due stays did accounts kinds drawn h
 }
 
 -- an event of which the accounts know nothing
-pub Lived-drove : {S : Type 0} (takes : S → ℕ → News → S → Type 0) (A : List Deed → Type 0) (x y : S) (s t : Simulation) (event : Event) → ((reply : Reply) → A (Happens event reply ∷ [])) → IsDue event (accounts_of s.roster) → Stays s t → ((reply : Reply) (a : Accounts) → after_event s.roster.periods event reply a ≡ a)
+pub Lived-drove : {S : Type 0} (takes : S → ℕ → TraceEvent → S → Type 0) (A : List Deed → Type 0) (x y : S) (s t : Simulation) (event : Event) → ((reply : Reply) → A (Happens event reply ∷ [])) → IsDue event (accounts_of s.roster) → Stays s t → ((reply : Reply) (a : Accounts) → after_event s.roster.periods event reply a ≡ a)
     → Drove takes x s.driver (event ∷ []) y t.driver → accounts_of t.roster ≡ accounts_of s.roster → Befell takes A x s y t
 Lived-drove takes A x y s t event are due stays quiet drove accounts kinds drawn had firsts =
     let h = drove.holds in
@@ -286,7 +286,7 @@ Lived-drove takes A x y s t event are due stays quiet drove accounts kinds drawn
     }
 
 -- a task is woken, and the processor on which it was placed takes it in
-pub Lived-wakes : {S : Type 0} (takes : S → ℕ → News → S → Type 0) (x y z : S) (s t : Simulation) (m : Driver) (from task to now : ℕ) (reply : Reply) → IsWoken (accounts_of s.roster) from task → Stays s t
+pub Lived-wakes : {S : Type 0} (takes : S → ℕ → TraceEvent → S → Type 0) (x y z : S) (s t : Simulation) (m : Driver) (from task to now : ℕ) (reply : Reply) → IsWoken (accounts_of s.roster) from task → Stays s t
     → Gets takes x y (λ told. Places s.driver from task now to told m) → Did takes y m (Drain to now) reply z t.driver
     → accounts_of t.roster ≡ after_event s.roster.periods (Drain to now) reply (of_task woken task (accounts_of s.roster)) → Befell takes (AreWake from task now) x s z t
 Lived-wakes takes x y z s t m from task to now reply due stays woke did accounts kinds drawn had firsts =

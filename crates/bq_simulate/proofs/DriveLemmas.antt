@@ -3,7 +3,7 @@ use Rattle.std.proofs.Common.{◌≡◌, ℕ, List, [], ◌∷◌, ◌++◌, Som
 use Rattle.bq_parts.specs.declared.event.Event.{Event}
 use Rattle.bq_parts.specs.declared.event.Event.TheVariants.{BeginWake, EndWake}
 use Rattle.bq_parts.specs.declared.reply.Reply.{Reply}
-use Rattle.bq_trace.specs.News.{News, Told, Gets}
+use Rattle.bq_trace.specs.TraceEvents.{TraceEvent, Told, Gets}
 use Rattle.bq_trace.proofs.TakingLemmas.{TakesAll-append}
 use Rattle.bq_simulate.specs.declared.driver.Driver.{Driver}
 use Rattle.bq_simulate.specs.Drives.{Did, Does, Drives, Drove, Places, placed_at}
@@ -18,7 +18,7 @@ Drives-append d m e (x ∷ xs) ys told more (reply, mid, first, rest, does, driv
     (reply, mid, first, rest ++ more, does, Drives-append mid m e xs ys rest more drives k, ap (λ t. t ++ more) whole ∙ append_assoc first rest more)
 
 -- one event
-pub Drove-one : {S : Type 0} (takes : S → ℕ → News → S → Type 0) (old new : S) (d e : Driver) (x : Event) (reply : Reply) → Gets takes old new (λ told. Does d x reply told e) → Drove takes old d (x ∷ []) new e
+pub Drove-one : {S : Type 0} (takes : S → ℕ → TraceEvent → S → Type 0) (old new : S) (d e : Driver) (x : Event) (reply : Reply) → Gets takes old new (λ told. Does d x reply told e) → Drove takes old d (x ∷ []) new e
 Drove-one takes old new d e x reply gets = record {
   told = gets.told;
   taken = gets.taken;
@@ -26,7 +26,7 @@ Drove-one takes old new d e x reply gets = record {
 }
 
 -- some, and then others
-pub Drove-join : {S : Type 0} (takes : S → ℕ → News → S → Type 0) (a b c : S) (d m e : Driver) (xs ys : List Event) → Drove takes a d xs b m → Drove takes b m ys c e → Drove takes a d (xs ++ ys) c e
+pub Drove-join : {S : Type 0} (takes : S → ℕ → TraceEvent → S → Type 0) (a b c : S) (d m e : Driver) (xs ys : List Event) → Drove takes a d xs b m → Drove takes b m ys c e → Drove takes a d (xs ++ ys) c e
 Drove-join takes a b c d m e xs ys first second = record {
   told = first.told ++ second.told;
   taken = TakesAll-append takes a b c first.told second.told first.taken second.taken;
@@ -34,7 +34,7 @@ Drove-join takes a b c d m e xs ys first second = record {
 }
 
 -- a wake begins, and ends with its task placed
-pub Places-of : {S : Type 0} (takes : S → ℕ → News → S → Type 0) (a b c : S) (d m e : Driver) (from task now to : ℕ) (begun placed : Reply) → Did takes a d (BeginWake from task) begun b m → placed_at placed ≡ Some to → Did takes b m (EndWake from now) placed c e
+pub Places-of : {S : Type 0} (takes : S → ℕ → TraceEvent → S → Type 0) (a b c : S) (d m e : Driver) (from task now to : ℕ) (begun placed : Reply) → Did takes a d (BeginWake from task) begun b m → placed_at placed ≡ Some to → Did takes b m (EndWake from now) placed c e
     → Gets takes a c (λ told. Places d from task now to told e)
 Places-of takes a b c d m e from task now to begun placed first place second = record {
   told = first.told ++ second.told;
@@ -43,7 +43,7 @@ Places-of takes a b c d m e from task now to begun placed first place second = r
 }
 
 -- a wake is two events
-pub Drove-places : {S : Type 0} (takes : S → ℕ → News → S → Type 0) (a b : S) (d e : Driver) (from task now to : ℕ) → Gets takes a b (λ told. Places d from task now to told e) → Drove takes a d (BeginWake from task ∷ EndWake from now ∷ []) b e
+pub Drove-places : {S : Type 0} (takes : S → ℕ → TraceEvent → S → Type 0) (a b : S) (d e : Driver) (from task now to : ℕ) → Gets takes a b (λ told. Places d from task now to told e) → Drove takes a d (BeginWake from task ∷ EndWake from now ∷ []) b e
 Drove-places takes a b d e from task now to gets =
     let h = gets.holds in
     record {

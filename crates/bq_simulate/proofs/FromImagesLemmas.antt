@@ -10,7 +10,7 @@ use Rattle.bq_workload.specs.declared.workload.TaskKind.{TaskKind}
 use Rattle.bq_workload.specs.declared.workload.Workload.{Workload}
 use Rattle.bq_parts.specs.declared.event.Event.{Event}
 use Rattle.bq_parts.specs.declared.event.Event.TheVariants.{Block, Install, Tick}
-use Rattle.bq_trace.specs.News.{Told}
+use Rattle.bq_trace.specs.TraceEvents.{Told}
 use Rattle.bq_verify.specs.Accepted.{Accepted}
 use Rattle.bq_simulate.specs.Chronicles.{Book, Deed, Happens, events_of}
 use Rattle.bq_simulate.specs.Retelling.{AreOfImages, IsFromImages, IsOfImage}

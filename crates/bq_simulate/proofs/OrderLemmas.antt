@@ -1,7 +1,7 @@
 -- What is kept by only the deeds, and what comes next by it.
 use Rattle.std.proofs.Common.{◌≡◌, ℕ, ◌+◌, ◌≤◌, List, [], ◌∷◌, Option, sym, ap, ◌∙◌, subst}
 use Rattle.std.specs.Option.{option_map_or}
-use Rattle.bq_trace.specs.News.{News, Told}
+use Rattle.bq_trace.specs.TraceEvents.{TraceEvent, Told}
 use Rattle.bq_workload.specs.declared.progress.TaskProgress.{TaskProgress}
 use Rattle.bq_workload.specs.declared.due.Due.{Due}
 use Rattle.bq_workload.specs.declared.roster.Periods.{Periods}
@@ -31,11 +31,11 @@ kept-by kinds seed periods d e a b (Beats at now ∷ xs) told (ticks, lives) = k
 kept-by kinds seed periods d e a b (Looks at now source ∷ xs) told (looks, from, lives) = kept-by kinds seed periods d e (after_look periods at now a) b xs told lives
 
 -- so do the accounts of a simulation that has gone on
-pub book-after : {S : Type 0} (takes : S → ℕ → News → S → Type 0) (kinds : List TaskKind) (A : List Deed → Type 0) (x y : S) (s t : Simulation) (drawn : List ℕ) (goes : Goes takes kinds A x s drawn y t) → book_of t goes.after ≡ after_deeds kinds s.seed s.roster.periods (book_of s drawn) goes.deeds
+pub book-after : {S : Type 0} (takes : S → ℕ → TraceEvent → S → Type 0) (kinds : List TaskKind) (A : List Deed → Type 0) (x y : S) (s t : Simulation) (drawn : List ℕ) (goes : Goes takes kinds A x s drawn y t) → book_of t goes.after ≡ after_deeds kinds s.seed s.roster.periods (book_of s drawn) goes.deeds
 book-after takes kinds A x y s t drawn goes = kept-by kinds s.seed s.roster.periods s.driver t.driver (book_of s drawn) (book_of t goes.after) goes.deeds goes.tells.told goes.tells.holds
 
 -- the next thing by the event queue is met, which agrees with the accounts
-pub met-more : {S : Type 0} (takes : S → ℕ → News → S → Type 0) (kinds : List TaskKind) (count last now : ℕ) (due : Due) (x y z : S) (s t u : Simulation) → last ≤ now → (IsAgreed t.roster → IsNext t.roster.periods.end (accounts_of t.roster) due now)
+pub met-more : {S : Type 0} (takes : S → ℕ → TraceEvent → S → Type 0) (kinds : List TaskKind) (count last now : ℕ) (due : Due) (x y z : S) (s t u : Simulation) → last ≤ now → (IsAgreed t.roster → IsNext t.roster.periods.end (accounts_of t.roster) due now)
     → LivedFrom takes kinds (AreMet kinds s.seed s.roster.periods count last) x s y t → Lived takes kinds (Meet due now) y t z u → LivedFrom takes kinds (AreMet kinds s.seed s.roster.periods (count + 1) now) x s z u
 met-more takes kinds count last now due x y z s t u later next lived meet drawn had firsts agreed =
     let periods = s.roster.periods in

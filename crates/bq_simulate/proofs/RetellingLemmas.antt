@@ -28,7 +28,7 @@ use Rattle.bq_trace.specs.Bare.{bare}
 use Rattle.bq_streams.specs.Counts.{one_more}
 use Rattle.bq_trace.specs.Machines.{Driven, opening_machine}
 use Rattle.bq_trace.specs.Feeding.{with_feeds}
-use Rattle.bq_trace.specs.News.{Told, texts}
+use Rattle.bq_trace.specs.TraceEvents.{Told, texts}
 use Rattle.bq_trace.specs.Telling.{Happens}
 use Rattle.bq_trace.specs.Trace.{Answers as AnswersIn, AnswersLine, AnswersAll, start}
 use Rattle.bq_trace.specs.declared.progress.Phase.{Phase}
@@ -39,7 +39,7 @@ use Rattle.bq_trace.proofs.StoryTextLemmas.{happens_text}
 use Rattle.bq_trace.proofs.TakingLemmas.{texts-append}
 use Rattle.bq_simulate.specs.Drives.{Does, Drives}
 use Rattle.bq_simulate.specs.declared.driver.Driver.{Driver}
-use Rattle.bq_simulate.specs.Texts.{AreFitting, ByHook, brought, news_lines, told_lines}
+use Rattle.bq_simulate.specs.Texts.{AreFitting, ByHook, brought, traced_lines, told_lines}
 use Rattle.bq_simulate.specs.Retelling.{IsComment, IsFromImages, IsOfImage, TextsAreReplayed}
 
 -- after this many lines, none of which was bad
@@ -155,13 +155,13 @@ same_numbers (Tick c now) h = h
 same_numbers (Block c now) h = h
 same_numbers (Pull c from now) h = h
 
--- the lines that tell news and others behind are those of both, one after another
+-- the lines of two lists of events are those of both, one after another
 pub told_lines-append : (images : ByHook) (xs ys : Told) → told_lines images (xs ++ ys) ≡ told_lines images xs ++ told_lines images ys
 told_lines-append images [] ys = refl
 told_lines-append images ((n, x) ∷ xs) ys =
-    ap (λ l. news_lines images x ++ l) (told_lines-append images xs ys) ∙ sym (append_assoc (news_lines images x) (told_lines images xs) (told_lines images ys))
+    ap (λ l. traced_lines images x ++ l) (told_lines-append images xs ys) ∙ sym (append_assoc (traced_lines images x) (told_lines images xs) (told_lines images ys))
 
--- of news that fit each of two parts fits
+-- each of two parts of events that fit fits
 pub AreFitting-parts : (xs ys : Told) → AreFitting (xs ++ ys) → AreFitting xs × AreFitting ys
 AreFitting-parts [] ys h = (tt, h)
 AreFitting-parts ((n, x) ∷ xs) ys h = let parts = AreFitting-parts xs ys h.1 in ((h.0, parts.0), parts.1)

@@ -1,11 +1,11 @@
--- Texts that grow by the lines of news.
+-- Texts that grow by the lines of events.
 use Rattle.std.proofs.Common.{◌≡◌, ℕ, Bool, true, false, cond, List, [], ◌∷◌, ◌++◌, refl, sym, ap, ◌∙◌, append_assoc, append-nil, subst, string_bytes}
 use Rattle.std.specs.Str.{IsUtf8, is_utf8}
 use Rattle.std.proofs.lemmas.Grind.{flat_map-append}
 use Rattle.std.proofs.lemmas.Str.{IsUtf8-from_is_utf8, is_utf8-from_IsUtf8}
 use Rattle.bq_trace.specs.Feeding.{with_feeds}
-use Rattle.bq_trace.specs.News.{News, Told, TakesAll, Skipped}
-use Rattle.bq_simulate.specs.Texts.{ByHook, Writes, WritesAll, image_at, news_lines, told_lines}
+use Rattle.bq_trace.specs.TraceEvents.{TraceEvent, Told, TakesAll, Skipped}
+use Rattle.bq_simulate.specs.Texts.{ByHook, Writes, WritesAll, image_at, traced_lines, told_lines}
 use Rattle.bq_simulate.specs.declared.trace_writer.TraceWriter.{TraceWriter}
 
 -- a line of UTF-8 is written
@@ -29,19 +29,19 @@ writes_none images old line other = record {
   fits = tt;
 }
 
--- the lines of news one after another
-pub writes_more : (images : ByHook) (old mid new : List ℕ) (n : ℕ) (x : News) (more : Told) → Writes images old x mid → WritesAll images mid more new → WritesAll images old ((n, x) ∷ more) new
+-- the lines of events one after another
+pub writes_more : (images : ByHook) (old mid new : List ℕ) (n : ℕ) (x : TraceEvent) (more : Told) → Writes images old x mid → WritesAll images mid more new → WritesAll images old ((n, x) ∷ more) new
 writes_more images old mid new n x more h k = record {
-  text = k.text ∙ ap (λ l. l ++ with_feeds (told_lines images more)) h.text ∙ append_assoc old (with_feeds (news_lines images x)) (with_feeds (told_lines images more))
-      ∙ ap (λ l. old ++ l) (sym (flat_map-append (λ line. line ++ 10 ∷ []) (news_lines images x) (told_lines images more)));
+  text = k.text ∙ ap (λ l. l ++ with_feeds (told_lines images more)) h.text ∙ append_assoc old (with_feeds (traced_lines images x)) (with_feeds (told_lines images more))
+      ∙ ap (λ l. old ++ l) (sym (flat_map-append (λ line. line ++ 10 ∷ []) (traced_lines images x) (told_lines images more)));
   fits = (h.fits, k.fits);
 }
 
--- what the text takes of one piece of news
-abbrev pub Takes : TraceWriter → ℕ → News → TraceWriter → Type 0
-Takes old n news new = (new.images ≡ old.images) × Writes (image_at old.images) (string_bytes old.text) news (string_bytes new.text)
+-- what the text takes of one event
+abbrev pub Takes : TraceWriter → ℕ → TraceEvent → TraceWriter → Type 0
+Takes old n traced new = (new.images ≡ old.images) × Writes (image_at old.images) (string_bytes old.text) traced (string_bytes new.text)
 
--- the text that takes news has grown by its lines, and its images are the same
+-- the text that takes events has grown by its lines, and its images are the same
 pub writes_all : (old new : TraceWriter) (told : Told) → TakesAll Takes old told new
     → (new.images ≡ old.images) × WritesAll (image_at old.images) (string_bytes old.text) told (string_bytes new.text)
 writes_all old new [] h = (ap (λ (s : TraceWriter). s.images) h, record { text = ap (λ (s : TraceWriter). string_bytes s.text) h ∙ sym (append-nil (string_bytes old.text)); fits = tt })

@@ -7,7 +7,7 @@ use Rattle.bq_workload.specs.declared.workload.TaskKind.{TaskKind}
 use Rattle.bq_parts.specs.declared.event.Event.{Event}
 use Rattle.bq_parts.specs.declared.event.Event.TheVariants.{BeginWake, Drain, Tick, Block, Pull}
 use Rattle.bq_parts.specs.declared.reply.Reply.{Reply}
-use Rattle.bq_trace.specs.News.{Told}
+use Rattle.bq_trace.specs.TraceEvents.{Told}
 use Rattle.bq_simulate.specs.declared.driver.Driver.{Driver}
 use Rattle.bq_simulate.specs.Drives.{Does, count_entered, runs_now, task_pulled}
 use Rattle.bq_workload.specs.declared.progress.TaskProgress.{TaskProgress}

@@ -8,7 +8,7 @@ use Rattle.bq_words.specs.declared.rule.Rule.{Rule}
 use Rattle.bq_words.specs.declared.processor_count.ProcessorCount.{ProcessorCount}
 use Rattle.bq_streams.specs.Counts.{one_more}
 use Rattle.bq_trace.specs.Machines.{opening_machine}
-use Rattle.bq_trace.specs.News.{News, Told, Opened, Gets}
+use Rattle.bq_trace.specs.TraceEvents.{TraceEvent, Told, Opened, Gets}
 use Rattle.bq_trace.specs.Telling.{Happens}
 use Rattle.bq_parts.specs.Refusals.{refusal}
 use Rattle.bq_simulate.specs.declared.drive_fault.DriveFault.{DriveFault}
@@ -61,7 +61,7 @@ IsUntouched Reading d e old new = (e ≡ d) × (new ≡ old)
 IsUntouched fault d e old new = Unit {0}
 
 -- a sink gets what comes of it
-abbrev pub Did : {S : Type 0} → (S → ℕ → News → S → Type 0) → S → Driver → Event → Reply → S → Driver → Type 0
+abbrev pub Did : {S : Type 0} → (S → ℕ → TraceEvent → S → Type 0) → S → Driver → Event → Reply → S → Driver → Type 0
 Did takes old d event reply new e = Gets takes old new (λ told. Does d event reply told e)
 
 -- who runs at the event's processor now, as an answer says
@@ -107,9 +107,9 @@ Drives d (event ∷ events) told e =
     × Does d event reply first mid × Drives mid events more e × (told ≡ first ++ more)
 
 -- a sink gets what comes of them
-abbrev pub Drove : {S : Type 0} → (S → ℕ → News → S → Type 0) → S → Driver → List Event → S → Driver → Type 0
+abbrev pub Drove : {S : Type 0} → (S → ℕ → TraceEvent → S → Type 0) → S → Driver → List Event → S → Driver → Type 0
 Drove takes old d events new e = Gets takes old new (λ told. Drives d events told e)
 
 -- a sink gets what comes of some events
-abbrev pub Went : {S : Type 0} → (S → ℕ → News → S → Type 0) → S → Driver → S → Driver → Type 0
+abbrev pub Went : {S : Type 0} → (S → ℕ → TraceEvent → S → Type 0) → S → Driver → S → Driver → Type 0
 Went takes old d new e = (events : List Event) × Drove takes old d events new e

@@ -14,7 +14,7 @@ use Rattle.bq_words.specs.declared.rule.Rule.{Rule}
 use Rattle.bq_words.specs.declared.processor_count.ProcessorCount.{ProcessorCount}
 use Rattle.bq_simulate.specs.Laws.{IsWholeLine}
 use Rattle.bq_trace.specs.Feeding.{with_feeds}
-use Rattle.bq_trace.specs.News.{Told, texts}
+use Rattle.bq_trace.specs.TraceEvents.{Told, texts}
 use Rattle.bq_trace.specs.Trace.{TraceText}
 use Rattle.bq_trace.specs.declared.progress.Phase.TheVariants.{Running}
 use Rattle.bq_verify.specs.Accepted.{Accepted}

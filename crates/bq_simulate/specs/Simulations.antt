@@ -1,5 +1,5 @@
 -- What a simulation tells.
-use Rattle.std.specs.Prelude.{◌≡◌, ℕ, ◌++◌, ◌+◌, true, List, [], ◌∷◌, Option, Some, None, slice_get, slice_set}
+use Rattle.std.specs.Prelude.{◌≡◌, ◌⊎◌, ℕ, ◌++◌, ◌+◌, Bool, true, List, [], ◌∷◌, Option, Some, None, slice_get, slice_set}
 use Rattle.rand_pcg.specs.Lcg.{Lcg}
 use Rattle.bq_workload.specs.declared.action.Length.{Length}
 use Rattle.bq_workload.specs.declared.roster.Periods.{Periods}
@@ -9,7 +9,7 @@ use Rattle.bq_workload.specs.declared.workload.Workload.{Workload}
 use Rattle.bq_workload.specs.Streams.{stream_of_task, after_draw, after_draws}
 pub use Rattle.bq_verify.specs.Accepted.{Accepted}
 use Rattle.bq_words.specs.Sizes.{processors_in}
-use Rattle.bq_trace.specs.News.{News, Told, Gets}
+use Rattle.bq_trace.specs.TraceEvents.{TraceEvent, Told, Gets}
 use Rattle.bq_simulate.specs.declared.driver.Driver.{Driver}
 use Rattle.bq_simulate.specs.Drives.{Starts, Drives}
 use Rattle.bq_workload.specs.Accounts.{accounts_of, is_over, opening}
@@ -79,6 +79,28 @@ pub record IsSimulation (policies : List Accepted) (w : Workload) (told : Told) 
   pub whole : told ≡ first ++ more
   pub ends : Ends policies w opening deeds
 
+-- How a simulation begins: its machine is made, all that opens it is done, and then some of what comes due, as in one that goes to its end.
+pub record Begins (policies : List Accepted) (w : Workload) (told : Told) : Type 0 where
+  pub opening : Driver
+  pub closing : Driver
+  pub deeds : List Deed
+  pub book : Book
+  pub first : Told
+  pub more : Told
+  pub starts : Starts w.machine.rule w.machine.size first opening
+  pub drives : Drives opening (events_of deeds) more closing
+  pub lives : Lives w.tasks.items w.machine.seed (periods_of w.machine) opening (opening_book w.machine) deeds more closing book
+  pub whole : told ≡ first ++ more
+  pub proceeds : Proceeds policies (processors_in w.machine.size) w.tasks.items w.machine.seed (periods_of w.machine) (most_steps w) w.machine.duration (opening_book w.machine) deeds
+
+-- all of a simulation; where there is enough of it, its beginning may do
+abbrev pub IsFollowed : Bool → List Accepted → Workload → Told → Type 0
+IsFollowed enough policies w told = IsSimulation policies w told ⊎ ((enough ≡ true) × Begins policies w told)
+
+-- a sink has enough, and got events of which this holds
+abbrev pub HasEnough : {S : Type 0} → (S → ℕ → TraceEvent → S → Type 0) → (S → Bool) → (Told → Type 0) → S → S → Type 0
+HasEnough takes sated Holds old new = (sated new ≡ true) × Gets takes old new Holds
+
 -- the streams of the tasks from this number on, each after this many draws
 abbrev pub streams_after : ℕ → ℕ → List ℕ → List Lcg
 streams_after seed task [] = []
@@ -95,7 +117,7 @@ abbrev pub book_of : Simulation → List ℕ → Book
 book_of s drawn = record { accounts = accounts_of s.roster; drawn = drawn }
 
 -- a simulation, whose streams have given this many lengths, goes on by some deeds of which this holds, and which are reported to a sink
-pub record Goes {S : Type 0} (takes : S → ℕ → News → S → Type 0) (kinds : List TaskKind) (Are : List Deed → Type 0) (old : S) (s : Simulation) (drawn : List ℕ) (new : S) (t : Simulation) : Type 0 where
+pub record Goes {S : Type 0} (takes : S → ℕ → TraceEvent → S → Type 0) (kinds : List TaskKind) (Are : List Deed → Type 0) (old : S) (s : Simulation) (drawn : List ℕ) (new : S) (t : Simulation) : Type 0 where
   pub deeds : List Deed
   pub after : List ℕ
   pub periods : t.roster.periods ≡ s.roster.periods
@@ -106,15 +128,15 @@ pub record Goes {S : Type 0} (takes : S → ℕ → News → S → Type 0) (kind
   pub tells : Gets takes old new (λ told. Lives kinds s.seed s.roster.periods s.driver (book_of s drawn) deeds told t.driver (book_of t after))
   pub are : Are deeds
 
-abbrev pub Lived : {S : Type 0} → (S → ℕ → News → S → Type 0) → List TaskKind → (List Deed → Type 0) → S → Simulation → S → Simulation → Type 0
+abbrev pub Lived : {S : Type 0} → (S → ℕ → TraceEvent → S → Type 0) → List TaskKind → (List Deed → Type 0) → S → Simulation → S → Simulation → Type 0
 Lived takes kinds Are old s new t = (drawn : List ℕ) → HasDrawn s drawn → HasFirsts kinds s → Goes takes kinds Are old s drawn new t
 
 -- from accounts with which its event queue agrees it goes on by deeds of which this holds, by what was kept
-abbrev pub LivedFrom : {S : Type 0} → (S → ℕ → News → S → Type 0) → List TaskKind → (Book → List Deed → Type 0) → S → Simulation → S → Simulation → Type 0
+abbrev pub LivedFrom : {S : Type 0} → (S → ℕ → TraceEvent → S → Type 0) → List TaskKind → (Book → List Deed → Type 0) → S → Simulation → S → Simulation → Type 0
 LivedFrom takes kinds Are old s new t = (drawn : List ℕ) → HasDrawn s drawn → HasFirsts kinds s → IsAgreed s.roster → Goes takes kinds (Are (book_of s drawn)) old s drawn new t
 
 -- only events: what tasks do has no part in it
-abbrev pub Befell : {S : Type 0} → (S → ℕ → News → S → Type 0) → (List Deed → Type 0) → S → Simulation → S → Simulation → Type 0
+abbrev pub Befell : {S : Type 0} → (S → ℕ → TraceEvent → S → Type 0) → (List Deed → Type 0) → S → Simulation → S → Simulation → Type 0
 Befell takes Are old s new t = (kinds : List TaskKind) → Lived takes kinds Are old s new t
 
 -- it goes on by deeds of which nothing is reported
@@ -133,13 +155,19 @@ abbrev pub Silent : List TaskKind → (List Deed → Type 0) → Simulation → 
 Silent kinds Are s t = (drawn : List ℕ) → HasDrawn s drawn → HasFirsts kinds s → GoesUntold kinds Are s drawn t
 
 -- a simulation goes on until no timer, no end of a phase, no tick and no look is left, and then to its end
-pub record Runs {S : Type 0} (takes : S → ℕ → News → S → Type 0) (policies : List Accepted) (kinds : List TaskKind) (most end processors : ℕ) (old : S) (s : Simulation) (new : S) (t : Simulation) : Type 0 where
+pub record Runs {S : Type 0} (takes : S → ℕ → TraceEvent → S → Type 0) (policies : List Accepted) (kinds : List TaskKind) (most end processors : ℕ) (old : S) (s : Simulation) (new : S) (t : Simulation) : Type 0 where
   pub sink : S
   pub ended : Simulation
   pub proceeds : LivedFrom takes kinds (Proceeds policies processors kinds s.seed s.roster.periods most end) old s sink ended
   pub none : IsAgreed ended.roster → NothingComes ended.roster.periods.end (accounts_of ended.roster)
   pub over : is_over end (accounts_of ended.roster) ≡ true
   pub ticks : Lived takes kinds (AreJust (last_ticks end (all_processors processors) (accounts_of ended.roster))) sink ended new t
+
+-- it goes on to its end, or until the sink has enough
+abbrev pub RunsOn : {S : Type 0} → (S → ℕ → TraceEvent → S → Type 0) → (S → Bool) → List Accepted → List TaskKind → ℕ → ℕ → ℕ → S → Simulation → S → Simulation → Type 0
+RunsOn takes sated policies kinds most end processors old s new t =
+    Runs takes policies kinds most end processors old s new t
+    ⊎ ((sated new ≡ true) × LivedFrom takes kinds (Proceeds policies processors kinds s.seed s.roster.periods most end) old s new t)
 
 -- what stays beside the machine and the accounts, and that the event queue agrees with them
 pub record Stays (s t : Simulation) : Type 0 where

@@ -1,4 +1,4 @@
--- The text of a trace that news writes: a line for each machine, event and comment, in order.
+-- The text of a trace that events write: a line for each machine, event and comment, in order.
 use Rattle.std.specs.Prelude.{◌≡◌, ℕ, List, [], ◌∷◌, ◌++◌, Option, None, if◌then◌else◌}
 use Rattle.std.specs.Borrow.{Bor}
 use Rattle.std.specs.Option.{option_map}
@@ -7,7 +7,7 @@ use Rattle.bq_parts.specs.declared.event.Event.{Event}
 use Rattle.bq_parts.specs.declared.event.Event.TheVariants.{Install}
 use Rattle.bq_simulate.specs.Spelling.{HasFittingNumbers, asking_line, machine_line}
 use Rattle.bq_trace.specs.Feeding.{with_feeds}
-use Rattle.bq_trace.specs.News.{News, Told, Opened, Skipped, Comes}
+use Rattle.bq_trace.specs.TraceEvents.{TraceEvent, Told, Opened, Skipped, Comes}
 use Rattle.bq_hooks.specs.declared.hook.Hook.{Hook}
 use Rattle.bq_hooks.specs.declared.hook.Hook.TheVariants as hooks
 use Rattle.bq_simulate.specs.declared.images.Images.{Images}
@@ -29,31 +29,31 @@ abbrev pub brought : ByHook → Event → Option (List ℕ)
 brought images (Install c hook generation policy) = images hook
 brought images event = None
 
--- the lines that some news writes: one, or none
-abbrev pub news_lines : ByHook → News → List (List ℕ)
-news_lines images (Opened rule size) = machine_line rule size ∷ []
-news_lines images (Skipped line) = if is_utf8 line then line ∷ [] else []
-news_lines images (Comes event m) = asking_line (brought images event) event ∷ []
-news_lines images news = []
+-- the lines that an event writes: one, or none
+abbrev pub traced_lines : ByHook → TraceEvent → List (List ℕ)
+traced_lines images (Opened rule size) = machine_line rule size ∷ []
+traced_lines images (Skipped line) = if is_utf8 line then line ∷ [] else []
+traced_lines images (Comes event m) = asking_line (brought images event) event ∷ []
+traced_lines images traced = []
 
 -- the lines that all of it writes
 abbrev pub told_lines : ByHook → Told → List (List ℕ)
 told_lines images [] = []
-told_lines images ((n, x) ∷ more) = news_lines images x ++ told_lines images more
+told_lines images ((n, x) ∷ more) = traced_lines images x ++ told_lines images more
 
 -- an event that comes has numbers of their types
-abbrev pub IsFitting : News → Type 0
+abbrev pub IsFitting : TraceEvent → Type 0
 IsFitting (Comes event m) = HasFittingNumbers event
-IsFitting news = Unit {0}
+IsFitting traced = Unit {0}
 
 abbrev pub AreFitting : Told → Type 0
 AreFitting [] = Unit {0}
 AreFitting ((n, x) ∷ more) = IsFitting x × AreFitting more
 
--- A text grows by the lines of some news, and a line feed after each.
-pub record Writes (images : ByHook) (old : List ℕ) (news : News) (new : List ℕ) : Type 0 where
-  pub text : new ≡ old ++ with_feeds (news_lines images news)
-  pub fits : IsFitting news
+-- A text grows by the lines of an event, and a line feed after each.
+pub record Writes (images : ByHook) (old : List ℕ) (traced : TraceEvent) (new : List ℕ) : Type 0 where
+  pub text : new ≡ old ++ with_feeds (traced_lines images traced)
+  pub fits : IsFitting traced
 
 -- It has grown by the lines of all of it.
 pub record WritesAll (images : ByHook) (old : List ℕ) (told : Told) (new : List ℕ) : Type 0 where

@@ -4,7 +4,7 @@ ghost use Rattle.bq_parts.specs.declared.event.Event.TheVariants.{Admit, Draw, I
 ghost use Rattle.bq_parts.specs.declared.reply.Reply.{Reply};
 ghost use Rattle.bq_parts.specs.declared.reply.Reply.TheVariants.{Drawn};
 ghost use Rattle.bq_simulate.specs.Drives.{count_entered, Did, Drove, Places, placed_at, runs_now, task_pulled};
-ghost use Rattle.bq_trace.specs.News.{Gets};
+ghost use Rattle.bq_trace.specs.TraceEvents.{Gets};
 
 use crate::drive_fault::DriveFault;
 use crate::driver::Driver;

@@ -2,13 +2,13 @@
 ghost use Rattle.std.specs.Prelude.{◌≡◌, IfErr, IfOk, OnErr, OnOk};
 ghost use Rattle.bq_simulate.specs.Drives.{reading_of, Falls, IsDriveFault, IsUntouched, Rises, Does, Starts};
 ghost use Rattle.bq_simulate.specs.declared.drive_fault.DriveFault.TheVariants.{Reading};
-ghost use Rattle.bq_trace.specs.News.{Gets};
+ghost use Rattle.bq_trace.specs.TraceEvents.{Gets};
 
 use crate::drive_fault::DriveFault;
 use bq_disc::clock::LATEST;
 use bq_parts::{Event, Refusal, Reply};
 use bq_trace::bare::bare;
-use bq_trace::{AnyCore, Sink};
+use bq_trace::{AnyCore, Sink, TraceEvent};
 use bq_words::{ProcessorCount, Rule};
 use std::alloc::Global;
 
@@ -31,7 +31,7 @@ impl Driver {
         ensures { IfOk result (λ driver. Gets S.takes sink.old sink.new (λ told. Starts rule size told driver)) }
     {
         let machine = AnyCore::new(alloc, rule, size)?;
-        sink.opened(1, rule, size)?;
+        sink.take(1, &TraceEvent::Opened { rule, size })?;
         Ok(Driver {
             machine,
             line: 1,
@@ -54,9 +54,18 @@ impl Driver {
         self.read(reading_of(&event))?;
         self.line = self.line.saturating_add(1);
         let told = bare(&event);
-        sink.comes(self.line, &told, &self.machine)?;
+        let coming = TraceEvent::Comes {
+            event: &told,
+            machine: &self.machine,
+        };
+        sink.take(self.line, &coming)?;
         let answer = self.machine.step(alloc, event);
-        sink.answered(self.line, &told, &answer, &self.machine)?;
+        let answered = TraceEvent::Answered {
+            event: &told,
+            answer: &answer,
+            machine: &self.machine,
+        };
+        sink.take(self.line, &answered)?;
         match answer {
             Ok(reply) => Ok(reply),
             Err(Refusal::OutOfMemory) => Err(DriveFault::OutOfMemory),

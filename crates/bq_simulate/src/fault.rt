@@ -1,7 +1,7 @@
 //! Why a simulation does not come to its end.
-ghost use Rattle.std.specs.Prelude.{◌≡◌, None};
+ghost use Rattle.std.specs.Prelude.{◌≡◌, ◌≢◌, None};
 ghost use Rattle.bq_simulate.specs.Faults.{flaw_told};
-ghost use Rattle.bq_simulate.specs.declared.fault.SimulateFault.TheVariants.{OutOfMemory};
+ghost use Rattle.bq_simulate.specs.declared.fault.SimulateFault.TheVariants.{Enough, OutOfMemory};
 
 use crate::DriveFault;
 use bq_workload::{BrokenInvariant, Unsound};
@@ -27,15 +27,20 @@ pub enum SimulateFault {
     /// The loop took more steps than its workload allows. That would be a fault of this program.
     #[error("internal fault: the loop does not end")]
     Endless,
+    /// The sink has enough of it.
+    #[error("more came than is wanted")]
+    Enough,
 }
 
 impl SimulateFault {
-    /// The fault as one that came once the workload was found sound: that it is not would be a fault of this program.
-    pub(crate) fn past_soundness(self) -> SimulateFault
-        ensures { flaw_told result ≡ None }
+    /// The fault as one that came of the loop, once the workload was found sound, while the sink had not enough: any other would be
+    /// a fault of this program.
+    pub(crate) fn of_loop(self) -> SimulateFault
+        ensures sound { flaw_told result ≡ None }
+        ensures other { result ≢ Enough }
     {
         match self {
-            SimulateFault::Unsound(_) => SimulateFault::BrokenInvariant,
+            SimulateFault::Unsound(_) | SimulateFault::Enough => SimulateFault::BrokenInvariant,
             fault => fault,
         }
     }

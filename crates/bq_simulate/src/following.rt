@@ -1,5 +1,5 @@
 //! A simulation from its beginning to its end.
-ghost use Rattle.std.specs.Prelude.{◌≡◌, ◌≢◌, None, [], ◌∷◌, OnOk, IfOk, IfErr, length};
+ghost use Rattle.std.specs.Prelude.{◌≡◌, ◌≢◌, None, false, true, [], ◌∷◌, OnOk, IfOk, IfErr, length};
 ghost use Rattle.bq_workload.specs.Accounts.{accounts_of};
 ghost use Rattle.bq_words.specs.Sizes.{processors_in};
 ghost use Rattle.bq_workload.specs.Bounds.{most_steps};
@@ -7,12 +7,14 @@ ghost use Rattle.bq_workload.specs.Kinds.{tasks_in};
 ghost use Rattle.bq_workload.specs.Next.{IsAgreed, NothingComes};
 ghost use Rattle.bq_workload.specs.Soundness.{first_flaw};
 ghost use Rattle.bq_simulate.specs.Faults.{flaw_told};
-ghost use Rattle.bq_simulate.specs.Simulations.{Befell, IsSimulation, LivedFrom, Runs, opening_book, periods_of, with_seed};
+ghost use Rattle.bq_simulate.specs.Simulations.{Befell, HasEnough, IsFollowed, IsSimulation, LivedFrom, Proceeds, RunsOn, opening_book, periods_of, with_seed};
 ghost use Rattle.bq_simulate.specs.Steps.{AreJust, AreMet, KeepsOthers, all_processors, last_ticks};
-ghost use Rattle.bq_trace.specs.News.{Gets};
+ghost use Rattle.bq_simulate.specs.declared.fault.SimulateFault.TheVariants as why;
+ghost use Rattle.bq_trace.specs.TraceEvents.{Gets};
 
 use crate::Driver;
 use crate::counts::Counts;
+use crate::enough::Enough;
 use crate::fault::SimulateFault;
 use crate::simulation::Simulation;
 use bq_installed::Policy;
@@ -23,17 +25,20 @@ use std::alloc::Global;
 /// Follows a workload to its end, with these policies at all processors, and tells a sink of its events: line 1 of their
 /// trace makes the machine, and each event is a line. What was counted besides. Each sleep lasts just its length, each tick and
 /// each look for a task to pull comes exactly when it is to, what is done next is what comes first, and no timer, no end of a
-/// phase, no tick and no look that comes until the end is left out.
+/// phase, no tick and no look that comes until the end is left out. Where the sink has enough before, that is the fault: it got all
+/// that came until then.
 ///
 /// A workload with a flaw is refused for the first of its flaws, as `Unsound`, and nothing is reported. One without is never
 /// `Unsound`: after any other fault what was reported is to be the beginning of a trace, which is only tested.
-pub fn simulate<S: Sink>(
+pub fn simulate<S: Sink + Enough>(
     alloc: Global,
     workload: &Workload,
     policies: &[Policy],
     sink: &mut S,
 ) -> Result<Counts, SimulateFault>
     ensures told { OnOk result (Gets S.takes sink.old sink.new (IsSimulation policies.now workload.now)) }
+    ensures wants { OnOk result (S.sated sink.new ≡ false) }
+    ensures enough { IfErr result (λ fault. fault ≡ why.Enough → HasEnough S.takes S.sated (IsFollowed true policies.now workload.now) sink.old sink.new) }
     ensures tasks { IfOk result (λ counts. counts.tasks ≡ tasks_in workload.now.tasks.items) }
     ensures sound { IfOk result (λ _. first_flaw workload.now ≡ None) }
     ensures flaw { IfErr result (λ fault. flaw_told fault ≡ first_flaw workload.now) }
@@ -43,7 +48,7 @@ pub fn simulate<S: Sink>(
 }
 
 /// Follows a workload to its end as `simulate` does, with this seed in place of its own.
-pub fn simulate_seed<S: Sink>(
+pub fn simulate_seed<S: Sink + Enough>(
     alloc: Global,
     workload: &Workload,
     seed: u64,
@@ -51,27 +56,33 @@ pub fn simulate_seed<S: Sink>(
     sink: &mut S,
 ) -> Result<Counts, SimulateFault>
     ensures told { OnOk result (Gets S.takes sink.old sink.new (IsSimulation policies.now (with_seed workload.now seed))) }
+    ensures wants { OnOk result (S.sated sink.new ≡ false) }
+    ensures enough { IfErr result (λ fault. fault ≡ why.Enough → HasEnough S.takes S.sated (IsFollowed true policies.now (with_seed workload.now seed)) sink.old sink.new) }
     ensures tasks { IfOk result (λ counts. counts.tasks ≡ tasks_in workload.now.tasks.items) }
     ensures sound { IfOk result (λ _. first_flaw workload.now ≡ None) }
     ensures flaw { IfErr result (λ fault. flaw_told fault ≡ first_flaw workload.now) }
     ensures untold { first_flaw workload.now ≢ None → sink.new ≡ sink.old }
 {
     soundness(workload).map_err(SimulateFault::Unsound)?;
-    match follow(alloc, workload, seed, policies, sink) {
-        Ok(counts) => Ok(counts),
-        Err(fault) => Err(fault.past_soundness()),
+    let counts = match follow(alloc, workload, seed, policies, sink) {
+        Ok(counts) => counts,
+        Err(fault) => return Err(fault.of_loop()),
+    };
+    if sink.has_enough() {
+        return Err(SimulateFault::Enough);
     }
+    Ok(counts)
 }
 
-/// Follows a workload that can be followed.
-fn follow<S: Sink>(
+/// Follows a workload that can be followed, until the sink has enough.
+fn follow<S: Sink + Enough>(
     alloc: Global,
     workload: &Workload,
     seed: u64,
     policies: &[Policy],
     sink: &mut S,
 ) -> Result<Counts, SimulateFault>
-    ensures told { OnOk result (Gets S.takes sink.old sink.new (IsSimulation policies.now (with_seed workload.now seed))) }
+    ensures told { OnOk result (Gets S.takes sink.old sink.new (IsFollowed (S.sated sink.new) policies.now (with_seed workload.now seed))) }
     ensures tasks { IfOk result (λ counts. counts.tasks ≡ tasks_in workload.now.tasks.items) }
 {
     let machine = &workload.machine;
@@ -118,8 +129,8 @@ impl Simulation {
         })
     }
 
-    /// From the opening machine to the end. What was counted.
-    fn run<S: Sink>(
+    /// From the opening machine to the end, or until the sink has enough. What was counted.
+    fn run<S: Sink + Enough>(
         &mut self,
         alloc: Global,
         workload: &Workload,
@@ -129,38 +140,70 @@ impl Simulation {
         requires tasks { length self.old.roster.by_task.items ≡ 0 }
         requires streams { length self.old.streams.items ≡ 0 }
         ensures tasks { IfOk result (λ counts. counts.tasks ≡ tasks_in workload.now.tasks.items) }
-        ensures runs { OnOk result (Runs S.takes policies.now workload.now.tasks.items (most_steps workload.now) workload.now.machine.duration (processors_in workload.now.machine.size) sink.old self.old sink.new self.new) }
+        ensures runs { OnOk result (RunsOn S.takes S.sated policies.now workload.now.tasks.items (most_steps workload.now) workload.now.machine.duration (processors_in workload.now.machine.size) sink.old self.old sink.new self.new) }
+    {
+        let tasks = self.proceed(alloc, workload, policies, sink)?;
+        if sink.has_enough() {
+            return Ok(self.counted(tasks));
+        }
+        if !self.roster.is_over(workload.machine.duration) {
+            return Err(SimulateFault::BrokenInvariant);
+        }
+        let processors = workload.machine.size.processors();
+        self.finish(alloc, processors, workload.machine.duration, sink)?;
+        Ok(self.counted(tasks))
+    }
+
+    /// From the opening machine to where nothing comes due any more, or the sink has enough. How many tasks there are.
+    fn proceed<S: Sink + Enough>(
+        &mut self,
+        alloc: Global,
+        workload: &Workload,
+        policies: &[Policy],
+        sink: &mut S,
+    ) -> Result<u16, SimulateFault>
+        requires tasks { length self.old.roster.by_task.items ≡ 0 }
+        requires streams { length self.old.streams.items ≡ 0 }
+        ensures tasks { IfOk result (λ tasks. tasks ≡ tasks_in workload.now.tasks.items) }
+        ensures none { OnOk result (S.sated sink.new ≡ false → IsAgreed self.new.roster → NothingComes self.new.roster.periods.end (accounts_of self.new.roster)) }
+        ensures lived { OnOk result (LivedFrom S.takes workload.now.tasks.items (Proceeds policies.now (processors_in workload.now.machine.size) workload.now.tasks.items self.old.seed self.old.roster.periods (most_steps workload.now) workload.now.machine.duration) sink.old self.old sink.new self.new) }
     {
         let processors = workload.machine.size.processors();
         self.install(alloc, processors, policies, sink)?;
         self.admit(alloc, workload, sink)?;
         let tasks = self.tasks()?;
         self.go_on(alloc, workload, most_steps(workload), sink)?;
-        if !self.roster.is_over(workload.machine.duration) {
-            return Err(SimulateFault::BrokenInvariant);
-        }
-        self.finish(alloc, processors, workload.machine.duration, sink)?;
-        Ok(Counts {
-            tasks,
-            ..self.counts
-        })
+        Ok(tasks)
     }
 
-    /// Does what comes due, one thing after another, until nothing does: each is the first that comes by the accounts. Nothing
-    /// comes before what came already, or beyond the duration.
-    fn go_on<S: Sink>(
+    /// What was counted, and that many tasks.
+    fn counted(&self, tasks: u16) -> Counts
+        ensures { result.tasks ≡ tasks }
+    {
+        Counts {
+            tasks,
+            ..self.counts
+        }
+    }
+
+    /// Does what comes due, one thing after another, until nothing does or the sink has enough: each is the first that comes by the
+    /// accounts. Nothing comes before what came already, or beyond the duration.
+    fn go_on<S: Sink + Enough>(
         &mut self,
         alloc: Global,
         workload: &Workload,
         most: u64,
         sink: &mut S,
     ) -> Result<(), SimulateFault>
-        ensures none { OnOk result (IsAgreed self.new.roster → NothingComes self.new.roster.periods.end (accounts_of self.new.roster)) }
+        ensures none { OnOk result (S.sated sink.new ≡ false → IsAgreed self.new.roster → NothingComes self.new.roster.periods.end (accounts_of self.new.roster)) }
         ensures lived { OnOk result (LivedFrom S.takes workload.now.tasks.items (AreMet workload.now.tasks.items self.old.seed self.old.roster.periods most workload.now.machine.duration) sink.old self.old sink.new self.new) }
     {
         let end = workload.machine.duration;
         let mut last: u64 = 0;
         'steps: for _ in 0..most {
+            if sink.has_enough() {
+                return Ok(());
+            }
             let Some((now, due)) = self.roster.first()? else {
                 return Ok(());
             };

@@ -6,10 +6,8 @@ ghost use Rattle.bq_simulate.specs.Texts.{Writes, brought, image_at};
 
 use crate::images::Images;
 use crate::{write_event, write_machine};
-use bq_load::LoadFault;
-use bq_parts::{Event, Refusal, Reply};
-use bq_trace::{AnyCore, Sink};
-use bq_words::{ProcessorCount, Rule};
+use bq_parts::Event;
+use bq_trace::{Sink, TraceEvent};
 use std::alloc::{AllocError, Global};
 use std::fmt::Write;
 
@@ -46,56 +44,25 @@ impl<'a> TraceWriter<'a> {
 }
 
 impl Sink for TraceWriter<'_> {
-    ghost takes = { λ old n news new. (new.images ≡ old.images) × Writes (image_at old.images) (string_bytes old.text) news (string_bytes new.text) };
+    ghost takes = { λ old n traced new. (new.images ≡ old.images) × Writes (image_at old.images) (string_bytes old.text) traced (string_bytes new.text) };
 
-    fn opened(&mut self, _number: u64, rule: Rule, size: ProcessorCount) -> Result<(), AllocError> {
-        write_machine(&mut self.text, rule, size)
-    }
-
-    fn skipped(&mut self, _number: u64, line: &[u8]) -> Result<(), AllocError> {
-        match std::str::from_utf8(line) {
-            Ok(line) => write!(self.text, "{line}\n"),
-            Err(_) => Ok(()),
+    fn take(&mut self, _number: u64, event: &TraceEvent<'_>) -> Result<(), AllocError> {
+        match event {
+            TraceEvent::Opened { rule, size } => write_machine(&mut self.text, *rule, *size),
+            TraceEvent::Skipped { line } => match std::str::from_utf8(line) {
+                Ok(line) => write!(self.text, "{line}\n"),
+                Err(_) => Ok(()),
+            },
+            TraceEvent::Comes { event, .. } => {
+                let image = self.brought(event);
+                write_event(self.alloc, &mut self.text, event, image)
+            }
+            TraceEvent::Answered { .. }
+            | TraceEvent::Unspelled
+            | TraceEvent::Unloaded { .. }
+            | TraceEvent::Shown { .. }
+            | TraceEvent::Counted { .. }
+            | TraceEvent::Bad { .. } => Ok(()),
         }
-    }
-
-    fn comes(&mut self, _number: u64, event: &Event, _machine: &AnyCore) -> Result<(), AllocError> {
-        let image = self.brought(event);
-        write_event(self.alloc, &mut self.text, event, image)
-    }
-
-    fn answered(
-        &mut self,
-        _number: u64,
-        _event: &Event,
-        _answer: &Result<Reply, Refusal>,
-        _machine: &AnyCore,
-    ) -> Result<(), AllocError> {
-        Ok(())
-    }
-
-    fn unspelled(&mut self, _number: u64) -> Result<(), AllocError> {
-        Ok(())
-    }
-
-    fn unloaded(&mut self, _number: u64, _fault: LoadFault) -> Result<(), AllocError> {
-        Ok(())
-    }
-
-    fn shown(
-        &mut self,
-        _number: u64,
-        _processor: u8,
-        _machine: &AnyCore,
-    ) -> Result<(), AllocError> {
-        Ok(())
-    }
-
-    fn counted(&mut self, _number: u64, _counter: u8, _value: u64) -> Result<(), AllocError> {
-        Ok(())
-    }
-
-    fn bad(&mut self, _number: u64, _line: Option<&[u8]>) -> Result<(), AllocError> {
-        Ok(())
     }
 }

@@ -1,4 +1,4 @@
--- What a viewer keeps of the news of a trace that comes in pieces.
+-- What a viewer keeps of the events of a trace that comes in pieces.
 use Rattle.std.proofs.Common.{◌≡◌, ℕ, ◌==◌, List, [], ◌∷◌, ◌++◌, map, refl, sym, ap, ◌∙◌, append-nil, subst, Some, None, Option}
 use Rattle.std.specs.List.{AllByRecursion}
 use Rattle.std.specs.Str.Lines.{lines, strip_carriage_return}
@@ -8,7 +8,7 @@ use Rattle.std.proofs.lemmas.List.{map-append}
 use Rattle.bq_lines.specs.Kept.{IsOneLine, StandsFor}
 use Rattle.bq_schedule.specs.Figures.{Figures}
 use Rattle.bq_trace.specs.Feeding.{with_feeds}
-use Rattle.bq_trace.specs.News.{News, Told, Gets, TakesAll}
+use Rattle.bq_trace.specs.TraceEvents.{TraceEvent, Told, Gets, TakesAll}
 use Rattle.bq_trace.specs.Telling.{GoesOn, Story}
 use Rattle.bq_trace.specs.Trace.{start}
 use Rattle.bq_trace.proofs.LineLemmas.{lines-with_feeds}
@@ -21,11 +21,11 @@ use Rattle.bq_timeline.specs.declared.showing.Outcome.{Outcome}
 use Rattle.bq_timeline.specs.declared.showing.Showing.{Showing}
 use Rattle.bq_timeline.specs.declared.viewer.Viewer.{Viewer}
 
--- a viewer takes a piece of news
-abbrev pub Takes : Viewer → ℕ → News → Viewer → Type 0
-Takes old n news new = Keeps old news new
+-- a viewer takes an event
+abbrev pub Takes : Viewer → ℕ → TraceEvent → Viewer → Type 0
+Takes old n traced new = Keeps old traced new
 
--- news that a viewer takes leave it their schedule and their count
+-- events that a viewer takes leave it their schedule and their count
 pub takes_all : (old new : Viewer) (told : Told) → TakesAll Takes old told new → (new.schedule ≡ schedule_after old.schedule told) × (new.troubles ≡ troubles_after old.troubles told)
 takes_all old new [] h = (ap (λ (v : Viewer). v.schedule) h, ap (λ (v : Viewer). v.troubles) h)
 takes_all old new ((n, x) ∷ more) h =
@@ -38,12 +38,12 @@ watches_what_it_gets old new then Holds g schedule troubles =
     let kept = takes_all old new g.told g.taken in
     record { told = g.told; schedule = schedule ∙ kept.0; troubles = troubles ∙ kept.1; holds = g.holds }
 
--- the schedule of news and of more behind them
+-- the schedule of events and of more behind them
 pub schedule_after-append : (s : Option Figures) (xs ys : Told) → schedule_after s (xs ++ ys) ≡ schedule_after (schedule_after s xs) ys
 schedule_after-append s [] ys = refl
 schedule_after-append s ((n, x) ∷ xs) ys = schedule_after-append (watched s x) xs ys
 
--- the count of news and of more behind them
+-- the count of events and of more behind them
 pub troubles_after-append : (k : ℕ) (xs ys : Told) → troubles_after k (xs ++ ys) ≡ troubles_after (troubles_after k xs) ys
 troubles_after-append k [] ys = refl
 troubles_after-append k ((n, x) ∷ xs) ys = troubles_after-append (troubled k x) xs ys

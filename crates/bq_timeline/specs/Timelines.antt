@@ -2,7 +2,7 @@
 use Rattle.std.specs.Prelude.{◌≡◌, ◌==◌, ℕ, List, ◌++◌, Option, None, string_bytes}
 use Rattle.std.specs.Io.KnownBytes.{Consumes, IsAtEnd}
 use Rattle.std.specs.Str.Lines.{lines}
-use Rattle.bq_trace.specs.News.{News, Told}
+use Rattle.bq_trace.specs.TraceEvents.{TraceEvent, Told}
 use Rattle.bq_trace.specs.Telling.{Story}
 use Rattle.bq_trace.specs.Trace.{start}
 use Rattle.bq_trace.specs.declared.progress.Progress.{Progress}
@@ -13,8 +13,8 @@ use Rattle.bq_timeline.specs.declared.showing.Showing.{Showing}
 use Rattle.bq_timeline.specs.declared.viewer.Viewer.{Viewer}
 
 -- A viewer got a trace event: it has the schedule that goes on by it, and has counted it where it is trouble.
-abbrev pub Keeps : Viewer → News → Viewer → Type 0
-Keeps old news new = (new.schedule ≡ watched old.schedule news) × (new.troubles ≡ troubled old.troubles news)
+abbrev pub Keeps : Viewer → TraceEvent → Viewer → Type 0
+Keeps old traced new = (new.schedule ≡ watched old.schedule traced) × (new.troubles ≡ troubled old.troubles traced)
 
 -- The viewer got trace events of which this holds: it has the schedule that they tell, and the count of those that are trouble.
 pub record Watches (old new : Viewer) (Holds : Told → Type 0) : Type 0 where

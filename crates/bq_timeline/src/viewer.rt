@@ -1,4 +1,5 @@
 //! The sink of a timeline: the schedule that a trace tells, and the form that it is shown in.
+ghost use Rattle.bq_streams.specs.Counts.{one_more};
 ghost use Rattle.bq_timeline.specs.Notes.{absent_notes, last_notes};
 ghost use Rattle.bq_report.specs.Names.{name_of};
 ghost use Rattle.bq_timeline.specs.Beginning.{BeginsWith, Ends};
@@ -7,11 +8,8 @@ ghost use Rattle.std.specs.Prelude.{◌≡◌, ◌++◌, ℕ, OnOk, string_bytes
 
 use crate::screen::Screen;
 use crate::settings::Settings;
-use bq_load::LoadFault;
-use bq_parts::{Event, Refusal, Reply};
 use bq_schedule::Schedule;
-use bq_trace::{AnyCore, Sink};
-use bq_words::{ProcessorCount, Rule};
+use bq_trace::{Sink, TraceEvent};
 use std::alloc::{AllocError, Global};
 
 /// A trace as far as it has come: its schedule, once it has a machine, and how many of its lines were bad or refused.
@@ -60,6 +58,16 @@ impl Viewer {
         }
     }
 
+    /// The form begins, if it can, and one line more is bad or refused.
+    fn begin_trouble(&mut self) -> Result<(), AllocError>
+        ensures schedule { self.new.schedule ≡ self.old.schedule }
+        ensures troubles { OnOk result (self.new.troubles ≡ one_more self.old.troubles) }
+    {
+        self.begin()?;
+        self.troubles = self.troubles.saturating_add(1);
+        Ok(())
+    }
+
     /// The trace is over.
     pub fn end(&mut self) -> Result<(), AllocError>
         ensures schedule { self.new.schedule ≡ self.old.schedule }
@@ -87,70 +95,56 @@ impl Viewer {
 }
 
 impl Sink for Viewer {
-    ghost takes = { λ old n news new. Keeps old news new };
+    ghost takes = { λ old n traced new. Keeps old traced new };
 
-    fn opened(&mut self, _number: u64, rule: Rule, size: ProcessorCount) -> Result<(), AllocError> {
-        let schedule = Schedule::new(self.alloc, size.processors())?;
-        self.screen.opened(rule);
-        self.schedule = Some(schedule);
-        Ok(())
-    }
-
-    fn skipped(&mut self, _number: u64, line: &[u8]) -> Result<(), AllocError> {
-        self.screen.comment(line)
-    }
-
-    fn comes(&mut self, number: u64, event: &Event, machine: &AnyCore) -> Result<(), AllocError> {
-        self.begin()?;
-        self.screen.comes(number, event, machine)
-    }
-
-    fn answered(
-        &mut self,
-        number: u64,
-        event: &Event,
-        answer: &Result<Reply, Refusal>,
-        machine: &AnyCore,
-    ) -> Result<(), AllocError> {
-        if answer.is_err() {
-            self.troubles = self.troubles.saturating_add(1);
+    fn take(&mut self, number: u64, event: &TraceEvent<'_>) -> Result<(), AllocError> {
+        match event {
+            TraceEvent::Opened { rule, size } => {
+                let schedule = Schedule::new(self.alloc, size.processors())?;
+                self.screen.opened(*rule);
+                self.schedule = Some(schedule);
+                Ok(())
+            }
+            TraceEvent::Skipped { line } => self.screen.comment(line),
+            TraceEvent::Comes { event, machine } => {
+                self.begin()?;
+                self.screen.comes(number, event, machine)
+            }
+            TraceEvent::Answered {
+                event,
+                answer,
+                machine,
+            } => {
+                if answer.is_err() {
+                    self.troubles = self.troubles.saturating_add(1);
+                }
+                if let Some(schedule) = &mut self.schedule {
+                    let change = schedule.take(event, answer);
+                    self.screen
+                        .answered(number, event, answer, machine, &change, schedule)?;
+                }
+                Ok(())
+            }
+            TraceEvent::Unspelled => {
+                self.begin_trouble()?;
+                self.screen.unspelled(number)
+            }
+            TraceEvent::Unloaded { fault } => {
+                self.begin_trouble()?;
+                self.screen.unloaded(number, *fault)
+            }
+            TraceEvent::Shown { processor, machine } => {
+                if machine.seen(*processor).is_some() {
+                    return self.begin();
+                }
+                self.begin_trouble()?;
+                self.screen.not_there(number, *processor)
+            }
+            TraceEvent::Counted { .. } => Ok(()),
+            TraceEvent::Bad { line } => {
+                self.begin_trouble()?;
+                self.screen.bad(number, *line, self.schedule.is_some())
+            }
         }
-        if let Some(schedule) = &mut self.schedule {
-            let change = schedule.take(event, answer);
-            self.screen
-                .answered(number, event, answer, machine, &change, schedule)?;
-        }
-        Ok(())
-    }
-
-    fn unspelled(&mut self, number: u64) -> Result<(), AllocError> {
-        self.begin()?;
-        self.troubles = self.troubles.saturating_add(1);
-        self.screen.unspelled(number)
-    }
-
-    fn unloaded(&mut self, number: u64, fault: LoadFault) -> Result<(), AllocError> {
-        self.begin()?;
-        self.troubles = self.troubles.saturating_add(1);
-        self.screen.unloaded(number, fault)
-    }
-
-    fn shown(&mut self, number: u64, processor: u8, machine: &AnyCore) -> Result<(), AllocError> {
-        self.begin()?;
-        if machine.seen(processor).is_none() {
-            self.troubles = self.troubles.saturating_add(1);
-            self.screen.not_there(number, processor)?;
-        }
-        Ok(())
-    }
-
-    fn counted(&mut self, _number: u64, _counter: u8, _value: u64) -> Result<(), AllocError> {
-        Ok(())
-    }
-
-    fn bad(&mut self, number: u64, line: Option<&[u8]>) -> Result<(), AllocError> {
-        self.begin()?;
-        self.troubles = self.troubles.saturating_add(1);
-        self.screen.bad(number, line, self.schedule.is_some())
     }
 }

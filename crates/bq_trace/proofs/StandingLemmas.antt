@@ -5,7 +5,7 @@ use Rattle.std.specs.Str.Lines.{lines, strip_carriage_return}
 use Rattle.std.proofs.lemmas.List.{map-append}
 use Rattle.std.proofs.lemmas.List.Elements.{All-append, All-nil}
 use Rattle.bq_lines.specs.Kept.{IsOneLine, StandsFor}
-use Rattle.bq_trace.specs.News.{News, Told, TakesAll, Gets}
+use Rattle.bq_trace.specs.TraceEvents.{TraceEvent, Told, TakesAll, Gets}
 use Rattle.bq_trace.specs.Telling.{TellsLine, Story}
 use Rattle.bq_trace.specs.Feeding.{with_feeds}
 use Rattle.bq_trace.proofs.LineLemmas.{lines-one}
@@ -25,7 +25,7 @@ pub Story-one : (p q : Progress) (line : List ℕ) (told : Told) → TellsLine p
 Story-one p q line told h = (q, told, [], h, (refl, refl), sym (append-nil told))
 
 -- The lines so far are reported, current is the line that has begun, and rest is still to come.
-pub record SoFar {S : Type 0} (takes : S → ℕ → News → S → Type 0) (s : TracePosition) (whole : List ℕ) (t : TracePosition) (rest : List ℕ) (old new : S) : Type 0 where
+pub record SoFar {S : Type 0} (takes : S → ℕ → TraceEvent → S → Type 0) (s : TracePosition) (whole : List ℕ) (t : TracePosition) (rest : List ℕ) (old new : S) : Type 0 where
   pub ended : List (List ℕ)
   pub current : List ℕ
   pub told : Told
@@ -36,7 +36,7 @@ pub record SoFar {S : Type 0} (takes : S → ℕ → News → S → Type 0) (s :
   pub taken : TakesAll takes old told new
 
 -- before the first byte of a piece no line is reported, and the line that had begun stands
-pub SoFar-none : {S : Type 0} (takes : S → ℕ → News → S → Type 0) (s : TracePosition) (begun piece : List ℕ) (old : S) → StandsFor s.begun begun
+pub SoFar-none : {S : Type 0} (takes : S → ℕ → TraceEvent → S → Type 0) (s : TracePosition) (begun piece : List ℕ) (old : S) → StandsFor s.begun begun
     → SoFar takes s (begun ++ piece) s piece old old
 SoFar-none takes s begun piece old h = record {
   ended = [];
@@ -65,7 +65,7 @@ pub stands_for_nothing : StandsFor (Some []) []
 stands_for_nothing = record { one_line = All-nil (λ b. eqb b 10 ≡ false); kept_is = refl }
 
 -- one more line ends
-pub SoFar-more : {S : Type 0} (takes : S → ℕ → News → S → Type 0) (s t u : TracePosition) (whole rest tail more : List ℕ) (old mid new : S) → (h : SoFar takes s whole t rest old mid)
+pub SoFar-more : {S : Type 0} (takes : S → ℕ → TraceEvent → S → Type 0) (s t u : TracePosition) (whole rest tail more : List ℕ) (old mid new : S) → (h : SoFar takes s whole t rest old mid)
     → rest ≡ tail ++ 10 ∷ more → IsOneLine tail
     → Gets takes mid new (λ told. TellsLine t.progress (strip_carriage_return (h.current ++ tail)) told u.progress) → u.begun ≡ Some [] → SoFar takes s whole u more old new
 SoFar-more takes s t u whole rest tail more old mid new h cut one a cleared = record {
@@ -83,7 +83,7 @@ SoFar-more takes s t u whole rest tail more old mid new h cut one a cleared = re
 }
 
 -- the last line is reported
-pub ends_with : {S : Type 0} (takes : S → ℕ → News → S → Type 0) (p q : Progress) (begun : List ℕ) (old new : S) → IsOneLine begun → eqb (length begun) 0 ≡ false
+pub ends_with : {S : Type 0} (takes : S → ℕ → TraceEvent → S → Type 0) (p q : Progress) (begun : List ℕ) (old new : S) → IsOneLine begun → eqb (length begun) 0 ≡ false
     → Gets takes old new (λ told. TellsLine p begun told q) → Gets takes old new (λ told. Story p (lines begun) told q)
 ends_with takes p q begun old new one e a =
     let last : lines begun ≡ begun ∷ [] = lines-one begun one ∙ ap (λ t. cond t [] (begun ∷ [])) e in

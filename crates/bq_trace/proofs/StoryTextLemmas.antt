@@ -18,7 +18,7 @@ use Rattle.bq_trace.specs.Texts.{event_line, bad_line, counter_line, show_line}
 use Rattle.bq_trace.specs.Trace.{Answers, AnswersLine, AnswersAll, EndsWake, Wakes}
 use Rattle.bq_trace.specs.Feeding.{Continues}
 use Rattle.bq_trace.specs.Writing.{Adds}
-use Rattle.bq_trace.specs.News.{Told, Counted, Bad, Gets, text_of, texts}
+use Rattle.bq_trace.specs.TraceEvents.{Told, Counted, Bad, Gets, text_of, texts}
 use Rattle.bq_trace.specs.Telling.{Happens, EndHappens, WakeHappens, LoadHappens, Tells, TellsLine, Story, GoesOn, skips}
 use Rattle.bq_trace.specs.declared.progress.Phase.{Phase}
 use Rattle.bq_trace.specs.declared.progress.Phase.TheVariants.{Waiting, Over, Running}
@@ -100,7 +100,7 @@ story_text p q [] told h = (ap texts h.0, h.1)
 story_text p q (line ∷ others) told h =
     (h.0, texts h.1, texts h.2, line_text p h.0 line h.1 h.3, story_text h.0 q others h.2 h.4, ap texts h.5 ∙ texts-append h.1 h.2)
 
--- where a piece goes on, the texts of its news answer the lines that it ends
+-- where a piece goes on, the texts of its events answer the lines that it ends
 pub goes_on_text : (s t : TracePosition) (begun piece : List ℕ) (told : Told) → GoesOn s begun piece told t → Continues s begun piece (texts told) t
 goes_on_text s t begun piece told h = record {
   ended = h.ended;

@@ -5,7 +5,7 @@ use Rattle.bq_parts.specs.declared.event.Event.TheVariants.{BeginWake, EndWake}
 use Rattle.bq_parts.specs.declared.reply.Reply.{Reply}
 use Rattle.bq_parts.specs.declared.refusal.Refusal.{Refusal}
 use Rattle.bq_trace.specs.Machines.{Driven}
-use Rattle.bq_trace.specs.News.{News, Told, Gets}
+use Rattle.bq_trace.specs.TraceEvents.{TraceEvent, Told, Gets}
 use Rattle.bq_trace.specs.Telling.{Happens, EndHappens, WakeHappens}
 use Rattle.bq_trace.proofs.TakingLemmas.{TakesAll-append}
 
@@ -14,7 +14,7 @@ ends (Ok reply) answer mid k n c now told ok h = (answer, h)
 ends (Err refusal) answer mid k n c now told ok h = cc
 
 -- both are reported
-pub wakes_both : {S : Type 0} (takes : S → ℕ → News → S → Type 0) (m mid k : Driven) (n c task now : ℕ) (begun answer : Result Reply Refusal) (old middle new : S) → is_ok begun ≡ true
+pub wakes_both : {S : Type 0} (takes : S → ℕ → TraceEvent → S → Type 0) (m mid k : Driven) (n c task now : ℕ) (begun answer : Result Reply Refusal) (old middle new : S) → is_ok begun ≡ true
     → Gets takes old middle (λ told. Happens m n (BeginWake c task) begun told mid) → Gets takes middle new (λ told. Happens mid n (EndWake c now) answer told k)
     → Gets takes old new (λ told. WakeHappens m n c task now told k)
 wakes_both takes m mid k n c task now begun answer old middle new ok first second = record {

@@ -1,15 +1,16 @@
 pub mod Bare
+pub mod Borrowed
 pub mod Cores
 pub mod Doing
 pub mod Feeding
 pub mod Laws
 pub mod Loading
 pub mod Machines
-pub mod News
 pub mod Replaying
 pub mod Seeing
 pub mod Sessions
 pub mod Telling
 pub mod Texts
 pub mod Trace
+pub mod TraceEvents
 pub mod Writing

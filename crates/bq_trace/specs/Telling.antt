@@ -24,7 +24,7 @@ use Rattle.bq_trace.specs.Bare.{bare}
 use Rattle.bq_streams.specs.Counts.{one_more}
 use Rattle.bq_trace.specs.Feeding.{with_feeds}
 use Rattle.bq_trace.specs.Machines.{Driven, opening_machine, semantics_of, Advances}
-use Rattle.bq_trace.specs.News.{Told, Opened, Skipped, Comes, Answered, Unspelled, Unloaded, Shown, Counted, Bad}
+use Rattle.bq_trace.specs.TraceEvents.{Told, Opened, Skipped, Comes, Answered, Unspelled, Unloaded, Shown, Counted, Bad}
 use Rattle.bq_trace.specs.declared.progress.Phase.{Phase}
 use Rattle.bq_trace.specs.declared.progress.Phase.TheVariants.{Waiting, Over, Running}
 use Rattle.bq_trace.specs.declared.progress.Progress.{Progress}

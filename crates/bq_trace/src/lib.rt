@@ -1,6 +1,6 @@
 //! A trace of events, read in pieces from any reader, and the lines that answer it, written to any writer.
 //! Promises that what is written is the text of the replies that the core gives, line by line.
-//! A sink gets what comes of a trace, line by line; that text is one.
+//! A sink gets the events of a trace, one by one; that text is a sink.
 //! Stands on counted streams, on the lines of a trace, on the core's step and on the two disciplines.
 #![tactic(auto)]
 
@@ -10,11 +10,12 @@ pub mod laws;
 mod loading;
 mod pieces;
 mod progress;
+mod reporting;
 mod session;
 pub mod shows;
 mod sink;
-mod telling;
 pub mod texts;
+mod trace_event;
 mod trace_position;
 
 pub use any_core::{AnyCore, Seen};
@@ -22,4 +23,5 @@ pub use bq_streams::StreamFault as ReplayFault;
 pub use pieces::replay;
 pub use session::Session;
 pub use sink::Sink;
+pub use trace_event::TraceEvent;
 pub use trace_position::TracePosition;

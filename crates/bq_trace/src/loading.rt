@@ -1,11 +1,11 @@
 //! Images that a trace installs, and the lines that refuse them.
-ghost use Rattle.std.specs.Prelude.{◌≡◌, ◌≢◌, ◌++◌, OnOk, string_bytes};
+ghost use Rattle.std.specs.Prelude.{◌≡◌, ◌++◌, OnOk, string_bytes};
 ghost use Rattle.bq_trace.specs.Loading.{fault_line};
-ghost use Rattle.bq_load.specs.declared.fault.LoadFault.TheVariants as why;
 
 use crate::any_core::AnyCore;
+use crate::reporting::report;
 use crate::sink::Sink;
-use crate::telling;
+use crate::trace_event::TraceEvent;
 use bq_hooks::Hook;
 use bq_installed::Policy;
 use bq_lines::HexWord;
@@ -23,7 +23,7 @@ pub struct Installation<'a> {
 }
 
 impl AnyCore {
-    ghost use Rattle.bq_trace.specs.News.{Gets};
+    ghost use Rattle.bq_trace.specs.TraceEvents.{Gets};
     ghost use Rattle.bq_trace.specs.Telling.{LoadHappens};
 
     /// Loads an image that is spelled in hex and installs its policy as an event, and tells what comes of it. What doesn't
@@ -46,7 +46,7 @@ impl AnyCore {
         let bytes = match hex::decode(alloc, image.as_bytes()) {
             Ok(bytes) => bytes,
             Err(hex::FromHexError::OutOfMemory) => return Err(AllocError),
-            Err(_) => return telling::refuse_word(number, sink),
+            Err(_) => return report(number, &TraceEvent::Unspelled, sink),
         };
         match load(alloc, bytes.as_slice()) {
             Ok(program) => {
@@ -61,14 +61,13 @@ impl AnyCore {
                 Ok(())
             }
             Err(LoadFault::OutOfMemory) => Err(AllocError),
-            Err(fault) => telling::refuse_image(number, fault, sink),
+            Err(fault) => report(number, &TraceEvent::Unloaded { fault }, sink),
         }
     }
 }
 
 /// Adds the line that refuses an image.
 pub fn write_fault(text: &mut String, fault: LoadFault) -> Result<(), AllocError>
-    requires { fault ≢ why.OutOfMemory }
     ensures { OnOk result (string_bytes text.new ≡ string_bytes text.old ++ fault_line fault) }
 {
     write!(text, "refused {fault}\n")

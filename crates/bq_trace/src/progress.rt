@@ -6,14 +6,15 @@ ghost use Rattle.bq_parts.specs.declared.reply.Reply.{Reply};
 ghost use Rattle.bq_parts.specs.declared.refusal.Refusal.{Refusal};
 ghost use Rattle.bq_parts.specs.declared.refusal.Refusal.TheVariants as no;
 ghost use Rattle.bq_lines.specs.Lines.{reading_heard};
-ghost use Rattle.bq_trace.specs.News.{Gets};
+ghost use Rattle.bq_trace.specs.TraceEvents.{Gets};
 ghost use Rattle.bq_trace.specs.Telling.{Happens, WakeHappens, Tells};
 
 use crate::any_core::AnyCore;
 use crate::bare::bare;
 use crate::loading::Installation;
+use crate::reporting::{report, report_bad, report_skipped};
 use crate::sink::Sink;
-use crate::telling;
+use crate::trace_event::TraceEvent;
 use bq_bpf::board::COUNTERS;
 use bq_lines::{Command, LineReading, read_heard};
 use bq_parts::{Event, Refusal, Reply};
@@ -42,12 +43,21 @@ impl AnyCore {
             × Gets S.takes sink.old sink.new (λ told. Happens self.old number event answer told self.new)) }
     {
         let told = bare(&event);
-        sink.comes(number, &told, self)?;
+        let coming = TraceEvent::Comes {
+            event: &told,
+            machine: self,
+        };
+        sink.take(number, &coming)?;
         let answer = self.step(alloc, event);
         if is_out_of_memory(&answer) {
             return Err(AllocError);
         }
-        sink.answered(number, &told, &answer, self)?;
+        let answered = TraceEvent::Answered {
+            event: &told,
+            answer: &answer,
+            machine: self,
+        };
+        sink.take(number, &answered)?;
         Ok(answer.is_ok())
     }
 
@@ -83,7 +93,7 @@ impl AnyCore {
             (λ told. Tells (Phase.Running self.old) number (option_map (λ (l : Bor (List ℕ)). l.now) line.entry) reading.entry told (Phase.Running self.new) bad)) }
     {
         match reading {
-            LineReading::Skipped => telling::skip(number, line, sink),
+            LineReading::Skipped => report_skipped(number, line, sink),
             LineReading::Says(Command::Does(event)) => {
                 self.happen(alloc, number, event, sink)?;
                 Ok(false)
@@ -114,17 +124,22 @@ impl AnyCore {
             }
             LineReading::Says(Command::Counter { counter }) => {
                 if usize::from(counter) >= COUNTERS {
-                    return telling::call_bad(number, line, sink);
+                    return report_bad(number, line, sink);
                 }
-                telling::count(number, counter, self.counter(counter), sink)?;
+                let value = self.counter(counter);
+                report(number, &TraceEvent::Counted { counter, value }, sink)?;
                 Ok(false)
             }
             LineReading::Says(Command::Show { processor }) => {
-                telling::show(number, processor, self, sink)?;
+                let shown = TraceEvent::Shown {
+                    processor,
+                    machine: self,
+                };
+                report(number, &shown, sink)?;
                 Ok(false)
             }
             LineReading::Bad | LineReading::Says(Command::Machine { .. }) => {
-                telling::call_bad(number, line, sink)
+                report_bad(number, line, sink)
             }
         }
     }
@@ -160,15 +175,19 @@ impl Phase {
             (λ told. Tells Phase.Waiting number (option_map (λ (l : Bor (List ℕ)). l.now) line.entry) reading.now told self.new bad)) }
     {
         match reading {
-            LineReading::Skipped => telling::skip(number, line, sink),
+            LineReading::Skipped => report_skipped(number, line, sink),
             LineReading::Says(Command::Machine { rule, size }) => {
                 *self = Phase::Running(AnyCore::new(alloc, *rule, *size)?);
-                telling::open(number, *rule, *size, sink)?;
+                let opened = TraceEvent::Opened {
+                    rule: *rule,
+                    size: *size,
+                };
+                report(number, &opened, sink)?;
                 Ok(false)
             }
             _ => {
                 *self = Phase::Over;
-                telling::call_bad(number, line, sink)
+                report_bad(number, line, sink)
             }
         }
     }

@@ -2,7 +2,7 @@
 ghost use Rattle.std.specs.Prelude.{◌≡◌, ◌++◌, ℕ, List, [], OnOk, Some};
 ghost use Rattle.std.specs.Str.Lines.{lines, strip_carriage_return};
 ghost use Rattle.bq_lines.specs.Kept.{IsOneLine, StandsFor};
-ghost use Rattle.bq_trace.specs.News.{Gets};
+ghost use Rattle.bq_trace.specs.TraceEvents.{Gets};
 
 use crate::progress::Progress;
 use crate::sink::Sink;

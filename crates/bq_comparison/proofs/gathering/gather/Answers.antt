@@ -1,10 +1,16 @@
 -- What the limit lets through is gathered.
-use Rattle.std.proofs.Common.{◌≡◌, ◌∙◌, ℕ, [], ap, subst}
+use Rattle.std.proofs.Common.{◌≡◌, ◌∙◌, ℕ, [], ap, subst, sym}
 use Rattle.bq_schedule.specs.WakeLatencies.{latencies_of}
+use Rattle.bq_simulate.specs.Faults.{flaw_told}
 use Rattle.bq_simulate.specs.Simulations.{with_seed}
+use Rattle.bq_simulate.specs.declared.fault.SimulateFault.TheVariants.{Enough}
+use Rattle.bq_experiment.specs.Limits.{IsLonger}
+use Rattle.bq_experiment.proofs.LimitLemmas.{longer}
+use Rattle.bq_comparison.specs.Faults.{IsNoRun}
 use Rattle.bq_comparison.specs.Gathering.{IsGathered}
 use Rattle.bq_comparison.specs.declared.gathering.Gatherer.{Gatherer}
-use Rattle.bq_comparison.proofs.GatheringLemmas.{gathers_simulation}
+use Rattle.bq_comparison.proofs.GatheringLemmas.{Takes, gathers_simulation}
+use Rattle.bq_comparison.proofs.RunLemmas.{refused_is_no_run}
 use Rattle.bq_comparison.proofs.gathering.gather.Goals as goal
 
 pub returns-in-Ok-clause-gathered : goal.returns-in-Ok-clause-gathered
@@ -15,5 +21,17 @@ returns-in-Ok-clause-gathered c =
     let empty : (task : ℕ) → latencies_of old.sink.latencies task ≡ [] = λ task. ap (λ (g : Gatherer). latencies_of g.latencies task) c.new-limited.ensures.sink ∙ c.new-gatherer.ensures.latencies task in
     let policies = c.args.policies.now in
     let w = with_seed c.args.workload.now c.args.seed in
-    let all = gathers_simulation old new policies w none empty c.in-Ok.ensures.told in
+    let all = gathers_simulation old new policies w none empty c.in-Ok.ensures.told c.in-Ok.ensures.wants in
     subst (λ (most : ℕ). IsGathered policies w most new.sink.schedule new.sink.latencies) c.new-limited.ensures.left all
+
+-- where the limit was passed, more came
+pub returns-in-Err-clause-fault : goal.returns-in-Err-clause-fault
+returns-in-Err-clause-fault c =
+    let policies = c.args.policies.now in
+    let w = with_seed c.args.workload.now c.args.seed in
+    let said = c.in-Err.ensures in
+    let more : c.in-Err.fault ≡ Enough → IsLonger policies w c.args.most = λ enough.
+    let got = said.enough enough in
+    subst (λ (most : ℕ). IsLonger policies w most) c.new-limited.ensures.left
+    (longer Takes c.new-limited.result c.simulate_seed.new.sink policies w (sym said.flaw ∙ ap flaw_told enough) c.new-limited.ensures.over got.0 got.1) in
+    subst (IsNoRun policies w c.args.most) (sym c.from.ensures) (refused_is_no_run policies w c.args.most c.in-Err.fault said.flaw more)

@@ -21,5 +21,10 @@ numbers-preserved g c =
 pub returns-in_err-add_all-clause-fault : goal.returns-in_err-add_all-clause-fault
 returns-in_err-add_all-clause-fault g c =
     let e = c.args.experiment.now in
+    let before = c.numbers.runs.items in
+    let results = c.in_ok-results.results.items in
+    let next : e.workload.now.machine.seed + c.len-in-numbers.result ≡ e.workload.now.machine.seed + length before = search (rules, arith) in
+    let wave : length before + length results ≤ c.from-count.result = search (rules, arith) in
+    let few : length before + length results ≤ c.args.count = omega (arith, wave, c.from-count.ensures) in
     let p = err_from_is_err_and c.from_residual-in_err-add_all.result c.from_residual-in_err-add_all.ensures.1 in
-    rw (p.1, p.2) (none_comes e.policies.now e.workload.now e.most e.figures.now _ c.args.count c.in_ok-results.results.items c.in_err-add_all.field-0.0 c.in_ok-results.ensures.results c.in_err-add_all.ensures.fault)
+    rw (p.1, p.2) (none_comes e.policies.now e.workload.now e.most e.figures.now _ (length before) c.args.count results c.in_err-add_all.field-0.0 next few c.in_ok-results.ensures.results c.in_err-add_all.ensures.fault)

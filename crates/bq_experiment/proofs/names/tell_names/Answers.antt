@@ -1,7 +1,7 @@
 -- A comment that names a task is reported.
 use Rattle.std.proofs.Common.{◌≡◌, ◌++◌, ◌∷◌, [], ℕ, List, String, Global, ap, codes, decimal, get_or, length, map, refl, string_bytes, subst, sym, take, ◌∙◌}
 use Rattle.std.proofs.lemmas.List.{length-map, take_all}
-use Rattle.bq_trace.specs.News.{Told, TakesAll}
+use Rattle.bq_trace.specs.TraceEvents.{Told, TakesAll}
 use Rattle.bq_trace.proofs.TakingLemmas.{TakesAll-append}
 use Rattle.bq_experiment.specs.Names.{comment_of, comments_from, names_of, plain_name}
 use Rattle.bq_experiment.specs.Traces.{skipped}
@@ -15,12 +15,12 @@ names-preserved g c =
     let task = c.names.task-counter in
     let name = c.name-item.result in
     let plain = c.in_ok-name.ensures ∙ ap plain_name (c.as_str.ensures.value ∙ ap (λ (s : String Global). string_bytes s) c.name-item.is) in
-    let line : c.as_bytes.result.now ≡ comment_of task (string_bytes (get_or all task name)) =
-    c.as_bytes.ensures.value ∙ c.in_ok-comment.ensures.ok ∙ ap (λ (n : List ℕ). codes "# task " ++ (decimal task ++ (codes " " ++ n))) plain in
+    let line : c.as_bytes-line.result.now ≡ comment_of task (string_bytes (get_or all task name)) =
+    c.as_bytes-line.ensures.value ∙ c.in_ok-comment.ensures.ok ∙ ap (λ (n : List ℕ). codes "# task " ++ (decimal task ++ (codes " " ++ n))) plain in
     let taken =
-    TakesAll-append takes c.args.sink.now c.names.sink c.skipped.new.self (map skipped (comments_from 0 (map string_bytes (take task all)))) (skipped c.as_bytes.result.now ∷ []) c.names.invariant
-    (c.skipped.new.self, c.in_ok-skipped.ensures, refl) in
-    subst (λ (told : Told). TakesAll takes c.args.sink.now told c.skipped.new.self) (told-more all task name c.as_bytes.result.now c.names-test.true line) taken
+    TakesAll-append takes c.args.sink.now c.names.sink c.take.new.self (map skipped (comments_from 0 (map string_bytes (take task all)))) (skipped c.as_bytes-line.result.now ∷ []) c.names.invariant
+    (c.take.new.self, c.in_ok-take.ensures, refl) in
+    subst (λ (told : Told). TakesAll takes c.args.sink.now told c.take.new.self) (told-more all task name c.as_bytes-line.result.now c.names-test.true line) taken
 
 pub returns-clause-told : goal.returns-clause-told
 returns-clause-told g c =

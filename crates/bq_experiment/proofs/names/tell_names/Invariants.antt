@@ -1,5 +1,5 @@
 use Rattle.std.proofs.Common.{map, string_bytes, take}
-use Rattle.bq_trace.specs.News.{TakesAll}
+use Rattle.bq_trace.specs.TraceEvents.{TakesAll}
 use Rattle.bq_experiment.specs.Names.{comments_from}
 use Rattle.bq_experiment.specs.Traces.{skipped}
 use Rattle.bq_experiment.proofs.names.tell_names.Given as goal

@@ -1,9 +1,10 @@
 -- The names of the tasks are reported, and then the simulation.
-use Rattle.std.proofs.Common.{List, map, refl, subst, ◌++◌}
+use Rattle.std.proofs.Common.{List, true, ap, map, refl, subst, sym, ◌++◌, ◌∙◌}
 use Rattle.std.proofs.lemmas.Result.{err_from_is_err_and}
-use Rattle.bq_trace.specs.News.{Gets}
+use Rattle.bq_trace.specs.TraceEvents.{Gets}
 use Rattle.bq_trace.proofs.TakingLemmas.{TakesAll-append}
-use Rattle.bq_simulate.specs.Simulations.{Accepted, IsSimulation}
+use Rattle.bq_simulate.specs.Faults.{flaw_told}
+use Rattle.bq_simulate.specs.Simulations.{Accepted, IsFollowed, IsSimulation}
 use Rattle.bq_experiment.specs.Names.{comments_of}
 use Rattle.bq_experiment.specs.Traces.{skipped}
 use Rattle.bq_experiment.proofs.ViewLemmas.{no_other}
@@ -18,10 +19,32 @@ returns-clause-told g c =
     record {
       told = map skipped (comments_of w) ++ run.told;
       taken = TakesAll-append takes c.args.sink.now named c.simulate.new.sink (map skipped (comments_of w)) run.told c.in_ok-tell_names.ensures.told run.taken;
-      holds = record { more = run.told; simulation = run.holds; whole = refl };
+      holds = record { more = run.told; holds = run.holds; whole = refl };
     }
 
 pub returns-in_err-simulate-clause-flaw : goal.returns-in_err-simulate-clause-flaw
 returns-in_err-simulate-clause-flaw g c =
     let p = err_from_is_err_and c.from_residual-in_err-simulate.result c.from_residual-in_err-simulate.ensures.1 in
     rw (p.1, p.2) (no_other c.args.workload.now c.in_err-simulate.field-0.0 c.in_err-simulate.ensures.flaw)
+
+-- where the sink has enough, it got the names, and the simulation as far as it came
+pub returns-in_err-simulate-clause-enough : goal.returns-in_err-simulate-clause-enough
+returns-in_err-simulate-clause-enough g c =
+    let p = err_from_is_err_and c.from_residual-in_err-simulate.result c.from_residual-in_err-simulate.ensures.1 in
+    let takes = g.S.Sink.takes in
+    let w = c.args.workload.now in
+    let named = c.tell_names.new.sink in
+    let said = c.in_err-simulate.ensures in
+    rw (p.1, p.2) (λ enough.
+    let got = said.enough enough in
+    let run = subst (λ (l : List Accepted). Gets takes named c.simulate.new.sink (IsFollowed true l w)) c.loaded.ensures.value got.1 in (
+      sym said.flaw ∙ ap flaw_told enough,
+      (
+        got.0,
+        record {
+          told = map skipped (comments_of w) ++ run.told;
+          taken = TakesAll-append takes c.args.sink.now named c.simulate.new.sink (map skipped (comments_of w)) run.told c.in_ok-tell_names.ensures.told run.taken;
+          holds = record { more = run.told; holds = run.holds; whole = refl };
+        },
+      ),
+    ))

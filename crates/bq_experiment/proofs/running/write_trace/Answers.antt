@@ -1,7 +1,12 @@
 -- What comes of the run is written, piece by piece and then the rest.
+use Rattle.std.proofs.Common.{◌≡◌}
+use Rattle.bq_simulate.specs.declared.fault.SimulateFault.TheVariants.{Enough}
 use Rattle.bq_streams.specs.Counts.{inner_of}
+use Rattle.bq_experiment.specs.Faults.{IsNoEnd}
+use Rattle.bq_experiment.specs.Limits.{IsLonger}
 use Rattle.bq_experiment.specs.Standing.{image_for}
-use Rattle.bq_experiment.proofs.TraceLemmas.{run_written}
+use Rattle.bq_experiment.proofs.TraceLemmas.{TakesRun, longer_named, run_written}
+use Rattle.bq_experiment.proofs.ViewLemmas.{IsStopped-by}
 use Rattle.bq_experiment.proofs.running.write_trace.Goals as goal
 
 pub returns-in-Ok-write_text-clause-written : goal.returns-in-Ok-write_text-clause-written
@@ -9,4 +14,16 @@ returns-in-Ok-write_text-clause-written g c =
     let contents = g.W.Write.contents in
     let policies = c.args.policies.now in
     run_written contents c.args.run.now c.tell_run.new.sink (contents (inner_of c.write_text.new.self.output)) c.args.workload.now policies.loaded (image_for policies.images)
-    c.requires.empty c.requires.images c.in-Ok.ensures.of_images c.in-Ok.ensures.sound c.in-Ok.ensures.told c.in-Ok-write_text.ensures.added
+    c.requires.empty c.requires.images c.in-Ok.ensures.of_images c.in-Ok.ensures.sound c.in-Ok.ensures.wants c.in-Ok.ensures.told c.in-Ok-write_text.ensures.added
+
+-- where the limit was passed, more came
+pub returns-in-Err-clause-fault : goal.returns-in-Err-clause-fault
+returns-in-Err-clause-fault g c =
+    let policies = c.args.policies.now.loaded in
+    let w = c.args.workload.now in
+    let old = c.args.run.now in
+    let said = c.in-Err.ensures in
+    let longer : c.in-Err.fault ≡ Enough → IsLonger policies w old.left = λ enough.
+    let got = said.enough enough in
+    longer_named (TakesRun g.W.Write.contents) old c.tell_run.new.sink policies w got.0 c.requires.over got.1.0 got.1.1 in
+    IsStopped-by (IsNoEnd policies w old.left) c.in-Err.fault c.stopped.result _ (said.flaw, longer) c.stopped.ensures

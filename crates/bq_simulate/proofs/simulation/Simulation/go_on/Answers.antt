@@ -4,9 +4,10 @@ use Rattle.bq_workload.specs.Accounts.{accounts_of}
 use Rattle.bq_workload.specs.Next.{IsAgreed, IsNext, NothingComes}
 use Rattle.bq_simulate.specs.Simulations.{book_of}
 use Rattle.bq_simulate.specs.Steps.{AreMet}
-use Rattle.bq_simulate.proofs.DeedLemmas.{Goes-weaker, Lived-same, Same-here}
+use Rattle.bq_simulate.proofs.DeedLemmas.{Lived-same, Same-here}
 use Rattle.bq_simulate.proofs.OrderLemmas.{met-more}
-use Rattle.bq_simulate.proofs.StepLemmas.{AreMet-none, AreMet-within}
+use Rattle.bq_simulate.proofs.StepLemmas.{AreMet-none}
+use Rattle.bq_simulate.proofs.WholeLemmas.{LivedFrom-within}
 use Rattle.bq_simulate.proofs.simulation.Simulation.go_on.Goals as goal
 
 pub steps-preserved : goal.steps-preserved
@@ -36,15 +37,16 @@ steps-init g c =
 pub returns-in_default-clause-none : goal.returns-in_default-clause-none
 returns-in_default-clause-none g c =
     let here = c.steps.self.roster in
-    λ agreed. MatchOption-at_none (NothingComes here.periods.end (accounts_of here)) (λ d. IsNext here.periods.end (accounts_of here) d.1 d.0) c.in_default.is (c.in_ok-now.ensures.next agreed)
+    λ wants agreed. MatchOption-at_none (NothingComes here.periods.end (accounts_of here)) (λ d. IsNext here.periods.end (accounts_of here) d.1 d.0) c.in_default.is (c.in_ok-now.ensures.next agreed)
 
 pub returns-in_default-clause-lived : goal.returns-in_default-clause-lived
 returns-in_default-clause-lived g c =
     let was = c.args.self.now in
-    let kinds = c.args.workload.now.tasks.items in
-    let count = c.steps.counter in
-    let last = c.steps.last in
-    let end = c.args.workload.now.machine.duration in
-    let few : count ≤ c.args.most = omega (arith, c.steps-test.true) in
-    λ drawn had firsts agreed. Goes-weaker g.S.Sink.takes kinds (AreMet kinds was.seed was.roster.periods count last (book_of was drawn)) (AreMet kinds was.seed was.roster.periods c.args.most end (book_of was drawn))
-    (λ xs met. AreMet-within kinds was.seed was.roster.periods count c.args.most last end (book_of was drawn) xs few c.steps.invariant.within met) _ _ _ drawn _ (c.steps.invariant.lived drawn had firsts agreed)
+    let few : c.steps.counter ≤ c.args.most = omega (arith, c.steps-test.true) in
+    LivedFrom-within g.S.Sink.takes c.args.workload.now.tasks.items was.seed was.roster.periods c.steps.counter c.args.most c.steps.last c.args.workload.now.machine.duration _ _ _ _ few c.steps.invariant.within c.steps.invariant.lived
+
+pub returns-then-has_enough-clause-lived : goal.returns-then-has_enough-clause-lived
+returns-then-has_enough-clause-lived g c =
+    let was = c.args.self.now in
+    let few : c.steps.counter ≤ c.args.most = omega (arith, c.steps-test.true) in
+    LivedFrom-within g.S.Sink.takes c.args.workload.now.tasks.items was.seed was.roster.periods c.steps.counter c.args.most c.steps.last c.args.workload.now.machine.duration _ _ _ _ few c.steps.invariant.within c.steps.invariant.lived

@@ -2,7 +2,7 @@ use Rattle.std.proofs.Common.{◌≡◌, ◌+◌, ℕ, [], ◌∷◌, List, Some
 use Rattle.std.specs.Prelude.{slice_get}
 use Rattle.std.proofs.lemmas.Result.{on_ok_weaker}
 use Rattle.bq_workload.specs.declared.workload.TaskKind.{TaskKind}
-use Rattle.bq_trace.specs.News.{News}
+use Rattle.bq_trace.specs.TraceEvents.{TraceEvent}
 use Rattle.bq_simulate.specs.Actions.{first_of}
 use Rattle.bq_simulate.specs.Chronicles.{Deed, Misses, Reaches}
 use Rattle.bq_simulate.specs.Simulations.{Befell, Goes, Lived}
@@ -12,7 +12,7 @@ use Rattle.bq_simulate.proofs.DeedLemmas.{Befell-first, Lived-same, Stays-here}
 use Rattle.bq_simulate.proofs.simulation.Simulation.wake_next.Goals as goal
 
 -- the task that is found by the first of its kind is the one at which the wake aims
-aimed-at : {S : Type 0} (takes : S → ℕ → News → S → Type 0) (kinds : List TaskKind) (kind woken first target processor now : ℕ) (x y : S) (s t : Simulation) → slice_get s.firsts.items kind ≡ Some first → target ≡ first + woken
+aimed-at : {S : Type 0} (takes : S → ℕ → TraceEvent → S → Type 0) (kinds : List TaskKind) (kind woken first target processor now : ℕ) (x y : S) (s t : Simulation) → slice_get s.firsts.items kind ≡ Some first → target ≡ first + woken
     → Befell takes (Wakes target processor now) x s y t → Lived takes kinds (Wakes (first_of kinds kind + woken) processor now) x s y t
 aimed-at takes kinds kind woken first target processor now x y s t there is befell drawn had firsts =
     let at : target ≡ first_of kinds kind + woken = is ∙ ap (λ n. n + woken) (firsts kind first there) in

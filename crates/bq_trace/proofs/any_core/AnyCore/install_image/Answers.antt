@@ -11,7 +11,7 @@ returns-in-Err g c =
     let error = c.in-Err.field-0 in
     let refused : decode_of c.as_bytes.result.now ≡ Err error = search rules in
     let spelled : decode_of c.args.installation.image ≡ Err error = ap decode_of (sym c.as_bytes.ensures) ∙ refused in
-    on_ok_weaker c.refuse_word.result (gets_along g.S.Sink.takes _ _ _ _ (λ told h. inl (error, spelled, h, refl))) c.refuse_word.ensures
+    on_ok_weaker c.report.result (gets_along g.S.Sink.takes _ _ _ _ (λ told h. inl (error, spelled, h, refl))) c.report.ensures
 
 pub returns : goal.returns
 returns g c =
@@ -20,7 +20,7 @@ returns g c =
     let apart : why ≢ fault.OutOfMemory = search rules in
     let spelled : decode_of c.args.installation.image ≡ Ok bytes = ap decode_of (sym c.as_bytes.ensures) ∙ c.in-Ok.ensures.ok in
     let unloaded = subst (λ xs. IsUnloaded xs why) c.as_slice.ensures.value c.in-Err-load.ensures.unloaded in
-    on_ok_weaker c.refuse_image.result (gets_along g.S.Sink.takes _ _ _ _ (λ told h. inr (inl (bytes, why, spelled, unloaded, apart, h, refl)))) c.refuse_image.ensures
+    on_ok_weaker c.report-in-Err-load.result (gets_along g.S.Sink.takes _ _ _ _ (λ told h. inr (inl (bytes, why, spelled, unloaded, apart, h, refl)))) c.report-in-Err-load.ensures
 
 pub returns-in-Ok-load : goal.returns-in-Ok-load
 returns-in-Ok-load g c =

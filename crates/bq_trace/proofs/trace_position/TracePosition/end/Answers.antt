@@ -1,6 +1,6 @@
 use Rattle.std.proofs.Common.{◌∙◌, sym, subst}
 use Rattle.std.proofs.lemmas.Result.{on_ok_weaker}
-use Rattle.bq_trace.specs.News.{Gets}
+use Rattle.bq_trace.specs.TraceEvents.{Gets}
 use Rattle.bq_trace.specs.Telling.{TellsHeard}
 use Rattle.bq_trace.proofs.StandingLemmas.{ends_with}
 use Rattle.bq_trace.proofs.trace_position.TracePosition.end.Goals as goal
@@ -13,4 +13,4 @@ returns g c =
     let old = c.args.sink.now in
     let new = c.answer.new.sink in
     on_ok_weaker c.answer.result (λ told begun h. ends_with takes p q begun old new h.one_line (sym (c.is_empty.ensures.line begun h) ∙ c.if-is_empty.false)
-    (subst (λ l. Gets takes old new (λ news. TellsHeard p l news q)) (c.last.ensures begun h) told)) c.answer.ensures
+    (subst (λ l. Gets takes old new (λ traced. TellsHeard p l traced q)) (c.last.ensures begun h) told)) c.answer.ensures

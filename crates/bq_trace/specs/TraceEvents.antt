@@ -11,32 +11,32 @@ use Rattle.bq_trace.specs.Loading.{fault_line, no_hex_line}
 use Rattle.bq_trace.specs.Texts.{event_line, bad_line, show_line, counter_line}
 
 -- what a line of a trace brings
-pub data News : Type 0 where
+pub data TraceEvent : Type 0 where
   -- a machine is made
-  Opened : Rule → ProcessorCount → News
+  Opened : Rule → ProcessorCount → TraceEvent
   -- the line says nothing: it has no words, or is a comment
-  Skipped : List ℕ → News
+  Skipped : List ℕ → TraceEvent
   -- this event is about to be done in the machine
-  Comes : Event → Driven → News
+  Comes : Event → Driven → TraceEvent
   -- it was answered, and the machine is this
-  Answered : Event → Result Reply Refusal → Driven → News
+  Answered : Event → Result Reply Refusal → Driven → TraceEvent
   -- the word of an image is no hex
-  Unspelled : News
+  Unspelled : TraceEvent
   -- an image doesn't load
-  Unloaded : LoadFault → News
+  Unloaded : LoadFault → TraceEvent
   -- a processor is to be shown
-  Shown : ℕ → Driven → News
+  Shown : ℕ → Driven → TraceEvent
   -- a counter has this value
-  Counted : ℕ → ℕ → News
+  Counted : ℕ → ℕ → TraceEvent
   -- the line is bad: what is heard of it, unless it is too long
-  Bad : Option (List ℕ) → News
+  Bad : Option (List ℕ) → TraceEvent
 
--- news, each with the number of its line
+-- events, each with the number of its line
 abbrev pub Told : Type 0
-Told = List (ℕ × News)
+Told = List (ℕ × TraceEvent)
 
--- the text that answers the news of the line of this number
-abbrev pub text_of : ℕ → News → List ℕ
+-- the text that answers an event of the line of this number
+abbrev pub text_of : ℕ → TraceEvent → List ℕ
 text_of n (Opened rule size) = []
 text_of n (Skipped line) = []
 text_of n (Comes event m) = []
@@ -52,13 +52,13 @@ abbrev pub texts : Told → List ℕ
 texts [] = []
 texts ((n, x) ∷ more) = text_of n x ++ texts more
 
--- something takes news one after another
-abbrev pub TakesAll : {S : Type 0} → (S → ℕ → News → S → Type 0) → S → Told → S → Type 0
+-- something takes events, one after another
+abbrev pub TakesAll : {S : Type 0} → (S → ℕ → TraceEvent → S → Type 0) → S → Told → S → Type 0
 TakesAll takes old [] new = new ≡ old
 TakesAll {S} takes old ((n, x) ∷ more) new = (mid : S) × takes old n x mid × TakesAll takes mid more new
 
--- it takes news of which this holds
-pub record Gets {S : Type 0} (takes : S → ℕ → News → S → Type 0) (old new : S) (Holds : Told → Type 0) : Type 0 where
+-- it takes events of which this holds
+pub record Gets {S : Type 0} (takes : S → ℕ → TraceEvent → S → Type 0) (old new : S) (Holds : Told → Type 0) : Type 0 where
   pub told : Told
   pub taken : TakesAll takes old told new
   pub holds : Holds told

@@ -1,0 +1,16 @@
+-- Where the sink has not enough at the end it got all, and else all or the beginning.
+use Rattle.std.proofs.Common.{Bool, subst, sym, ◌∙◌}
+use Rattle.bq_trace.specs.TraceEvents.{Gets}
+use Rattle.bq_simulate.specs.Simulations.{IsFollowed, with_seed}
+use Rattle.bq_simulate.proofs.WholeLemmas.{followed_whole}
+use Rattle.bq_simulate.proofs.following.simulate_seed.Goals as goal
+
+pub returns-then-has_enough-clause-enough : goal.returns-then-has_enough-clause-enough
+returns-then-has_enough-clause-enough g c =
+    let sated = sym c.has_enough.ensures ∙ c.if-has_enough.true in
+    let w = with_seed c.args.workload.now c.args.seed in
+    λ is. (sated, subst (λ (b : Bool). Gets g.S.Sink.takes c.args.sink.now c.follow.new.sink (IsFollowed b c.args.policies.now w)) sated c.in-Ok.ensures.told)
+
+pub returns-clause-told : goal.returns-clause-told
+returns-clause-told g c =
+    followed_whole g.S.Sink.takes _ _ _ c.args.policies.now (with_seed c.args.workload.now c.args.seed) (sym c.has_enough.ensures ∙ c.if-has_enough.false) c.in-Ok.ensures.told

@@ -1,0 +1,28 @@
+-- Policies are installed, tasks are admitted, and then what comes due is met.
+use Rattle.std.proofs.Common.{ℕ, subst}
+use Rattle.bq_words.specs.Sizes.{processors_in}
+use Rattle.bq_workload.specs.Bounds.{most_steps}
+use Rattle.bq_simulate.specs.Simulations.{LivedFrom}
+use Rattle.bq_simulate.specs.Steps.{AreAllAdmitted, AreInstalled, AreMet, Opens}
+use Rattle.bq_simulate.proofs.DeedLemmas.{Lived-join, Lived-weaker}
+use Rattle.bq_simulate.proofs.WholeLemmas.{Opens-join, Proceeds-join}
+use Rattle.bq_simulate.proofs.simulation.Simulation.proceed.Goals as goal
+
+pub returns-clause-lived : goal.returns-clause-lived
+returns-clause-lived g c =
+    let takes = g.S.Sink.takes in
+    let w = c.args.workload.now in
+    let kinds = w.tasks.items in
+    let end = w.machine.duration in
+    let ended = c.go_on.new.self in
+    let all = processors_in w.machine.size in
+    let admits = AreAllAdmitted all 0 0 kinds in
+    let policies = c.args.policies.now in
+    let installs = AreInstalled all policies in
+    let opens = Opens policies all kinds in
+    let installed = Lived-weaker takes kinds (AreInstalled c.processors-processors.result policies) installs (λ xs are. subst (λ (n : ℕ). AreInstalled n policies xs) c.processors-processors.ensures are) _ _ _ _ (c.in_ok-install.ensures.befell kinds) in
+    let opened = Lived-join takes kinds installs admits opens (Opens-join policies all kinds) _ _ _ _ _ _ installed c.in_ok-admit.ensures.lived in
+    let was = c.args.self.now in
+    let mid = c.admit.new.self in
+    let met = subst (λ (n : ℕ). LivedFrom takes kinds (AreMet kinds mid.seed mid.roster.periods n end) c.admit.new.sink mid c.go_on.new.sink ended) c.most_steps.ensures c.in_ok-go_on.ensures.lived in
+    Proceeds-join takes policies all kinds (most_steps w) end _ _ _ was mid ended opened met

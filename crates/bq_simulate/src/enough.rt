@@ -1,0 +1,12 @@
+//! A sink that may have enough of a simulation before its end.
+ghost use Rattle.std.specs.Prelude.{◌≡◌, Bool};
+
+/// What may have enough of a simulation before its end.
+pub trait Enough {
+    /// Whether it has enough.
+    ghost sated: { Self → Bool };
+
+    /// Whether it has enough.
+    fn has_enough(&self) -> bool
+        ensures { result ≡ sated self.now };
+}

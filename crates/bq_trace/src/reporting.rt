@@ -1,0 +1,44 @@
+//! One event of a line, reported to a sink.
+ghost use Rattle.std.specs.Prelude.{◌≡◌, ◌∷◌, [], ℕ, List, true, false, OnOk, IfOk};
+ghost use Rattle.std.specs.Borrow.{Bor};
+ghost use Rattle.std.specs.Option.{option_map};
+ghost use Rattle.bq_trace.specs.Borrowed.{event_of};
+ghost use Rattle.bq_trace.specs.TraceEvents.{Gets, Bad};
+ghost use Rattle.bq_trace.specs.Telling.{skips};
+
+use crate::sink::Sink;
+use crate::trace_event::TraceEvent;
+use std::alloc::AllocError;
+
+/// Reports one event.
+pub fn report<S: Sink>(number: u64, event: &TraceEvent<'_>, sink: &mut S) -> Result<(), AllocError>
+    ensures { OnOk result (Gets S.takes sink.old sink.new (λ told. told ≡ (number, event_of event.now) ∷ [])) }
+{
+    sink.take(number, event)
+}
+
+/// Reports a line that says nothing, unless it is too long. It is not bad.
+pub fn report_skipped<S: Sink>(
+    number: u64,
+    line: Option<&[u8]>,
+    sink: &mut S,
+) -> Result<bool, AllocError>
+    ensures { IfOk result (λ bad. (bad ≡ false) × Gets S.takes sink.old sink.new (λ told. told ≡ skips number (option_map (λ (l : Bor (List ℕ)). l.now) line.entry))) }
+{
+    if let Some(line) = line {
+        sink.take(number, &TraceEvent::Skipped { line })?;
+    }
+    Ok(false)
+}
+
+/// Reports a bad line.
+pub fn report_bad<S: Sink>(
+    number: u64,
+    line: Option<&[u8]>,
+    sink: &mut S,
+) -> Result<bool, AllocError>
+    ensures { IfOk result (λ bad. (bad ≡ true) × Gets S.takes sink.old sink.new (λ told. told ≡ (number, Bad (option_map (λ (l : Bor (List ℕ)). l.now) line.entry)) ∷ [])) }
+{
+    sink.take(number, &TraceEvent::Bad { line })?;
+    Ok(true)
+}
