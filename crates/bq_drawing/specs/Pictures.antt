@@ -1,14 +1,15 @@
 -- What a picture holds of the runs, and what it draws of them.
-use Rattle.std.specs.Prelude.{◌≡◌, ℕ, zero, suc, ◌%◌, List, [], ◌∷◌, ◌++◌, length, slice_get, slice_index_or, slice_set, Option, Some, None, unwrap_or, codes}
+use Rattle.std.specs.Prelude.{◌≡◌, ℕ, zero, suc, ◌<◌, ◌≤◌, ◌%◌, ◌⊎◌, List, [], ◌∷◌, ◌++◌, length, slice_get, slice_index_or, slice_set, Option, Some, None, unwrap_or, codes}
 use Rattle.std.specs.Fmt.{decimal}
 use Rattle.bq_schedule.specs.declared.change.Start.{Start}
 use Rattle.bq_schedule.specs.declared.slice.Slice.{Slice}
 use Rattle.bq_schedule.specs.Figures.{Figures, processor_of}
 use Rattle.bq_report.specs.declared.extent.Extent.{Extent}
 use Rattle.bq_report.specs.declared.window.Window.{Window}
-use Rattle.bq_report.specs.Reports.{AreParts}
+use Rattle.bq_report.specs.Extents.{Spans}
+use Rattle.bq_report.specs.Reports.{AreParts, IsPartIf}
 use Rattle.bq_report.specs.Rosters.{place_in}
-use Rattle.bq_report.specs.Windows.{IsShownPart}
+use Rattle.bq_report.specs.Windows.{IsShownPart, ShowsProcessor}
 use Rattle.bq_drawing.specs.declared.shapes.DrawnRun.{DrawnRun}
 use Rattle.bq_drawing.specs.Runs.{run_on}
 use Rattle.bq_drawing.specs.Places.{hundredths, place_of, width_of}
@@ -62,3 +63,65 @@ IsElementIf e tasks top (Some run) text = IsRunElement e tasks top run text
 -- the elements of the runs of a row, one for each, in order
 abbrev pub AreRunElements : Extent → List ℕ → ℕ → List DrawnRun → List ℕ → Type 0
 AreRunElements e tasks top runs text = AreParts (λ number own. IsElementIf e tasks top (slice_get runs number) own) (length runs) text
+
+-- the band at this height in which the runs of a row lie
+abbrev pub band_text : ℕ → List ℕ
+band_text top =
+    codes "<rect class=\"band\" x=\"" ++ (decimal 72 ++ (codes "\" y=\"" ++ (decimal top ++ (codes "\" width=\"" ++ (decimal 1080
+    ++ (codes "\" height=\"" ++ (decimal 36 ++ codes "\"/>\n")))))))
+
+-- the name of a row, on this line
+abbrev pub row_name : ℕ → ℕ → List ℕ
+row_name number line = codes "<text class=\"cpu\" x=\"10\" y=\"" ++ (decimal line ++ (codes "\">cpu " ++ (decimal number ++ codes "</text>\n")))
+
+-- the band of a processor's row, and its name on some line
+abbrev pub IsRowName : ℕ → ℕ → List ℕ → Type 0
+IsRowName number top text = (line : ℕ) × (text ≡ band_text top ++ row_name number line)
+
+-- the row of a processor: its name, at some height the elements of its runs, and something behind them, of which nothing is said here
+pub record IsRowText (e : Extent) (tasks : List ℕ) (number : ℕ) (runs : List DrawnRun) (text : List ℕ) : Type 0 where
+  pub top : ℕ
+  pub name : List ℕ
+  pub elements : List ℕ
+  pub rest : List ℕ
+  pub is_name : IsRowName number top name
+  pub are_elements : AreRunElements e tasks top runs elements
+  pub whole : text ≡ name ++ (elements ++ rest)
+
+-- a processor has a row: it is there, and is shown
+pub record HasRow (w : Window) (rows : Rows) (number : ℕ) : Type 0 where
+  pub exists : number < length rows
+  pub shown : ShowsProcessor w number
+
+-- the row of a processor, if it has one, with its runs
+abbrev pub IsRowIf : Window → Extent → List ℕ → Rows → ℕ → List ℕ → Type 0
+IsRowIf w e tasks rows number text = IsPartIf ℕ (HasRow w rows number) (IsRowText e tasks number (slice_index_or rows number [])) text
+
+-- all that is drawn: the rows of the processors, in order, between a head and a tail, of which nothing is said here
+pub record IsDrawing (w : Window) (e : Extent) (tasks : List ℕ) (rows : Rows) (text : List ℕ) : Type 0 where
+  pub head : List ℕ
+  pub drawn : List ℕ
+  pub tail : List ℕ
+  pub are_rows : AreParts (IsRowIf w e tasks rows) 64 drawn
+  pub whole : text ≡ head ++ (drawn ++ tail)
+
+-- a picture: a head, all that is drawn, and the end of its root
+abbrev pub IsPicture : Window → Extent → List ℕ → Rows → List ℕ → Type 0
+IsPicture w e tasks rows text =
+    (head : List ℕ) × (drawn : List ℕ) × IsDrawing w e tasks rows drawn × (text ≡ head ++ (drawn ++ codes "</svg>\n"))
+
+-- no time passes in the window
+abbrev pub PassesNoTime : Window → Figures → Type 0
+PassesNoTime w s = (e : Extent) → Spans w s e → e.to ≤ e.from
+
+-- what a picture is drawn over: from the first reading to the last, in the window; a nanosecond where no time passes
+abbrev pub IsDrawnOver : Window → Figures → Extent → Type 0
+IsDrawnOver w s e = (Spans w s e × (e.from < e.to)) ⊎ (PassesNoTime w s × (e ≡ record { from = 0; to = 1 }))
+
+-- the picture at the end of a schedule: of the runs that are held, and of those that go on
+pub record IsPictureOf (w : Window) (s : Figures) (tasks : List ℕ) (old : Rows) (text : List ℕ) : Type 0 where
+  pub rows : Rows
+  pub extent : Extent
+  pub holds : HoldsRunners w s 64 old rows
+  pub drawn_over : IsDrawnOver w s extent
+  pub whole : IsPicture w extent tasks rows text

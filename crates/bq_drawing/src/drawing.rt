@@ -1,7 +1,7 @@
 //! What is drawn, and where.
 ghost use Rattle.std.specs.Prelude.{◌≡◌, ◌∷◌, ◌++◌, [], IfOk, OnOk, Some, length, replicate, slice_get, string_bytes};
-ghost use Rattle.bq_report.specs.Reports.{Adds};
-ghost use Rattle.bq_drawing.specs.Pictures.{AreRunElements, IsElementIf, with_run};
+ghost use Rattle.bq_report.specs.Reports.{Adds, AreParts};
+ghost use Rattle.bq_drawing.specs.Pictures.{AreRunElements, IsDrawing, IsElementIf, IsRowIf, IsRowText, with_run};
 
 use crate::axis::{AXIS, write_axis};
 use crate::frame::Frame;
@@ -14,6 +14,7 @@ use crate::shapes::{
     BAND, DrawnRun, LANE, LEVEL, write_label, write_row_name, write_run, write_wait, write_wake,
 };
 use crate::unit::TimeUnit;
+use bq_disc::limits::PROCESSORS;
 use bq_report::{Extent, Names, Roster, Window, round_step};
 use bq_schedule::{Slice, Start, Wake};
 use std::alloc::{AllocError, Global};
@@ -74,7 +75,9 @@ pub struct Written {
 #[derive(Drop)]
 struct Rows {
     text: String,
-    /// The names in the runs, which stand above what leads from one row to another.
+    /// What leads from one row to another.
+    links: String,
+    /// The names in the runs, which stand above that.
     labels: String,
     /// Where the band of each processor begins that is shown.
     bands: BTreeMap<u8, usize>,
@@ -82,6 +85,16 @@ struct Rows {
     bottom: usize,
     waits_left_out: usize,
     wakes_left_out: usize,
+}
+
+/// The waits or the wakes of a row, as they are drawn.
+#[derive(Drop)]
+struct Shapes {
+    text: String,
+    /// In how many lanes they lie.
+    lanes: usize,
+    /// How many found no room.
+    left_out: usize,
 }
 
 impl Drawing {
@@ -163,7 +176,9 @@ impl Drawing {
         heading: &Heading<'_>,
         roster: &Roster,
         names: &Names,
-    ) -> Result<Written, AllocError> {
+    ) -> Result<Written, AllocError>
+        ensures { IfOk result (λ d. IsDrawing window.now extent roster.now self.old (string_bytes d.text)) }
+    {
         let step = round_step(extent.length(), STEPS).unwrap_or(1);
         let frame = Frame {
             scale: Scale { extent },
@@ -175,12 +190,22 @@ impl Drawing {
         let mut text = String::new(self.alloc);
         heading.write(&frame, &mut text)?;
         write_axis(step, &frame, TOP, rows.bottom, &mut text)?;
+        let legend = self.legend(&rows, &frame)?;
         text.push_str(rows.text.as_str())?;
+        text.push_str(rows.links.as_str())?;
         text.push_str(rows.labels.as_str())?;
-        let tasks = self.tasks_shown(roster)?;
-        let key = self.key(&rows);
+        text.push_str(legend.text.as_str())?;
+        let height = legend.height;
+        Ok(Written { text, height })
+    }
+
+    /// The legend below the rows, and how high the picture is with it.
+    fn legend(&self, rows: &Rows, frame: &Frame<'_>) -> Result<Written, AllocError> {
+        let tasks = self.tasks_shown(frame.roster)?;
+        let key = self.key(rows);
         let first = rows.bottom.saturating_add(AXIS).saturating_add(GAP);
-        write_legend(tasks.as_slice(), &key, first, &frame, &mut text)?;
+        let mut text = String::new(self.alloc);
+        write_legend(tasks.as_slice(), &key, first, frame, &mut text)?;
         let height = first.saturating_add(legend_height(tasks.len(), &key));
         Ok(Written { text, height })
     }
@@ -211,26 +236,46 @@ impl Drawing {
     }
 
     /// The rows of the window, and what leads from one to another.
-    fn write_rows(&mut self, window: &Window, frame: &Frame<'_>) -> Result<Rows, AllocError> {
+    fn write_rows(&mut self, window: &Window, frame: &Frame<'_>) -> Result<Rows, AllocError>
+        ensures { IfOk result (λ rows. AreParts (IsRowIf window.now frame.now.scale.extent frame.now.roster.now self.old) 64
+            (string_bytes rows.text)) }
+    {
         let mut rows = Rows {
             text: String::new(self.alloc),
+            links: String::new(self.alloc),
             labels: String::new(self.alloc),
             bands: BTreeMap::new(self.alloc),
             bottom: TOP,
             waits_left_out: 0,
             wakes_left_out: 0,
         };
-        let mut number = 0u8;
-        for row in self.rows.iter_mut() {
-            if window.shows_processor(number) {
-                row.sort();
-                row.write(self.alloc, number, frame, &mut rows)?;
-            }
-            number = number.saturating_add(1);
+        for number in 0..PROCESSORS {
+            self.write_row(number, window, frame, &mut rows)?;
         }
         self.write_links(LinkKind::Migration, frame, &mut rows)?;
         self.write_links(LinkKind::Pull, frame, &mut rows)?;
         Ok(rows)
+    }
+
+    /// The row of a processor, if it is there and is shown.
+    fn write_row(
+        &mut self,
+        number: u8,
+        window: &Window,
+        frame: &Frame<'_>,
+        rows: &mut Rows,
+    ) -> Result<(), AllocError>
+        ensures row { OnOk result (Adds (IsRowIf window.now frame.now.scale.extent frame.now.roster.now self.old number)
+            (string_bytes rows.old.text) (string_bytes rows.new.text)) }
+        ensures same { self.new ≡ self.old }
+    {
+        if !window.shows_processor(number) {
+            return Ok(());
+        }
+        let Some(row) = self.rows.get_mut(usize::from(number)) else {
+            return Ok(());
+        };
+        row.write(self.alloc, number, frame, rows)
     }
 }
 
@@ -241,7 +286,9 @@ impl Drawing {
         kind: LinkKind,
         frame: &Frame<'_>,
         rows: &mut Rows,
-    ) -> Result<(), AllocError> {
+    ) -> Result<(), AllocError>
+        ensures { rows.new.text ≡ rows.old.text }
+    {
         for link in self.links.iter() {
             if link.kind == kind {
                 rows.write_link(link, frame)?;
@@ -253,11 +300,13 @@ impl Drawing {
 
 impl Rows {
     /// Draws what leads from one row to another, where both are shown.
-    fn write_link(&mut self, link: &Link, frame: &Frame<'_>) -> Result<(), AllocError> {
+    fn write_link(&mut self, link: &Link, frame: &Frame<'_>) -> Result<(), AllocError>
+        ensures { self.new.text ≡ self.old.text }
+    {
         let from = self.bands.get(&link.from.processor).copied();
         let to = self.bands.get(&link.to.processor).copied();
         match (from, to) {
-            (Some(from), Some(to)) => link.write(from, to, frame, &mut self.text),
+            (Some(from), Some(to)) => link.write(from, to, frame, &mut self.links),
             _ => Ok(()),
         }
     }
@@ -353,26 +402,35 @@ impl ProcessorRow {
 
     /// Draws the row below those that are written.
     fn write(
-        &self,
+        &mut self,
         alloc: Global,
         number: u8,
         frame: &Frame<'_>,
         rows: &mut Rows,
-    ) -> Result<(), AllocError> {
+    ) -> Result<(), AllocError>
+        ensures row { OnOk result (Adds (IsRowText frame.now.scale.extent frame.now.roster.now number self.old)
+            (string_bytes rows.old.text) (string_bytes rows.new.text)) }
+        ensures same { self.new ≡ self.old }
+    {
+        self.sort();
         let levels = self.levels(alloc, frame)?;
         let top = rows
             .bottom
             .saturating_add(levels.saturating_mul(LEVEL))
             .saturating_add(4);
         rows.bands.insert(number, top)?;
-        write_row_name(usize::from(number), top, &mut rows.text)?;
+        write_row_name(number, top, &mut rows.text)?;
         self.write_runs(alloc, top, frame, &mut rows.text)?;
         self.write_labels(top, frame, &mut rows.labels)?;
-        let lanes = self.write_waits(alloc, top, frame, rows)?;
-        self.write_wakes(alloc, top, frame, rows)?;
+        let waits = self.draw_waits(alloc, top, frame)?;
+        let wakes = self.draw_wakes(alloc, top, frame)?;
+        rows.text.push_str(waits.text.as_str())?;
+        rows.text.push_str(wakes.text.as_str())?;
+        rows.waits_left_out = rows.waits_left_out.saturating_add(waits.left_out);
+        rows.wakes_left_out = rows.wakes_left_out.saturating_add(wakes.left_out);
         rows.bottom = top
             .saturating_add(BAND)
-            .saturating_add(lanes.saturating_mul(LANE))
+            .saturating_add(waits.lanes.saturating_mul(LANE))
             .saturating_add(GAP);
         Ok(())
     }
@@ -387,35 +445,42 @@ impl ProcessorRow {
     }
 
     /// Draws the wakes above the runs, those that would lie upon each other one above another.
-    fn write_wakes(
+    fn draw_wakes(
         &self,
         alloc: Global,
         top: usize,
         frame: &Frame<'_>,
-        rows: &mut Rows,
-    ) -> Result<(), AllocError> {
-        let mut levels = Lanes::new(alloc);
+    ) -> Result<Shapes, AllocError> {
+        let mut lanes = Lanes::new(alloc);
+        let mut text = String::new(alloc);
+        let mut left_out = 0usize;
         for wake in self.wakes.iter() {
-            match levels.take(&drawn_wake(wake, frame))? {
+            match lanes.take(&drawn_wake(wake, frame))? {
                 Some(level) => {
                     let end = top.saturating_sub(level.saturating_mul(LEVEL));
-                    write_wake(wake, end, frame, &mut rows.text)?;
+                    write_wake(wake, end, frame, &mut text)?;
                 }
-                None => rows.wakes_left_out = rows.wakes_left_out.saturating_add(1),
+                None => left_out = left_out.saturating_add(1),
             }
         }
-        Ok(())
+        let lanes = lanes.count();
+        Ok(Shapes {
+            text,
+            lanes,
+            left_out,
+        })
     }
 
-    /// Draws the waits below the runs, and tells in how many lanes.
-    fn write_waits(
+    /// Draws the waits below the runs, in lanes.
+    fn draw_waits(
         &self,
         alloc: Global,
         top: usize,
         frame: &Frame<'_>,
-        rows: &mut Rows,
-    ) -> Result<usize, AllocError> {
+    ) -> Result<Shapes, AllocError> {
         let mut lanes = Lanes::new(alloc);
+        let mut text = String::new(alloc);
+        let mut left_out = 0usize;
         for wait in self.waits.iter() {
             match lanes.take(wait)? {
                 Some(lane) => {
@@ -423,12 +488,17 @@ impl ProcessorRow {
                         .saturating_mul(LANE)
                         .saturating_add(BAND)
                         .saturating_add(top);
-                    write_wait(wait, height, frame, &mut rows.text)?;
+                    write_wait(wait, height, frame, &mut text)?;
                 }
-                None => rows.waits_left_out = rows.waits_left_out.saturating_add(1),
+                None => left_out = left_out.saturating_add(1),
             }
         }
-        Ok(lanes.count())
+        let lanes = lanes.count();
+        Ok(Shapes {
+            text,
+            lanes,
+            left_out,
+        })
     }
 }
 

@@ -1,7 +1,7 @@
 //! The shapes of a row: its name, its runs, the waits below them, and the wakes above.
 ghost use Rattle.std.specs.Prelude.{◌≡◌, ◌++◌, OnOk, codes, string_bytes};
 ghost use Rattle.bq_report.specs.Reports.{Adds};
-ghost use Rattle.bq_drawing.specs.Pictures.{IsRunElement, rectangle_text};
+ghost use Rattle.bq_drawing.specs.Pictures.{IsRowName, IsRunElement, rectangle_text};
 
 use crate::frame::Frame;
 use crate::lanes::Stretch;
@@ -46,7 +46,9 @@ impl DrawnRun {
 }
 
 /// The name of a row, and the band in which its runs lie.
-pub fn write_row_name(number: usize, top: usize, text: &mut String) -> Result<(), AllocError> {
+pub fn write_row_name(number: u8, top: usize, text: &mut String) -> Result<(), AllocError>
+    ensures { OnOk result (Adds (IsRowName number top) (string_bytes text.old) (string_bytes text.new)) }
+{
     let line = top.saturating_add(24);
     write!(
         text,

@@ -1,7 +1,8 @@
 //! The picture of a schedule.
-ghost use Rattle.std.specs.Prelude.{◌≡◌, [], length, replicate, OnOk, option_map};
+ghost use Rattle.std.specs.Prelude.{◌≡◌, ◌++◌, [], length, replicate, OnOk, codes, option_map, string_bytes};
+ghost use Rattle.bq_report.specs.Reports.{Adds};
 ghost use Rattle.bq_report.specs.Rosters.{enlisted};
-ghost use Rattle.bq_drawing.specs.Pictures.{HoldsRun, HoldsRunners};
+ghost use Rattle.bq_drawing.specs.Pictures.{HoldsRun, HoldsRunners, IsDrawnOver, IsPicture, IsPictureOf};
 ghost use Rattle.bq_drawing.specs.Runs.{ended_run};
 
 use crate::drawing::{Drawing, Written};
@@ -204,12 +205,10 @@ impl Svg {
     }
 
     /// Writes the picture of what is held.
-    fn write(
-        &mut self,
-        extent: Extent,
-        names: &Names,
-        text: &mut String,
-    ) -> Result<(), AllocError> {
+    fn write(&mut self, extent: Extent, names: &Names, text: &mut String) -> Result<(), AllocError>
+        ensures { OnOk result (Adds (IsPicture self.old.window extent self.old.roster self.old.drawing)
+            (string_bytes text.old) (string_bytes text.new)) }
+    {
         let heading = Heading {
             title: self.look.title(),
             rule: self.rule,
@@ -217,19 +216,39 @@ impl Svg {
         let drawn = self
             .drawing
             .write(&self.window, extent, &heading, &self.roster, names)?;
-        write_picture(&self.look, &drawn, text)
+        let head = head_of(self.alloc, &self.look, &drawn)?;
+        text.push_str(head.as_str())?;
+        text.push_str(drawn.text.as_str())?;
+        write_end(text)
     }
 }
 
-/// The picture: its root with its name, its styles, its hatches, and what is drawn.
-fn write_picture(look: &Look, drawn: &Written, text: &mut String) -> Result<(), AllocError> {
-    let name = PictureName::of(look.theme, drawn.text.as_str());
-    write_root(name, drawn.height, text)?;
-    write_root_title(look.title(), text)?;
-    write_styles(name, look.theme, text)?;
-    write_hatches(name, text)?;
-    text.push_str(drawn.text.as_str())?;
+/// The end of the root.
+fn write_end(text: &mut String) -> Result<(), AllocError>
+    ensures { OnOk result (string_bytes text.new ≡ string_bytes text.old ++ codes "</svg>\n") }
+{
     text.push_str("</svg>\n")
+}
+
+/// What a picture is drawn over: the extent of the schedule in the window, or a nanosecond where no time passes.
+fn drawn_over(schedule: &Schedule, window: &Window) -> Extent
+    ensures { IsDrawnOver window.now schedule.now result }
+{
+    match Extent::of(schedule, window) {
+        Some(extent) => extent,
+        None => Extent { from: 0, to: 1 },
+    }
+}
+
+/// What stands before all that is drawn: the root with its name, its styles and its hatches.
+fn head_of(alloc: Global, look: &Look, drawn: &Written) -> Result<String, AllocError> {
+    let name = PictureName::of(look.theme, drawn.text.as_str());
+    let mut text = String::new(alloc);
+    write_root(name, drawn.height, &mut text)?;
+    write_root_title(look.title(), &mut text)?;
+    write_styles(name, look.theme, &mut text)?;
+    write_hatches(name, &mut text)?;
+    Ok(text)
 }
 
 /// The beginning of the root.
@@ -315,13 +334,13 @@ impl ScheduleForm for Svg {
         schedule: &Schedule,
         names: &Names,
         text: &mut String,
-    ) -> Result<(), AllocError> {
+    ) -> Result<(), AllocError>
+        ensures picture { OnOk result (Adds (IsPictureOf self.old.window schedule.now self.old.roster self.old.drawing)
+            (string_bytes text.old) (string_bytes text.new)) }
+    {
         self.hold_runners(schedule)?;
         self.hold_waiting(schedule)?;
-        let extent = match Extent::of(schedule, &self.window) {
-            Some(extent) => extent,
-            None => Extent { from: 0, to: 1 },
-        };
+        let extent = drawn_over(schedule, &self.window);
         self.write(extent, names, text)
     }
 }

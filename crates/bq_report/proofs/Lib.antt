@@ -1,5 +1,8 @@
+pub mod DrawnLemmas
 pub mod ExtentLemmas
+pub mod LegendLemmas
 pub mod LongestLemmas
+pub mod MapLemmas
 pub mod NameLemmas
 pub mod NamingLemmas
 pub mod ReportLemmas

@@ -1,5 +1,5 @@
 -- Parts of a report, one behind another.
-use Rattle.std.proofs.Common.{◌≡◌, ℕ, ◌+◌, ◌<◌, Bool, true, false, true≢false, IsTrue, List, [], ◌∷◌, ◌++◌, ◌↔◌, ◌⊎◌, refl, ap, sym, ◌∙◌, subst, append_assoc, append-nil, add-one, arith, inl, inr, Option, Some, None, ℤ, pos, negsuc, ◌||◌, ◌≤◌, nat_eq}
+use Rattle.std.proofs.Common.{◌≡◌, ℕ, ◌+◌, ◌<◌, Bool, true, false, true≢false, IsTrue, List, [], ◌∷◌, ◌++◌, ◌↔◌, refl, ap, sym, ◌∙◌, subst, append_assoc, append-nil, add-one, arith, inl, inr, Option, Some, None, ℤ, pos, negsuc, ◌||◌, ◌≤◌, nat_eq}
 use Rattle.std.specs.Prelude.{codes, IsSorted, IsPermutation}
 use Rattle.std.specs.Ordering.{nat_cmp}
 use Rattle.std.proofs.lemmas.Bool.Decides.{nat_tests}
@@ -70,6 +70,10 @@ lines_none Is text = ([], AreParts-none Is, sym (append-nil text))
 pub lines_more : (Is : ℕ → List ℕ → Type 0) (number : ℕ) (old now next : List ℕ) → Adds (AreParts Is number) old now → Adds (Is number) now next → Adds (AreParts Is (number + 1)) old next
 lines_more Is number old now next lines line =
     (lines.0 ++ line.0, AreParts-more Is number lines.0 line.0 lines.1 line.1, line.2 ∙ ap (λ l. l ++ line.0) lines.2 ∙ append_assoc old lines.0 line.0)
+
+-- the lines of as many numbers as there are
+pub lines_end : (Is : ℕ → List ℕ → Type 0) (number count : ℕ) (old next : List ℕ) → number ≡ count → Adds (AreParts Is number) old next → Adds (AreParts Is count) old next
+lines_end Is number count old next is lines = (lines.0, AreParts-end Is number count lines.0 is lines.1, lines.2)
 
 -- the lines of as many numbers as there are, under the head: a table
 pub table : (head : List ℕ) (Is : ℕ → List ℕ → Type 0) (number count : ℕ) (old now next : List ℕ) → number ≡ count → now ≡ old ++ head

@@ -1,7 +1,10 @@
 pub mod Amounts
 pub mod Columns
 pub mod Extents
+pub mod Legends
 pub mod Longest
+pub mod MapRows
+pub mod Maps
 pub mod Names
 pub mod Objects
 pub mod Reports

@@ -1,9 +1,16 @@
 //! The map: a row a processor, a column a step of time, a letter a task.
+ghost use Rattle.std.specs.Prelude.{◌≡◌, ◌++◌, ◌∷◌, [], ℕ, List, length, replicate, OnOk, OnErr, IfOk, string_bytes};
+ghost use Rattle.bq_report.specs.Legends.{Draws};
+ghost use Rattle.bq_report.specs.MapRows.{Row};
+ghost use Rattle.bq_report.specs.Maps.{DrawnRow, Holds, HoldsLast, HoldsPart, IsDrawn, IsDrawnBy, IsDrawnRow, IsHeldPart, IsMap, all_columns, columns_in, empty_row, row_text, rows_text, step_over};
+ghost use Rattle.bq_report.specs.Reports.{Adds, AreParts};
+ghost use Rattle.bq_report.specs.Rosters.{enlisted};
 
-use crate::amounts::{MomentText, Unit};
 use crate::extent::Extent;
 use crate::form::ScheduleForm;
-use crate::longest::longest_in;
+use crate::grid::Grid;
+use crate::legend::{Legend, write_signs};
+use crate::map_row::{Column, MapRow};
 use crate::names::Names;
 use crate::roster::Roster;
 use crate::steps::round_step;
@@ -11,30 +18,9 @@ use crate::window::Window;
 use bq_disc::limits::PROCESSORS;
 use bq_schedule::{Change, Schedule, Slice};
 use std::alloc::{AllocError, Global};
-use std::collections::BTreeSet;
-
-/// The letters of the tasks, in the order in which they are admitted.
-const LETTERS: [char; 62] = [
-    'A', 'B', 'C', 'D', 'E', 'F', 'G', 'H', 'I', 'J', 'K', 'L', 'M', 'N', 'O', 'P', 'Q', 'R', 'S',
-    'T', 'U', 'V', 'W', 'X', 'Y', 'Z', 'a', 'b', 'c', 'd', 'e', 'f', 'g', 'h', 'i', 'j', 'k', 'l',
-    'm', 'n', 'o', 'p', 'q', 'r', 's', 't', 'u', 'v', 'w', 'x', 'y', 'z', '0', '1', '2', '3', '4',
-    '5', '6', '7', '8', '9',
-];
-
-/// What stands for the tasks after those that have a letter.
-const BEYOND: char = '*';
-
-/// What stands for a task that is not shown.
-const HIDDEN: char = '-';
-
-/// What stands for no task.
-const IDLE: char = '.';
 
 /// How wide the names of the rows are.
 const MARGIN: usize = 8;
-
-/// How many columns lie between two moments of the ruler.
-const TICK: u64 = 20;
 
 /// A row a processor, a column a step of time. A column shows the letter of the task that ran longest in it, of those that are
 /// shown; `-` where only other tasks ran, and `.` where none did. It holds the runs, since the step depends on where the trace
@@ -43,35 +29,19 @@ const TICK: u64 = 20;
 pub struct Map {
     alloc: Global,
     window: Window,
-    /// The same window with every task.
-    everyone: Window,
     width: usize,
     roster: Roster,
     rows: Vec<MapRow>,
 }
 
-/// The runs of a processor: those of tasks that are shown, and the others.
-#[derive(Drop)]
-struct MapRow {
-    shown: Vec<Slice>,
-    hidden: Vec<Slice>,
-}
-
-/// What a map says below its rows.
-#[derive(Drop)]
-struct Legend {
-    /// The tasks that appear in a column.
-    tasks: BTreeSet<u16>,
-    /// Whether a column stands for a task that is not shown.
-    has_hidden: bool,
-}
-
 impl Map {
     /// A map of the window, this many columns wide.
-    pub fn new(alloc: Global, window: Window, width: usize) -> Map {
+    pub fn new(alloc: Global, window: Window, width: usize) -> Map
+        ensures given { (result.window ≡ window) × (result.width ≡ width) }
+        ensures empty { (result.roster ≡ []) × (result.rows.items ≡ []) }
+    {
         Map {
             alloc,
-            everyone: window.with_every_task(alloc),
             window,
             width,
             roster: Roster::new(alloc),
@@ -79,189 +49,146 @@ impl Map {
         }
     }
 
-    /// Holds the part of a run that lies in the window, be its task shown or not.
-    fn hold(&mut self, run: Option<Slice>) -> Result<(), AllocError> {
-        let Some(run) = self.everyone.shown_part(run) else {
-            return Ok(());
-        };
-        let is_shown = self.window.shows_task(run.task);
-        let Some(row) = self.rows.get_mut(usize::from(run.processor)) else {
-            return Ok(());
-        };
-        if is_shown {
-            row.shown.push(run)?;
-        } else {
-            row.hidden.push(run)?;
+    /// Holds the part of a run that lies in the window, be its task shown or not. If memory runs out nothing changes.
+    fn hold(&mut self, run: Option<Slice>) -> Result<(), AllocError>
+        ensures ok { OnOk result (Holds self.old.window run self.old.rows.items self.new.rows.items) }
+        ensures err { OnErr result (self.new.rows.items ≡ self.old.rows.items) }
+        ensures same { (self.new.window ≡ self.old.window) × (self.new.width ≡ self.old.width) × (self.new.roster ≡ self.old.roster) }
+    {
+        match held_part(self.alloc, &self.window, run) {
+            Some(run) => hold_part(&self.window, run, &mut self.rows),
+            None => Ok(()),
+        }
+    }
+
+    /// Holds the last run of each processor, which may go on where the schedule ends.
+    fn hold_last(&mut self, schedule: &Schedule) -> Result<(), AllocError>
+        ensures rows { OnOk result (HoldsLast self.old.window schedule.now 64 self.old.rows.items self.new.rows.items) }
+        ensures same { (self.new.window ≡ self.old.window) × (self.new.width ≡ self.old.width) × (self.new.roster ≡ self.old.roster) }
+    {
+        for number in 0..PROCESSORS {
+            self.hold(schedule.processor(number).run)?;
         }
         Ok(())
     }
 
-    fn write_map(
-        &self,
+    /// Adds the map over an extent: nothing where that is longer than any clock counts.
+    fn write_over(
+        &mut self,
         extent: &Extent,
         names: &Names,
         text: &mut String,
-    ) -> Result<(), AllocError> {
-        let columns = self.columns();
-        let Some(step) = round_step(extent.length(), columns) else {
-            return Ok(());
-        };
-        let count = extent.length().div_ceil(step.max(1));
-        write_ruler(self.alloc, extent, step, count, text)?;
-        let mut legend = Legend {
-            tasks: BTreeSet::new(self.alloc),
-            has_hidden: false,
-        };
-        for (number, row) in self.rows.iter().enumerate() {
-            if self.window.shows_row(number) {
-                write!(text, "cpu {number:<4}")?;
-                self.write_row(row, extent, step, columns, &mut legend, text)?;
-                text.push_str("\n")?;
-            }
-        }
-        self.write_legend(&legend, step, names, text)
-    }
-
-    /// How many columns there are for steps of time.
-    fn columns(&self) -> u16 {
-        u16::try_from(self.width.saturating_sub(MARGIN))
-            .unwrap_or(u16::MAX)
-            .max(1)
-    }
-
-    /// The columns of a processor.
-    fn write_row(
-        &self,
-        row: &MapRow,
-        extent: &Extent,
-        step: u64,
-        columns: u16,
-        legend: &mut Legend,
-        text: &mut String,
-    ) -> Result<(), AllocError> {
-        let mut shown = row.shown.as_slice();
-        let mut hidden = row.hidden.as_slice();
-        let mut from = extent.from;
-        for _ in 0..columns {
-            if from >= extent.to {
-                break;
-            }
-            let to = from.saturating_add(step);
-            let task = longest_in(self.alloc, begun_before(shown, to), from, to)?;
-            let other = longest_in(self.alloc, begun_before(hidden, to), from, to)?;
-            text.push(self.letter_of(task, other, legend)?)?;
-            shown = not_over(shown, to);
-            hidden = not_over(hidden, to);
-            from = to;
-        }
-        Ok(())
-    }
-
-    /// What stands in a column, by the task that ran longest in it and by that of the others. The legend has what stands there.
-    fn letter_of(
-        &self,
-        task: Option<u16>,
-        other: Option<u16>,
-        legend: &mut Legend,
-    ) -> Result<char, AllocError> {
-        match (task, other) {
-            (Some(task), _) => {
-                legend.tasks.insert(task)?;
-                Ok(self.letter(task))
-            }
-            (None, Some(_)) => {
-                legend.has_hidden = true;
-                Ok(HIDDEN)
-            }
-            (None, None) => Ok(IDLE),
+    ) -> Result<(), AllocError>
+        ensures { OnOk result (Adds
+            (IsDrawnBy self.old.window names.now self.old.roster self.old.rows.items extent.now (step_over extent.now self.old.width))
+            (string_bytes text.old) (string_bytes text.new)) }
+    {
+        match round_step(extent.length(), columns_in(self.width)) {
+            Some(step) => self.write_columns(&Grid::new(extent, step), names, text),
+            None => Ok(()),
         }
     }
 
-    /// What the rows show: their columns, and the tasks that appear in them, in the order of their letters.
-    fn write_legend(
-        &self,
-        legend: &Legend,
-        step: u64,
+    /// Adds the map of these columns.
+    fn write_columns(
+        &mut self,
+        grid: &Grid,
         names: &Names,
         text: &mut String,
-    ) -> Result<(), AllocError> {
-        let unit = Unit::for_step(step);
-        let length = MomentText { time: step, unit };
-        write!(text, "\na column is {length}; {IDLE} is idle")?;
-        if legend.has_hidden {
-            write!(text, "; {HIDDEN} runs a task that is not shown")?;
-        }
-        text.push_str("\n")?;
-        for (place, task) in self.roster.tasks().iter().enumerate() {
-            if legend.tasks.contains(task) {
-                write_legend_line(letter_at(place), *task, names.of(*task), text)?;
-            }
-        }
-        Ok(())
-    }
-
-    /// The letter of a task.
-    fn letter(&self, task: u16) -> char {
-        match self.roster.place(task) {
-            Some(place) => letter_at(place),
-            None => BEYOND,
-        }
+    ) -> Result<(), AllocError>
+        ensures { OnOk result (Adds (IsDrawn self.old.window names.now self.old.roster self.old.rows.items grid.now)
+            (string_bytes text.old) (string_bytes text.new)) }
+    {
+        grid.write_ruler(self.alloc, text)?;
+        let mut legend = Legend::new(self.alloc);
+        write_rows(
+            self.alloc,
+            &self.window,
+            &mut self.rows,
+            &self.roster,
+            grid,
+            &mut legend,
+            text,
+        )?;
+        legend.write(&self.roster, grid.step, names, text)
     }
 }
 
-/// A task in the legend, with its name if it has one.
-fn write_legend_line(
-    letter: char,
-    task: u16,
-    name: Option<&str>,
-    text: &mut String,
-) -> Result<(), AllocError> {
-    write!(text, "{letter}  task {task}")?;
-    if let Some(name) = name {
-        write!(text, "  {name}")?;
+/// Adds this many rows without a run.
+fn add_rows(alloc: Global, count: usize, rows: &mut Vec<MapRow>) -> Result<(), AllocError>
+    ensures { OnOk result (rows.new.items ≡ rows.old.items ++ replicate count empty_row) }
+{
+    for _ in 0..count {
+        rows.push(MapRow::new(alloc))?;
     }
-    text.push_str("\n")
+    Ok(())
 }
 
-/// Those of a processor's runs that begin before a moment.
-fn begun_before(runs: &[Slice], to: u64) -> &[Slice] {
-    let begun = runs.iter().take_while(|run| run.from < to).count();
-    &runs[..begun]
+/// The part of a run that lies in the window at a processor that is shown, be its task shown or not.
+fn held_part(alloc: Global, window: &Window, run: Option<Slice>) -> Option<Slice>
+    ensures { IsHeldPart window.now run result }
+{
+    window.with_every_task(alloc).shown_part(run)
 }
 
-/// Those of a processor's runs that are not over at a moment.
-fn not_over(runs: &[Slice], at: u64) -> &[Slice] {
-    let over = runs.iter().take_while(|run| run.to <= at).count();
-    &runs[over..]
+/// Holds a part of a run at its processor, if that has a row. If memory runs out nothing changes.
+fn hold_part(window: &Window, run: Slice, rows: &mut Vec<MapRow>) -> Result<(), AllocError>
+    ensures ok { OnOk result (HoldsPart window.now (Some run) rows.old.items rows.new.items) }
+    ensures err { OnErr result (rows.new.items ≡ rows.old.items) }
+{
+    let is_shown = window.shows_task(run.task);
+    let number = usize::from(run.processor);
+    if number < rows.len() {
+        let row = &mut rows[number];
+        row.hold(run, is_shown)?;
+    }
+    Ok(())
 }
 
-/// The letter of the task at this place among all that are admitted.
-fn letter_at(place: usize) -> char {
-    LETTERS.get(place).copied().unwrap_or(BEYOND)
+/// How many columns there are for steps of time.
+fn columns_in(width: usize) -> u16
+    ensures { result ≡ columns_in width }
+{
+    u16::try_from(width.saturating_sub(MARGIN))
+        .unwrap_or(u16::MAX)
+        .max(1)
 }
 
-/// The moments of every 20th column.
-fn write_ruler(
+/// The lines of the rows that are shown. It notes what their columns show.
+fn write_rows(
     alloc: Global,
-    extent: &Extent,
-    step: u64,
-    count: u64,
+    window: &Window,
+    rows: &mut Vec<MapRow>,
+    roster: &Roster,
+    grid: &Grid,
+    legend: &mut Legend,
     text: &mut String,
-) -> Result<(), AllocError> {
-    let unit = Unit::for_step(step);
-    text.push_str("        ")?;
-    let mut label = String::new(alloc);
-    for tick in 0..count.div_ceil(TICK) {
-        if tick > 0 {
-            write!(text, "{label:<20}")?;
+) -> Result<(), AllocError>
+    ensures { OnOk result (Draws window.now rows.old.items roster.now grid.now (length rows.old.items)
+        legend.old legend.new (string_bytes text.old) (string_bytes text.new)) }
+{
+    for number in 0..rows.len() {
+        if window.shows_row(number) {
+            let row = &mut rows[number];
+            let columns = row.columns(alloc, grid)?;
+            write_row(roster, number, columns.as_slice(), text)?;
+            legend.note(columns.as_slice())?;
         }
-        let time = extent
-            .from
-            .saturating_add(tick.saturating_mul(TICK).saturating_mul(step));
-        let moment = MomentText { time, unit };
-        label = format!(in alloc; "|{moment}")?;
     }
-    text.push_str(label.as_str())?;
+    Ok(())
+}
+
+/// The line of a row with these columns.
+fn write_row(
+    roster: &Roster,
+    number: usize,
+    columns: &[Column],
+    text: &mut String,
+) -> Result<(), AllocError>
+    ensures { OnOk result (string_bytes text.new ≡ string_bytes text.old ++ row_text roster.now (record { number = number; columns = columns.now })) }
+{
+    write!(text, "cpu {number:<4}")?;
+    write_signs(roster, columns, text)?;
     text.push_str("\n")
 }
 
@@ -270,18 +197,19 @@ impl ScheduleForm for Map {
         &mut self,
         schedule: &Schedule,
         _names: &Names,
-        _text: &mut String,
-    ) -> Result<(), AllocError> {
-        for _ in 0..schedule.processors() {
-            self.rows.push(MapRow {
-                shown: Vec::new(self.alloc),
-                hidden: Vec::new(self.alloc),
-            })?;
-        }
-        Ok(())
+        text: &mut String,
+    ) -> Result<(), AllocError>
+        ensures rows { OnOk result (self.new.rows.items ≡ self.old.rows.items ++ replicate (length schedule.now.processors) empty_row) }
+        ensures none { string_bytes text.new ≡ string_bytes text.old }
+        ensures same { (self.new.window ≡ self.old.window) × (self.new.width ≡ self.old.width) × (self.new.roster ≡ self.old.roster) }
+    {
+        add_rows(self.alloc, schedule.processors(), &mut self.rows)
     }
 
-    fn admit(&mut self, task: u16) -> Result<(), AllocError> {
+    fn admit(&mut self, task: u16) -> Result<(), AllocError>
+        ensures ok { OnOk result (self.new ≡ record self.old { roster = enlisted task self.old.roster }) }
+        ensures err { OnErr result (self.new ≡ self.old) }
+    {
         self.roster.admit(task)
     }
 
@@ -290,8 +218,13 @@ impl ScheduleForm for Map {
         change: &Change,
         _schedule: &Schedule,
         _names: &Names,
-        _text: &mut String,
-    ) -> Result<(), AllocError> {
+        text: &mut String,
+    ) -> Result<(), AllocError>
+        ensures ok { OnOk result (Holds self.old.window change.now.run self.old.rows.items self.new.rows.items) }
+        ensures err { OnErr result (self.new.rows.items ≡ self.old.rows.items) }
+        ensures none { string_bytes text.new ≡ string_bytes text.old }
+        ensures same { (self.new.window ≡ self.old.window) × (self.new.width ≡ self.old.width) × (self.new.roster ≡ self.old.roster) }
+    {
         self.hold(change.run)
     }
 
@@ -300,12 +233,13 @@ impl ScheduleForm for Map {
         schedule: &Schedule,
         names: &Names,
         text: &mut String,
-    ) -> Result<(), AllocError> {
-        for number in 0..PROCESSORS {
-            self.hold(schedule.processor(number).run)?;
-        }
+    ) -> Result<(), AllocError>
+        ensures { OnOk result ((rows : List Row) × HoldsLast self.old.window schedule.now 64 self.old.rows.items rows
+            × Adds (IsMap self.old.window names.now schedule.now self.old.roster self.old.width rows) (string_bytes text.old) (string_bytes text.new)) }
+    {
+        self.hold_last(schedule)?;
         match Extent::of(schedule, &self.window) {
-            Some(extent) => self.write_map(&extent, names, text),
+            Some(extent) => self.write_over(&extent, names, text),
             None => text.push_str("no time passes in what is shown\n"),
         }
     }

@@ -7,7 +7,7 @@ use bq_words::number;
 use std::alloc::{AllocError, Global};
 use std::collections::BTreeMap;
 use std::marker::Model;
-use std::{fmt, str};
+use std::str;
 
 /// The names that a trace's comments give to its tasks.
 ///
@@ -89,23 +89,4 @@ fn task_number(word: &[u8]) -> Option<u16>
     ensures { result ≡ task_number word.now }
 {
     u16::try_from(number(word, 10)?).ok()
-}
-
-/// A task by its name, or by its number where it has none.
-#[derive(Clone, Copy)]
-pub struct Label<'a> {
-    pub names: &'a Names,
-    pub task: u16,
-}
-
-impl fmt::Display for Label<'_> {
-    fn fmt<W: fmt::Write>(&self, f: &mut fmt::Formatter<W>) -> fmt::Result {
-        match self.names.of(self.task) {
-            Some(name) => write!(f, "{name}"),
-            None => {
-                let task = self.task;
-                write!(f, "task {task}")
-            }
-        }
-    }
 }

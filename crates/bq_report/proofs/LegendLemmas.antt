@@ -1,0 +1,202 @@
+-- The text of a map, a part behind another, and what its legend knows.
+use Rattle.std.proofs.Common.{◌≡◌, ◌≢◌, ◌∙◌, ◌↔◌, ℕ, zero, suc, ◌+◌, ◌<◌, ◌≤◌, Bool, true, false, cond, nat_lt, ◌&&◌, IsTrue, List, [], ◌∷◌, ◌++◌, length, get_or, set, take, Option, Contains, refl, sym, ap, subst, arith, append_assoc, append-nil, add-one, inl, inr}
+use Rattle.std.specs.Prelude.{codes}
+use Rattle.std.specs.BTreeMap.{is_at}
+use Rattle.std.specs.BTreeSet.{contains}
+use Rattle.std.specs.Ordering.{nat_cmp}
+use Rattle.std.proofs.lemmas.Bool.{and_parts, cases_eq}
+use Rattle.std.proofs.lemmas.Bool.Decides.{Decides-ltb, nat_tests}
+use Rattle.std.proofs.lemmas.List.{get_or-set_other, length-set, take_more}
+use Rattle.std.proofs.lemmas.List.Concat.{flat_map-append}
+use Rattle.std.proofs.lemmas.List.Elements.{Contains-append_left, Contains-push, Contains-push_cases}
+use Rattle.bq_schedule.specs.declared.slice.Slice.{Slice}
+use Rattle.bq_schedule.specs.Figures.{Figures, processor_of}
+use Rattle.bq_report.specs.declared.amounts.Unit.{Unit}
+use Rattle.bq_report.specs.declared.grid.Grid.{Grid}
+use Rattle.bq_report.specs.declared.legend.Legend.{Legend}
+use Rattle.bq_report.specs.declared.map_row.Column.{Column}
+use Rattle.bq_report.specs.declared.map_row.Column.TheVariants.{Task, Hidden, Idle}
+use Rattle.bq_report.specs.declared.window.Window.{Window}
+use Rattle.bq_report.specs.Amounts.{moment_text}
+use Rattle.bq_report.specs.Legends.{Draws, Notes, NotesMore}
+use Rattle.bq_report.specs.MapRows.{Row}
+use Rattle.bq_report.specs.Maps.{AreColumns, DrawnRow, Holds, HoldsLast, IsDrawnRow, IsHiddenNote, IsLegend, IsLegendLine, all_columns, empty_row, letter_at, letters, row_of, row_text, rows_text, unit_for}
+use Rattle.bq_report.specs.Names.{NamedTasks}
+use Rattle.bq_report.specs.Reports.{Adds, AreParts}
+use Rattle.bq_report.specs.Windows.{ShowsProcessor}
+use Rattle.bq_report.proofs.ReportLemmas.{AreParts-more, AreParts-none, AreParts-same, part_missing, part_there}
+
+abbrev are_ascii : List ℕ → Bool
+are_ascii [] = true
+are_ascii (letter ∷ rest) = nat_lt letter 128 && are_ascii rest
+
+ascii_at : (l : List ℕ) → are_ascii l ≡ true → (place : ℕ) → get_or l place 42 < 128
+ascii_at [] h place = omega arith
+ascii_at (letter ∷ rest) h zero = (Decides-ltb letter 128).0 (and_parts (nat_lt letter 128) (are_ascii rest) h).0
+ascii_at (letter ∷ rest) h (suc place) = ascii_at rest (and_parts (nat_lt letter 128) (are_ascii rest) h).1 place
+
+-- every letter is a character of ASCII
+pub letter_ascii : (place : ℕ) → letter_at place < 128
+letter_ascii place = ascii_at letters refl place
+
+-- nothing more is known
+pub notes_none : (l : Legend) → NotesMore [] l l
+notes_none l before known = subst (λ columns. Notes columns l) (sym (append-nil before)) known
+
+-- columns are noted, and then others
+pub notes_joined : (a b : List Column) (first then last : Legend) → NotesMore a first then → NotesMore b then last → NotesMore (a ++ b) first last
+notes_joined a b first then last one two before known =
+    subst (λ columns. Notes columns last) (append_assoc before a b) (two (before ++ a) (one before known))
+
+-- the same columns
+pub notes_of : (a b : List Column) (old new : Legend) → a ≡ b → NotesMore a old new → NotesMore b old new
+notes_of a b old new same noted = subst (λ columns. NotesMore columns old new) same noted
+
+-- one more column is noted
+pub notes_next : (columns : List Column) (i : ℕ) (d : Column) (first then last : Legend) → i < length columns → NotesMore (take i columns) first then
+    → NotesMore (get_or columns i d ∷ []) then last → NotesMore (take (i + 1) columns) first last
+notes_next columns i d first then last lt before one =
+    notes_of (take i columns ++ (get_or columns i d ∷ [])) (take (i + 1) columns) first last (sym (take_more columns i d lt))
+    (notes_joined (take i columns) (get_or columns i d ∷ []) first then last before one)
+
+here : (a b : ℕ) → a ≡ b → is_at (nat_cmp a) b ≡ true
+here a b is = grind (arith, nat_tests)
+
+apart : (a b : ℕ) → a ≢ b → is_at (nat_cmp a) b ≡ false
+apart a b not = grind (arith, nat_tests)
+
+other_column : (before : List Column) (column wanted : Column) → ¬ (column ≡ wanted) → Contains (before ++ (column ∷ [])) wanted → Contains before wanted
+other_column before column wanted not stands = elim (Contains-push_cases before column wanted stands) [
+  | inl there ↦ there
+  | inr is ↦ absurd (not is)
+]
+
+-- a column of another kind changes nothing of what is known of this one
+same_known : (b c : Bool) (before : List Column) (column wanted : Column) → c ≡ b → ¬ (column ≡ wanted) → (IsTrue b ↔ Contains before wanted)
+    → (IsTrue c ↔ Contains (before ++ (column ∷ [])) wanted)
+same_known b c before column wanted is not known = (
+  λ h. Contains-append_left before (column ∷ []) wanted (known.0 (sym is ∙ h)),
+  λ stands. is ∙ known.1 (other_column before column wanted not stands),
+)
+
+-- a column of this kind is known
+now_known : (c : Bool) (before : List Column) (column : Column) → c ≡ true → (IsTrue c ↔ Contains (before ++ (column ∷ [])) column)
+now_known c before column is = (λ h. Contains-push before column, λ stands. is)
+
+task_of : Column → ℕ
+task_of (Task task) = task
+task_of Hidden = 0
+task_of Idle = 0
+
+-- the column of a task is noted
+pub notes_task : (old new : Legend) (column : Column) (task : ℕ) → column ≡ Task task
+    → ((q : ℕ) → contains nat_cmp new.tasks q ≡ cond (is_at (nat_cmp task) q) true (contains nat_cmp old.tasks q))
+    → new.has_hidden ≡ old.has_hidden → NotesMore (column ∷ []) old new
+notes_task old new column task is sets rest before known = subst (λ own. Notes (before ++ (own ∷ [])) new) (sym is) (record {
+  tasks = λ q. elim (cases_eq task q) [
+    | inl is ↦ subst (λ u. IsTrue (contains nat_cmp new.tasks u) ↔ Contains (before ++ (Task task ∷ [])) (Task u)) is
+        (now_known (contains nat_cmp new.tasks task) before (Task task)
+        (sets task ∙ ap (λ b. cond b true (contains nat_cmp old.tasks task)) (here task task refl)))
+    | inr not ↦ same_known (contains nat_cmp old.tasks q) (contains nat_cmp new.tasks q) before (Task task) (Task q)
+        (sets q ∙ ap (λ b. cond b true (contains nat_cmp old.tasks q)) (apart task q not)) (λ e. not (cc)) (known.tasks q)
+  ];
+  hidden = same_known old.has_hidden new.has_hidden before (Task task) Hidden rest (λ e. cc) known.hidden;
+})
+
+-- a column of hidden tasks is noted
+pub notes_hidden : (old new : Legend) (column : Column) → column ≡ Hidden → new.tasks ≡ old.tasks → new.has_hidden ≡ true → NotesMore (column ∷ []) old new
+notes_hidden old new column is rest has before known = subst (λ own. Notes (before ++ (own ∷ [])) new) (sym is) (record {
+  tasks = λ q. same_known (contains nat_cmp old.tasks q) (contains nat_cmp new.tasks q) before Hidden (Task q)
+      (ap (λ t. contains nat_cmp t q) rest) (λ e. cc) (known.tasks q);
+  hidden = now_known new.has_hidden before Hidden has;
+})
+
+regroup : (old a m b n e l : List ℕ) → (((old ++ (a ++ (m ++ b))) ++ n) ++ e) ++ l ≡ old ++ (a ++ (m ++ (b ++ (n ++ (e ++ l)))))
+regroup old a m b n e l = simp append_assoc
+
+-- the parts of a legend, in order, are a legend
+pub legend_added : (names : NamedTasks) (tasks own : List ℕ) (step : ℕ) (unit : Unit) (old headed noted ended next : List ℕ) (columns : List Column)
+    → own ≡ tasks → unit ≡ unit_for step → headed ≡ old ++ (codes "\na column is " ++ (moment_text step unit ++ codes "; . is idle"))
+    → Adds (IsHiddenNote columns) headed noted → ended ≡ noted ++ codes "\n" → Adds (AreParts (IsLegendLine names own columns) (length own)) ended next
+    → Adds (IsLegend names tasks step columns) old next
+legend_added names tasks own step unit old headed noted ended next columns are is head note end lines =
+    let all : next ≡ (((old ++ (codes "\na column is " ++ (moment_text step (unit_for step) ++ codes "; . is idle"))) ++ note.0) ++ codes "\n") ++ lines.0
+    = lines.2 ∙ ap (λ t. t ++ lines.0) (end ∙ ap (λ t. t ++ codes "\n") (note.2 ∙ ap (λ t. t ++ note.0)
+    (head ∙ ap (λ u. old ++ (codes "\na column is " ++ (moment_text step u ++ codes "; . is idle"))) is))) in (
+      _,
+      record {
+        note = note.0;
+        lines = lines.0;
+        hidden = note.1;
+        each = subst (λ ts. AreParts (IsLegendLine names ts columns) (length ts) lines.0) are lines.1;
+        whole = refl;
+      },
+      all ∙ regroup old (codes "\na column is ") (moment_text step (unit_for step)) (codes "; . is idle") note.0 (codes "\n") lines.0,
+    )
+
+-- no row is drawn yet
+pub draws_none : (w : Window) (rows : List Row) (tasks : List ℕ) (g : Grid) (l : Legend) (text : List ℕ) → Draws w rows tasks g 0 l l text text
+draws_none w rows tasks g l text = record {
+  drawn = [];
+  shown = AreParts-none (IsDrawnRow w rows g);
+  noted = notes_none l;
+  added = sym (append-nil text);
+}
+
+-- the same of a legend and a text that are those
+pub draws_at : (w : Window) (rows : List Row) (tasks : List ℕ) (g : Grid) (number : ℕ) (first last next : Legend) (old now then : List ℕ) → next ≡ last → then ≡ now
+    → Draws w rows tasks g number first last old now → Draws w rows tasks g number first next old then
+draws_at w rows tasks g number first last next old now then is reads draws =
+    subst (λ l. Draws w rows tasks g number first l old then) (sym is) (subst (λ t. Draws w rows tasks g number first last old t) (sym reads) draws)
+
+-- a row that is shown is drawn
+pub draws_more : (w : Window) (rows : List Row) (tasks : List ℕ) (g : Grid) (number : ℕ) (first l last : Legend) (old now next : List ℕ) (row : Row) (columns a b : List Column)
+    → Draws w rows tasks g number first l old now → ShowsProcessor w number → row ≡ row_of rows number → AreColumns row g columns → a ≡ columns → b ≡ columns
+    → next ≡ now ++ row_text tasks (record { number = number; columns = a }) → NotesMore b l last
+    → Draws w rows tasks g (number + 1) first last old next
+draws_more w rows tasks g number first l last old now next row columns a b draws shown is are written read line noted =
+    let own : DrawnRow = record { number = number; columns = columns } in
+    let part : IsDrawnRow w rows g number (own ∷ [])
+    = part_there (ShowsProcessor w number) (λ part. (cs : List Column) × AreColumns (row_of rows number) g cs × (part ≡ record { number = number; columns = cs } ∷ []))
+    (own ∷ []) shown (columns, subst (λ r. AreColumns r g columns) is are, refl) in
+    record {
+      drawn = draws.drawn ++ (own ∷ []);
+      shown = AreParts-more (IsDrawnRow w rows g) number draws.drawn (own ∷ []) draws.shown part;
+      noted = notes_of (all_columns draws.drawn ++ columns) (all_columns (draws.drawn ++ (own ∷ []))) first last
+          (ap (λ cs. all_columns draws.drawn ++ cs) (sym (append-nil columns)) ∙ sym (flat_map-append (λ (r : DrawnRow). r.columns) draws.drawn (own ∷ [])))
+          (notes_joined (all_columns draws.drawn) columns first l last draws.noted (notes_of b columns l last read noted));
+      added = line ∙ ap (λ cs. now ++ row_text tasks (record { number = number; columns = cs })) written
+          ∙ ap (λ t. t ++ row_text tasks own) draws.added ∙ append_assoc old (rows_text tasks draws.drawn) (row_text tasks own)
+          ∙ ap (λ t. old ++ t) (ap (λ t. rows_text tasks draws.drawn ++ t) (sym (append-nil (row_text tasks own))) ∙ sym (flat_map-append (row_text tasks) draws.drawn (own ∷ [])));
+    }
+
+-- a row that is not shown is not drawn
+pub draws_same : (w : Window) (rows : List Row) (tasks : List ℕ) (g : Grid) (number : ℕ) (first last : Legend) (old now : List ℕ)
+    → Draws w rows tasks g number first last old now → ¬ (ShowsProcessor w number) → Draws w rows tasks g (number + 1) first last old now
+draws_same w rows tasks g number first last old now draws not = record {
+  drawn = draws.drawn;
+  shown = AreParts-same (IsDrawnRow w rows g) number draws.drawn draws.shown
+      (part_missing (ShowsProcessor w number) (λ part. (cs : List Column) × AreColumns (row_of rows number) g cs × (part ≡ record { number = number; columns = cs } ∷ [])) not);
+  noted = draws.noted;
+  added = draws.added;
+}
+
+-- where one row changes, there are as many, and those behind it stay
+pub rows_behind : (old now next : List Row) (number : ℕ) (row : Row) → next ≡ set now number row → length now ≡ length old
+    → ((p : ℕ) → number ≤ p → row_of now p ≡ row_of old p) → (length next ≡ length old) × ((p : ℕ) → number + 1 ≤ p → row_of next p ≡ row_of old p)
+rows_behind old now next number row is count same = (
+  ap length is ∙ length-set now number row ∙ count,
+  λ p h. ap (λ rows. row_of rows p) is ∙ get_or-set_other now number p row empty_row (omega (arith, h)) ∙ same p (omega (arith, h)),
+)
+
+-- no last run is held yet
+pub last_none : (w : Window) (s : Figures) (rows : List Row) → HoldsLast w s 0 rows rows
+unfolding HoldsLast
+last_none w s rows = refl
+
+-- the last run of one more processor is held
+pub last_more : (w : Window) (s : Figures) (number : ℕ) (old now next : List Row) (run : Option Slice) → HoldsLast w s number old now
+    → run ≡ (processor_of s number).run → Holds w run now next → HoldsLast w s (number + 1) old next
+unfolding HoldsLast
+last_more w s number old now next run before is holds =
+    subst (λ n. HoldsLast w s n old next) (sym (add-one number)) (now, before, subst (λ r. Holds w r now next) is holds)

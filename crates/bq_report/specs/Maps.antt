@@ -1,0 +1,224 @@
+-- What a map holds of a schedule, and the text that it makes of that.
+use Rattle.std.specs.Prelude.{◌≡◌, ◌↔◌, ℕ, zero, suc, ◌+◌, ◌-◌, ◌*◌, ◌/◌, ◌<◌, ◌≤◌, ◌^◌, ◌⊎◌, max, min, Bool, true, false, IsTrue, List, [], ◌∷◌, ◌++◌, map, flat_map, find, length, Contains, slice_index_or, slice_set, nat_lt, if◌then◌else◌, Option, Some, None, codes}
+use Rattle.std.specs.Fmt.{decimal, format_spec, styled_decimal, styled_text}
+use Rattle.std.specs.Int.{div_ceil}
+use Rattle.std.specs.Option.{SomeIff}
+use Rattle.bq_schedule.specs.declared.slice.Slice.{Slice}
+use Rattle.bq_schedule.specs.Figures.{Figures, processor_of}
+use Rattle.bq_report.specs.declared.amounts.Unit.{Unit}
+use Rattle.bq_report.specs.declared.amounts.Unit.TheVariants.{Microseconds, Milliseconds}
+use Rattle.bq_report.specs.declared.extent.Extent.{Extent}
+use Rattle.bq_report.specs.declared.grid.Grid.{Grid}
+use Rattle.bq_report.specs.declared.map_row.Column.{Column}
+use Rattle.bq_report.specs.declared.map_row.Column.TheVariants.{Task, Hidden, Idle}
+use Rattle.bq_report.specs.declared.window.Window.{Window}
+use Rattle.bq_report.specs.Amounts.{moment_text}
+use Rattle.bq_report.specs.Extents.{IsInWindow, Spans}
+use Rattle.bq_report.specs.Longest.{IsLongest, time_of}
+use Rattle.bq_report.specs.MapRows.{Row}
+use Rattle.bq_report.specs.Names.{NamedTasks, name_of}
+use Rattle.bq_report.specs.Reports.{AreParts, IsPartIf}
+use Rattle.bq_report.specs.Rosters.{place_in}
+use Rattle.bq_report.specs.Steps.{covers, round_steps}
+use Rattle.bq_report.specs.Windows.{ShowsProcessor, ShowsTask, part_of}
+
+-- ---- what it holds
+
+-- any of a run is held: some of it lies in the window, and its processor is shown, be its task shown or not
+pub record IsHeld (w : Window) (s : Slice) : Type 0 where
+  pub lasts : (part_of w s).from < (part_of w s).to
+  pub processor : ShowsProcessor w s.processor
+
+-- the part of a run that is held, where there is a run and any of it is held
+abbrev pub IsHeldPart : Window → Option Slice → Option Slice → Type 0
+IsHeldPart w None part = part ≡ None
+IsHeldPart w (Some s) part = SomeIff part (IsHeld w s) (part_of w s)
+
+-- a row with one more run, whose task is shown or not
+abbrev pub with_run : Bool → Slice → Row → Row
+with_run true run row = record row { shown = row.shown ++ (run ∷ []) }
+with_run false run row = record row { hidden = row.hidden ++ (run ∷ []) }
+
+abbrev pub empty_row : Row
+empty_row = record { shown = []; hidden = [] }
+
+-- the row of a processor
+abbrev pub row_of : List Row → ℕ → Row
+row_of rows p = slice_index_or rows p empty_row
+
+-- the rows after one more run at its processor, if that has a row
+abbrev pub rows_with : Bool → Slice → List Row → List Row
+rows_with is_shown run rows = slice_set rows run.processor (with_run is_shown run (row_of rows run.processor))
+
+-- the rows hold one more part of a run, if there is one: among the shown ones if its task is shown, and else among the hidden ones
+abbrev pub HoldsPart : Window → Option Slice → List Row → List Row → Type 0
+HoldsPart w None old new = new ≡ old
+HoldsPart w (Some run) old new = (is_shown : Bool) × (IsTrue is_shown ↔ ShowsTask w run.task) × (new ≡ rows_with is_shown run old)
+
+-- the rows hold what of a run lies in the window, if there is a run
+abbrev pub Holds : Window → Option Slice → List Row → List Row → Type 0
+Holds w run old new = (part : Option Slice) × IsHeldPart w run part × HoldsPart w part old new
+
+-- the rows hold the last runs of the processors below a number too, which may go on where the schedule ends
+unfoldable pub HoldsLast : Window → Figures → ℕ → List Row → List Row → Type 0
+HoldsLast w s zero old new = new ≡ old
+HoldsLast w s (suc p) old new = (before : List Row) × HoldsLast w s p old before × Holds w (processor_of s p).run before new
+
+-- ---- its columns
+
+-- how many columns there are for times where a line has so many
+abbrev pub columns_in : ℕ → ℕ
+columns_in width = max (min (width - 8) (2 ^ 16 - 1)) 1
+
+-- how long a column is: the least round step with which the columns reach over the extent
+abbrev pub step_over : Extent → ℕ → Option ℕ
+step_over e width = find (λ (step : ℕ). covers (e.to - e.from) (columns_in width) step) round_steps
+
+-- as many columns of this length as the extent takes
+abbrev pub grid_over : Extent → ℕ → Grid
+grid_over e step = record { extent = e; step = step; count = div_ceil (e.to - e.from) step }
+
+-- where a column begins, and the one before it ends: so many steps after the extent begins, and no later than it ends
+abbrev pub moment_at : Grid → ℕ → ℕ
+moment_at g column = min (g.extent.from + column * g.step) g.extent.to
+
+-- no task runs between two moments, of these runs
+abbrev pub RunsNone : ℕ → ℕ → List Slice → Type 0
+RunsNone from to runs = (task : ℕ) → task < 1024 → time_of from to runs task ≡ 0
+
+-- what stands between two moments: the shown task that ran longest; where none ran, that others did; or that none did
+abbrev pub IsColumn : Row → ℕ → ℕ → Column → Type 0
+IsColumn row from to (Task task) = IsLongest from to row.shown task
+IsColumn row from to Hidden = RunsNone from to row.shown × ((other : ℕ) × IsLongest from to row.hidden other)
+IsColumn row from to Idle = RunsNone from to row.shown × RunsNone from to row.hidden
+
+-- the columns of a row
+pub record AreColumns (row : Row) (g : Grid) (columns : List Column) : Type 0 where
+  pub count : length columns ≡ g.count
+  pub each : (n : ℕ) → n < g.count → IsColumn row (moment_at g n) (moment_at g (n + 1)) (slice_index_or columns n Idle)
+
+-- a row that is drawn
+pub record DrawnRow : Type 0 where
+  pub number : ℕ
+  pub columns : List Column
+
+-- the row of a processor, if it is shown
+abbrev pub IsDrawnRow : Window → List Row → Grid → ℕ → List DrawnRow → Type 0
+IsDrawnRow w rows g p drawn =
+    IsPartIf DrawnRow (ShowsProcessor w p)
+    (λ own. (columns : List Column) × AreColumns (row_of rows p) g columns × (own ≡ record { number = p; columns = columns } ∷ []))
+    drawn
+
+-- the columns of all rows
+abbrev pub all_columns : List DrawnRow → List Column
+all_columns drawn = flat_map (λ (row : DrawnRow). row.columns) drawn
+
+-- ---- its text
+
+abbrev pub letters : List ℕ
+letters = codes "ABCDEFGHIJKLMNOPQRSTUVWXYZabcdefghijklmnopqrstuvwxyz0123456789"
+
+-- the letter of the task at a place among all that are admitted: `*` for those after the letters
+abbrev pub letter_at : ℕ → ℕ
+letter_at place = slice_index_or letters place 42
+
+-- the same of a task that may have no place
+abbrev pub letter_if : Option ℕ → ℕ
+letter_if None = 42
+letter_if (Some place) = letter_at place
+
+-- what is written for a column: the letter of the task, `-` or `.`
+abbrev pub sign_of : List ℕ → Column → ℕ
+sign_of tasks (Task task) = letter_if (place_in tasks task)
+sign_of tasks Hidden = 45
+sign_of tasks Idle = 46
+
+-- text or a number at the left end of this many columns, and more where it is longer
+abbrev pub left_text : ℕ → List ℕ → List ℕ
+left_text width text = styled_text (format_spec 32 1 0 width (2 ^ 64 - 1)) text
+
+abbrev pub left_number : ℕ → ℕ → List ℕ
+left_number width n = styled_decimal (format_spec 32 1 0 width (2 ^ 64 - 1)) n
+
+-- the line of a row
+abbrev pub row_text : List ℕ → DrawnRow → List ℕ
+row_text tasks row = codes "cpu " ++ (left_number 4 row.number ++ (map (sign_of tasks) row.columns ++ codes "\n"))
+
+abbrev pub rows_text : List ℕ → List DrawnRow → List ℕ
+rows_text tasks drawn = flat_map (row_text tasks) drawn
+
+-- the unit for moments that lie this far apart
+abbrev pub unit_for : ℕ → Unit
+unit_for step = if nat_lt step 1000 then Microseconds else Milliseconds
+
+-- a mark of the ruler: where the column at 20 times its number begins
+abbrev pub mark_text : Grid → ℕ → List ℕ
+mark_text g mark = codes "|" ++ moment_text (moment_at g (mark * 20)) (unit_for g.step)
+
+-- the marks below a number, each in 20 columns
+abbrev pub marks_text : Grid → ℕ → List ℕ
+marks_text g zero = []
+marks_text g (suc mark) = marks_text g mark ++ left_text 20 (mark_text g mark)
+
+-- the last mark
+abbrev pub last_mark : Grid → ℕ
+last_mark g = (g.count - 1) / 20
+
+-- the ruler above the rows: a mark at every 20th column
+abbrev pub ruler_text : Grid → List ℕ
+ruler_text g = codes "        " ++ (marks_text g (last_mark g) ++ (mark_text g (last_mark g) ++ codes "\n"))
+
+-- a name behind a task, if it has one
+abbrev pub behind_task : Option (List ℕ) → List ℕ
+behind_task None = []
+behind_task (Some name) = codes "  " ++ name
+
+-- the line of the task at a place of the legend
+abbrev pub legend_line : NamedTasks → ℕ → ℕ → List ℕ
+legend_line names place task =
+    (letter_at place ∷ []) ++ (codes "  task " ++ (decimal task ++ (behind_task (name_of names task) ++ codes "\n")))
+
+-- that of the task at a place among all that are admitted, if it appears in a column
+abbrev pub IsLegendLine : NamedTasks → List ℕ → List Column → ℕ → List ℕ → Type 0
+IsLegendLine names tasks columns place line =
+    IsPartIf ℕ (Contains columns (Task (slice_index_or tasks place 0))) (λ own. own ≡ legend_line names place (slice_index_or tasks place 0)) line
+
+-- what tells of columns in which only hidden tasks ran, if there are any
+abbrev pub IsHiddenNote : List Column → List ℕ → Type 0
+IsHiddenNote columns note = IsPartIf ℕ (Contains columns Hidden) (λ own. own ≡ codes "; - runs a task that is not shown") note
+
+-- the legend: how long a column is, what stands for no task and for hidden ones, and the tasks that appear, in the order of their letters
+pub record IsLegend (names : NamedTasks) (tasks : List ℕ) (step : ℕ) (columns : List Column) (text : List ℕ) : Type 0 where
+  pub note : List ℕ
+  pub lines : List ℕ
+  pub hidden : IsHiddenNote columns note
+  pub each : AreParts (IsLegendLine names tasks columns) (length tasks) lines
+  pub whole : text ≡ codes "\na column is " ++ (moment_text step (unit_for step) ++ (codes "; . is idle" ++ (note ++ (codes "\n" ++ lines))))
+
+-- a map of these rows, whose tasks have places: the ruler, the rows that are shown, and the legend
+pub record IsDrawn (w : Window) (names : NamedTasks) (tasks : List ℕ) (rows : List Row) (g : Grid) (text : List ℕ) : Type 0 where
+  pub drawn : List DrawnRow
+  pub legend : List ℕ
+  pub shown : AreParts (IsDrawnRow w rows g) (length rows) drawn
+  pub below : IsLegend names tasks g.step (all_columns drawn) legend
+  pub whole : text ≡ ruler_text g ++ (rows_text tasks drawn ++ legend)
+
+-- the same by the step, if there is one: nothing where time is longer than any clock counts
+abbrev pub IsDrawnBy : Window → NamedTasks → List ℕ → List Row → Extent → Option ℕ → List ℕ → Type 0
+IsDrawnBy w names tasks rows e None text = text ≡ []
+IsDrawnBy w names tasks rows e (Some step) text = IsDrawn w names tasks rows (grid_over e step) text
+
+-- a map over the time that passes in what is shown
+pub record IsMapOfTime (w : Window) (names : NamedTasks) (s : Figures) (tasks : List ℕ) (width : ℕ) (rows : List Row) (text : List ℕ) : Type 0 where
+  pub extent : Extent
+  pub in_window : IsInWindow w extent
+  pub spans : Spans w s extent
+  pub drawn : IsDrawnBy w names tasks rows extent (step_over extent width) text
+
+-- or that there is none
+pub record IsMapOfNoTime (w : Window) (s : Figures) (text : List ℕ) : Type 0 where
+  pub none : (e : Extent) → Spans w s e → e.to ≤ e.from
+  pub says : text ≡ codes "no time passes in what is shown\n"
+
+abbrev pub IsMap : Window → NamedTasks → Figures → List ℕ → ℕ → List Row → List ℕ → Type 0
+IsMap w names s tasks width rows text = IsMapOfTime w names s tasks width rows text ⊎ IsMapOfNoTime w s text

@@ -1,0 +1,77 @@
+//! The columns of a map, over a stretch of time.
+ghost use Rattle.std.specs.Prelude.{◌≡◌, ◌<◌, ◌*◌, ◌^◌, ◌++◌, OnOk, string_bytes};
+ghost use Rattle.bq_report.specs.declared.grid.Grid.{Grid};
+ghost use Rattle.bq_report.specs.Maps.{grid_over, last_mark, mark_text, marks_text, moment_at, ruler_text, unit_for};
+
+use crate::amounts::{MomentText, Unit};
+use crate::extent::Extent;
+use std::alloc::{AllocError, Global};
+
+/// How many columns lie between two moments of the ruler.
+const TICK: u64 = 20;
+
+/// The columns over an extent: how long each is, but for the last, which ends where the extent does, and how many there are.
+#[derive(Clone, Copy)]
+pub(crate) struct Grid {
+    pub(crate) extent: Extent,
+    pub(crate) step: u64,
+    pub(crate) count: u64,
+}
+
+impl Grid {
+    /// As many columns of this length as the extent takes.
+    pub(crate) fn new(extent: &Extent, step: u64) -> Grid
+        requires { 0 < step }
+        ensures { result ≡ grid_over extent.now step }
+    {
+        Grid {
+            extent: *extent,
+            step,
+            count: extent.length().div_ceil(step),
+        }
+    }
+
+    /// Where a column begins, by its number, and where the one before it ends.
+    pub(crate) fn moment(&self, column: u64) -> u64
+        ensures { result ≡ moment_at self.now column }
+    {
+        let from = self.extent.from;
+        from.saturating_add(column.saturating_mul(self.step))
+            .min(self.extent.to)
+    }
+
+    /// The ruler above the rows: the moments of every 20th column.
+    pub(crate) fn write_ruler(&self, alloc: Global, text: &mut String) -> Result<(), AllocError>
+        ensures { OnOk result (string_bytes text.new ≡ string_bytes text.old ++ ruler_text self.now) }
+    {
+        let last = self.count.saturating_sub(1) / TICK;
+        text.push_str("        ")?;
+        self.write_marks(alloc, last, text)?;
+        let moment = self.mark(last);
+        write!(text, "|{moment}\n")
+    }
+
+    /// The marks of the ruler before this one, each as wide as the columns to the next.
+    fn write_marks(&self, alloc: Global, last: u64, text: &mut String) -> Result<(), AllocError>
+        requires { last * 20 < 2 ^ 64 }
+        ensures { OnOk result (string_bytes text.new ≡ string_bytes text.old ++ marks_text self.now last) }
+    {
+        for number in 0..last {
+            let moment = self.mark(number);
+            let mark = format!(in alloc; "|{moment}")?;
+            write!(text, "{mark:<20}")?;
+        }
+        Ok(())
+    }
+
+    /// The moment at a mark of the ruler.
+    fn mark(&self, number: u64) -> MomentText
+        requires { number * 20 < 2 ^ 64 }
+        ensures { result ≡ record { time = moment_at self.now (number * 20); unit = unit_for self.now.step } }
+    {
+        MomentText {
+            time: self.moment(number * TICK),
+            unit: Unit::for_step(self.step),
+        }
+    }
+}

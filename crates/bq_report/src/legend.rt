@@ -1,0 +1,201 @@
+//! What a map says below its rows, and the signs of its columns.
+ghost use Rattle.std.specs.Prelude.{◌≡◌, ◌<◌, ◌++◌, ◌∷◌, [], ℕ, List, Contains, map, length, option_map, OnOk, string_bytes};
+ghost use Rattle.bq_report.specs.declared.map_row.Column.{Column};
+ghost use Rattle.bq_report.specs.declared.map_row.Column.TheVariants.{Task};
+ghost use Rattle.bq_report.specs.Legends.{Notes, NotesMore};
+ghost use Rattle.bq_report.specs.Maps.{IsHiddenNote, IsLegend, IsLegendLine, behind_task, legend_line, letter_at, letter_if, sign_of};
+ghost use Rattle.bq_report.specs.Names.{name_of};
+ghost use Rattle.bq_report.specs.Reports.{Adds, AreParts, IsPartIf};
+ghost use Rattle.bq_report.specs.Rosters.{place_in};
+
+use crate::amounts::{MomentText, Unit};
+use crate::map_row::Column;
+use crate::names::Names;
+use crate::roster::Roster;
+use std::alloc::{AllocError, Global};
+use std::collections::BTreeSet;
+
+/// The letters of the tasks, in the order in which they are admitted.
+const LETTERS: [char; 62] = [
+    'A', 'B', 'C', 'D', 'E', 'F', 'G', 'H', 'I', 'J', 'K', 'L', 'M', 'N', 'O', 'P', 'Q', 'R', 'S',
+    'T', 'U', 'V', 'W', 'X', 'Y', 'Z', 'a', 'b', 'c', 'd', 'e', 'f', 'g', 'h', 'i', 'j', 'k', 'l',
+    'm', 'n', 'o', 'p', 'q', 'r', 's', 't', 'u', 'v', 'w', 'x', 'y', 'z', '0', '1', '2', '3', '4',
+    '5', '6', '7', '8', '9',
+];
+
+/// What stands for the tasks after those that have a letter.
+const BEYOND: char = '*';
+
+/// What stands for a task that is not shown.
+const HIDDEN: char = '-';
+
+/// What stands for no task.
+const IDLE: char = '.';
+
+/// What the columns of a map show.
+#[derive(Drop)]
+pub(crate) struct Legend {
+    /// The tasks that appear in a column.
+    tasks: BTreeSet<u16>,
+    /// Whether a column stands for a task that is not shown.
+    has_hidden: bool,
+}
+
+impl Legend {
+    /// No column yet.
+    pub(crate) fn new(alloc: Global) -> Legend
+        ensures { Notes [] result }
+    {
+        Legend {
+            tasks: BTreeSet::new(alloc),
+            has_hidden: false,
+        }
+    }
+
+    /// Notes what stands in columns.
+    pub(crate) fn note(&mut self, columns: &[Column]) -> Result<(), AllocError>
+        ensures { OnOk result (NotesMore columns.now self.old self.new) }
+    {
+        for column in columns {
+            self.note_one(*column)?;
+        }
+        Ok(())
+    }
+
+    /// Notes what stands in a column.
+    fn note_one(&mut self, column: Column) -> Result<(), AllocError>
+        ensures { OnOk result (NotesMore (column ∷ []) self.old self.new) }
+    {
+        match column {
+            Column::Task(task) => {
+                self.tasks.insert(task)?;
+            }
+            Column::Hidden => self.has_hidden = true,
+            Column::Idle => {}
+        }
+        Ok(())
+    }
+
+    /// Adds the legend of a map whose columns are noted, and are this long.
+    pub(crate) fn write(
+        &self,
+        roster: &Roster,
+        step: u64,
+        names: &Names,
+        text: &mut String,
+    ) -> Result<(), AllocError>
+        ensures { OnOk result ((columns : List Column) → Notes columns self.now
+            → Adds (IsLegend names.now roster.now step columns) (string_bytes text.old) (string_bytes text.new)) }
+    {
+        let unit = Unit::for_step(step);
+        let length = MomentText { time: step, unit };
+        write!(text, "\na column is {length}; {IDLE} is idle")?;
+        self.write_hidden(text)?;
+        text.push_str("\n")?;
+        self.write_lines(roster.tasks(), names, text)
+    }
+
+    /// What stands for tasks that are not shown, if it stands in a column.
+    fn write_hidden(&self, text: &mut String) -> Result<(), AllocError>
+        ensures { OnOk result ((columns : List Column) → Notes columns self.now
+            → Adds (IsHiddenNote columns) (string_bytes text.old) (string_bytes text.new)) }
+    {
+        if !self.has_hidden {
+            return Ok(());
+        }
+        write!(text, "; {HIDDEN} runs a task that is not shown")
+    }
+
+    /// The lines of the tasks that appear, of these in the order of their letters.
+    fn write_lines(&self, tasks: &[u16], names: &Names, text: &mut String) -> Result<(), AllocError>
+        ensures { OnOk result ((columns : List Column) → Notes columns self.now
+            → Adds (AreParts (IsLegendLine names.now tasks.now columns) (length tasks.now)) (string_bytes text.old) (string_bytes text.new)) }
+    {
+        for place in 0..tasks.len() {
+            self.write_line_if(place, tasks[place], names, text)?;
+        }
+        Ok(())
+    }
+
+    /// The line of a task at this place among all that are admitted, if it appears.
+    fn write_line_if(
+        &self,
+        place: usize,
+        task: u16,
+        names: &Names,
+        text: &mut String,
+    ) -> Result<(), AllocError>
+        ensures { OnOk result ((columns : List Column) → Notes columns self.now
+            → Adds (IsPartIf ℕ (Contains columns (Task task)) (λ own. own ≡ legend_line names.now place task)) (string_bytes text.old) (string_bytes text.new)) }
+    {
+        if !self.tasks.contains(&task) {
+            return Ok(());
+        }
+        write_line(place, task, names, text)
+    }
+}
+
+/// The line of a task at this place, with its name if it has one.
+fn write_line(place: usize, task: u16, names: &Names, text: &mut String) -> Result<(), AllocError>
+    ensures { OnOk result (string_bytes text.new ≡ string_bytes text.old ++ legend_line names.now place task) }
+{
+    let letter = letter_at(place);
+    write!(text, "{letter}  task {task}")?;
+    write_name(names.of(task), text)?;
+    text.push_str("\n")
+}
+
+/// The name behind a task, if it has one.
+fn write_name(name: Option<&str>, text: &mut String) -> Result<(), AllocError>
+    ensures { OnOk result (string_bytes text.new ≡ string_bytes text.old ++ behind_task (option_map (λ name. name.now) name.entry)) }
+{
+    match name {
+        Some(name) => write!(text, "  {name}"),
+        None => Ok(()),
+    }
+}
+
+/// Adds the signs of columns: the letter of a task, or what stands for hidden ones or for none.
+pub(crate) fn write_signs(
+    roster: &Roster,
+    columns: &[Column],
+    text: &mut String,
+) -> Result<(), AllocError>
+    ensures { OnOk result (string_bytes text.new ≡ string_bytes text.old ++ map (sign_of roster.now) columns.now) }
+{
+    for column in columns {
+        text.push(sign(roster, *column))?;
+    }
+    Ok(())
+}
+
+/// What is written for a column.
+fn sign(roster: &Roster, column: Column) -> char
+    ensures sign { result ≡ sign_of roster.now column }
+    ensures ascii { result < 128 }
+{
+    match column {
+        Column::Task(task) => letter_if(roster.place(task)),
+        Column::Hidden => HIDDEN,
+        Column::Idle => IDLE,
+    }
+}
+
+/// The letter of a task by its place, if it has one.
+fn letter_if(place: Option<usize>) -> char
+    ensures letter { result ≡ letter_if place }
+    ensures ascii { result < 128 }
+{
+    match place {
+        Some(place) => letter_at(place),
+        None => BEYOND,
+    }
+}
+
+/// The letter of the task at this place among all that are admitted.
+fn letter_at(place: usize) -> char
+    ensures letter { result ≡ letter_at place }
+    ensures ascii { result < 128 }
+{
+    LETTERS.get(place).copied().unwrap_or(BEYOND)
+}

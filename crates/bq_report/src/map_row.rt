@@ -1,0 +1,155 @@
+//! A row of a map: the runs of a processor, and what stands in its columns.
+ghost use Rattle.std.specs.Prelude.{◌≡◌, ℕ, ◌≤◌, List, nat_le, nat_lt, IfOk, OnOk, OnErr};
+ghost use Rattle.std.specs.List.{prefix_len};
+ghost use Rattle.std.specs.List.Sorted.{IsNonDecreasingBy, IsPermutation};
+ghost use Rattle.bq_schedule.specs.declared.slice.Slice.{Slice};
+ghost use Rattle.bq_report.specs.Longest.{time_of};
+ghost use Rattle.bq_report.specs.MapRows.{Row};
+ghost use Rattle.bq_report.specs.Maps.{AreColumns, IsColumn, empty_row, with_run};
+
+use crate::grid::Grid;
+use crate::longest::longest_in;
+use bq_schedule::Slice;
+use std::alloc::{AllocError, Global};
+use std::marker::Model;
+
+/// What stands in a column: the task that ran longest, of those that are shown; that only others ran; or that none did.
+#[derive(Clone, Copy)]
+pub(crate) enum Column {
+    Task(u16),
+    Hidden,
+    Idle,
+}
+
+/// The runs of a processor: those of tasks that are shown, and the others.
+#[derive(Drop)]
+pub(crate) struct MapRow {
+    shown: Vec<Slice>,
+    hidden: Vec<Slice>,
+}
+
+impl Model for MapRow {
+    ghost use Rattle.bq_report.specs.MapRows.{Row};
+
+    ghost Value = { Row };
+
+    ghost view = { λ r. record { shown = r.shown.items; hidden = r.hidden.items } };
+}
+
+impl MapRow {
+    /// No run.
+    pub(crate) fn new(alloc: Global) -> MapRow
+        ensures { result ≡ empty_row }
+    {
+        MapRow {
+            shown: Vec::new(alloc),
+            hidden: Vec::new(alloc),
+        }
+    }
+
+    /// Holds one more run, whose task is shown or not. If memory runs out nothing changes.
+    pub(crate) fn hold(&mut self, run: Slice, is_shown: bool) -> Result<(), AllocError>
+        ensures ok { OnOk result (self.new ≡ with_run is_shown run self.old) }
+        ensures err { OnErr result (self.new ≡ self.old) }
+    {
+        if is_shown {
+            self.shown.push(run)?;
+        } else {
+            self.hidden.push(run)?;
+        }
+        Ok(())
+    }
+
+    /// What stands in the columns. It brings the runs into the order in which they begin, and such they are in a schedule.
+    pub(crate) fn columns(&mut self, alloc: Global, grid: &Grid) -> Result<Vec<Column>, AllocError>
+        ensures { IfOk result (λ columns. AreColumns self.old grid.now columns.items) }
+    {
+        sort(&mut self.shown);
+        sort(&mut self.hidden);
+        columns_of(alloc, self.shown.as_slice(), self.hidden.as_slice(), grid)
+    }
+}
+
+/// Brings runs into the order in which they begin.
+fn sort(runs: &mut Vec<Slice>)
+    ensures order { IsNonDecreasingBy (λ (run : Slice). run.from) runs.new.items }
+    ensures same { IsPermutation runs.old.items runs.new.items }
+{
+    runs.sort_unstable_by_key(|run| run.from);
+}
+
+/// What stands in the columns, of these runs of tasks that are shown, and these others.
+fn columns_of(
+    alloc: Global,
+    shown: &[Slice],
+    hidden: &[Slice],
+    grid: &Grid,
+) -> Result<Vec<Column>, AllocError>
+    requires shown { IsNonDecreasingBy (λ (run : Slice). run.from) shown.now }
+    requires hidden { IsNonDecreasingBy (λ (run : Slice). run.from) hidden.now }
+    ensures { IfOk result (λ columns. AreColumns (record { shown = shown.now; hidden = hidden.now }) grid.now columns.items) }
+{
+    let mut columns = Vec::new(alloc);
+    let mut left = shown;
+    let mut others = hidden;
+    for number in 0..grid.count {
+        let from = grid.moment(number);
+        let to = grid.moment(number + 1);
+        columns.push(column_between(alloc, left, others, from, to)?)?;
+        left = not_over(left, to);
+        others = not_over(others, to);
+    }
+    Ok(columns)
+}
+
+/// What stands between two moments, of these runs of tasks that are shown, and these others.
+fn column_between(
+    alloc: Global,
+    shown: &[Slice],
+    hidden: &[Slice],
+    from: u64,
+    to: u64,
+) -> Result<Column, AllocError>
+    requires shown { IsNonDecreasingBy (λ (run : Slice). run.from) shown.now }
+    requires hidden { IsNonDecreasingBy (λ (run : Slice). run.from) hidden.now }
+    ensures { IfOk result (IsColumn (record { shown = shown.now; hidden = hidden.now }) from to) }
+{
+    if let Some(task) = longest_in(alloc, begun_before(shown, to), from, to)? {
+        return Ok(Column::Task(task));
+    }
+    match longest_in(alloc, begun_before(hidden, to), from, to)? {
+        Some(_) => Ok(Column::Hidden),
+        None => Ok(Column::Idle),
+    }
+}
+
+/// Those of a processor's runs that begin before a moment.
+fn begun_before(runs: &[Slice], to: u64) -> &[Slice]
+    requires { IsNonDecreasingBy (λ (run : Slice). run.from) runs.now }
+    ensures { (from task : ℕ) → time_of from to result.now task ≡ time_of from to runs.now task }
+{
+    &runs[..begun(runs, to)]
+}
+
+/// How many runs begin before a moment, up to the first that does not.
+fn begun(runs: &[Slice], to: u64) -> usize
+    ensures { result ≡ prefix_len (λ (run : Slice). nat_lt run.from to) runs.now }
+{
+    runs.iter().take_while(|run| run.from < to).count()
+}
+
+/// A processor's runs without those at their head that are over at a moment.
+fn not_over(runs: &[Slice], at: u64) -> &[Slice]
+    requires { IsNonDecreasingBy (λ (run : Slice). run.from) runs.now }
+    ensures order { IsNonDecreasingBy (λ (run : Slice). run.from) result.now }
+    ensures times { (from to task : ℕ) → at ≤ from → time_of from to result.now task ≡ time_of from to runs.now task }
+{
+    &runs[over(runs, at)..]
+}
+
+/// How many runs are over at a moment, up to the first that is not.
+fn over(runs: &[Slice], at: u64) -> usize
+    ensures { result ≡ prefix_len (λ (run : Slice). nat_le run.to at) runs.now }
+{
+    runs.iter().take_while(|run| run.to <= at).count()
+}
