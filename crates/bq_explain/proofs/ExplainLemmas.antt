@@ -14,8 +14,7 @@ use Rattle.bq_verify.specs.declared.cause.Cause.TheVariants as cause
 use Rattle.bq_verify.specs.declared.refused.Refused.TheVariants as refused
 use Rattle.bq_policy_file.specs.declared.policy_source.PolicySource.{PolicySource}
 use Rattle.bq_policy_file.specs.Subjects.{subject_in}
-use Rattle.bq_verify.specs.KnownAt.{ContainsRuns, IsNotReached}
-use Rattle.bq_verify.specs.Straight.{IsStraightBefore}
+use Rattle.bq_verify.specs.KnownAt.{ContainsRuns}
 use Rattle.bq_states.specs.declared.abstract_state.AbstractState.{AbstractState}
 use Rattle.bq_needs.specs.Needs.{IsNeed}
 use Rattle.bq_needs.specs.declared.needs.Need.{Need}
@@ -64,13 +63,6 @@ pub finds_state : (p : PolicySource) (slot : ℕ) (insn : Insn) (named : Cause) 
     → ContainsRuns (subject_in p) slot known → IsNeed p known insn named need → IsFinding p slot insn named (finding.State need known)
 finds_state p slot insn (cause.Graph named) need known of contains is = absurd of
 finds_state p slot insn (cause.State obligation) need known of contains is = (contains, is)
-
--- and that nothing is known, where so no run comes there
-pub finds_none : (p : PolicySource) (slot : ℕ) (insn : Insn) (named : Cause) → IsOfState named
-    → (IsStraightBefore (subject_in p) slot → IsNotReached (subject_in p) slot)
-    → IsFinding p slot insn named finding.Unknown
-finds_none p slot insn (cause.Graph named) of none = absurd of
-finds_none p slot insn (cause.State obligation) of none = none
 
 nothing_made : (slots : List (Option Insn)) (slot : ℕ) (made : List Made) → made ≡ [] → AreMade slots slot [] made
 nothing_made slots slot made none one there = absurd (let less = (subst (λ (l : List Made). Contains l one) none there).1 in let no : ⊥ = omega arith in no)

@@ -2,10 +2,9 @@
 use Rattle.std.specs.Prelude.{Contains, ◌≡◌, ◌≤◌, ◌↔◌, ℕ, Bool, true, false, List, [], ◌∷◌, Option, Some, length, slice_index_or}
 use Rattle.bq_insn.specs.declared.Insn.{Insn}
 use Rattle.bq_bpf.specs.Steps.{instruction_at}
-use Rattle.bq_insn.specs.Spelling.{is_well_formed}
+use Rattle.bq_insn.specs.declared.TheConstants.{SLOTS}
 use Rattle.bq_verify.specs.Edges.{IsEdge}
 use Rattle.bq_verify.specs.Passes.{IsSound}
-use Rattle.bq_verify.specs.declared.program.Program.{Program}
 use Rattle.bq_verify.specs.Paths.{IsPath, end_of}
 use Rattle.bq_verify.specs.Straight.{spares}
 use Rattle.bq_needs.specs.Operands.{reads}
@@ -63,8 +62,7 @@ pub record MakesAsked (slots : List (Option Insn)) (slot : ℕ) (asked : List Bo
   pub of_asked : slice_index_or asked maker.register false ≡ true
   pub makes : IsMaker slots maker.register slot maker.slot
 
--- a program and its slots, whose control graph may be walked
-pub record IsLaidOut (program : Program) (slots : List (Option Insn)) : Type 0 where
-  pub whole : is_well_formed program.insns.items ≡ true
-  pub short : length slots ≤ 4096
+-- slots whose control graph may be walked
+pub record CanBeWalked (slots : List (Option Insn)) : Type 0 where
+  pub short : length slots ≤ SLOTS
   pub sound : IsSound slots

@@ -1,9 +1,7 @@
 //! What is known of registers and stack after an instruction, on the way to one of the slots behind it.
-ghost use Rattle.std.specs.Prelude.{◌≡◌, ◌<◌, ◌≤◌, ◌^◌, IsTrue, length, true};
-ghost use Rattle.bq_insn.specs.Spelling.{is_well_formed};
+ghost use Rattle.std.specs.Prelude.{◌<◌, ◌≤◌, ◌^◌, IsTrue, length};
 ghost use Rattle.bq_bpf.specs.Steps.{IsCounterCall};
 ghost use Rattle.bq_transfer.specs.Ready.{IsTransferred, WritesBelowFrame};
-ghost use Rattle.bq_explain.specs.Makers.{IsLaidOut};
 
 use bq_bpf::MapShape;
 use bq_bpf::instruction::{destination, is_counter_call};
@@ -15,40 +13,27 @@ use bq_states::told::tell;
 use bq_transfer::counters::ask;
 use bq_transfer::sides::{right_side, side};
 use bq_transfer::transfer::transfer;
-use bq_verify::{Program, state_at};
-use std::alloc::{AllocError, Global};
+use bq_verify::{KnownStates, PolicyForm};
 
 /// What is known on the step from one slot to another; None where no run takes it.
 pub(crate) fn known_after(
-    alloc: Global,
-    program: &Program,
+    form: &PolicyForm,
     slots: &[Option<Insn>],
+    states: &KnownStates,
     from: usize,
     to: usize,
-) -> Result<Option<AbstractState>, AllocError>
-    requires { IsLaidOut program.now slots.now }
-{
+) -> Option<AbstractState> {
     if from >= slots.len() {
-        return Ok(None);
+        return None;
     }
-    let Some(insn) = slots[from] else {
-        return Ok(None);
-    };
-    let Some(mut state) = state_at(alloc, program, from)? else {
-        return Ok(None);
-    };
-    let context = program.form.context_length();
+    let insn = slots[from]?;
+    let mut state = *states.at(from)?;
+    let context = form.context_length();
     let is_next = to == from.saturating_add(insn.slots());
-    if comes(
-        &mut state,
-        program.form.shapes.as_slice(),
-        context,
-        insn,
-        is_next,
-    ) {
-        return Ok(Some(state));
+    if comes(&mut state, form.shapes.as_slice(), context, insn, is_next) {
+        return Some(state);
     }
-    Ok(None)
+    None
 }
 
 /// Whether a run may go on by the instruction, to the next one or by its jump; if so, the state is the one after it.
@@ -83,32 +68,25 @@ pub(crate) struct Sides {
 }
 
 /// The sides that a run may take of the branch at the slot; of another instruction, both, as far as it has them.
-pub(crate) fn sides_of(
-    alloc: Global,
-    program: &Program,
-    slot: usize,
-    insn: Insn,
-) -> Result<Sides, AllocError>
-    requires { is_well_formed program.now.insns.items ≡ true }
-{
+pub(crate) fn sides_of(states: &KnownStates, slot: usize, insn: Insn) -> Sides {
     let Some(test) = test_of(insn) else {
-        return Ok(Sides {
+        return Sides {
             next: true,
             jump: true,
-        });
+        };
     };
-    let Some(state) = state_at(alloc, program, slot)? else {
-        return Ok(Sides {
+    let Some(state) = states.at(slot) else {
+        return Sides {
             next: false,
             jump: false,
-        });
+        };
     };
-    let mut taken = state;
-    let mut passed = state;
-    Ok(Sides {
+    let mut taken = *state;
+    let mut passed = *state;
+    Sides {
         next: passes(&mut passed, test, false),
         jump: passes(&mut taken, test, true),
-    })
+    }
 }
 
 /// What a branch asks.

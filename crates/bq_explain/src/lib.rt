@@ -1,7 +1,8 @@
 //! What the verifier and a keeper's limits say of a policy, explained: as a value and, written from that, in words.
 //!
 //! An accepted policy has its numbers; a refused one the place, the need that is not met, what is known there, which instructions made
-//! that, and what helps. What is said of registers and stack is what `state_at` knows, which holds in every run that comes to the slot.
+//! that, and what helps. What is said of registers and stack is what `known_states` keeps of one pass, which holds in every run that
+//! comes to the slot.
 #![tactic(auto)]
 
 mod access_advice;

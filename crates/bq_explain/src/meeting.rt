@@ -1,8 +1,7 @@
 //! Where ways meet on which a register holds different words.
-ghost use Rattle.std.specs.Prelude.{◌≡◌, ◌<◌, ◌≤◌, length, true};
-ghost use Rattle.bq_insn.specs.Spelling.{is_well_formed};
+ghost use Rattle.std.specs.Prelude.{◌<◌, ◌≤◌, length};
 ghost use Rattle.bq_verify.specs.Passes.{IsSound};
-ghost use Rattle.bq_explain.specs.Makers.{IsLaidOut};
+ghost use Rattle.bq_explain.specs.Makers.{CanBeWalked};
 
 use crate::after::known_after;
 use crate::place::{Place, place_at};
@@ -15,7 +14,7 @@ use bq_states::places::shape_of;
 use bq_states::registers::known;
 use bq_verify::edges::instruction;
 use bq_verify::passes::targets;
-use bq_verify::{Program, state_at};
+use bq_verify::{KnownStates, PolicyForm};
 use std::alloc::{AllocError, Global};
 
 /// The most slots at which the ways that meet are compared.
@@ -46,13 +45,13 @@ pub struct Coming {
 pub(crate) fn meeting_of(
     alloc: Global,
     policy: &PolicySource,
-    program: &Program,
     slots: &[Option<Insn>],
+    states: &KnownStates,
     ways: &Ways,
     register: u8,
     slot: usize,
 ) -> Result<Option<Meeting>, AllocError>
-    requires laid { IsLaidOut program.now slots.now }
+    requires walkable { CanBeWalked slots.now }
     requires inside { slot < length slots.now }
 {
     let reaching = reaching(alloc, slots, ways, register, slot)?;
@@ -68,14 +67,14 @@ pub(crate) fn meeting_of(
                 let comings = comings(
                     alloc,
                     policy,
-                    program,
                     slots,
+                    states,
                     from.as_slice(),
                     here,
                     register,
                 )?;
                 if let Some(both) = differing(policy.form.shapes.as_slice(), comings.as_slice()) {
-                    let known = known_at(alloc, program, here, register)?;
+                    let known = known_at(states, here, register);
                     return Ok(Some(both.meet(register, here, known)));
                 }
             }
@@ -123,17 +122,15 @@ fn is_to(target: Option<usize>, to: usize) -> bool {
 fn comings(
     alloc: Global,
     policy: &PolicySource,
-    program: &Program,
     slots: &[Option<Insn>],
+    states: &KnownStates,
     from: &[usize],
     to: usize,
     register: u8,
-) -> Result<Vec<Coming>, AllocError>
-    requires { IsLaidOut program.now slots.now }
-{
+) -> Result<Vec<Coming>, AllocError> {
     let mut comings = Vec::new(alloc);
     for slot in from {
-        let known = known_behind(alloc, program, slots, *slot, to, register)?;
+        let known = known_behind(&policy.form, slots, states, *slot, to, register);
         if let (Some(place), Some(known)) = (place_at(policy, slots, *slot), known) {
             comings.push(Coming { place, known })?;
         }
@@ -143,34 +140,20 @@ fn comings(
 
 /// What is known of the register on the step from the one slot to the other.
 pub(crate) fn known_behind(
-    alloc: Global,
-    program: &Program,
+    form: &PolicyForm,
     slots: &[Option<Insn>],
+    states: &KnownStates,
     from: usize,
     to: usize,
     register: u8,
-) -> Result<Option<AbstractValue>, AllocError>
-    requires { IsLaidOut program.now slots.now }
-{
-    match known_after(alloc, program, slots, from, to)? {
-        Some(state) => Ok(known(&state, register)),
-        None => Ok(None),
-    }
+) -> Option<AbstractValue> {
+    let state = known_after(form, slots, states, from, to)?;
+    known(&state, register)
 }
 
 /// What is known of the register at the slot.
-pub(crate) fn known_at(
-    alloc: Global,
-    program: &Program,
-    slot: usize,
-    register: u8,
-) -> Result<Option<AbstractValue>, AllocError>
-    requires { is_well_formed program.now.insns.items ≡ true }
-{
-    match state_at(alloc, program, slot)? {
-        Some(state) => Ok(known(&state, register)),
-        None => Ok(None),
-    }
+pub(crate) fn known_at(states: &KnownStates, slot: usize, register: u8) -> Option<AbstractValue> {
+    known(states.at(slot)?, register)
 }
 
 /// The first of the ways, and another on which the register is another word.

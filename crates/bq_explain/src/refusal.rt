@@ -2,7 +2,7 @@
 ghost use Rattle.std.specs.Prelude.{◌≡◌, ◌<◌, ℕ, Bool, List, [], IfOk, length};
 ghost use Rattle.bq_insn.specs.Slots.{spread};
 ghost use Rattle.bq_verify.specs.Faults.{IsFaultless};
-ghost use Rattle.bq_verify.specs.Subjects.{handed_in};
+ghost use Rattle.bq_verify.specs.KnownAt.{AreKnown};
 ghost use Rattle.bq_policy_file.specs.Subjects.{subject_in};
 ghost use Rattle.bq_policy_file.specs.declared.policy_source.PolicySource.{PolicySource as Named};
 ghost use Rattle.bq_explain.specs.Explained.{AreMade, IsFinding, IsOfState, IsRefusalOf};
@@ -17,7 +17,7 @@ use bq_needs::{Argument, Need, Registers, need_of};
 use bq_policy_file::PolicySource;
 use bq_states::abstract_state::AbstractState;
 use bq_verify::layout::lay_out;
-use bq_verify::{Cause, GraphCause, Program, state_at};
+use bq_verify::{Cause, GraphCause, KnownStates, known_states};
 use std::alloc::{AllocError, Global};
 
 /// Why the verifier refuses a policy.
@@ -125,9 +125,10 @@ fn state_refusal(
     ensures made { IfOk result (λ refusal. (asked : List Bool) × AreMade slots.now place.slot asked refusal.trail.made.items) }
 {
     let program = policy.program(alloc)?;
-    let finding = finding_of(alloc, policy, &program, place, cause)?;
+    let states = known_states(alloc, &program, place.slot)?;
+    let finding = finding_of(policy, &states, place, cause);
     let asked = asked_in(finding);
-    let trail = trail_of(alloc, policy, &program, slots, place.slot, &asked)?;
+    let trail = trail_of(alloc, policy, slots, &states, place.slot, &asked)?;
     let advice = state_advice(policy, place.insn, finding, &trail);
     Ok(Refusal {
         place,
@@ -140,25 +141,18 @@ fn state_refusal(
 }
 
 /// What is known before the instruction, and the need that it does not give.
-fn finding_of(
-    alloc: Global,
-    policy: &PolicySource,
-    program: &Program,
-    place: Place,
-    cause: Cause,
-) -> Result<Finding, AllocError>
-    requires insns { program.now.insns.items ≡ policy.now.insns.items }
-    requires judged { handed_in program.now ≡ subject_in policy.now }
+fn finding_of(policy: &PolicySource, states: &KnownStates, place: Place, cause: Cause) -> Finding
+    requires known { AreKnown (subject_in policy.now) place.slot states.now }
     requires inside { place.slot < length (spread policy.now.insns.items) }
     requires of_state { IsOfState cause }
-    ensures { IfOk result (IsFinding policy.now place.slot place.insn cause) }
+    ensures { IsFinding policy.now place.slot place.insn cause result }
 {
-    match state_at(alloc, program, place.slot)? {
-        Some(known) => Ok(Finding::State {
-            need: need_of(policy, &known, place.insn, cause),
-            known,
-        }),
-        None => Ok(Finding::Unknown),
+    match states.at(place.slot) {
+        Some(known) => Finding::State {
+            need: need_of(policy, known, place.insn, cause),
+            known: *known,
+        },
+        None => Finding::Unknown,
     }
 }
 

@@ -1,9 +1,8 @@
 //! Where the registers come from that matter to a need: what made them, and where their ways meet.
-ghost use Rattle.std.specs.Prelude.{◌≡◌, ◌<◌, ◌≤◌, [], IfOk, IfSome, length, true};
-ghost use Rattle.bq_insn.specs.Spelling.{is_well_formed};
+ghost use Rattle.std.specs.Prelude.{◌≡◌, ◌<◌, ◌≤◌, [], IfOk, IfSome, length};
 ghost use Rattle.bq_verify.specs.Passes.{IsSound};
 ghost use Rattle.bq_explain.specs.Explained.{AreMade, AreOf, IsOf};
-ghost use Rattle.bq_explain.specs.Makers.{IsLaidOut};
+ghost use Rattle.bq_explain.specs.Makers.{CanBeWalked};
 
 use crate::makers::{Maker, makers, trail};
 use crate::meeting::{Meeting, known_at, known_behind, meeting_of};
@@ -13,7 +12,7 @@ use bq_insn::{Insn, SLOTS};
 use bq_needs::{Registers, read_registers};
 use bq_policy_file::PolicySource;
 use bq_states::abstract_state::AbstractValue;
-use bq_verify::Program;
+use bq_verify::KnownStates;
 use std::alloc::{AllocError, Global};
 
 /// The most places where ways meet that are named.
@@ -84,26 +83,26 @@ pub(crate) fn no_trail(alloc: Global) -> Trail
 pub(crate) fn trail_of(
     alloc: Global,
     policy: &PolicySource,
-    program: &Program,
     slots: &[Option<Insn>],
+    states: &KnownStates,
     slot: usize,
     asked: &Registers,
 ) -> Result<Trail, AllocError>
-    requires laid { IsLaidOut program.now slots.now }
+    requires walkable { CanBeWalked slots.now }
     requires inside { slot < length slots.now }
     ensures { IfOk result (λ trail. AreMade slots.now slot asked.now trail.made.items) }
 {
-    let ways = ways_before(alloc, program, slots, slot)?;
+    let ways = ways_before(alloc, slots, states, slot)?;
     let makers = trail(alloc, slots, &ways, slot, asked)?;
-    let made = made_by(alloc, policy, program, slots, makers.as_slice())?;
+    let made = made_by(alloc, policy, slots, states, makers.as_slice())?;
     let unset = unset_from_start(alloc, slots, &ways, slot, asked)?;
-    let left = left_by_calls(alloc, program, slots, &ways, slot, asked)?;
+    let left = left_by_calls(alloc, slots, states, &ways, slot, asked)?;
     let asked = Asked {
         slot,
         registers: *asked,
         makers: 0,
     };
-    let meetings = meetings(alloc, policy, program, slots, &ways, asked, made.as_slice())?;
+    let meetings = meetings(alloc, policy, slots, states, &ways, asked, made.as_slice())?;
     Ok(Trail {
         made,
         unset,
@@ -116,16 +115,15 @@ pub(crate) fn trail_of(
 fn made_by(
     alloc: Global,
     policy: &PolicySource,
-    program: &Program,
     slots: &[Option<Insn>],
+    states: &KnownStates,
     makers: &[Maker],
 ) -> Result<Vec<Made>, AllocError>
-    requires { IsLaidOut program.now slots.now }
     ensures { IfOk result (λ made. AreOf makers.now made.items) }
 {
     let mut made = Vec::new(alloc);
     for maker in makers {
-        if let Some(one) = made_of(alloc, policy, program, slots, *maker)? {
+        if let Some(one) = made_of(policy, slots, states, *maker) {
             made.push(one)?;
         }
     }
@@ -134,25 +132,28 @@ fn made_by(
 
 /// The maker with its place and what it made.
 fn made_of(
-    alloc: Global,
     policy: &PolicySource,
-    program: &Program,
     slots: &[Option<Insn>],
+    states: &KnownStates,
     maker: Maker,
-) -> Result<Option<Made>, AllocError>
-    requires { IsLaidOut program.now slots.now }
-    ensures { IfOk result (λ made. IfSome made (IsOf maker)) }
+) -> Option<Made>
+    ensures { IfSome result (IsOf maker) }
 {
-    let Some(place) = place_at(policy, slots, maker.slot) else {
-        return Ok(None);
-    };
+    let place = place_at(policy, slots, maker.slot)?;
     let next = maker.slot.saturating_add(place.insn.slots());
-    let known = known_behind(alloc, program, slots, maker.slot, next, maker.register)?;
-    Ok(Some(Made {
+    let known = known_behind(
+        &policy.form,
+        slots,
+        states,
+        maker.slot,
+        next,
+        maker.register,
+    );
+    Some(Made {
         place,
         register: maker.register,
         known,
-    }))
+    })
 }
 
 /// Those of the registers that no instruction sets on some way from the start; r1 and r10 are set there.
@@ -178,13 +179,13 @@ fn unset_from_start(
 /// Those of the registers that a call leaves unset on some way to the slot.
 fn left_by_calls(
     alloc: Global,
-    program: &Program,
     slots: &[Option<Insn>],
+    states: &KnownStates,
     ways: &Ways,
     slot: usize,
     asked: &Registers,
 ) -> Result<Left, AllocError>
-    requires laid { IsLaidOut program.now slots.now }
+    requires walkable { CanBeWalked slots.now }
     requires inside { slot < length slots.now }
 {
     let mut left = Left {
@@ -196,7 +197,7 @@ fn left_by_calls(
         if asked[at] {
             let calls = calls_before(alloc, slots, ways, register, slot)?;
             left.called[at] = !calls.is_empty();
-            left.held[at] = is_held(alloc, program, calls.as_slice(), register)?;
+            left.held[at] = is_held(states, calls.as_slice(), register);
         }
     }
     Ok(left)
@@ -226,20 +227,13 @@ fn calls_before(
 }
 
 /// Whether something is known of the register before one of the calls, of which the nearest are asked.
-fn is_held(
-    alloc: Global,
-    program: &Program,
-    calls: &[usize],
-    register: u8,
-) -> Result<bool, AllocError>
-    requires { is_well_formed program.now.insns.items ≡ true }
-{
+fn is_held(states: &KnownStates, calls: &[usize], register: u8) -> bool {
     for call in calls.iter().take(CALLS) {
-        if let Some(_) = known_at(alloc, program, *call, register)? {
-            return Ok(true);
+        if known_at(states, *call, register).is_some() {
+            return true;
         }
     }
-    Ok(false)
+    false
 }
 
 /// Whether the instruction of the slot is a call that leaves the register unset.
@@ -254,23 +248,23 @@ fn is_call(slots: &[Option<Insn>], register: u8, slot: usize) -> bool {
 fn meetings(
     alloc: Global,
     policy: &PolicySource,
-    program: &Program,
     slots: &[Option<Insn>],
+    states: &KnownStates,
     ways: &Ways,
     asked: Asked,
     made: &[Made],
 ) -> Result<Vec<Meeting>, AllocError>
-    requires laid { IsLaidOut program.now slots.now }
+    requires walkable { CanBeWalked slots.now }
 {
     let mut meetings = Vec::new(alloc);
-    push_meetings(alloc, policy, program, slots, ways, asked, &mut meetings)?;
+    push_meetings(alloc, policy, slots, states, ways, asked, &mut meetings)?;
     for one in made {
         let operands = Asked {
             slot: one.place.slot,
             registers: read_registers(one.place.insn),
             makers: 2,
         };
-        push_meetings(alloc, policy, program, slots, ways, operands, &mut meetings)?;
+        push_meetings(alloc, policy, slots, states, ways, operands, &mut meetings)?;
     }
     Ok(meetings)
 }
@@ -287,13 +281,13 @@ struct Asked {
 fn push_meetings(
     alloc: Global,
     policy: &PolicySource,
-    program: &Program,
     slots: &[Option<Insn>],
+    states: &KnownStates,
     ways: &Ways,
     asked: Asked,
     meetings: &mut Vec<Meeting>,
 ) -> Result<(), AllocError>
-    requires laid { IsLaidOut program.now slots.now }
+    requires walkable { CanBeWalked slots.now }
 {
     if asked.slot >= slots.len() {
         return Ok(());
@@ -302,7 +296,7 @@ fn push_meetings(
         if asked.registers[usize::from(register)] && meetings.len() < MEETINGS {
             let made = makers(alloc, slots, register, asked.slot)?;
             if made.len() >= asked.makers {
-                let met = meeting_of(alloc, policy, program, slots, ways, register, asked.slot)?;
+                let met = meeting_of(alloc, policy, slots, states, ways, register, asked.slot)?;
                 push_new(met, meetings)?;
             }
         }

@@ -1,18 +1,14 @@
 //! The ways that runs may take through a program, by what is known before each branch.
-ghost use Rattle.std.specs.Prelude.{◌<◌, ◌≤◌, length};
-ghost use Rattle.bq_verify.specs.Passes.{IsSound};
-ghost use Rattle.bq_explain.specs.Makers.{IsLaidOut};
+ghost use Rattle.std.specs.Prelude.{◌<◌, length};
+ghost use Rattle.bq_explain.specs.Makers.{CanBeWalked};
 
 use crate::after::{Sides, sides_of};
 use crate::makers::writes;
-use bq_insn::{Insn, SLOTS};
-use bq_verify::Program;
+use bq_insn::Insn;
+use bq_verify::KnownStates;
 use bq_verify::edges::{Targets, instruction};
 use bq_verify::passes::targets;
 use std::alloc::{AllocError, Global};
-
-/// How many branches are judged, the first ones; of each other one a run may take both sides.
-const JUDGED: usize = 256;
 
 /// Where runs may go from each slot: from one that no run comes to, nowhere.
 #[derive(Drop)]
@@ -24,11 +20,11 @@ pub(crate) struct Ways {
 /// Where runs may go from each slot before that one.
 pub(crate) fn ways_before(
     alloc: Global,
-    program: &Program,
     slots: &[Option<Insn>],
+    states: &KnownStates,
     slot: usize,
 ) -> Result<Ways, AllocError>
-    requires laid { IsLaidOut program.now slots.now }
+    requires walkable { CanBeWalked slots.now }
     requires inside { slot < length slots.now }
 {
     let mut ways = Ways {
@@ -37,14 +33,13 @@ pub(crate) fn ways_before(
     };
     let mut reached = vec![in alloc; false; slots.len()]?;
     mark(reached.as_mut_slice(), Some(0));
-    let mut judged: usize = 0;
     for from in 0..slot {
         let mut open = Targets {
             next: None,
             jump: None,
         };
         if is_marked(reached.as_slice(), from) {
-            open = open_from(alloc, program, slots, from, &mut judged)?;
+            open = open_from(slots, states, from);
         }
         mark(reached.as_mut_slice(), open.next);
         mark(reached.as_mut_slice(), open.jump);
@@ -55,29 +50,17 @@ pub(crate) fn ways_before(
 }
 
 /// Where runs may go from a slot that one comes to.
-fn open_from(
-    alloc: Global,
-    program: &Program,
-    slots: &[Option<Insn>],
-    from: usize,
-    judged: &mut usize,
-) -> Result<Targets, AllocError>
-    requires laid { IsLaidOut program.now slots.now }
+fn open_from(slots: &[Option<Insn>], states: &KnownStates, from: usize) -> Targets
+    requires walkable { CanBeWalked slots.now }
     requires inside { from < length slots.now }
 {
     let Some(insn) = instruction(slots, from) else {
-        return Ok(Targets {
+        return Targets {
             next: None,
             jump: None,
-        });
+        };
     };
-    let both = targets(slots, from, insn);
-    if !matches!(insn, Insn::Branch { .. }) || *judged >= JUDGED {
-        return Ok(both);
-    }
-    *judged = judged.saturating_add(1);
-    let sides = sides_of(alloc, program, from, insn)?;
-    Ok(taken(both, sides))
+    taken(targets(slots, from, insn), sides_of(states, from, insn))
 }
 
 /// The targets on those sides.

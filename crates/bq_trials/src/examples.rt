@@ -11,7 +11,7 @@ use bq_interp::stack::Stack;
 use bq_interp::traced::run_traced;
 use bq_load::{Image, ImageReader, load, read_image, write_image};
 use bq_maps::Maps;
-use bq_verify::{PolicyForm, Program, Verified, state_at, verify};
+use bq_verify::{PolicyForm, Program, Verified, known_states, verify};
 use std::alloc::Global;
 use std::test::Fail;
 
@@ -41,9 +41,9 @@ fn a_program_is_verified(rt: HostRuntime) -> Result<(), Fail> {
     Ok(())
 }
 
-/// The example of `state_at`.
+/// The example of `known_states`.
 #[test]
-fn what_is_known_at_a_slot(rt: HostRuntime) -> Result<(), Fail> {
+fn what_is_known_at_each_slot(rt: HostRuntime) -> Result<(), Fail> {
     let alloc = rt.alloc();
     let program = Program {
         insns: assemble(alloc, "mov64 r0, 1\nexit\n")?,
@@ -53,10 +53,9 @@ fn what_is_known_at_a_slot(rt: HostRuntime) -> Result<(), Fail> {
             shapes: Vec::new(alloc),
         },
     };
-    let before_exit = state_at(alloc, &program, 1)?;
-    assert_eq!(rt; before_exit.is_some(), true);
-    let past_the_end = state_at(alloc, &program, 2)?;
-    assert_eq!(rt; past_the_end.is_some(), false);
+    let known = known_states(alloc, &program, 1)?;
+    assert_eq!(rt; known.at(1).is_some(), true);
+    assert_eq!(rt; known.at(2).is_some(), false);
     Ok(())
 }
 

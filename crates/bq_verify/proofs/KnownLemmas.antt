@@ -1,9 +1,12 @@
 -- What the pass knows before a slot contains every run that comes there.
 use Rattle.std.proofs.Common.{◌≡◌, ◌≢◌, ℕ, zero, suc, ◌+◌, ◌^◌, ◌<◌, ◌≤◌, Bool, true, false, List, [], ◌∷◌, ◌++◌, Option, Some, None, Box, Global, length, refl, arith, sym, ap, ◌∙◌, subst, zero-le, ◌⊎◌, inl, inr, ℤ}
 use Rattle.std.specs.Prelude.{slice_index_or}
+use Rattle.std.specs.Bool.{then_some}
 use Rattle.std.proofs.lemmas.Bool.Decides.{eqb_tells}
 use Rattle.std.proofs.lemmas.Option.{same_Some, none-some, slice_get_past}
-use Rattle.std.proofs.lemmas.Bool.{both_ways}
+use Rattle.std.proofs.lemmas.Bool.{both_ways, cases_lt}
+use Rattle.std.proofs.lemmas.List.{get_or_append_left, get_or_past, get_or_push, length_push}
+use Rattle.std.proofs.Math.Nat.{eq-or-lt_of_le}
 use Rattle.bq_insn.specs.declared.Insn.{Insn}
 use Rattle.bq_insn.proofs.OptionLemmas.{some_none}
 use Rattle.bq_insn.specs.declared.Insn.TheVariants.{Alu, MovSx, Neg, End, Load, StoreImm, StoreReg, Imm64, MapRef, Goto, Goto32, Branch, Call, Exit}
@@ -22,7 +25,8 @@ use Rattle.bq_states.specs.declared.abstract_state.AbstractState.{AbstractState}
 use Rattle.bq_states.specs.declared.abstract_state.ValueKind.TheVariants.{Map}
 use Rattle.bq_states.specs.AbstractStates.{Contains}
 use Rattle.bq_verify.specs.Control.{IsKnown, LeadsOn, PassesOn}
-use Rattle.bq_verify.specs.KnownAt.{ContainsRuns, IsNotReached, RestIsCovered}
+use Rattle.bq_verify.specs.KnownAt.{AreKnown, ContainsRuns, IsNotReached, RestIsCovered}
+use Rattle.bq_verify.specs.Straight.{IsStraightBefore}
 use Rattle.bq_verify.proofs.OneStepLemmas.{no_step, one_step}
 use Rattle.bq_verify.proofs.PassLemmas.{waits_at_slot, none_waits}
 
@@ -189,3 +193,71 @@ pub contains_runs : (p : Subject) (target : ℕ) (seen : AbstractState) (pending
     → RestIsCovered p target seen 0 (IsKnown pending state true 0) → ContainsRuns p target seen
 contains_runs p target seen pending state first begins rest f maps setting have n calls t chain here =
     rest f (start maps) setting zero-le first (inr (refl, refl, begins f maps (rw setting.shapes_are have))) n calls t chain here
+
+-- what arrives at a slot covers what was known before it did
+pub covered_on_arrival : (p : Subject) (target : ℕ) (seen : AbstractState) (slot : ℕ) (K L : Setting → State → Type 0)
+    → ((f : Setting) (s : State) → f.shapes ≡ p.shapes → K f s → L f s) → RestIsCovered p target seen slot L → RestIsCovered p target seen slot K
+covered_on_arrival p target seen slot K L arrives rest f s setting le begins known = rest f s setting le begins (arrives f s setting.shapes_are known)
+
+-- what a pass tells of a slot: an abstract state that contains the runs that come there, or that none does
+abbrev pub TellsRuns : Subject → ℕ → Option AbstractState → Type 0
+TellsRuns p slot (Some state) = ContainsRuns p slot state
+TellsRuns p slot None = IsNotReached p slot
+
+-- what arrives at a slot tells its runs
+pub tells_arrival : (p : Subject) (sound : IsSound p.slots) (small : p.context < 2 ^ 16) (slot : ℕ) (pending after : List (Option (Box AbstractState Global))) (state seen : AbstractState) (live arrived : Bool) (here : Option AbstractState)
+    → ((f : Setting) (s : State) → f.shapes ≡ p.shapes → IsKnown pending state live slot f s → IsKnown after seen arrived slot f s) → slice_index_or after slot None ≡ None
+    → ((some : AbstractState) → RestIsCovered p slot some slot (IsKnown pending state live slot) → ContainsRuns p slot some)
+    → here ≡ then_some arrived seen → TellsRuns p slot here
+tells_arrival p sound small slot pending after state seen live true here arrives empty covers is =
+    subst (TellsRuns p slot) (sym is) (covers seen (covered_at p sound small slot pending after state seen live true arrives empty))
+tells_arrival p sound small slot pending after state seen live false here arrives empty covers is =
+    subst (TellsRuns p slot) (sym is)
+    (not_reached p slot (covers (nowhere p.shapes) (covered_by_any p sound small slot pending after state seen (nowhere p.shapes) live false arrives empty refl)))
+
+-- it tells the runs of each slot before that one
+pub record AreKnownBefore (p : Subject) (slot : ℕ) (known : List (Option AbstractState)) : Type 0 where
+  pub long : length known ≡ slot
+  pub tells : (k : ℕ) → k < slot → TellsRuns p k (slice_index_or known k None)
+
+-- of no slot
+pub none_before : (p : Subject) → AreKnownBefore p 0 []
+none_before p = record { long = refl; tells = λ k below. absurd (omega (arith, below)) }
+
+-- of one slot more
+pub one_more_known : (p : Subject) (slot : ℕ) (known more : List (Option AbstractState)) (here : Option AbstractState)
+    → AreKnownBefore p slot known → more ≡ known ++ here ∷ [] → TellsRuns p slot here → AreKnownBefore p (slot + 1) more
+one_more_known p slot known more here before is tells = record {
+  long = ap length is ∙ (length_push known here ∙ ap (λ n. n + 1) before.long);
+  tells = λ k below. each k (eq-or-lt_of_le (let least : k ≤ slot = omega (arith, below) in least));
+}
+  where
+    each : (k : ℕ) → (k ≡ slot) ⊎ (k < slot) → TellsRuns p k (slice_index_or more k None)
+    each k (inl same) =
+        let last : slice_index_or more k None ≡ here = ap (λ (l : List (Option AbstractState)). slice_index_or l k None) is ∙ get_or_push known here None k (before.long ∙ sym same) in
+        subst (λ (n : ℕ). TellsRuns p n (slice_index_or more k None)) (sym same) (subst (TellsRuns p slot) (sym last) tells)
+    each k (inr below) =
+        let earlier : slice_index_or more k None ≡ slice_index_or known k None = ap (λ (l : List (Option AbstractState)). slice_index_or l k None) is ∙ get_or_append_left known (here ∷ []) None k (subst (λ (n : ℕ). k < n) (sym before.long) below) in
+        subst (TellsRuns p k) (sym earlier) (before.tells k below)
+
+-- a pass that came to a slot knows all up to another one, if no run comes to those between them
+pub known_until : (p : Subject) (slot until : ℕ) (known : List (Option AbstractState))
+    → ((k : ℕ) → slot ≤ k → k ≤ until → k < length p.slots → IsStraightBefore p k → IsNotReached p k) → AreKnownBefore p slot known → AreKnown p until known
+known_until p slot until known rest before = record {
+  contains = λ k state is. some k state is (cases_lt k slot);
+  none = λ k within inside is straight. none k within inside is straight (cases_lt k slot);
+}
+  where
+    some : (k : ℕ) (state : AbstractState) → slice_index_or known k None ≡ Some state → (k < slot) ⊎ (slot ≤ k) → ContainsRuns p k state
+    some k state is (inl below) = subst (TellsRuns p k) is (before.tells k below)
+    some k state is (inr past) =
+        absurd (none-some state (sym (get_or_past known k None (subst (λ (n : ℕ). n ≤ k) (sym before.long) past)) ∙ is))
+
+    none : (k : ℕ) → k ≤ until → k < length p.slots → slice_index_or known k None ≡ None → IsStraightBefore p k → (k < slot) ⊎ (slot ≤ k) → IsNotReached p k
+    none k within inside is straight (inl below) = subst (TellsRuns p k) is (before.tells k below)
+    none k within inside is straight (inr past) = rest k past within inside straight
+
+-- where nothing is known of any slot, no program is meant whose control graph has no fault
+pub none_known : (p : Subject) (until : ℕ) (known : List (Option AbstractState)) → known ≡ [] → ((k : ℕ) → IsStraightBefore p k → ⊥) → AreKnown p until known
+none_known p until known is faulty =
+    known_until p 0 until known (λ k past within inside straight. absurd (faulty k straight)) (subst (AreKnownBefore p 0) (sym is) (none_before p))

@@ -27,7 +27,7 @@ use Rattle.bq_states.specs.declared.abstract_state.ValueKind.{ValueKind}
 use Rattle.bq_states.specs.declared.abstract_state.ValueKind.TheVariants.{Context, Stack, Entry, EntryOrNull, Map}
 use Rattle.bq_states.specs.declared.abstract_state.AbstractState.{AbstractState}
 use Rattle.bq_states.specs.Certainty.{Scalar, Exact, Pointer, NoPointer, StandsAt, Fact, Never, AtRegister, IsSetAt, IsPlainAt, Has, IsScalarOperand}
-use Rattle.bq_verify.specs.Ways.{HasWaiting, GoesOnSure, IsReadyFor}
+use Rattle.bq_verify.specs.Ways.{HasWaiting, GoesOnSure, IsReadyFor, IsSureOf}
 use Rattle.bq_verify.specs.Subjects.{Subject}
 use Rattle.bq_transfer.specs.Ready.{IsAsking, IsAtMost, IsCopyOfFrame, IsLeftReady, IsMoveOfPointer, IsNamingEntry, IsPlaced, IsReadable, IsOnFrame, IsIntoEntry, IsUpdating}
 use Rattle.bq_states.specs.AbstractStates.{size_of_shape}
@@ -344,6 +344,15 @@ straight_before p slot straight = record { faultless = straight.faultless; befor
 -- what is straight before a slot is so before each that comes earlier
 pub straight_earlier : (p : Subject) (slot later : ℕ) → slot ≤ later → IsStraightBefore p later → IsStraightBefore p slot
 straight_earlier p slot later order straight = record { faultless = straight.faultless; before = λ k insn below here. straight.before k insn (omega arith) here }
+
+-- once what waits has arrived, what was sure is so still
+pub sure_arrived : (slots : List (Option Insn)) (pending after : List (Option (Box AbstractState Global))) (state seen : AbstractState) (live arrived : Bool) (slot : ℕ)
+    → ((x : Fact) (k : ℕ) → HasWaiting x pending k → HasWaiting x after k) → ((x : Fact) → IsSureOf x pending state live slot slot → arrived ≡ true → Has x seen)
+    → IsSure slots pending state live slot → IsSure slots after seen arrived slot
+sure_arrived slots pending after state seen live arrived slot waits has sure x k due = record {
+  waiting = waits x k (sure x k due).waiting;
+  transferred = λ on same. has x (subst (λ (n : ℕ). IsSureOf x pending state live slot n) same (sure x k due)) on;
+}
 
 -- where no abstract state is transferred on
 pub sure_over : (slots : List (Option Insn)) (pending : List (Option (Box AbstractState Global))) (state : AbstractState) (slot : ℕ) → ((x : Fact) (k : ℕ) → IsDue slots x k → HasWaiting x pending k) → IsSure slots pending state false slot

@@ -1,16 +1,12 @@
-//! What is known where control comes to a slot, of programs that are accepted and of others.
+//! What is known where control comes to each slot, of programs that are accepted and of others.
 
-ghost use Rattle.std.specs.Prelude.{◌≡◌, ◌≤◌, ◌<◌, ℕ, length, true, None, IfErr, IfOk, IfNone, IfSome, slice_index_or};
+ghost use Rattle.std.specs.Prelude.{◌≡◌, ◌≤◌, ◌<◌, ℕ, length, true, None, IfOk, slice_index_or};
 ghost use Rattle.bq_insn.specs.Slots.{spread};
 ghost use Rattle.bq_insn.specs.Spelling.{is_insn, is_well_formed};
 ghost use Rattle.std.specs.List.{list_all};
-ghost use Rattle.bq_states.specs.declared.abstract_state.AbstractState.{AbstractState as Knowledge};
-ghost use Rattle.bq_verify.specs.Control.{CanBePassed, IsKnown};
-ghost use Rattle.bq_verify.specs.KnownAt.{ContainsRuns, IsNotReached, RestIsCovered};
-ghost use Rattle.bq_verify.specs.Refusals.{IsOutOfMemory};
-ghost use Rattle.bq_verify.specs.Straight.{IsStraightBefore};
+ghost use Rattle.bq_verify.specs.Control.{CanBePassed};
+ghost use Rattle.bq_verify.specs.KnownAt.{AreKnown};
 ghost use Rattle.bq_verify.specs.Subjects.{handed_in, judged};
-ghost use Rattle.bq_verify.specs.Sure.{IsSure};
 
 use crate::layout::lay_out;
 use crate::pass::{pass_slot, start};
@@ -21,12 +17,44 @@ use crate::waiting::{arrive, nothing_waits};
 use bq_insn::SLOTS;
 use bq_states::abstract_state::AbstractState;
 use std::alloc::{AllocError, Global};
+use std::marker::Model;
 
-/// What is known of registers and stack in every run that comes to the slot, before its instruction.
+/// What is known of registers and stack before each instruction of a program, up to some slot.
+#[derive(Drop)]
+pub struct KnownStates {
+    /// By slot, as far as the pass went.
+    states: Vec<Option<AbstractState>>,
+}
+
+impl Model for KnownStates {
+    ghost use Rattle.std.specs.Prelude.{List, Option};
+    ghost use Rattle.bq_states.specs.declared.abstract_state.AbstractState.{AbstractState as Knowledge};
+
+    ghost Value = { List (Option Knowledge) };
+
+    ghost view = { λ known. known.states.items };
+}
+
+impl KnownStates {
+    ghost use Rattle.std.specs.Option.{option_copied};
+
+    /// What is known in every run that comes to the slot, before its instruction.
+    pub fn at(&self, slot: usize) -> Option<&AbstractState>
+        ensures { option_copied result ≡ slice_index_or self.now slot None }
+    {
+        if slot >= self.states.len() {
+            return None;
+        }
+        self.states[slot].as_ref()
+    }
+}
+
+/// What is known of registers and stack in every run that comes to a slot, before its instruction, of each slot up to that one.
 ///
-/// `None` if the control graph has a fault, the verifier stops at an earlier slot, or no way leads there. So of a program that
-/// `verify` refuses at a slot for what is not shown of the states, this says what is known there. If each instruction before the
-/// slot finds what it needs on every path (`IsStraightBefore`), `None` says that no run comes to it (`none`).
+/// Of a slot nothing is known if the control graph has a fault, the verifier stops at an earlier slot, or no way leads there. So
+/// of a program that `verify` refuses at a slot for what is not shown of the states, this says what is known there and at each slot
+/// before it. If each instruction before a slot finds what it needs on every path (`IsStraightBefore`), and nothing is known
+/// there, no run comes to it.
 ///
 /// # Example
 ///
@@ -39,114 +67,87 @@ use std::alloc::{AllocError, Global};
 ///         shapes: Vec::new(alloc),
 ///     },
 /// };
-/// let before_exit = state_at(alloc, &program, 1)?;
-/// assert_eq!(rt; before_exit.is_some(), true);
-/// let past_the_end = state_at(alloc, &program, 2)?;
-/// assert_eq!(rt; past_the_end.is_some(), false);
+/// let known = known_states(alloc, &program, 1)?;
+/// assert_eq!(rt; known.at(1).is_some(), true);
+/// assert_eq!(rt; known.at(2).is_some(), false);
 /// ```
-pub fn state_at(
+pub fn known_states(
     alloc: Global,
     program: &Program,
-    slot: usize,
-) -> Result<Option<AbstractState>, AllocError>
+    until: usize,
+) -> Result<KnownStates, AllocError>
     requires { is_well_formed program.now.insns.items ≡ true }
-    ensures contains { IfOk result (λ known. IfSome known (ContainsRuns (handed_in program.now) slot)) }
-    ensures none { slot < length (handed_in program.now).slots → IsStraightBefore (handed_in program.now) slot → IfOk result (λ known. IfNone known (IsNotReached (handed_in program.now) slot)) }
+    ensures { IfOk result (AreKnown (handed_in program.now) until) }
 {
-    known_in_slots(alloc, program, slot)
+    known_in_slots(alloc, program, until)
 }
 
 /// The same, of a program of 1 to 4,096 slots.
-fn known_in_slots(
-    alloc: Global,
-    program: &Program,
-    slot: usize,
-) -> Result<Option<AbstractState>, AllocError>
+fn known_in_slots(alloc: Global, program: &Program, until: usize) -> Result<KnownStates, AllocError>
     requires registers { list_all is_insn program.now.insns.items ≡ true }
     requires some { 0 < length (spread program.now.insns.items) }
     requires short { length (spread program.now.insns.items) ≤ SLOTS }
-    ensures contains { IfOk result (λ known. IfSome known (ContainsRuns (handed_in program.now) slot)) }
-    ensures none { slot < length (handed_in program.now).slots → IsStraightBefore (handed_in program.now) slot → IfOk result (λ known. IfNone known (IsNotReached (handed_in program.now) slot)) }
+    ensures { IfOk result (AreKnown (handed_in program.now) until) }
 {
     let slots = lay_out(alloc, program.insns.as_slice())?;
-    if slot >= slots.len() {
-        return Ok(None);
-    }
     match check_graph(alloc, slots.as_slice()) {
         Err(Refused::OutOfMemory) => Err(AllocError),
-        Err(Refused::At { .. }) => Ok(None),
+        Err(Refused::At { .. }) => Ok(KnownStates {
+            states: Vec::new(alloc),
+        }),
         Ok(()) => {
             let subject = Subject {
                 slots: slots.as_slice(),
                 shapes: program.form.shapes.as_slice(),
                 context: program.form.context_length(),
             };
-            known_at(alloc, &subject, slot)
+            known_in_pass(alloc, &subject, until)
         }
     }
 }
 
 /// The same, of a program whose control graph has no fault.
-fn known_at(
-    alloc: Global,
-    subject: &Subject,
-    slot: usize,
-) -> Result<Option<AbstractState>, AllocError>
-    requires passable { CanBePassed (judged subject.now) }
-    requires inside { slot < length subject.now.slots.now }
-    ensures contains { IfOk result (λ known. IfSome known (ContainsRuns (judged subject.now) slot)) }
-    ensures none { IsStraightBefore (judged subject.now) slot → IfOk result (λ known. IfNone known (IsNotReached (judged subject.now) slot)) }
+fn known_in_pass(alloc: Global, subject: &Subject, until: usize) -> Result<KnownStates, AllocError>
+    requires { CanBePassed (judged subject.now) }
+    ensures { IfOk result (AreKnown (judged subject.now) until) }
 {
     let mut pending = nothing_waits(alloc, subject.slots.len())?;
-    known_with(alloc, subject, slot, pending.as_mut_slice())
+    let states = states_in_pass(alloc, subject, until, pending.as_mut_slice())?;
+    Ok(KnownStates { states })
 }
 
-/// The same, with a list for waiting abstract states, empty at first.
-fn known_with(
-    alloc: Global,
-    subject: &Subject,
-    slot: usize,
-    pending: &mut [Option<Box<AbstractState>>],
-) -> Result<Option<AbstractState>, AllocError>
-    requires passable { CanBePassed (judged subject.now) }
-    requires inside { slot < length subject.now.slots.now }
-    requires room { length pending.old ≡ length subject.now.slots.now }
-    ensures contains { IfOk result (λ known. IfSome known (ContainsRuns (judged subject.now) slot)) }
-    ensures none { ((k : ℕ) → slice_index_or pending.old k None ≡ None) → IsStraightBefore (judged subject.now) slot → IfOk result (λ known. IfNone known (IsNotReached (judged subject.now) slot)) }
-{
-    let mut state = start();
-    match pass_before(alloc, subject, slot, &mut state, pending) {
-        Ok(live) => {
-            if arrive(subject.shapes, &mut state, live, pending, slot) {
-                Ok(Some(state))
-            } else {
-                Ok(None)
-            }
-        }
-        Err(Refused::OutOfMemory) => Err(AllocError),
-        Err(Refused::At { .. }) => Ok(None),
-    }
-}
-
-/// All slots before that one.
-fn pass_before(
+/// The same, with a list for waiting abstract states, empty at first: one pass, which keeps what arrives at each slot.
+fn states_in_pass(
     alloc: Global,
     subject: &Subject,
     until: usize,
-    state: &mut AbstractState,
     pending: &mut [Option<Box<AbstractState>>],
-) -> Result<bool, Refused>
+) -> Result<Vec<Option<AbstractState>>, AllocError>
     requires passable { CanBePassed (judged subject.now) }
     requires room { length pending.old ≡ length subject.now.slots.now }
-    requires inside { until < length subject.now.slots.now }
-    ensures long { length pending.new ≡ length pending.old }
-    ensures accepts { IsStraightBefore (judged subject.now) until → IsSure subject.now.slots.now pending.old state.old true 0 → IfErr result IsOutOfMemory }
-    ensures covered { IfOk result (λ live. (seen : Knowledge) → RestIsCovered (judged subject.now) until seen until (IsKnown pending.new state.new live until)
-        → RestIsCovered (judged subject.now) until seen 0 (IsKnown pending.old state.old true 0)) }
+    requires blank { (k : ℕ) → slice_index_or pending.old k None ≡ None }
+    ensures { IfOk result (λ states. AreKnown (judged subject.now) until states.items) }
 {
+    let count = count_until(subject.slots.len(), until);
+    let mut states = Vec::with_capacity(alloc, count)?;
+    let mut state = start();
     let mut live = true;
-    for slot in 0..until {
-        live = pass_slot(alloc, subject, slot, state, live, pending)?;
+    for slot in 0..count {
+        live = arrive(subject.shapes, &mut state, live, pending, slot);
+        states.push(live.then_some(state))?;
+        match pass_slot(alloc, subject, slot, &mut state, live, pending) {
+            Ok(on) => live = on,
+            Err(Refused::OutOfMemory) => return Err(AllocError),
+            Err(Refused::At { .. }) => return Ok(states),
+        }
     }
-    Ok(live)
+    Ok(states)
+}
+
+/// How many of some slots there are up to that one.
+fn count_until(slots: usize, until: usize) -> usize
+    ensures within { result ≤ slots }
+    ensures covers { (slot : ℕ) → slot ≤ until → slot < slots → slot < result }
+{
+    if until < slots { until + 1 } else { slots }
 }

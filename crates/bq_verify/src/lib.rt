@@ -26,7 +26,7 @@ mod waiting;
 
 pub use cause::Cause;
 pub use graph_cause::GraphCause;
-pub use known_at::state_at;
+pub use known_at::{KnownStates, known_states};
 pub use policy_form::PolicyForm;
 pub use program::{Program, verify};
 pub use refused::Refused;

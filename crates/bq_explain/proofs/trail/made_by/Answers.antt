@@ -17,9 +17,9 @@ one_more makers maker old new one in_makers of is were other there = by (Contain
 
 pub loop-maker-preserved : goal.loop-maker-preserved
 loop-maker-preserved c =
-    elim c.match-branch-2.branch [
+    elim c.match-made_of.branch [
       | in-Some+in_ok-push w ↦
-          one_more c.args.makers.now _ c.loop-maker.made.items c.match-branch-2.made.items w.in-Some.one (Contains-get_or c.args.makers.now c.loop-maker.maker-index _ c.loop-maker-test.true)
-          (rw w.in-Some.is at c.in_ok-one.ensures) (rw w.made-is w.in_ok-push.ensures.items) c.loop-maker.invariant
+          one_more c.args.makers.now _ c.loop-maker.made.items c.match-made_of.made.items w.in-Some.one (Contains-get_or c.args.makers.now c.loop-maker.maker-index _ c.loop-maker-test.true)
+          w.in-Some.ensures (rw w.made-is w.in_ok-push.ensures.items) c.loop-maker.invariant
       | in_default w ↦ rw w.made-is c.loop-maker.invariant
     ]

@@ -1,6 +1,6 @@
 use Rattle.bq_insn.proofs.LengthLemmas.{well_formed_in_range}
 use Rattle.bq_verify.proofs.SlotLemmas.{some_slots, few_slots}
-use Rattle.bq_verify.proofs.known_at.state_at.Goals as goal
+use Rattle.bq_verify.proofs.known_at.known_states.Goals as goal
 
 pub known_in_slots-requires-clause-some : goal.known_in_slots-requires-clause-some
 known_in_slots-requires-clause-some c = some_slots c.args.program.now.insns.items c.requires
