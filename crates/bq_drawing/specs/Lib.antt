@@ -5,4 +5,6 @@ pub mod Perfetto
 pub mod Pictures
 pub mod Places
 pub mod Runs
+pub mod Shapes
 pub mod Themes
+pub mod Titles

@@ -14,3 +14,7 @@ width_of e from to = max (place_of e to - place_of e from) 40
 -- hundredths, as a number with two decimals
 abbrev pub hundredths : ℕ → List ℕ
 hundredths n = decimal (n / 100) ++ (codes "." ++ (decimal (n / 10 % 10) ++ decimal (n % 10)))
+
+-- how long the time is over which the arrow of a wake is drawn: as long as the arrow is wide, in whole units of the picture
+abbrev pub arrow_time : Extent → ℕ
+arrow_time e = (e.to - e.from) / 1080 * 9 + 1

@@ -1,7 +1,8 @@
 //! What is drawn, and where.
-ghost use Rattle.std.specs.Prelude.{◌≡◌, ◌∷◌, ◌++◌, [], IfOk, OnOk, Some, length, replicate, slice_get, string_bytes};
+ghost use Rattle.std.specs.Prelude.{◌≡◌, ◌++◌, [], IfOk, OnOk, Some, flat_map, replicate, string_bytes};
 ghost use Rattle.bq_report.specs.Reports.{Adds, AreParts};
-ghost use Rattle.bq_drawing.specs.Pictures.{AreRunElements, IsDrawing, IsElementIf, IsRowIf, IsRowText, with_run};
+ghost use Rattle.bq_drawing.specs.Pictures.{ArePutInOrder, IsDrawing, IsRowIf, IsRowText, empty_row, row_with_run, row_with_wait, row_with_wake, waking, with_run, with_stretch, with_wake};
+ghost use Rattle.bq_drawing.specs.Shapes.{arrow_of, drawn_in, run_text, setting_of, shape_in, wait_in, waits_text, wake_in, wakes_text};
 
 use crate::axis::{AXIS, write_axis};
 use crate::frame::Frame;
@@ -11,7 +12,8 @@ use crate::legend::{Key, legend_height, write_legend};
 use crate::links::{Link, LinkKind};
 use crate::scale::Scale;
 use crate::shapes::{
-    BAND, DrawnRun, LANE, LEVEL, write_label, write_row_name, write_run, write_wait, write_wake,
+    BAND, DrawnRun, LANE, LEVEL, wait_height, wake_height, write_label, write_row_name, write_run,
+    write_wait, write_wake,
 };
 use crate::unit::TimeUnit;
 use bq_disc::limits::PROCESSORS;
@@ -30,7 +32,7 @@ const GAP: usize = 24;
 /// How many steps of time an axis has at most.
 const STEPS: u16 = 10;
 
-/// What is drawn of a processor. Contracts see its runs.
+/// What is drawn of a processor, as it came.
 #[derive(Drop)]
 pub struct ProcessorRow {
     runs: Vec<DrawnRun>,
@@ -39,15 +41,14 @@ pub struct ProcessorRow {
 }
 
 impl Model for ProcessorRow {
-    ghost use Rattle.std.specs.Prelude.{List};
-    ghost use Rattle.bq_drawing.specs.declared.shapes.DrawnRun.{DrawnRun};
+    ghost use Rattle.bq_drawing.specs.Pictures.{Row};
 
-    ghost Value = { List DrawnRun };
+    ghost Value = { Row };
 
-    ghost view = { λ r. r.runs.items };
+    ghost view = { λ r. record { runs = r.runs.items; waits = r.waits.items; wakes = r.wakes.items } };
 }
 
-/// What is drawn. Contracts see the runs of each processor.
+/// What is drawn. Contracts see the row of each processor.
 #[derive(Drop)]
 pub struct Drawing {
     alloc: Global,
@@ -112,7 +113,7 @@ impl Drawing {
 
     /// Nothing, of this many processors.
     pub fn of(alloc: Global, processors: usize) -> Result<Drawing, AllocError>
-        ensures { IfOk result (λ d. d ≡ replicate processors []) }
+        ensures { IfOk result (λ d. d ≡ replicate processors empty_row) }
     {
         let mut rows = Vec::with_capacity(alloc, processors)?;
         'processors: for _ in 0..processors {
@@ -139,7 +140,7 @@ impl Drawing {
 
     /// A wait at a processor.
     pub fn push_wait(&mut self, processor: u8, wait: Stretch) -> Result<(), AllocError>
-        ensures { self.new ≡ self.old }
+        ensures { OnOk result (self.new ≡ with_stretch processor wait self.old) }
     {
         if let Some(row) = self.rows.get_mut(usize::from(processor)) {
             self.tasks.insert(wait.task)?;
@@ -150,7 +151,7 @@ impl Drawing {
 
     /// A wake, at the processor where its task was placed.
     pub fn push_wake(&mut self, wake: &Wake) -> Result<(), AllocError>
-        ensures { self.new ≡ self.old }
+        ensures { OnOk result (self.new ≡ with_wake (Some wake.now) self.old) }
     {
         if let Some(row) = self.rows.get_mut(usize::from(wake.to)) {
             self.tasks.insert(wake.task)?;
@@ -168,16 +169,16 @@ impl Drawing {
         Ok(())
     }
 
-    /// All of the picture within its root. Waits and wakes are put in the order in which they begin.
+    /// All of the picture within its root. Waits and wakes are drawn in the order in which they begin.
     pub fn write(
-        &mut self,
+        &self,
         window: &Window,
         extent: Extent,
         heading: &Heading<'_>,
         roster: &Roster,
         names: &Names,
     ) -> Result<Written, AllocError>
-        ensures { IfOk result (λ d. IsDrawing window.now extent roster.now self.old (string_bytes d.text)) }
+        ensures { IfOk result (λ d. IsDrawing window.now (drawn_in extent roster.now names.now) self.now (string_bytes d.text)) }
     {
         let step = round_step(extent.length(), STEPS).unwrap_or(1);
         let frame = Frame {
@@ -236,9 +237,8 @@ impl Drawing {
     }
 
     /// The rows of the window, and what leads from one to another.
-    fn write_rows(&mut self, window: &Window, frame: &Frame<'_>) -> Result<Rows, AllocError>
-        ensures { IfOk result (λ rows. AreParts (IsRowIf window.now frame.now.scale.extent frame.now.roster.now self.old) 64
-            (string_bytes rows.text)) }
+    fn write_rows(&self, window: &Window, frame: &Frame<'_>) -> Result<Rows, AllocError>
+        ensures { IfOk result (λ rows. AreParts (IsRowIf window.now (setting_of frame.now) self.now) 64 (string_bytes rows.text)) }
     {
         let mut rows = Rows {
             text: String::new(self.alloc),
@@ -259,20 +259,19 @@ impl Drawing {
 
     /// The row of a processor, if it is there and is shown.
     fn write_row(
-        &mut self,
+        &self,
         number: u8,
         window: &Window,
         frame: &Frame<'_>,
         rows: &mut Rows,
     ) -> Result<(), AllocError>
-        ensures row { OnOk result (Adds (IsRowIf window.now frame.now.scale.extent frame.now.roster.now self.old number)
+        ensures { OnOk result (Adds (IsRowIf window.now (setting_of frame.now) self.now number)
             (string_bytes rows.old.text) (string_bytes rows.new.text)) }
-        ensures same { self.new ≡ self.old }
     {
         if !window.shows_processor(number) {
             return Ok(());
         }
-        let Some(row) = self.rows.get_mut(usize::from(number)) else {
+        let Some(row) = self.rows.get(usize::from(number)) else {
             return Ok(());
         };
         row.write(self.alloc, number, frame, rows)
@@ -315,7 +314,7 @@ impl Rows {
 impl ProcessorRow {
     /// Nothing.
     fn new(alloc: Global) -> ProcessorRow
-        ensures { result ≡ [] }
+        ensures { result ≡ empty_row }
     {
         ProcessorRow {
             runs: Vec::new(alloc),
@@ -325,21 +324,21 @@ impl ProcessorRow {
     }
 
     fn push_run(&mut self, run: DrawnRun) -> Result<(), AllocError>
-        ensures { OnOk result (self.new ≡ self.old ++ run ∷ []) }
+        ensures { OnOk result (self.new ≡ row_with_run run self.old) }
     {
         self.runs.push(run)?;
         Ok(())
     }
 
     fn push_wait(&mut self, wait: Stretch) -> Result<(), AllocError>
-        ensures { self.new ≡ self.old }
+        ensures { OnOk result (self.new ≡ row_with_wait wait self.old) }
     {
         self.waits.push(wait)?;
         Ok(())
     }
 
     fn push_wake(&mut self, wake: &Wake) -> Result<(), AllocError>
-        ensures { self.new ≡ self.old }
+        ensures { OnOk result (self.new ≡ row_with_wake (waking wake.now) self.old) }
     {
         self.wakes.push(Stretch {
             from: wake.at,
@@ -347,44 +346,6 @@ impl ProcessorRow {
             task: wake.task,
         })?;
         Ok(())
-    }
-
-    /// Puts the waits and the wakes in the order in which they begin.
-    fn sort(&mut self)
-        ensures { self.new ≡ self.old }
-    {
-        self.waits.sort_unstable();
-        self.wakes.sort_unstable();
-    }
-
-    /// Draws the runs.
-    fn write_runs(
-        &self,
-        alloc: Global,
-        top: usize,
-        frame: &Frame<'_>,
-        text: &mut String,
-    ) -> Result<(), AllocError>
-        ensures { OnOk result (Adds (AreRunElements frame.now.scale.extent frame.now.roster.now top self.now) (string_bytes text.old) (string_bytes text.new)) }
-    {
-        for number in 0..self.count() {
-            write_run_if(alloc, self.run(number), top, frame, text)?;
-        }
-        Ok(())
-    }
-
-    /// How many runs there are.
-    fn count(&self) -> usize
-        ensures { result ≡ length self.now }
-    {
-        self.runs.len()
-    }
-
-    /// A run by its place in the row.
-    fn run(&self, number: usize) -> Option<DrawnRun>
-        ensures { result ≡ slice_get self.now number }
-    {
-        self.runs.get(number).copied()
     }
 
     /// The names upon the runs.
@@ -402,124 +363,164 @@ impl ProcessorRow {
 
     /// Draws the row below those that are written.
     fn write(
-        &mut self,
+        &self,
         alloc: Global,
         number: u8,
         frame: &Frame<'_>,
         rows: &mut Rows,
     ) -> Result<(), AllocError>
-        ensures row { OnOk result (Adds (IsRowText frame.now.scale.extent frame.now.roster.now number self.old)
+        ensures { OnOk result (Adds (IsRowText (setting_of frame.now) number self.now)
             (string_bytes rows.old.text) (string_bytes rows.new.text)) }
-        ensures same { self.new ≡ self.old }
     {
-        self.sort();
-        let levels = self.levels(alloc, frame)?;
+        let waits = in_order(alloc, self.waits.as_slice())?;
+        let wakes = in_order(alloc, self.wakes.as_slice())?;
+        let levels = levels(alloc, wakes.as_slice(), frame)?;
         let top = rows
             .bottom
             .saturating_add(levels.saturating_mul(LEVEL))
             .saturating_add(4);
         rows.bands.insert(number, top)?;
         write_row_name(number, top, &mut rows.text)?;
-        self.write_runs(alloc, top, frame, &mut rows.text)?;
+        write_runs(alloc, self.runs.as_slice(), top, frame, &mut rows.text)?;
         self.write_labels(top, frame, &mut rows.labels)?;
-        let waits = self.draw_waits(alloc, top, frame)?;
-        let wakes = self.draw_wakes(alloc, top, frame)?;
-        rows.text.push_str(waits.text.as_str())?;
-        rows.text.push_str(wakes.text.as_str())?;
-        rows.waits_left_out = rows.waits_left_out.saturating_add(waits.left_out);
-        rows.wakes_left_out = rows.wakes_left_out.saturating_add(wakes.left_out);
+        let below = draw_waits(alloc, waits.as_slice(), top, frame)?;
+        let above = draw_wakes(alloc, wakes.as_slice(), top, frame)?;
+        rows.text.push_str(below.text.as_str())?;
+        rows.text.push_str(above.text.as_str())?;
+        rows.waits_left_out = rows.waits_left_out.saturating_add(below.left_out);
+        rows.wakes_left_out = rows.wakes_left_out.saturating_add(above.left_out);
         rows.bottom = top
             .saturating_add(BAND)
-            .saturating_add(waits.lanes.saturating_mul(LANE))
+            .saturating_add(below.lanes.saturating_mul(LANE))
             .saturating_add(GAP);
         Ok(())
     }
-
-    /// How many wakes stand one above another.
-    fn levels(&self, alloc: Global, frame: &Frame<'_>) -> Result<usize, AllocError> {
-        let mut levels = Lanes::new(alloc);
-        for wake in self.wakes.iter() {
-            let _ = levels.take(&drawn_wake(wake, frame))?;
-        }
-        Ok(levels.count())
-    }
-
-    /// Draws the wakes above the runs, those that would lie upon each other one above another.
-    fn draw_wakes(
-        &self,
-        alloc: Global,
-        top: usize,
-        frame: &Frame<'_>,
-    ) -> Result<Shapes, AllocError> {
-        let mut lanes = Lanes::new(alloc);
-        let mut text = String::new(alloc);
-        let mut left_out = 0usize;
-        for wake in self.wakes.iter() {
-            match lanes.take(&drawn_wake(wake, frame))? {
-                Some(level) => {
-                    let end = top.saturating_sub(level.saturating_mul(LEVEL));
-                    write_wake(wake, end, frame, &mut text)?;
-                }
-                None => left_out = left_out.saturating_add(1),
-            }
-        }
-        let lanes = lanes.count();
-        Ok(Shapes {
-            text,
-            lanes,
-            left_out,
-        })
-    }
-
-    /// Draws the waits below the runs, in lanes.
-    fn draw_waits(
-        &self,
-        alloc: Global,
-        top: usize,
-        frame: &Frame<'_>,
-    ) -> Result<Shapes, AllocError> {
-        let mut lanes = Lanes::new(alloc);
-        let mut text = String::new(alloc);
-        let mut left_out = 0usize;
-        for wait in self.waits.iter() {
-            match lanes.take(wait)? {
-                Some(lane) => {
-                    let height = lane
-                        .saturating_mul(LANE)
-                        .saturating_add(BAND)
-                        .saturating_add(top);
-                    write_wait(wait, height, frame, &mut text)?;
-                }
-                None => left_out = left_out.saturating_add(1),
-            }
-        }
-        let lanes = lanes.count();
-        Ok(Shapes {
-            text,
-            lanes,
-            left_out,
-        })
-    }
 }
 
-/// Draws a run, if there is one.
-fn write_run_if(
+/// The waits or the wakes of a row in the order in which they begin.
+fn in_order(alloc: Global, given: &[Stretch]) -> Result<Vec<Stretch>, AllocError>
+    ensures { IfOk result (λ sorted. ArePutInOrder given.now sorted.items) }
+{
+    let mut sorted = Vec::from_slice(alloc, given)?;
+    sorted.sort_unstable();
+    Ok(sorted)
+}
+
+/// How many wakes stand one above another.
+fn levels(alloc: Global, wakes: &[Stretch], frame: &Frame<'_>) -> Result<usize, AllocError> {
+    let mut levels = Lanes::new(alloc);
+    for wake in wakes {
+        let _ = levels.take(&drawn_wake(wake, frame))?;
+    }
+    Ok(levels.count())
+}
+
+/// Draws the runs.
+fn write_runs(
     alloc: Global,
-    run: Option<DrawnRun>,
+    runs: &[DrawnRun],
     top: usize,
     frame: &Frame<'_>,
     text: &mut String,
 ) -> Result<(), AllocError>
-    ensures { OnOk result (Adds (IsElementIf frame.now.scale.extent frame.now.roster.now top run) (string_bytes text.old) (string_bytes text.new)) }
+    ensures { OnOk result (string_bytes text.new ≡ string_bytes text.old ++ flat_map (run_text (setting_of frame.now) top) runs.now) }
 {
-    match run {
-        Some(run) => write_run(alloc, &run, top, frame, text),
+    for run in runs {
+        write_run(alloc, run, top, frame, text)?;
+    }
+    Ok(())
+}
+
+/// Draws the waits below the runs, in lanes.
+fn draw_waits(
+    alloc: Global,
+    waits: &[Stretch],
+    top: usize,
+    frame: &Frame<'_>,
+) -> Result<Shapes, AllocError>
+    ensures { IfOk result (λ drawn. string_bytes drawn.text ≡ waits_text (setting_of frame.now) top waits.now) }
+{
+    let mut lanes = Lanes::new(alloc);
+    let mut text = String::new(alloc);
+    let mut left_out = 0usize;
+    for wait in waits {
+        let lane = lanes.take(wait)?;
+        write_wait_in(lane, wait, top, frame, &mut text)?;
+        if lane.is_none() {
+            left_out = left_out.saturating_add(1);
+        }
+    }
+    let lanes = lanes.count();
+    Ok(Shapes {
+        text,
+        lanes,
+        left_out,
+    })
+}
+
+/// Draws the wakes above the runs, those that would lie upon each other one above another.
+fn draw_wakes(
+    alloc: Global,
+    wakes: &[Stretch],
+    top: usize,
+    frame: &Frame<'_>,
+) -> Result<Shapes, AllocError>
+    ensures { IfOk result (λ drawn. string_bytes drawn.text ≡ wakes_text (setting_of frame.now) top wakes.now) }
+{
+    let mut lanes = Lanes::new(alloc);
+    let mut text = String::new(alloc);
+    let mut left_out = 0usize;
+    for wake in wakes {
+        let level = lanes.take(&drawn_wake(wake, frame))?;
+        write_wake_in(level, wake, top, frame, &mut text)?;
+        if level.is_none() {
+            left_out = left_out.saturating_add(1);
+        }
+    }
+    let lanes = lanes.count();
+    Ok(Shapes {
+        text,
+        lanes,
+        left_out,
+    })
+}
+
+/// Draws a wait in its lane, if it has one.
+fn write_wait_in(
+    lane: Option<usize>,
+    wait: &Stretch,
+    top: usize,
+    frame: &Frame<'_>,
+    text: &mut String,
+) -> Result<(), AllocError>
+    ensures { OnOk result (string_bytes text.new ≡ string_bytes text.old ++ shape_in (wait_in (setting_of frame.now) top) lane wait.now) }
+{
+    match lane {
+        Some(lane) => write_wait(wait, wait_height(top, lane), frame, text),
+        None => Ok(()),
+    }
+}
+
+/// Draws a wake at its level, if it has one.
+fn write_wake_in(
+    level: Option<usize>,
+    wake: &Stretch,
+    top: usize,
+    frame: &Frame<'_>,
+    text: &mut String,
+) -> Result<(), AllocError>
+    ensures { OnOk result (string_bytes text.new ≡ string_bytes text.old ++ shape_in (wake_in (setting_of frame.now) top) level wake.now) }
+{
+    match level {
+        Some(level) => write_wake(wake, wake_height(top, level), frame, text),
         None => Ok(()),
     }
 }
 
 /// A wake over the time over which its arrow is drawn.
-fn drawn_wake(wake: &Stretch, frame: &Frame<'_>) -> Stretch {
+fn drawn_wake(wake: &Stretch, frame: &Frame<'_>) -> Stretch
+    ensures { result ≡ arrow_of frame.now.scale.extent wake.now }
+{
     Stretch {
         from: wake.from,
         to: wake.from.saturating_add(frame.scale.arrow()),

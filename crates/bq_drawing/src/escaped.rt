@@ -1,30 +1,35 @@
 //! Text within XML.
+ghost use Rattle.std.specs.Prelude.{◌≡◌, ◌++◌, OnOk, option_map, string_bytes};
+ghost use Rattle.bq_drawing.specs.Titles.{escaped, in_place_of, xml_letter};
 
-use std::fmt;
+use std::alloc::AllocError;
 
-/// A text as XML writes it, cut after this many characters. A character that XML can't hold is shown as `?`.
+/// Adds a text as XML writes it, cut after this many characters. A character that XML can't hold is shown as `?`.
 ///
 /// `a<b` is `a&lt;b`.
-#[derive(Clone, Copy)]
-pub struct Escaped<'a> {
-    pub text: &'a str,
-    pub most: usize,
+pub fn write_escaped(given: &str, most: usize, text: &mut String) -> Result<(), AllocError>
+    ensures { OnOk result (string_bytes text.new ≡ string_bytes text.old ++ escaped most given.now) }
+{
+    for letter in given.chars().take(most) {
+        write_letter(letter, text)?;
+    }
+    Ok(())
 }
 
-impl fmt::Display for Escaped<'_> {
-    fn fmt<W: fmt::Write>(&self, f: &mut fmt::Formatter<W>) -> fmt::Result {
-        for c in self.text.chars().take(self.most) {
-            match in_place_of(c) {
-                Some(text) => f.write_str(text)?,
-                None => write!(f, "{c}")?,
-            }
-        }
-        Ok(())
+/// Adds a character as XML writes it.
+fn write_letter(letter: char, text: &mut String) -> Result<(), AllocError>
+    ensures { OnOk result (string_bytes text.new ≡ string_bytes text.old ++ xml_letter letter) }
+{
+    match in_place_of(letter) {
+        Some(place) => text.push_str(place),
+        None => text.push(letter),
     }
 }
 
 /// What stands for a character that XML does not take as it is.
-fn in_place_of(c: char) -> Option<&'static str> {
+fn in_place_of(c: char) -> Option<&'static str>
+    ensures { option_map (λ place. place.now) result ≡ in_place_of c }
+{
     match c {
         '&' => Some("&amp;"),
         '<' => Some("&lt;"),

@@ -1,9 +1,10 @@
 //! What the shapes of a picture share.
-ghost use Rattle.std.specs.Prelude.{◌≡◌};
-ghost use Rattle.bq_drawing.specs.Pictures.{colour_of};
+ghost use Rattle.std.specs.Prelude.{◌≡◌, ◌++◌, OnOk, string_bytes};
+ghost use Rattle.bq_drawing.specs.Shapes.{colour_of};
+ghost use Rattle.bq_drawing.specs.Titles.{shown_name};
 
 use crate::colours::COLOURS;
-use crate::escaped::Escaped;
+use crate::escaped::write_escaped;
 use crate::scale::Scale;
 use crate::unit::{Amount, TimeUnit};
 use bq_report::{Names, Roster};
@@ -27,18 +28,19 @@ impl Frame<'_> {
     }
 
     /// A time in the picture's unit.
-    pub fn amount(&self, time: u64) -> Amount {
+    pub fn amount(&self, time: u64) -> Amount
+        ensures { result ≡ record { time = time; unit = self.now.unit } }
+    {
         let unit = self.unit;
         Amount { time, unit }
     }
 
     /// Adds the name of a task, cut after this many characters, or its number.
-    pub fn write_name(&self, task: u16, most: usize, text: &mut String) -> Result<(), AllocError> {
+    pub fn write_name(&self, task: u16, most: usize, text: &mut String) -> Result<(), AllocError>
+        ensures { OnOk result (string_bytes text.new ≡ string_bytes text.old ++ shown_name most self.now.names.now task) }
+    {
         match self.names.of(task) {
-            Some(name) => {
-                let name = Escaped { text: name, most };
-                write!(text, "{name}")
-            }
+            Some(name) => write_escaped(name, most, text),
             None => write!(text, "task {task}"),
         }
     }

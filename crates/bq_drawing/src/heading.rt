@@ -1,6 +1,6 @@
 //! What stands above a picture: its title, the discipline, and the time that it is drawn over.
 
-use crate::escaped::Escaped;
+use crate::escaped::write_escaped;
 use crate::frame::Frame;
 use crate::scale::LEFT;
 use bq_words::Rule;
@@ -21,14 +21,9 @@ pub struct Heading<'a> {
 impl Heading<'_> {
     /// The title, and below it the discipline and the time that the picture is drawn over.
     pub fn write(&self, frame: &Frame<'_>, text: &mut String) -> Result<(), AllocError> {
-        let title = Escaped {
-            text: self.title,
-            most: MOST,
-        };
-        write!(
-            text,
-            "<text class=\"title\" x=\"{LEFT}\" y=\"34\">{title}</text>\n"
-        )?;
+        write!(text, "<text class=\"title\" x=\"{LEFT}\" y=\"34\">")?;
+        write_escaped(self.title, MOST, text)?;
+        text.push_str("</text>\n")?;
         write!(text, "<text class=\"small\" x=\"{LEFT}\" y=\"58\">")?;
         if let Some(rule) = self.rule {
             let discipline = discipline(rule);

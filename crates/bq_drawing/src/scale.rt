@@ -1,6 +1,6 @@
 //! Where a moment lies in the picture.
 ghost use Rattle.std.specs.Prelude.{◌≡◌, Some};
-ghost use Rattle.bq_drawing.specs.Places.{place_of, width_of, hundredths};
+ghost use Rattle.bq_drawing.specs.Places.{arrow_time, hundredths, place_of, width_of};
 
 use bq_report::Extent;
 use std::fmt;
@@ -61,7 +61,9 @@ impl Scale {
     }
 
     /// How long the time is over which the arrow of a wake is drawn.
-    pub fn arrow(&self) -> u64 {
+    pub fn arrow(&self) -> u64
+        ensures { result ≡ arrow_time self.now.extent }
+    {
         self.extent.length() / WIDTH * ARROW + 1
     }
 }

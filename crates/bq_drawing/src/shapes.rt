@@ -1,7 +1,6 @@
 //! The shapes of a row: its name, its runs, the waits below them, and the wakes above.
-ghost use Rattle.std.specs.Prelude.{◌≡◌, ◌++◌, OnOk, codes, string_bytes};
-ghost use Rattle.bq_report.specs.Reports.{Adds};
-ghost use Rattle.bq_drawing.specs.Pictures.{IsRowName, IsRunElement, rectangle_text};
+ghost use Rattle.std.specs.Prelude.{◌≡◌, ◌++◌, IfOk, OnOk, codes, string_bytes};
+ghost use Rattle.bq_drawing.specs.Shapes.{arrow_text, band_text, hatched_text, latency_text, rectangle_text, row_name, run_text, run_times, run_title, run_waits, setting_of, wait_height, wait_text, wait_times, wake_height, wake_text, wake_time};
 
 use crate::frame::Frame;
 use crate::lanes::Stretch;
@@ -47,7 +46,7 @@ impl DrawnRun {
 
 /// The name of a row, and the band in which its runs lie.
 pub fn write_row_name(number: u8, top: usize, text: &mut String) -> Result<(), AllocError>
-    ensures { OnOk result (Adds (IsRowName number top) (string_bytes text.old) (string_bytes text.new)) }
+    ensures { OnOk result (string_bytes text.new ≡ string_bytes text.old ++ (band_text top ++ row_name number top)) }
 {
     let line = top.saturating_add(24);
     write!(
@@ -68,7 +67,7 @@ pub fn write_run(
     frame: &Frame<'_>,
     text: &mut String,
 ) -> Result<(), AllocError>
-    ensures { OnOk result (Adds (IsRunElement frame.now.scale.extent frame.now.roster.now top run.now) (string_bytes text.old) (string_bytes text.new)) }
+    ensures { OnOk result (string_bytes text.new ≡ string_bytes text.old ++ run_text (setting_of frame.now) top run.now) }
 {
     let title = run_title(alloc, run, frame)?;
     write_rectangle(run, top, frame, text)?;
@@ -82,8 +81,7 @@ fn write_rectangle(
     frame: &Frame<'_>,
     text: &mut String,
 ) -> Result<(), AllocError>
-    ensures { OnOk result (string_bytes text.new
-        ≡ string_bytes text.old ++ rectangle_text frame.now.scale.extent frame.now.roster.now top run.now) }
+    ensures { OnOk result (string_bytes text.new ≡ string_bytes text.old ++ rectangle_text (setting_of frame.now) top run.now) }
 {
     let place = frame.scale.place(run.from);
     let width = frame.scale.width(run.from, run.to);
@@ -140,7 +138,9 @@ fn write_run_name(
 }
 
 /// The tooltip of a run.
-fn run_title(alloc: Global, run: &DrawnRun, frame: &Frame<'_>) -> Result<String, AllocError> {
+fn run_title(alloc: Global, run: &DrawnRun, frame: &Frame<'_>) -> Result<String, AllocError>
+    ensures { IfOk result (λ title. string_bytes title ≡ run_title (setting_of frame.now) run.now) }
+{
     let mut text = String::new(alloc);
     text.push_str("<title>")?;
     frame.write_name(run.task, usize::MAX, &mut text)?;
@@ -151,7 +151,9 @@ fn run_title(alloc: Global, run: &DrawnRun, frame: &Frame<'_>) -> Result<String,
 }
 
 /// When a run is.
-fn write_run_times(run: &DrawnRun, frame: &Frame<'_>, text: &mut String) -> Result<(), AllocError> {
+fn write_run_times(run: &DrawnRun, frame: &Frame<'_>, text: &mut String) -> Result<(), AllocError>
+    ensures { OnOk result (string_bytes text.new ≡ string_bytes text.old ++ run_times (setting_of frame.now) run.now) }
+{
     let task = run.task;
     let from = frame.amount(run.from);
     let to = frame.amount(run.to);
@@ -162,21 +164,39 @@ fn write_run_times(run: &DrawnRun, frame: &Frame<'_>, text: &mut String) -> Resu
 }
 
 /// How long its task waited for a run.
-fn write_run_waits(run: &DrawnRun, frame: &Frame<'_>, text: &mut String) -> Result<(), AllocError> {
+fn write_run_waits(run: &DrawnRun, frame: &Frame<'_>, text: &mut String) -> Result<(), AllocError>
+    ensures { OnOk result (string_bytes text.new ≡ string_bytes text.old ++ run_waits (setting_of frame.now) run.now) }
+{
     let waited = frame.amount(run.waited);
     let unit = frame.unit.name();
     write!(text, ", after {waited} {unit} of waiting")?;
-    match run.latency {
-        Some(latency) => write_latency(latency, frame, text),
-        None => Ok(()),
-    }
+    write_latency(run.latency, frame, text)
 }
 
-/// How long after its wake a run began.
-fn write_latency(latency: u64, frame: &Frame<'_>, text: &mut String) -> Result<(), AllocError> {
+/// How long after its wake a run began, if that is known.
+fn write_latency(
+    latency: Option<u64>,
+    frame: &Frame<'_>,
+    text: &mut String,
+) -> Result<(), AllocError>
+    ensures { OnOk result (string_bytes text.new ≡ string_bytes text.old ++ latency_text frame.now.unit latency) }
+{
+    let Some(latency) = latency else {
+        return Ok(());
+    };
     let latency = frame.amount(latency);
     let unit = frame.unit.name();
     write!(text, ", {latency} {unit} since its wake")
+}
+
+/// Where a wait in this lane is drawn, below the band at this height.
+pub fn wait_height(top: usize, lane: usize) -> usize
+    ensures { result ≡ wait_height top lane }
+{
+    lane.saturating_mul(LANE)
+        .saturating_add(BAND)
+        .saturating_add(top)
+        .saturating_add(3)
 }
 
 /// A wait, hatched.
@@ -185,29 +205,47 @@ pub fn write_wait(
     height: usize,
     frame: &Frame<'_>,
     text: &mut String,
-) -> Result<(), AllocError> {
-    let place = frame.scale.place(wait.from);
-    let width = frame.scale.width(wait.from, wait.to);
-    let colour = frame.colour(wait.task);
-    let top = height.saturating_add(3);
-    write!(
-        text,
-        "<rect class=\"wait w{colour}\" x=\"{place}\" y=\"{top}\" width=\"{width}\" height=\"8\"><title>"
-    )?;
+) -> Result<(), AllocError>
+    ensures { OnOk result (string_bytes text.new ≡ string_bytes text.old ++ wait_text (setting_of frame.now) height wait.now) }
+{
+    write_hatched(wait, height, frame, text)?;
     frame.write_name(wait.task, usize::MAX, text)?;
     write_wait_times(wait, frame, text)
 }
 
-/// When a wait is.
-fn write_wait_times(
+/// The hatched rectangle of a wait, up to the name in its tooltip.
+fn write_hatched(
     wait: &Stretch,
+    height: usize,
     frame: &Frame<'_>,
     text: &mut String,
-) -> Result<(), AllocError> {
+) -> Result<(), AllocError>
+    ensures { OnOk result (string_bytes text.new ≡ string_bytes text.old ++ hatched_text (setting_of frame.now) height wait.now) }
+{
+    let place = frame.scale.place(wait.from);
+    let width = frame.scale.width(wait.from, wait.to);
+    let colour = frame.colour(wait.task);
+    write!(
+        text,
+        "<rect class=\"wait w{colour}\" x=\"{place}\" y=\"{height}\" width=\"{width}\" height=\"8\"><title>"
+    )
+}
+
+/// When a wait is.
+fn write_wait_times(wait: &Stretch, frame: &Frame<'_>, text: &mut String) -> Result<(), AllocError>
+    ensures { OnOk result (string_bytes text.new ≡ string_bytes text.old ++ wait_times (setting_of frame.now) wait.now) }
+{
     let from = frame.amount(wait.from);
     let to = frame.amount(wait.to);
     let unit = frame.unit.name();
     write!(text, " waits {from} to {to} {unit}</title></rect>\n")
+}
+
+/// Where the arrow of a wake at this level ends, above the band at this height.
+pub fn wake_height(top: usize, level: usize) -> usize
+    ensures { result ≡ wake_height top level }
+{
+    top.saturating_sub(level.saturating_mul(LEVEL))
 }
 
 /// A wake, as an arrow that ends at this height.
@@ -216,15 +254,36 @@ pub fn write_wake(
     end: usize,
     frame: &Frame<'_>,
     text: &mut String,
-) -> Result<(), AllocError> {
+) -> Result<(), AllocError>
+    ensures { OnOk result (string_bytes text.new ≡ string_bytes text.old ++ wake_text (setting_of frame.now) end wake.now) }
+{
+    write_arrow(wake, end, frame, text)?;
+    frame.write_name(wake.task, usize::MAX, text)?;
+    write_wake_time(wake, frame, text)
+}
+
+/// The arrow of a wake, up to the name in its tooltip.
+fn write_arrow(
+    wake: &Stretch,
+    end: usize,
+    frame: &Frame<'_>,
+    text: &mut String,
+) -> Result<(), AllocError>
+    ensures { OnOk result (string_bytes text.new ≡ string_bytes text.old ++ arrow_text (setting_of frame.now) end wake.now) }
+{
     let place = frame.scale.place(wake.from);
     let colour = frame.colour(wake.task);
     let begin = end.saturating_sub(12);
     write!(
         text,
         "<path class=\"arrow c{colour}\" d=\"M{place} {begin}v11l-4 -6h8l-4 6\"><title>"
-    )?;
-    frame.write_name(wake.task, usize::MAX, text)?;
+    )
+}
+
+/// When a wake is.
+fn write_wake_time(wake: &Stretch, frame: &Frame<'_>, text: &mut String) -> Result<(), AllocError>
+    ensures { OnOk result (string_bytes text.new ≡ string_bytes text.old ++ wake_time (setting_of frame.now) wake.now) }
+{
     let at = frame.amount(wake.from);
     let unit = frame.unit.name();
     write!(text, " is woken at {at} {unit}</title></path>\n")

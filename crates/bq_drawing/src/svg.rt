@@ -1,12 +1,15 @@
 //! The picture of a schedule.
-ghost use Rattle.std.specs.Prelude.{◌≡◌, ◌++◌, [], length, replicate, OnOk, codes, option_map, string_bytes};
+ghost use Rattle.std.specs.Prelude.{◌≡◌, ◌++◌, [], length, replicate, OnOk, Some, codes, option_map, string_bytes};
+ghost use Rattle.bq_schedule.specs.Figures.{task_of};
+ghost use Rattle.bq_schedule.specs.Slices.{is_this};
 ghost use Rattle.bq_report.specs.Reports.{Adds};
 ghost use Rattle.bq_report.specs.Rosters.{enlisted};
-ghost use Rattle.bq_drawing.specs.Pictures.{HoldsRun, HoldsRunners, IsDrawnOver, IsPicture, IsPictureOf};
+ghost use Rattle.bq_drawing.specs.Pictures.{HoldsChange, HoldsRun, HoldsRunners, HoldsWait, HoldsWaiting, HoldsWake, IsDrawnOver, IsPicture, IsPictureOf, empty_row, wait_at, wait_before, wait_ended};
 ghost use Rattle.bq_drawing.specs.Runs.{ended_run};
+ghost use Rattle.bq_drawing.specs.Shapes.{drawn_in};
 
 use crate::drawing::{Drawing, Written};
-use crate::escaped::Escaped;
+use crate::escaped::write_escaped;
 use crate::heading::Heading;
 use crate::lanes::Stretch;
 use crate::links::{Link, LinkKind, Spot};
@@ -74,23 +77,18 @@ impl Svg {
         }
     }
 
-    /// Holds the part of a wait that is shown.
-    fn hold_wait(&mut self, processor: u8, task: u16, from: u64, to: u64) -> Result<(), AllocError>
-        ensures { self.new ≡ self.old }
+    /// Holds the part of a wait that is shown, if there is a wait.
+    fn hold_wait(&mut self, wait: Option<Slice>) -> Result<(), AllocError>
+        ensures wait { OnOk result (HoldsWait self.old.window wait self.old.drawing self.new.drawing) }
+        ensures same { self.new ≡ record self.old { drawing = self.new.drawing } }
     {
-        let wait = Slice {
-            processor,
-            task,
-            from,
-            to,
-        };
-        match self.window.clip(&wait) {
-            Some(wait) => self.drawing.push_wait(
-                processor,
+        match self.window.shown_part(wait) {
+            Some(part) => self.drawing.push_wait(
+                part.processor,
                 Stretch {
-                    from: wait.from,
-                    to: wait.to,
-                    task,
+                    from: part.from,
+                    to: part.to,
+                    task: part.task,
                 },
             ),
             None => Ok(()),
@@ -108,12 +106,22 @@ impl Svg {
         self.hold_run(start_of(stop), ended_run(stop))
     }
 
-    /// Holds the wait before a run, and that its task has migrated, if it has.
-    fn hold_start(&mut self, start: &Start) -> Result<(), AllocError>
+    /// Holds the wait before a run that began, and that its task has migrated, if it has.
+    fn hold_start(&mut self, start: Option<Start>) -> Result<(), AllocError>
+        ensures wait { OnOk result (HoldsWait self.old.window (option_map wait_before start) self.old.drawing self.new.drawing) }
+        ensures same { self.new ≡ record self.old { drawing = self.new.drawing } }
+    {
+        self.hold_wait(wait_before(start))?;
+        match start {
+            Some(start) => self.hold_migration(&start),
+            None => Ok(()),
+        }
+    }
+
+    /// Holds that the task of a run has migrated, if it has.
+    fn hold_migration(&mut self, start: &Start) -> Result<(), AllocError>
         ensures { self.new ≡ self.old }
     {
-        let from = start.at.saturating_sub(start.waited);
-        self.hold_wait(start.processor, start.task, from, start.at)?;
         let Some(before) = start.before else {
             return Ok(());
         };
@@ -135,12 +143,15 @@ impl Svg {
         })
     }
 
-    /// Holds the wait before a pull, and the pull.
-    fn hold_pull(&mut self, pull: &PulledTask) -> Result<(), AllocError>
-        ensures { self.new ≡ self.old }
+    /// Holds the wait that a pull ended, and the pull.
+    fn hold_pull(&mut self, pull: Option<PulledTask>) -> Result<(), AllocError>
+        ensures wait { OnOk result (HoldsWait self.old.window (option_map wait_ended pull) self.old.drawing self.new.drawing) }
+        ensures same { self.new ≡ record self.old { drawing = self.new.drawing } }
     {
-        let from = pull.at.saturating_sub(pull.waited);
-        self.hold_wait(pull.from, pull.task, from, pull.at)?;
+        self.hold_wait(wait_ended(pull))?;
+        let Some(pull) = pull else {
+            return Ok(());
+        };
         self.hold_link(Link {
             kind: LinkKind::Pull,
             task: pull.task,
@@ -167,13 +178,18 @@ impl Svg {
         Ok(())
     }
 
-    fn hold_wake(&mut self, wake: &Wake) -> Result<(), AllocError>
-        ensures { self.new ≡ self.old }
+    /// Holds a wake, if there is one that is shown.
+    fn hold_wake(&mut self, wake: Option<Wake>) -> Result<(), AllocError>
+        ensures wake { OnOk result (HoldsWake self.old.window wake self.old.drawing self.new.drawing) }
+        ensures same { self.new ≡ record self.old { drawing = self.new.drawing } }
     {
-        if self.window.shows(wake.to, wake.task, wake.at) {
-            self.drawing.push_wake(wake)?;
+        let Some(wake) = wake else {
+            return Ok(());
+        };
+        if !self.window.shows(wake.to, wake.task, wake.at) {
+            return Ok(());
         }
-        Ok(())
+        self.drawing.push_wake(&wake)
     }
 
     /// Holds the runs that go on, as far as they are shown.
@@ -188,25 +204,20 @@ impl Svg {
         Ok(())
     }
 
-    /// Holds the waits that are not over.
+    /// Holds the waits that are not over, as far as they are shown.
     fn hold_waiting(&mut self, schedule: &Schedule) -> Result<(), AllocError>
-        ensures { self.new ≡ self.old }
+        ensures waits { OnOk result (HoldsWaiting self.old.window schedule.now 1024 self.old.drawing self.new.drawing) }
+        ensures same { self.new ≡ record self.old { drawing = self.new.drawing } }
     {
         for id in 0..TASKS {
-            let task = schedule.task(id);
-            if let Some(place) = task.place {
-                let figures = schedule.processor(place);
-                if !runs(figures.running, id) {
-                    self.hold_wait(place, id, task.since, figures.last)?;
-                }
-            }
+            self.hold_wait(wait_of(schedule, id))?;
         }
         Ok(())
     }
 
     /// Writes the picture of what is held.
-    fn write(&mut self, extent: Extent, names: &Names, text: &mut String) -> Result<(), AllocError>
-        ensures { OnOk result (Adds (IsPicture self.old.window extent self.old.roster self.old.drawing)
+    fn write(&self, extent: Extent, names: &Names, text: &mut String) -> Result<(), AllocError>
+        ensures { OnOk result (Adds (IsPicture self.now.window (drawn_in extent self.now.roster names.now) self.now.drawing)
             (string_bytes text.old) (string_bytes text.new)) }
     {
         let heading = Heading {
@@ -262,11 +273,9 @@ fn write_root(name: PictureName, height: usize, text: &mut String) -> Result<(),
 
 /// The name of the picture for a reader that does not see it.
 fn write_root_title(title: &str, text: &mut String) -> Result<(), AllocError> {
-    let title = Escaped {
-        text: title,
-        most: usize::MAX,
-    };
-    write!(text, "<title>{title}</title>\n")
+    text.push_str("<title>")?;
+    write_escaped(title, usize::MAX, text)?;
+    text.push_str("</title>\n")
 }
 
 /// How the run began that is over.
@@ -277,7 +286,54 @@ fn start_of(stop: Option<Stop>) -> Option<Start>
     Some(stop.start)
 }
 
-fn runs(running: Option<Start>, task: u16) -> bool {
+/// The wait before a run that began so.
+fn wait_before(start: Option<Start>) -> Option<Slice>
+    ensures { result ≡ option_map wait_before start }
+{
+    let start = start?;
+    Some(Slice {
+        processor: start.processor,
+        task: start.task,
+        from: start.at.saturating_sub(start.waited),
+        to: start.at,
+    })
+}
+
+/// The wait that a pull ended, where the task was taken from.
+fn wait_ended(pull: Option<PulledTask>) -> Option<Slice>
+    ensures { result ≡ option_map wait_ended pull }
+{
+    let pull = pull?;
+    Some(Slice {
+        processor: pull.from,
+        task: pull.task,
+        from: pull.at.saturating_sub(pull.waited),
+        to: pull.at,
+    })
+}
+
+/// The wait of a task that is not over, if it waits.
+fn wait_of(schedule: &Schedule, id: u16) -> Option<Slice>
+    ensures { result ≡ wait_at schedule.now id (task_of schedule.now id).place }
+{
+    let task = schedule.task(id);
+    let place = task.place?;
+    let figures = schedule.processor(place);
+    if runs(figures.running, id) {
+        return None;
+    }
+    Some(Slice {
+        processor: place,
+        task: id,
+        from: task.since,
+        to: figures.last,
+    })
+}
+
+/// Whether what runs is this task.
+fn runs(running: Option<Start>, task: u16) -> bool
+    ensures { result ≡ is_this task (option_map (λ s. s.task) running) }
+{
     match running {
         Some(start) => start.task == task,
         None => false,
@@ -291,7 +347,7 @@ impl ScheduleForm for Svg {
         _names: &Names,
         text: &mut String,
     ) -> Result<(), AllocError>
-        ensures rows { OnOk result (self.new ≡ record self.old { drawing = replicate (length schedule.now.processors) [] }) }
+        ensures rows { OnOk result (self.new ≡ record self.old { drawing = replicate (length schedule.now.processors) empty_row }) }
         ensures none { text.new ≡ text.old }
     {
         self.drawing = Drawing::of(self.alloc, schedule.processors())?;
@@ -311,22 +367,14 @@ impl ScheduleForm for Svg {
         _names: &Names,
         text: &mut String,
     ) -> Result<(), AllocError>
-        ensures run { OnOk result (HoldsRun self.old.window (option_map (λ s. s.start) change.now.stop) (ended_run change.now.stop)
-            self.old.drawing self.new.drawing) }
+        ensures held { OnOk result (HoldsChange self.old.window change.now self.old.drawing self.new.drawing) }
         ensures same { self.new ≡ record self.old { drawing = self.new.drawing; stops = self.new.stops } }
         ensures none { text.new ≡ text.old }
     {
-        if let Some(wake) = change.wake {
-            self.hold_wake(&wake)?;
-        }
-        if let Some(pull) = change.pull {
-            self.hold_pull(&pull)?;
-        }
+        self.hold_wake(change.wake)?;
+        self.hold_pull(change.pull)?;
         self.hold_stop(change.stop)?;
-        match change.start {
-            Some(start) => self.hold_start(&start),
-            None => Ok(()),
-        }
+        self.hold_start(change.start)
     }
 
     fn end(
@@ -335,7 +383,7 @@ impl ScheduleForm for Svg {
         names: &Names,
         text: &mut String,
     ) -> Result<(), AllocError>
-        ensures picture { OnOk result (Adds (IsPictureOf self.old.window schedule.now self.old.roster self.old.drawing)
+        ensures picture { OnOk result (Adds (IsPictureOf self.old.window schedule.now names.now self.old.roster self.old.drawing)
             (string_bytes text.old) (string_bytes text.new)) }
     {
         self.hold_runners(schedule)?;

@@ -1,4 +1,6 @@
 //! The unit of the times in a picture.
+ghost use Rattle.std.specs.Prelude.{◌≡◌, Some};
+ghost use Rattle.bq_drawing.specs.Titles.{amount_text, unit_name, unit_of_step};
 
 use std::fmt;
 
@@ -13,7 +15,9 @@ pub enum TimeUnit {
 
 impl TimeUnit {
     /// That of an axis with such steps.
-    pub fn of_step(step: u64) -> TimeUnit {
+    pub fn of_step(step: u64) -> TimeUnit
+        ensures { result ≡ unit_of_step step }
+    {
         if step < 1000 {
             TimeUnit::Nanoseconds
         } else if step < 1_000_000 {
@@ -36,7 +40,9 @@ impl TimeUnit {
     }
 
     /// How it is written behind a number.
-    pub fn name(self) -> &'static str {
+    pub fn name(self) -> &'static str
+        ensures { result.now ≡ unit_name self }
+    {
         match self {
             TimeUnit::Nanoseconds => "ns",
             TimeUnit::Microseconds => "us",
@@ -56,20 +62,24 @@ pub struct Amount {
 }
 
 impl fmt::Display for Amount {
+    ghost output = { λ a. Some (amount_text a.unit a.time) };
+
     fn fmt<W: fmt::Write>(&self, f: &mut fmt::Formatter<W>) -> fmt::Result {
         let time = self.time;
-        let whole = time / self.unit.length().max(1);
         match self.unit {
             TimeUnit::Nanoseconds => write!(f, "{time}"),
             TimeUnit::Microseconds => {
+                let whole = time / 1000;
                 let part = time % 1000;
                 write!(f, "{whole}.{part:03}")
             }
             TimeUnit::Milliseconds => {
+                let whole = time / 1_000_000;
                 let part = time / 1000 % 1000;
                 write!(f, "{whole}.{part:03}")
             }
             TimeUnit::Seconds => {
+                let whole = time / 1_000_000_000;
                 let part = time / 1000 % 1_000_000;
                 write!(f, "{whole}.{part:06}")
             }

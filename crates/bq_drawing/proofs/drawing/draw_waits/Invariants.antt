@@ -1,0 +1,11 @@
+use Rattle.std.proofs.Common.{◌≡◌, ◌++◌, drop}
+use Rattle.std.specs.Prelude.{string_bytes}
+use Rattle.bq_drawing.specs.declared.lanes.Stretch.{Stretch}
+use Rattle.bq_drawing.specs.Shapes.{in_lanes, setting_of, wait_in, waits_text}
+use Rattle.bq_drawing.proofs.drawing.draw_waits.Given as goal
+
+-- the waits that are left complete the text
+abbrev pub invariant-loop-wait : goal.invariant-loop-wait
+invariant-loop-wait l =
+    string_bytes l.text ++ in_lanes (λ (wait : Stretch). wait) (wait_in (setting_of l.frame) l.top) l.lanes (drop l.wait-index l.waits)
+    ≡ waits_text (setting_of l.frame) l.top l.waits

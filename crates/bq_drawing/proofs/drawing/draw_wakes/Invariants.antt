@@ -1,0 +1,10 @@
+use Rattle.std.proofs.Common.{◌≡◌, ◌++◌, drop}
+use Rattle.std.specs.Prelude.{string_bytes}
+use Rattle.bq_drawing.specs.Shapes.{arrow_of, in_lanes, setting_of, wake_in, wakes_text}
+use Rattle.bq_drawing.proofs.drawing.draw_wakes.Given as goal
+
+-- the wakes that are left complete the text
+abbrev pub invariant-loop-wake : goal.invariant-loop-wake
+invariant-loop-wake l =
+    string_bytes l.text ++ in_lanes (arrow_of l.frame.scale.extent) (wake_in (setting_of l.frame) l.top) l.lanes (drop l.wake-index l.wakes)
+    ≡ wakes_text (setting_of l.frame) l.top l.wakes

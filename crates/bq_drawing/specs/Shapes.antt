@@ -1,0 +1,165 @@
+-- The shapes of a row: its name, its runs, the waits below them, and the wakes above.
+use Rattle.std.specs.Prelude.{ℕ, ◌+◌, ◌-◌, ◌*◌, ◌%◌, ◌^◌, List, [], ◌∷◌, ◌++◌, Option, Some, None, codes, flat_map, unwrap_or}
+use Rattle.std.specs.Fmt.{decimal}
+use Rattle.bq_parts.specs.Counts.{counted}
+use Rattle.bq_report.specs.declared.extent.Extent.{Extent}
+use Rattle.bq_report.specs.Names.{NamedTasks}
+use Rattle.bq_report.specs.Rosters.{place_in}
+use Rattle.bq_drawing.specs.declared.frame.Frame.{Frame}
+use Rattle.bq_drawing.specs.declared.lanes.Stretch.{Stretch}
+use Rattle.bq_drawing.specs.declared.shapes.DrawnRun.{DrawnRun}
+use Rattle.bq_drawing.specs.declared.unit.TimeUnit.{TimeUnit}
+use Rattle.bq_drawing.specs.Lanes.{lane_of, taken}
+use Rattle.bq_drawing.specs.Places.{arrow_time, hundredths, place_of, width_of}
+use Rattle.bq_drawing.specs.Titles.{amount_text, axis_step, shown_name, time_text, unit_name, unit_of_step}
+
+-- what the shapes of a picture share: the time that it is drawn over, the unit of its times, the tasks of the trace, in order, and
+-- their names
+pub record Setting : Type 0 where
+  pub extent : Extent
+  pub unit : TimeUnit
+  pub tasks : List ℕ
+  pub names : NamedTasks
+
+-- that of a picture that is drawn over this time
+abbrev pub drawn_in : Extent → List ℕ → NamedTasks → Setting
+drawn_in e tasks names = record { extent = e; unit = unit_of_step (axis_step e); tasks = tasks; names = names }
+
+-- that which a frame tells
+abbrev pub setting_of : Frame → Setting
+setting_of f = record { extent = f.scale.extent; unit = f.unit; tasks = f.roster.now; names = f.names.now }
+
+-- the number of a task's colour: by its place among all tasks of the trace
+abbrev pub colour_of : List ℕ → ℕ → ℕ
+colour_of tasks task = unwrap_or (place_in tasks task) 0 % 8
+
+-- the whole name of a task, or its number where it has none
+abbrev pub whole_name : Setting → ℕ → List ℕ
+whole_name s task = shown_name (2 ^ 64 - 1) s.names task
+
+-- ---- the band
+
+-- the band at this height in which the runs of a row lie
+abbrev pub band_text : ℕ → List ℕ
+band_text top =
+    codes "<rect class=\"band\" x=\"" ++ (decimal 72 ++ (codes "\" y=\"" ++ (decimal top ++ (codes "\" width=\"" ++ (decimal 1080
+    ++ (codes "\" height=\"" ++ (decimal 36 ++ codes "\"/>\n")))))))
+
+-- the name of a processor's row, in its band
+abbrev pub row_name : ℕ → ℕ → List ℕ
+row_name number top =
+    codes "<text class=\"cpu\" x=\"10\" y=\"" ++ (decimal (counted top 24) ++ (codes "\">cpu " ++ (decimal number ++ codes "</text>\n")))
+
+-- ---- runs
+
+-- the rectangle of a run, in the band at this height
+abbrev pub rectangle_text : Setting → ℕ → DrawnRun → List ℕ
+rectangle_text s top run =
+    codes "<g><rect class=\"run c" ++ (decimal (colour_of s.tasks run.task) ++ (codes "\" x=\"" ++ (hundredths (place_of s.extent run.from)
+    ++ (codes "\" y=\"" ++ (decimal top ++ (codes "\" width=\"" ++ (hundredths (width_of s.extent run.from run.to)
+    ++ (codes "\" height=\"" ++ (decimal 36 ++ codes "\" rx=\"2\"/>")))))))))
+
+-- when a run is, and how long
+abbrev pub run_times : Setting → DrawnRun → List ℕ
+run_times s run =
+    (codes " (" ++ (decimal run.task ++ (codes ") runs " ++ (amount_text s.unit run.from ++ (codes " to " ++ (amount_text s.unit run.to
+    ++ (codes " " ++ (unit_name s.unit ++ codes ": "))))))))
+    ++ time_text s.unit (run.to - run.from)
+
+-- how long after its task's wake it began, if that is known
+abbrev pub latency_text : TimeUnit → Option ℕ → List ℕ
+latency_text unit None = []
+latency_text unit (Some latency) = codes ", " ++ (amount_text unit latency ++ (codes " " ++ (unit_name unit ++ codes " since its wake")))
+
+-- how long its task waited for it
+abbrev pub run_waits : Setting → DrawnRun → List ℕ
+run_waits s run =
+    (codes ", after " ++ (amount_text s.unit run.waited ++ (codes " " ++ (unit_name s.unit ++ codes " of waiting"))))
+    ++ latency_text s.unit run.latency
+
+-- the tooltip of a run
+abbrev pub run_title : Setting → DrawnRun → List ℕ
+run_title s run = codes "<title>" ++ (whole_name s run.task ++ (run_times s run ++ (run_waits s run ++ codes "</title>")))
+
+-- a run: its rectangle and its tooltip
+abbrev pub run_text : Setting → ℕ → DrawnRun → List ℕ
+run_text s top run = rectangle_text s top run ++ (run_title s run ++ codes "</g>\n")
+
+-- ---- waits and wakes, in lanes
+
+-- a shape in its lane, and nothing where it finds none
+abbrev pub shape_in : (ℕ → Stretch → List ℕ) → Option ℕ → Stretch → List ℕ
+shape_in draw None stretch = []
+shape_in draw (Some lane) stretch = draw lane stretch
+
+-- shapes, one after another, each in the lane that it takes by the room that it needs; lanes are given by the moments from which
+-- they are free
+unfoldable pub in_lanes : (Stretch → Stretch) → (ℕ → Stretch → List ℕ) → List ℕ → List Stretch → List ℕ
+in_lanes room draw lanes [] = []
+in_lanes room draw lanes (stretch ∷ later) =
+    shape_in draw (lane_of (room stretch) lanes) stretch
+    ++ in_lanes room draw (taken (lane_of (room stretch) lanes) (room stretch).to lanes) later
+
+-- where a wait in this lane is drawn, below the band at this height
+abbrev pub wait_height : ℕ → ℕ → ℕ
+wait_height top lane = counted (lane * 12) (36 + (top + 3))
+
+-- its hatched rectangle, up to the name in its tooltip
+abbrev pub hatched_text : Setting → ℕ → Stretch → List ℕ
+hatched_text s height wait =
+    codes "<rect class=\"wait w" ++ (decimal (colour_of s.tasks wait.task) ++ (codes "\" x=\"" ++ (hundredths (place_of s.extent wait.from)
+    ++ (codes "\" y=\"" ++ (decimal height ++ (codes "\" width=\"" ++ (hundredths (width_of s.extent wait.from wait.to)
+    ++ codes "\" height=\"8\"><title>")))))))
+
+-- when it is
+abbrev pub wait_times : Setting → Stretch → List ℕ
+wait_times s wait =
+    codes " waits " ++ (amount_text s.unit wait.from ++ (codes " to " ++ (amount_text s.unit wait.to ++ (codes " " ++ (unit_name s.unit
+    ++ codes "</title></rect>\n")))))
+
+-- a wait at this height: whose it is, and when
+abbrev pub wait_text : Setting → ℕ → Stretch → List ℕ
+wait_text s height wait = hatched_text s height wait ++ (whole_name s wait.task ++ wait_times s wait)
+
+-- where the arrow of a wake at this level ends, above the band at this height
+abbrev pub wake_height : ℕ → ℕ → ℕ
+wake_height top level = top - level * 13
+
+-- that arrow, up to the name in its tooltip
+abbrev pub arrow_text : Setting → ℕ → Stretch → List ℕ
+arrow_text s end wake =
+    codes "<path class=\"arrow c" ++ (decimal (colour_of s.tasks wake.task) ++ (codes "\" d=\"M" ++ (hundredths (place_of s.extent wake.from)
+    ++ (codes " " ++ (decimal (end - 12) ++ codes "v11l-4 -6h8l-4 6\"><title>")))))
+
+-- when it is
+abbrev pub wake_time : Setting → Stretch → List ℕ
+wake_time s wake = codes " is woken at " ++ (amount_text s.unit wake.from ++ (codes " " ++ (unit_name s.unit ++ codes "</title></path>\n")))
+
+-- a wake whose arrow ends at this height: whose it is, and when
+abbrev pub wake_text : Setting → ℕ → Stretch → List ℕ
+wake_text s end wake = arrow_text s end wake ++ (whole_name s wake.task ++ wake_time s wake)
+
+-- a wake over the time over which its arrow is drawn
+abbrev pub arrow_of : Extent → Stretch → Stretch
+arrow_of e wake = record wake { to = counted wake.from (arrow_time e) }
+
+-- a wait in its lane, below the band at this height
+abbrev pub wait_in : Setting → ℕ → ℕ → Stretch → List ℕ
+wait_in s top lane wait = wait_text s (wait_height top lane) wait
+
+-- a wake at its level, above the band at this height
+abbrev pub wake_in : Setting → ℕ → ℕ → Stretch → List ℕ
+wake_in s top level wake = wake_text s (wake_height top level) wake
+
+-- the waits of a row, one after another; each needs room for as long as it lasts
+abbrev pub waits_text : Setting → ℕ → List Stretch → List ℕ
+waits_text s top waits = in_lanes (λ wait. wait) (wait_in s top) [] waits
+
+-- its wakes, one after another; each needs room for its arrow
+abbrev pub wakes_text : Setting → ℕ → List Stretch → List ℕ
+wakes_text s top wakes = in_lanes (arrow_of s.extent) (wake_in s top) [] wakes
+
+-- the row of a processor whose band is at this height: the band and the name, then its runs, its waits and its wakes, each in order
+abbrev pub row_text : Setting → ℕ → ℕ → List DrawnRun → List Stretch → List Stretch → List ℕ
+row_text s number top runs waits wakes =
+    band_text top ++ (row_name number top ++ (flat_map (run_text s top) runs ++ (waits_text s top waits ++ wakes_text s top wakes)))

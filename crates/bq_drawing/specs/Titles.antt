@@ -1,0 +1,65 @@
+-- What the shapes of a picture say: names as XML writes them, and times in a unit.
+use Rattle.std.specs.Prelude.{ℕ, ◌-◌, ◌/◌, ◌%◌, ◌==◌, ◌||◌, ◌&&◌, nat_le, nat_lt, Bool, List, ◌++◌, Option, Some, None, chars, codes, encode_utf8, find, flat_map, if◌then◌else◌, take, unwrap_or}
+use Rattle.std.specs.Fmt.{decimal}
+use Rattle.std.specs.Option.{option_map}
+use Rattle.bq_report.specs.declared.extent.Extent.{Extent}
+use Rattle.bq_report.specs.Columns.{zeros}
+use Rattle.bq_report.specs.Names.{NamedTasks, name_of}
+use Rattle.bq_report.specs.Steps.{covers, round_steps}
+use Rattle.bq_drawing.specs.declared.unit.TimeUnit.{TimeUnit}
+use Rattle.bq_drawing.specs.declared.unit.TimeUnit.TheVariants.{Microseconds, Milliseconds, Nanoseconds, Seconds}
+use Rattle.bq_drawing.specs.Events.{label_of}
+
+-- a character that XML can't hold
+abbrev pub is_barred : ℕ → Bool
+is_barred c = nat_lt c 32 || ((nat_le 127 c && nat_lt c 160) || (c == 65534 || c == 65535))
+
+-- what stands for a character that XML does not take as it is
+abbrev pub in_place_of : ℕ → Option (List ℕ)
+in_place_of c =
+    if c == 38 then Some (codes "&amp;")
+    else if c == 60 then Some (codes "&lt;")
+    else if c == 62 then Some (codes "&gt;")
+    else if c == 34 then Some (codes "&quot;")
+    else if is_barred c then Some (codes "?") else None
+
+-- a character as XML writes it
+abbrev pub xml_letter : ℕ → List ℕ
+xml_letter c = unwrap_or (in_place_of c) (encode_utf8 c)
+
+-- a text as XML writes it, cut after this many characters
+abbrev pub escaped : ℕ → List ℕ → List ℕ
+escaped most text = flat_map xml_letter (take most (chars text))
+
+-- the name that a task has, cut after this many characters, or its number where it has none
+abbrev pub shown_name : ℕ → NamedTasks → ℕ → List ℕ
+shown_name most names task = label_of task (option_map (escaped most) (name_of names task))
+
+-- the unit of times whose axis has such steps
+abbrev pub unit_of_step : ℕ → TimeUnit
+unit_of_step step =
+    if nat_lt step 1000 then Nanoseconds
+    else if nat_lt step 1000000 then Microseconds
+    else if nat_lt step 1000000000 then Milliseconds else Seconds
+
+-- how far apart the lines of the axis are: the least round step of which ten cover the extent
+abbrev pub axis_step : Extent → ℕ
+axis_step e = unwrap_or (find (λ (step : ℕ). covers (e.to - e.from) 10 step) round_steps) 1
+
+-- how a unit is written behind a number
+abbrev pub unit_name : TimeUnit → List ℕ
+unit_name Nanoseconds = codes "ns"
+unit_name Microseconds = codes "us"
+unit_name Milliseconds = codes "ms"
+unit_name Seconds = codes "s"
+
+-- a time in a unit, without its name: to the microsecond, and in microseconds to the nanosecond; what is less is cut off
+abbrev pub amount_text : TimeUnit → ℕ → List ℕ
+amount_text Nanoseconds time = decimal time
+amount_text Microseconds time = decimal (time / 1000) ++ (codes "." ++ zeros 3 (time % 1000))
+amount_text Milliseconds time = decimal (time / 1000000) ++ (codes "." ++ zeros 3 (time / 1000 % 1000))
+amount_text Seconds time = decimal (time / 1000000000) ++ (codes "." ++ zeros 6 (time / 1000 % 1000000))
+
+-- a time and its unit
+abbrev pub time_text : TimeUnit → ℕ → List ℕ
+time_text unit time = amount_text unit time ++ (codes " " ++ unit_name unit)
