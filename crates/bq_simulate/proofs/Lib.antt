@@ -1,4 +1,6 @@
+pub mod AccountLemmas
 pub mod AdmissionLemmas
+pub mod AdmissionTakenLemmas
 pub mod DeedLemmas
 pub mod InstallLemmas
 pub mod KindLemmas
@@ -8,11 +10,20 @@ pub mod StepLemmas
 pub mod StreamLemmas
 pub mod WholeLemmas
 pub mod DriveLemmas
+pub mod FaultLemmas
 pub mod FromImagesLemmas
 pub mod HexWordLemmas
 pub mod LineLawLemmas
+pub mod MeetAgreeLemmas
+pub mod MeetTimeLemmas
+pub mod MirrorLemmas
 pub mod NumberWordLemmas
 pub mod PlainWordLemmas
 pub mod ReadingLemmas
 pub mod RetellingLemmas
+pub mod SimulationAgreeLemmas
+pub mod TakenLemmas
 pub mod TextLemmas
+pub mod TimeKeptLemmas
+pub mod TimeLemmas
+pub mod WakeTakenLemmas

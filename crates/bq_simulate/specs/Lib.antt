@@ -1,4 +1,6 @@
 pub mod Actions
+pub mod Agreement
+pub mod AgreementLaws
 pub mod Chronicles
 pub mod Simulations
 pub mod Steps

@@ -6,6 +6,7 @@
 #![tactic(auto)]
 
 pub mod acting;
+pub mod agreement_laws;
 pub mod calls;
 pub mod counts;
 pub mod drive_fault;

@@ -1,0 +1,255 @@
+-- World and accounts agree from the opening of a simulation on.
+use Rattle.std.proofs.Common.{◌≡◌, ℕ, zero, suc, ◌+◌, ◌<◌, List, [], ◌∷◌, ◌++◌, length, Some, None, refl, sym, subst, ap, ◌∙◌, arith, length-append, map, replicate}
+use Rattle.std.specs.Prelude.{Ok, nat_le}
+use Rattle.std.proofs.lemmas.Bool.{leb-false}
+use Rattle.std.proofs.lemmas.List.{length-replicate}
+use Rattle.std.proofs.lemmas.Option.{none-some}
+use Rattle.bq_disc.specs.Tasks.{id_of}
+use Rattle.bq_verify.specs.Accepted.{Accepted}
+use Rattle.bq_parts.specs.declared.event.Event.{Event}
+use Rattle.bq_parts.specs.declared.event.Event.TheVariants.{Admit, Draw, Install, Tick}
+use Rattle.bq_parts.specs.declared.lobby_entry.LobbyEntry.TheVariants.{Absent}
+use Rattle.bq_parts.specs.declared.reply.Reply.{Reply}
+use Rattle.bq_parts.specs.declared.reply.Reply.TheVariants.{Drawn}
+use Rattle.bq_parts.specs.declared.refusal.Refusal.TheVariants as no
+use Rattle.bq_parts.specs.Choices.{policies as under_policies}
+use Rattle.bq_parts.specs.Processors.{Processor, opening as opening_processor, size_of}
+use Rattle.bq_parts.specs.Refusals.{is_absent}
+use Rattle.bq_parts.specs.Steps.{WorldStep}
+use Rattle.bq_parts.specs.World.{World, count_in, opening_world}
+use Rattle.bq_core.proofs.OnTheWayLemmas.{same_everywhere}
+use Rattle.bq_core.proofs.OrderLemmas.{accepted, first_refusal_passed, not_refused_is_there, opening_is_orderly}
+use Rattle.bq_core.proofs.SizeLemmas.{step_count}
+use Rattle.bq_trace.specs.Machines.{discipline_of}
+use Rattle.bq_trace.specs.TraceEvents.{Told}
+use Rattle.bq_words.specs.Sizes.{processors_in}
+use Rattle.bq_workload.specs.declared.processor_state.ProcessorState.{ProcessorState}
+use Rattle.bq_workload.specs.declared.roster.Periods.{Periods}
+use Rattle.bq_workload.specs.declared.workload.TaskKind.{TaskKind}
+use Rattle.bq_workload.specs.declared.workload.Workload.{Workload}
+use Rattle.bq_workload.specs.Accounts.{Accounts, at_rest, first_look, opening}
+use Rattle.bq_workload.specs.Soundness.{IsFirstAllowed}
+use Rattle.bq_workload.specs.TaskProgress.{fresh}
+use Rattle.bq_simulate.specs.declared.driver.Driver.{Driver}
+use Rattle.bq_simulate.specs.Actions.{start_of}
+use Rattle.bq_simulate.specs.Agreement.{AgreesWith}
+use Rattle.bq_simulate.specs.AgreementLaws.{Agree, SimulationsAgree}
+use Rattle.bq_simulate.specs.Chronicles.{Acts, Beats, Book, Deed, Happens, Joins, Lives, Looks, Misses, Reaches, Rings, after_act, after_answer, after_beat, after_look, joined}
+use Rattle.bq_simulate.specs.Drives.{Does, Starts}
+use Rattle.bq_simulate.specs.Simulations.{IsSimulation, Proceeds, opening_book, periods_of}
+use Rattle.bq_simulate.specs.Steps.{AreAdmitted, AreAllAdmitted, AreInstalled, AreJust, Step, all_processors, deeds_of}
+use Rattle.bq_simulate.proofs.AccountLemmas.{read}
+use Rattle.bq_simulate.proofs.AdmissionTakenLemmas.{admit_kept}
+use Rattle.bq_simulate.proofs.MeetAgreeLemmas.{meetings_agree, step_of, tick_agrees, world_of}
+use Rattle.bq_simulate.proofs.TakenLemmas.{draws_are_taken, install_kept}
+
+-- deeds that were done in two parts
+pub record Parted (kinds : List TaskKind) (seed : ℕ) (periods : Periods) (d : Driver) (b : Book) (xs ys : List Deed) (e : Driver) (c : Book) : Type 0 where
+  pub mid : Driver
+  pub book : Book
+  pub first : Told
+  pub more : Told
+  pub one : Lives kinds seed periods d b xs first mid book
+  pub two : Lives kinds seed periods mid book ys more e c
+
+pub part : (kinds : List TaskKind) (seed : ℕ) (periods : Periods) (d e : Driver) (b c : Book) (xs ys : List Deed) (told : Told) → Lives kinds seed periods d b (xs ++ ys) told e c → Parted kinds seed periods d b xs ys e c
+part kinds seed periods d e b c [] ys told h = record { mid = d; book = b; first = []; more = told; one = (refl, refl, refl); two = h }
+part kinds seed periods d e b c (Happens event reply ∷ xs) ys told (due, mid, first, rest, does, lives, whole) =
+    let s = part kinds seed periods mid e (after_answer periods event reply b) c xs ys rest lives in
+    record { mid = s.mid; book = s.book; first = first ++ s.first; more = s.more; one = (due, mid, first, s.first, does, s.one, refl); two = s.two }
+part kinds seed periods d e b c (Joins kind home ∷ xs) ys told (of, lives) =
+    let s = part kinds seed periods d e (joined kinds kind home b) c xs ys told lives in
+    record { mid = s.mid; book = s.book; first = s.first; more = s.more; one = (of, s.one); two = s.two }
+part kinds seed periods d e b c (Acts at task now action aim ∷ xs) ys told (k, done, is, to, lives) =
+    let s = part kinds seed periods d e (after_act kinds seed at task now k b) c xs ys told lives in
+    record { mid = s.mid; book = s.book; first = s.first; more = s.more; one = (k, done, is, to, s.one); two = s.two }
+part kinds seed periods d e b c (Rings task now ∷ xs) ys told (k, there, asleep, timer, lives) =
+    let s = part kinds seed periods d e b c xs ys told lives in
+    record { mid = s.mid; book = s.book; first = s.first; more = s.more; one = (k, there, asleep, timer, s.one); two = s.two }
+part kinds seed periods d e b c (Reaches task ∷ xs) ys told (k, there, waits, lives) =
+    let s = part kinds seed periods d e b c xs ys told lives in
+    record { mid = s.mid; book = s.book; first = s.first; more = s.more; one = (k, there, waits, s.one); two = s.two }
+part kinds seed periods d e b c (Misses task ∷ xs) ys told (k, there, waits, lives) =
+    let s = part kinds seed periods d e b c xs ys told lives in
+    record { mid = s.mid; book = s.book; first = s.first; more = s.more; one = (k, there, waits, s.one); two = s.two }
+part kinds seed periods d e b c (Beats at now ∷ xs) ys told (ticks, lives) =
+    let s = part kinds seed periods d e (after_beat periods at now b) c xs ys told lives in
+    record { mid = s.mid; book = s.book; first = s.first; more = s.more; one = (ticks, s.one); two = s.two }
+part kinds seed periods d e b c (Looks at now source ∷ xs) ys told (looks, from, lives) =
+    let s = part kinds seed periods d e (after_look periods at now b) c xs ys told lives in
+    record { mid = s.mid; book = s.book; first = s.first; more = s.more; one = (looks, from, s.one); two = s.two }
+
+-- what an event keeps
+abbrev pub Keeps : (Driver → Book → Type 0) → Event → Type 0
+Keeps P event = (periods : Periods) (d e : Driver) (b : Book) (reply : Reply) (told : Told) → Does d event reply told e → P d b → P e (after_answer periods event reply b)
+
+-- no deed keeps all
+none_kept : (P : Driver → Book → Type 0) (kinds : List TaskKind) (seed : ℕ) (periods : Periods) (d e : Driver) (b c : Book) (deeds : List Deed) (told : Told) → deeds ≡ [] → Lives kinds seed periods d b deeds told e c → P d b → P e c
+none_kept P kinds seed periods d e b c deeds told none lives h =
+    let (nothing, same, kept) = subst (λ l. Lives kinds seed periods d b l told e c) none lives in
+    subst (λ x. P e x) (sym kept) (subst (λ x. P x b) (sym same) h)
+
+-- and so do events that each keep it
+just_kept : (P : Driver → Book → Type 0) (f : ℕ → Event) → ((n : ℕ) → Keeps P (f n)) → (kinds : List TaskKind) (seed : ℕ) (periods : Periods) (d e : Driver) (b c : Book) (numbers : List ℕ) (deeds : List Deed) (told : Told) → AreJust (map f numbers) deeds → Lives kinds seed periods d b deeds told e c → P d b → P e c
+just_kept P f keeps kinds seed periods d e b c [] deeds told none lives h = none_kept P kinds seed periods d e b c deeds told none lives h
+just_kept P f keeps kinds seed periods d e b c (n ∷ numbers) deeds told (reply, more, is, just) lives h =
+    let (due, mid, first, rest, does, later, whole) = subst (λ l. Lives kinds seed periods d b l told e c) is lives in
+    just_kept P f keeps kinds seed periods mid e (after_answer periods (f n) reply b) c numbers more rest just later (keeps n periods d mid b reply first does h)
+
+-- a simulation that opens, with this many processors and so many tasks so far
+pub record IsOpening (processors tasks : ℕ) (d : Driver) (b : Book) : Type 0 where
+  pub agree : Agree d b
+  pub processors_there : count_in (world_of d) ≡ processors
+  pub tasks_there : length b.accounts.by_task ≡ tasks
+
+draw_opens : (processors tasks : ℕ) → Keeps (IsOpening processors tasks) Draw
+draw_opens processors tasks periods d e b reply told does h =
+    let step = step_of d Draw reply told e does in
+    let r = discipline_of d.machine.rule in
+    record {
+      agree = (draws_are_taken r periods (world_of d) b.accounts h.agree).leaves does.happens.moves.step.calls reply (world_of e) step;
+      processors_there = step_count (under_policies r) (world_of d) Draw does.happens.moves.step.calls (Ok reply) (world_of e) step ∙ h.processors_there;
+      tasks_there = h.tasks_there;
+    }
+
+install_opens : (processors tasks generation : ℕ) (policy : Accepted) (processor : ℕ) → Keeps (IsOpening processors tasks) (Install processor policy.hook generation (Some policy))
+install_opens processors tasks generation policy processor periods d e b reply told does h =
+    let event : Event = Install processor policy.hook generation (Some policy) in
+    let w : World = world_of d in
+    let step = step_of d event reply told e does in
+    let r = discipline_of d.machine.rule in
+    let low = (not_refused_is_there (count_in w) processor _ (accepted w event step.0).0).0 in
+    record {
+      agree = install_kept r w (world_of e) b.accounts processor generation policy.hook (Some policy) does.happens.moves.step.calls reply h.agree low step;
+      processors_there = step_count (under_policies r) w event does.happens.moves.step.calls (Ok reply) (world_of e) step ∙ h.processors_there;
+      tasks_there = h.tasks_there;
+    }
+
+-- policies are installed
+installed_opens : (kinds : List TaskKind) (seed : ℕ) (periods : Periods) (d e : Driver) (b c : Book) (processors tasks : ℕ) (policies : List Accepted) (deeds : List Deed) (told : Told) → AreInstalled processors policies deeds → Lives kinds seed periods d b deeds told e c
+    → IsOpening processors tasks d b → IsOpening processors tasks e c
+installed_opens kinds seed periods d e b c processors tasks [] deeds told none lives h = none_kept (IsOpening processors tasks) kinds seed periods d e b c deeds told none lives h
+installed_opens kinds seed periods d e b c processors tasks (policy ∷ policies) deeds told (some, more, whole, (generation, rest, is, just), others) lives h =
+    let s = part kinds seed periods d e b c some more told (subst (λ l. Lives kinds seed periods d b l told e c) whole lives) in
+    let (due, mid, first, left, does, later, wholly) = subst (λ l. Lives kinds seed periods d b l s.first s.mid s.book) is s.one in
+    let drawn = draw_opens processors tasks periods d mid b (Drawn generation) first does h in
+    let one = just_kept (IsOpening processors tasks) (λ processor. Install processor policy.hook generation (Some policy)) (install_opens processors tasks generation policy) kinds seed periods mid s.mid (after_answer periods Draw (Drawn generation) b) s.book (all_processors processors) rest left just later drawn in
+    installed_opens kinds seed periods s.mid e s.book c processors tasks policies more s.more others s.two one
+
+-- a task is admitted, and is there
+admission_opens : (kinds : List TaskKind) (seed : ℕ) (periods : Periods) (d e : Driver) (b c : Book) (processors number task home : ℕ) (kind : TaskKind) (reply : Reply) (told : Told) → IsFirstAllowed processors kind.mask home
+    → Lives kinds seed periods d b (Happens (Admit task kind.nice kind.mask kind.slice) reply ∷ Joins number home ∷ []) told e c → IsOpening processors task d b → IsOpening processors (task + 1) e c
+admission_opens kinds seed periods d e b c processors number task home kind reply told allowed (due, mid, first, rest, does, (of, (nothing, same, kept)), whole) h =
+    let w : World = world_of d in
+    let a : Accounts = b.accounts in
+    let event : ℕ → Event = λ n. Admit n kind.nice kind.mask kind.slice in
+    let r = discipline_of d.machine.rule in
+    let was = step_of d (event task) reply first mid does in
+    let step = subst (λ n. WorldStep (under_policies r) w (event n) does.happens.moves.step.calls (Ok reply) (world_of mid)) (sym h.tasks_there) was in
+    let few = leb-false 1024 (length a.by_task) (first_refusal_passed (nat_le 1024 (length a.by_task)) no.NoTask _ (accepted w (event (length a.by_task)) step.0).0).0 in
+    let low : home < count_in w = subst (λ n. home < n) (sym h.processors_there) allowed.within in
+    let new = fresh number home (start_of kinds number) in
+    let after : Book = joined kinds number home (after_answer periods (event task) reply b) in
+    let done : IsOpening processors (task + 1) mid after = record {
+      agree = admit_kept r w (world_of mid) a new kind does.happens.moves.step.calls reply h.agree few refl low step;
+      processors_there = step_count (under_policies r) w (event (length a.by_task)) does.happens.moves.step.calls (Ok reply) (world_of mid) step ∙ h.processors_there;
+      tasks_there = omega (arith, length-append a.by_task (new ∷ []), h.tasks_there);
+    } in
+    subst (λ x. IsOpening processors (task + 1) e x) (sym kept) (subst (λ x. IsOpening processors (task + 1) x after) (sym same) done)
+
+-- the tasks of a kind
+admitted_open : (kinds : List TaskKind) (seed : ℕ) (periods : Periods) (d e : Driver) (b c : Book) (processors number : ℕ) (kind : TaskKind) (task count : ℕ) (deeds : List Deed) (told : Told) → AreAdmitted processors number kind task count deeds → Lives kinds seed periods d b deeds told e c
+    → IsOpening processors task d b → IsOpening processors (task + count) e c
+admitted_open kinds seed periods d e b c processors number kind task zero deeds told none lives h =
+    let all : task ≡ task + 0 = omega arith in
+    subst (λ n. IsOpening processors n e c) all (none_kept (IsOpening processors task) kinds seed periods d e b c deeds told none lives h)
+admitted_open kinds seed periods d e b c processors number kind task (suc count) deeds told (some, more, whole, (reply, home, first, is), rest) lives h =
+    let s = part kinds seed periods d e b c some more told (subst (λ l. Lives kinds seed periods d b l told e c) whole lives) in
+    let one = admission_opens kinds seed periods d s.mid b s.book processors number task home kind reply s.first first (subst (λ l. Lives kinds seed periods d b l s.first s.mid s.book) is s.one) h in
+    let all : (task + 1) + count ≡ task + suc count = omega arith in
+    subst (λ n. IsOpening processors n e c) all (admitted_open kinds seed periods s.mid e s.book c processors number kind (task + 1) count more s.more rest s.two one)
+
+-- all tasks
+all_admitted_agree : (all : List TaskKind) (seed : ℕ) (periods : Periods) (d e : Driver) (b c : Book) (processors number task : ℕ) (kinds : List TaskKind) (deeds : List Deed) (told : Told) → AreAllAdmitted processors number task kinds deeds → Lives all seed periods d b deeds told e c
+    → IsOpening processors task d b → Agree e c
+all_admitted_agree all seed periods d e b c processors number task [] deeds told none lives h = none_kept Agree all seed periods d e b c deeds told none lives h.agree
+all_admitted_agree all seed periods d e b c processors number task (kind ∷ kinds) deeds told (some, more, whole, are, rest) lives h =
+    let s = part all seed periods d e b c some more told (subst (λ l. Lives all seed periods d b l told e c) whole lives) in
+    let one = admitted_open all seed periods d s.mid b s.book processors number kind task kind.count some s.first are s.one h in
+    all_admitted_agree all seed periods s.mid e s.book c processors (number + 1) (task + kind.count) kinds more s.more rest s.two one
+
+-- all that is met
+met_agree : (kinds : List TaskKind) (seed : ℕ) (periods : Periods) (d e : Driver) (b c : Book) (steps : List Step) (told : Told) → Lives kinds seed periods d b (deeds_of steps) told e c → Agree d b → Agree e c
+met_agree kinds seed periods d e b c [] told lives h = none_kept Agree kinds seed periods d e b c [] told refl lives h
+met_agree kinds seed periods d e b c (step ∷ steps) told lives h =
+    let s = part kinds seed periods d e b c step.deeds (deeds_of steps) told lives in
+    met_agree kinds seed periods s.mid e s.book c steps s.more s.two (meetings_agree kinds seed periods d s.mid b s.book step.due step.at step.deeds s.first step.meet s.one h)
+
+-- The opening
+
+-- of equals the same is read everywhere, where that is what is read beyond them
+read_same : {A B : Type 0} (v : A → B) (d : B) (x : A) → v x ≡ d → (n k : ℕ) → read v d (replicate n x) k ≡ d
+read_same v d x is zero k = refl
+read_same v d x is (suc n) zero = is
+read_same v d x is (suc n) (suc k) = read_same v d x is n k
+
+opening_agrees : (n balance : ℕ) → AgreesWith (opening_world n) (opening n balance)
+opening_agrees n balance =
+    let x : ProcessorState = at_rest (first_look n balance) in
+    record {
+      orderly = opening_is_orderly n;
+      entries = length-replicate 1024 Absent;
+      settled = record {
+        hands = λ k. ap (λ (p : Processor). p.hand) (same_everywhere opening_processor n k);
+        inboxes = λ k. same_everywhere [] n k;
+      };
+      mirrors = record {
+        tasks = λ k. ap is_absent (same_everywhere Absent 1024 k);
+        processors = record {
+          many = length-replicate n x ∙ sym (length-replicate n opening_processor);
+          runs = λ k. read_same (λ (l : ProcessorState). l.run) None x refl n k ∙ sym (ap (λ (p : Processor). id_of p.running.current) (same_everywhere opening_processor n k));
+          sizes = λ k. read_same (λ (l : ProcessorState). l.size) 0 x refl n k ∙ sym (ap size_of (same_everywhere opening_processor n k));
+        };
+      };
+      homes = λ task c at. absurd (none-some c at);
+    }
+
+-- from the opening to where nothing comes any more
+proceeds_agree : (policies : List Accepted) (w : Workload) (d e : Driver) (b : Book) (most end : ℕ) (deeds : List Deed) (first told : Told) → Starts w.machine.rule w.machine.size first d
+    → Proceeds policies (processors_in w.machine.size) w.tasks.items w.machine.seed (periods_of w.machine) most end (opening_book w.machine) deeds → Lives w.tasks.items w.machine.seed (periods_of w.machine) d (opening_book w.machine) deeds told e b → Agree e b
+proceeds_agree policies w d e b most end deeds first told starts p lives =
+    let kinds = w.tasks.items in
+    let seed = w.machine.seed in
+    let periods = periods_of w.machine in
+    let n = processors_in w.machine.size in
+    let start = opening_book w.machine in
+    let world : world_of d ≡ opening_world n = ap (λ m. m.world) starts.machine in
+    let opens : IsOpening n 0 d start = record {
+      agree = subst (λ x. AgreesWith x start.accounts) (sym world) (opening_agrees n w.machine.balance);
+      processors_there = ap count_in world ∙ length-replicate n opening_processor;
+      tasks_there = refl;
+    } in
+    let s = part kinds seed periods d e start b p.opening p.met told (subst (λ l. Lives kinds seed periods d start l told e b) p.whole lives) in
+    let o = p.opens in
+    let t = part kinds seed periods d s.mid start s.book o.installs o.admissions s.first (subst (λ l. Lives kinds seed periods d start l s.first s.mid s.book) o.whole s.one) in
+    let installed = installed_opens kinds seed periods d t.mid start t.book n 0 policies o.installs t.first o.installed t.one opens in
+    let admitted = all_admitted_agree kinds seed periods t.mid s.mid t.book s.book n 0 0 kinds o.admissions t.more o.admitted t.two installed in
+    let m = p.meets in
+    met_agree kinds seed periods s.mid e s.book b m.steps s.more (subst (λ l. Lives kinds seed periods s.mid s.book l s.more e b) m.whole s.two) admitted
+
+whole_agrees : (policies : List Accepted) (w : Workload) (told : Told) (s : IsSimulation policies w told) → Agree s.closing s.book
+whole_agrees policies w told s =
+    let kinds = w.tasks.items in
+    let seed = w.machine.seed in
+    let periods = periods_of w.machine in
+    let start = opening_book w.machine in
+    let x = s.ends in
+    let p = part kinds seed periods s.opening s.closing start s.book x.until x.last s.more (subst (λ l. Lives kinds seed periods s.opening start l s.more s.closing s.book) x.whole s.lives) in
+    let until : Agree p.mid p.book = proceeds_agree policies w s.opening p.mid p.book _ _ x.until s.first p.first s.starts x.proceeds p.one in
+    just_kept Agree (λ processor. Tick processor w.machine.duration) (λ processor q y z k reply some does agree. tick_agrees q y z k processor w.machine.duration reply some does agree) kinds seed periods p.mid s.closing p.book s.book _ x.last p.more x.ticks p.two until
+
+pub simulations_agree : SimulationsAgree
+simulations_agree = record {
+  whole = whole_agrees;
+  begun = λ policies w told s. proceeds_agree policies w s.opening s.closing s.book _ _ s.deeds s.first s.more s.starts s.proceeds s.lives;
+}

@@ -1,0 +1,5 @@
+use Rattle.bq_simulate.proofs.TakenLemmas as Taken
+use Rattle.bq_simulate.proofs.agreement_laws.blocks_are_taken.Goals as goal
+
+pub returns : goal.returns
+returns c = Taken.blocks_are_taken

@@ -1,0 +1,5 @@
+use Rattle.bq_simulate.proofs.TimeKeptLemmas as Times
+use Rattle.bq_simulate.proofs.agreement_laws.tasks_run_alone.Goals as goal
+
+pub returns : goal.returns
+returns c = Times.tasks_run_alone

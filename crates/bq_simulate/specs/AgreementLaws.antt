@@ -1,0 +1,137 @@
+-- The laws of agreement: a world takes each event that the loop gives it, if the accounts agree with it, and what its answer leaves of
+-- the accounts agrees with the world that it leaves.
+use Rattle.std.specs.Prelude.{◌≡◌, ◌≢◌, ℕ, ◌<◌, ◌≤◌, ◌^◌, true, false, List, [], ◌∷◌, ◌++◌, Option, None, Some, Ok, length, slice_get}
+use Rattle.bq_disc.specs.Discipline.{Discipline}
+use Rattle.bq_bpf.specs.declared.board.Call.{Call as Asked}
+use Rattle.bq_parts.specs.declared.event.Event.{Event}
+use Rattle.bq_parts.specs.declared.event.Event.TheVariants.{Admit, BeginWake, Block, Drain, Draw, EndWake, Install, Pull, Tick}
+use Rattle.bq_parts.specs.declared.reply.Reply.{Reply}
+use Rattle.bq_parts.specs.Choices.{policies}
+use Rattle.bq_parts.specs.Refusals.{refusal}
+use Rattle.bq_parts.specs.Steps.{WorldStep}
+use Rattle.bq_parts.specs.World.{World, count_in, processor_at}
+use Rattle.bq_installed.specs.Attachments.{at_hook}
+use Rattle.bq_workload.specs.declared.due.Due.{Due}
+use Rattle.bq_workload.specs.declared.progress.TaskProgress.{TaskProgress}
+use Rattle.bq_workload.specs.declared.roster.Periods.{Periods}
+use Rattle.bq_workload.specs.declared.workload.TaskKind.{TaskKind}
+use Rattle.bq_workload.specs.declared.workload.Workload.{Workload}
+use Rattle.bq_workload.specs.declared.processor_state.ProcessorState.{ProcessorState}
+use Rattle.bq_workload.specs.Accounts.{Accounts, beaten, looked, switched}
+use Rattle.bq_workload.specs.Next.{IsNext}
+use Rattle.bq_workload.specs.Soundness.{IsFirstAllowed, has_numbers}
+use Rattle.bq_workload.specs.TaskProgress.{fresh}
+use Rattle.bq_verify.specs.Accepted.{Accepted}
+use Rattle.bq_simulate.specs.Agreement.{AgreesBut, AgreesWith, IsAnswerTo, IsOnTime, IsReadable, can_run, run_at}
+use Rattle.bq_trace.specs.TraceEvents.{Told}
+use Rattle.bq_simulate.specs.declared.drive_fault.DriveFault.{DriveFault}
+use Rattle.bq_simulate.specs.declared.drive_fault.DriveFault.TheVariants.{OutOfMemory}
+use Rattle.bq_simulate.specs.declared.driver.Driver.{Driver}
+use Rattle.bq_simulate.specs.Chronicles.{Book, Deed, Lives, after_event, is_busy}
+use Rattle.bq_simulate.specs.Drives.{IsDriveFault, count_entered, placed_at, reading_of}
+use Rattle.bq_simulate.specs.Simulations.{Begins, IsSimulation}
+use Rattle.bq_simulate.specs.Steps.{Meet}
+
+-- an event is not refused, and however it is done this holds of its answer and of the world that it leaves
+pub record IsTaken (d : Discipline) (w : World) (event : Event) (Leaves : Reply → World → Type 0) : Type 0 where
+  pub taken : refusal w event ≡ None
+  pub leaves : (calls : List Asked) (r : Reply) (v : World) → WorldStep (policies d) w event calls (Ok r) v → Leaves r v
+
+-- what its answer leaves of some accounts agrees with the world that it leaves
+abbrev pub IsKept : Discipline → Periods → World → Accounts → Event → Type 0
+IsKept d periods w a event = IsTaken d w event (λ r v. AgreesWith v (after_event periods event r a))
+
+-- A tick of any processor is taken.
+abbrev pub TicksAreTaken : Type 0
+TicksAreTaken = (d : Discipline) (periods : Periods) (w : World) (a : Accounts) (processor now : ℕ) → AgreesWith w a → processor < count_in w → IsKept d periods w a (Tick processor now)
+
+-- A block is taken of the task that runs at a processor, once its state says that it sleeps.
+abbrev pub BlocksAreTaken : Type 0
+BlocksAreTaken =
+    (d : Discipline) (periods : Periods) (w : World) (a : Accounts) (processor task now : ℕ) → AgreesBut task w a → processor < count_in w → run_at a.by_processor processor ≡ Some task →
+    IsKept d periods w a (Block processor now)
+
+-- A pull of one processor from another is taken.
+abbrev pub PullsAreTaken : Type 0
+PullsAreTaken =
+    (d : Discipline) (periods : Periods) (w : World) (a : Accounts) (processor from now : ℕ) → AgreesWith w a → processor < count_in w → from < count_in w → processor ≢ from →
+    IsKept d periods w a (Pull processor from now)
+
+-- A number is drawn.
+abbrev pub DrawsAreTaken : Type 0
+DrawsAreTaken = (d : Discipline) (periods : Periods) (w : World) (a : Accounts) → AgreesWith w a → IsKept d periods w a Draw
+
+-- A policy is installed at its hook, as a generation that was drawn, and is newer than the one that stands there.
+abbrev pub InstallsAreTaken : Type 0
+InstallsAreTaken =
+    (d : Discipline) (periods : Periods) (w : World) (a : Accounts) (processor generation : ℕ) (policy : Accepted) → AgreesWith w a → processor < count_in w →
+    (at_hook policy.hook (processor_at w processor).hooks).generation < generation → generation ≤ w.drawn → IsKept d periods w a (Install processor policy.hook generation (Some policy))
+
+-- one task more
+abbrev pub with_task : TaskProgress → Accounts → Accounts
+with_task c a = record a { by_task = a.by_task ++ c ∷ [] }
+
+-- The next task of a kind whose numbers are in their ranges is admitted, and is there: its home is the first processor that it may use.
+abbrev pub AdmissionsAreTaken : Type 0
+AdmissionsAreTaken =
+    (d : Discipline) (w : World) (a : Accounts) (number home : ℕ) (kind : TaskKind) → AgreesWith w a → length a.by_task < 1024 → has_numbers kind ≡ true → IsFirstAllowed (count_in w) kind.mask home →
+    IsTaken d w (Admit (length a.by_task) kind.nice kind.mask kind.slice) (λ r v. AgreesWith v (with_task (fresh number home kind.start) a))
+
+-- the processor on which a task was placed takes in just that
+abbrev pub IsTakenIn : Discipline → Periods → Accounts → ℕ → Reply → World → Type 0
+IsTakenIn d periods a now placed w =
+    (to : ℕ) → placed_at placed ≡ Some to → IsTaken d w (Drain to now) (λ drained v. (count_entered drained ≡ 1) × AgreesWith v (after_event periods (Drain to now) drained a))
+
+-- A wake of a task that sleeps is taken: it begins, it ends, and the task is taken in where it was placed.
+abbrev pub WakesAreTaken : Type 0
+WakesAreTaken =
+    (d : Discipline) (periods : Periods) (w : World) (a : Accounts) (from task now : ℕ) (c : TaskProgress) → AgreesWith w a → from < count_in w → slice_get a.by_task task ≡ Some c → can_run c.task_state ≡ false →
+    IsTaken d w (BeginWake from task) (λ begun v. IsTaken d v (EndWake from now) (IsTakenIn d periods (after_event periods (BeginWake from task) begun a) now))
+
+-- the machine's world and what is kept of it agree
+abbrev pub Agree : Driver → Book → Type 0
+Agree d b = AgreesWith d.machine.world b.accounts
+
+-- They agree after each thing that is met, if they did before.
+abbrev pub MeetingsAgree : Type 0
+MeetingsAgree =
+    (kinds : List TaskKind) (seed : ℕ) (periods : Periods) (d e : Driver) (b c : Book) (due : Due) (now : ℕ) (deeds : List Deed) (told : Told) → Meet due now deeds → Lives kinds seed periods d b deeds told e c → Agree d b → Agree e c
+
+-- So they agree at the end of each simulation, and wherever one has been followed to.
+pub record SimulationsAgree : Type 0 where
+  pub whole : (policies : List Accepted) (w : Workload) (told : Told) (s : IsSimulation policies w told) → Agree s.closing s.book
+  pub begun : (policies : List Accepted) (w : Workload) (told : Told) (s : Begins policies w told) → Agree s.closing s.book
+
+-- An event whose reading can be given, and which is not refused, fails only if memory is wanted.
+abbrev pub OnlyMemoryIsWanted : Type 0
+OnlyMemoryIsWanted = (d : Driver) (event : Event) (why : DriveFault) → IsReadable d.now (reading_of event) → refusal d.machine.world event ≡ None → IsDriveFault d event why → why ≡ OutOfMemory
+
+-- Each answer is of its event's kind.
+abbrev pub AnswersFit : Type 0
+AnswersFit = (d : Discipline) (w v : World) (event : Event) (calls : List Asked) (r : Reply) → WorldStep (policies d) w event calls (Ok r) v → IsAnswerTo event r
+
+-- What comes next is not past, and nothing is past then.
+abbrev pub NothingIsMissed : Type 0
+NothingIsMissed = (end now time : ℕ) (a : Accounts) (due : Due) → end < 2 ^ 48 → IsOnTime now a → IsNext end a due time → (now ≤ time) × (time ≤ end) × IsOnTime time a
+
+-- the task that runs at a processor by the accounts, if one does, runs nowhere else
+abbrev pub RunsAlone : Accounts → ℕ → Type 0
+RunsAlone a processor = (other task : ℕ) → run_at a.by_processor processor ≡ Some task → run_at a.by_processor other ≡ Some task → other ≡ processor
+
+-- Nothing is past at an instant after what was done then: another task runs, as an answer says; a clock beats; a processor looks.
+pub record StaysOnTime : Type 0 where
+  pub switched_on_time : (periods : Periods) (now processor : ℕ) (run : Option ℕ) (v : World) (a : Accounts) (l : ProcessorState) →
+      1 ≤ periods.tick → slice_get a.by_processor processor ≡ Some l → RunsAlone a processor → AgreesWith v (switched processor run now periods a) → IsOnTime now a →
+      IsOnTime now (switched processor run now periods a)
+  pub beaten_on_time : (now processor tick : ℕ) (a : Accounts) → 1 ≤ tick → is_busy a processor ≡ true → IsOnTime now a → IsOnTime now (beaten processor now tick a)
+  pub looked_on_time : (now processor balance : ℕ) (a : Accounts) → 1 ≤ balance → IsOnTime now a → IsOnTime now (looked processor now balance a)
+
+-- Where accounts agree with a world, a task runs at one processor only.
+abbrev pub TasksRunAlone : Type 0
+TasksRunAlone = (w : World) (a : Accounts) (processor : ℕ) → AgreesWith w a → RunsAlone a processor
+
+-- Nothing is past after a thing that is met, if nothing was before, and world and accounts agreed.
+abbrev pub MeetingsAreOnTime : Type 0
+MeetingsAreOnTime =
+    (kinds : List TaskKind) (seed : ℕ) (periods : Periods) (d e : Driver) (b c : Book) (due : Due) (now : ℕ) (deeds : List Deed) (told : Told) → 1 ≤ periods.tick → 1 ≤ periods.balance → now < 2 ^ 48 →
+    Meet due now deeds → Lives kinds seed periods d b deeds told e c → Agree d b → IsOnTime now b.accounts → IsOnTime now c.accounts

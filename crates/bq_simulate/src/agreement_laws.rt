@@ -1,0 +1,77 @@
+//! Laws of agreement between the accounts of a simulation and its machine.
+ghost use Rattle.bq_simulate.specs.AgreementLaws.{AdmissionsAreTaken, AnswersFit, BlocksAreTaken, DrawsAreTaken, InstallsAreTaken, MeetingsAgree, MeetingsAreOnTime, NothingIsMissed, OnlyMemoryIsWanted, PullsAreTaken, SimulationsAgree, StaysOnTime, TasksRunAlone, TicksAreTaken, WakesAreTaken};
+
+/// A tick is taken, and accounts that agreed with the world agree with the one that it leaves.
+pub fn ticks_are_taken()
+    ensures { TicksAreTaken }
+{}
+
+/// So is the block of a task that goes to sleep.
+pub fn blocks_are_taken()
+    ensures { BlocksAreTaken }
+{}
+
+/// So is a pull of one processor from another.
+pub fn pulls_are_taken()
+    ensures { PullsAreTaken }
+{}
+
+/// So is the draw of a number.
+pub fn draws_are_taken()
+    ensures { DrawsAreTaken }
+{}
+
+/// So is an install as a newer generation that was drawn.
+pub fn installs_are_taken()
+    ensures { InstallsAreTaken }
+{}
+
+/// So is the admission of the next task.
+pub fn admissions_are_taken()
+    ensures { AdmissionsAreTaken }
+{}
+
+/// So is the wake of a task that sleeps: its begin, its end, and what takes it in.
+pub fn wakes_are_taken()
+    ensures { WakesAreTaken }
+{}
+
+/// World and accounts agree after each thing that is met.
+pub fn meetings_agree()
+    ensures { MeetingsAgree }
+{}
+
+/// So they do at the end of a simulation, and wherever one has been followed to.
+pub fn simulations_agree()
+    ensures { SimulationsAgree }
+{}
+
+/// An event that can be read, and is taken, fails only if memory is wanted.
+pub fn only_memory_is_wanted()
+    ensures { OnlyMemoryIsWanted }
+{}
+
+/// Each answer is of its event's kind.
+pub fn answers_fit()
+    ensures { AnswersFit }
+{}
+
+/// What comes next is not past, and nothing is past then.
+pub fn nothing_is_missed()
+    ensures { NothingIsMissed }
+{}
+
+/// What is done at an instant leaves nothing past.
+pub fn stays_on_time()
+    ensures { StaysOnTime }
+{}
+
+/// A task runs at one processor only.
+pub fn tasks_run_alone()
+    ensures { TasksRunAlone }
+{}
+
+/// Nothing is past after a thing that is met, if nothing was before.
+pub fn meetings_are_on_time()
+    ensures { MeetingsAreOnTime }
+{}
