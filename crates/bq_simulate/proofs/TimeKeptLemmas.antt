@@ -18,7 +18,7 @@ use Rattle.bq_workload.specs.declared.processor_state.ProcessorState.{ProcessorS
 use Rattle.bq_workload.specs.declared.roster.Periods.{Periods}
 use Rattle.bq_workload.specs.Accounts.{Accounts, beaten, changed_at, charged, charged_by, idled, is_same, looked, occupied, of_processor, switched, taken_over}
 use Rattle.bq_workload.specs.Dues.{next_multiple}
-use Rattle.bq_workload.specs.TaskProgress.{fresh, migrates_to, moved_to, run_for}
+use Rattle.bq_workload.specs.TaskProgress.{fresh, lengthened, migrates_to, moved_to, run_for}
 use Rattle.bq_workload.proofs.AgreeLemmas.{changed_at-here, changed_at-others, some_or_none}
 use Rattle.bq_workload.proofs.AgreedLemmas.{both, charged-is, counted, since_now, stood_before_change}
 use Rattle.bq_simulate.specs.Agreement.{AgreesWith, IsOnTime, ProcessorIsOnTime, RunsOnTime, StandsAs, TaskIsOnTime, run_at, state_at}
@@ -173,7 +173,7 @@ idle_look now time None h = cc
 idle_look now time (Some x) h = let same : now ≡ time = cc in omega (arith, same)
 
 moved_phase : (processor cost : ℕ) (c : TaskProgress) → c.got ≤ c.due → (moved_to processor cost c).got ≤ (moved_to processor cost c).due
-moved_phase processor cost c h = elim (migrates_to processor c && nat_le c.got c.due) as (λ b. c.got ≤ (if b then c.due + cost else c.due)) [ true ↦ omega arith | false ↦ h ]
+moved_phase processor cost c h = elim (migrates_to processor c && nat_le c.got c.due) as (λ b. c.got ≤ (if b then lengthened cost c.due else c.due)) [ true ↦ omega arith | false ↦ h ]
 
 next_tick_later : (periods : Periods) (now : ℕ) (cs : List TaskProgress) (l : ProcessorState) → 1 ≤ periods.tick → ProcessorIsOnTime now cs l → now ≤ unwrap_or l.tick (next_multiple periods.tick now)
 next_tick_later periods now cs l some p = elim (some_or_none l.run) [

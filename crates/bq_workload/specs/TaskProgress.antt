@@ -1,5 +1,5 @@
 -- What becomes of a task's run phase.
-use Rattle.std.specs.Prelude.{ℕ, ◌+◌, ◌==◌, Bool, true, false, not, ◌&&◌, if◌then◌else◌, min, nat_le, nat_lt}
+use Rattle.std.specs.Prelude.{ℕ, ◌+◌, ◌-◌, ◌==◌, Bool, true, false, not, ◌&&◌, if◌then◌else◌, min, nat_le, nat_lt}
 use Rattle.bq_workload.specs.declared.progress.TaskProgress.{TaskProgress}
 use Rattle.bq_workload.specs.declared.progress.TaskState.{TaskState}
 use Rattle.bq_workload.specs.declared.progress.TaskState.TheVariants.{Asleep, Runnable}
@@ -25,9 +25,13 @@ run_for ran c = record c { got = c.got + ran }
 abbrev pub migrates_to : ℕ → TaskProgress → Bool
 migrates_to processor c = c.has_run && not (c.home == processor)
 
+-- a phase that is longer by a cost, as far as 64 bits count
+abbrev pub lengthened : ℕ → ℕ → ℕ
+lengthened cost due = due + min cost (18446744073709551615 - due)
+
 -- it begins to run at a processor: what is left of its phase is longer where it migrates, and nothing is left where it has run past it
 abbrev pub moved_to : ℕ → ℕ → TaskProgress → TaskProgress
-moved_to processor cost c = record c { due = (if migrates_to processor c && nat_le c.got c.due then c.due + cost else c.due); home = processor; has_run = true }
+moved_to processor cost c = record c { due = (if migrates_to processor c && nat_le c.got c.due then lengthened cost c.due else c.due); home = processor; has_run = true }
 
 -- it is woken, and has no phase yet
 abbrev pub woken : TaskProgress → TaskProgress

@@ -39,7 +39,7 @@ pub struct TaskProgress {
 }
 
 impl TaskProgress {
-    ghost use Rattle.bq_workload.specs.TaskProgress.{advanced, begun, fresh, run_for, migrates_to, moved_to, woken, is_done, keeps_time, lacks_more, sleeps_past};
+    ghost use Rattle.bq_workload.specs.TaskProgress.{advanced, begun, fresh, run_for, moved_to, woken, is_done, keeps_time, lacks_more, sleeps_past};
 
     /// A task that has done nothing, and sleeps until its timer wakes it first.
     pub fn new(kind: usize, home: u8, start: u64) -> TaskProgress
@@ -78,18 +78,15 @@ impl TaskProgress {
     }
 
     /// It begins to run at a processor: where it ran at another before, what is left of its phase is longer by the cost. A task
-    /// that has run past its phase has nothing left. None where its phase would take more than 64 bits can count.
-    pub fn move_to(&mut self, processor: u8, cost: u64) -> Option<()>
-        ensures some { IfSome result (λ _. self.new ≡ moved_to processor cost self.old) }
-        ensures none { IfNone result (self.new ≡ self.old) }
-        ensures cause { IfNone result ((migrates_to processor self.old ≡ true) × (2 ^ 64 ≤ self.old.due + cost)) }
+    /// that has run past its phase has nothing left. No phase is longer than 64 bits can count: no run of a simulation lasts as long.
+    pub fn move_to(&mut self, processor: u8, cost: u64)
+        ensures { self.new ≡ moved_to processor cost self.old }
     {
         if self.has_run && self.home != processor && self.got <= self.due {
-            self.due = self.due.checked_add(cost)?;
+            self.due = self.due.saturating_add(cost);
         }
         self.home = processor;
         self.has_run = true;
-        Some(())
     }
 
     /// It is woken, and has no run phase yet.

@@ -95,9 +95,7 @@ impl Roster {
         let Some(progress) = self.by_task.get_mut(usize::from(task)) else {
             return Err(BrokenInvariant);
         };
-        let Some(()) = progress.move_to(processor, cost) else {
-            return Err(BrokenInvariant);
-        };
+        progress.move_to(processor, cost);
         Ok(*progress)
     }
 
