@@ -13,7 +13,7 @@ use Rattle.bq_disc.specs.Discipline.{charged}
 use Rattle.bq_disc.specs.OneProcessor.{Running, present_at, reading, charge, own_preempt, ticked, rise}
 use Rattle.bq_eevdf.specs.Eevdf.{eevdf}
 use Rattle.bq_fairness.specs.Histories.{task_at}
-use Rattle.bq_fairness.specs.Work.{weight_at, moment_at}
+use Rattle.bq_fairness.specs.Work.{weight_at, weighted_v_at}
 use Rattle.bq_fairness.specs.EevdfFairness.{most_ahead, IsBalanced}
 use Rattle.bq_fairness.specs.Steps.{Step, Pass, Decide, Enter, Leave, Mark, stepped, after, DecidesWithin}
 use Rattle.bq_fairness.proofs.TickLemmas.{Change, Stays, Runs, charge_came}
@@ -33,15 +33,15 @@ use Rattle.bq_bounds.proofs.NearnessLemmas.{eligible_at_most_mean, at_most_of_sa
 -- The clock has risen by s since the last decision: the task that runs is ahead by no more than E and what s takes at its weight,
 -- and each task by no more than E and what r takes
 record IsLevel (E r s : ℕ) (p : Running) : Type 0 where
-  pub runs : (t : Task) → p.current ≡ Some t → weight_at p * t.v ≤ moment_at p + most_ahead E s (weight_at p) t.weight
-  pub each : (i : ℕ) (t : Task) → task_at i p ≡ Some t → weight_at p * t.v ≤ moment_at p + most_ahead E r (weight_at p) t.weight
+  pub runs : (t : Task) → p.current ≡ Some t → weight_at p * t.v ≤ weighted_v_at p + most_ahead E s (weight_at p) t.weight
+  pub each : (i : ℕ) (t : Task) → task_at i p ≡ Some t → weight_at p * t.v ≤ weighted_v_at p + most_ahead E r (weight_at p) t.weight
 
 -- Time passes
 
 weight_charged : (p : Running) (now : ℕ) → weight_at (charge eevdf p now) ≡ weight_at p
 weight_charged p now = sym (total_weight-decided eevdf (charge eevdf p now)) ∙ total_weight-ticked eevdf p now
 
-moment_charged : (p : Running) (now : ℕ) → moment_at (ticked eevdf p now) ≡ moment_at (charge eevdf p now)
+moment_charged : (p : Running) (now : ℕ) → weighted_v_at (ticked eevdf p now) ≡ weighted_v_at (charge eevdf p now)
 moment_charged p now = weighted_sum-decided eevdf (charge eevdf p now)
 
 further : (W w o M N E x y g s most both : ℕ) → W ≡ w + o → y ≡ x + g → g ≤ most → s + most ≤ both → W * x ≤ M + (E + o * s) → N + w * x ≡ M + w * y → W * y ≤ N + (E + o * both)
@@ -54,7 +54,7 @@ further W w o M N E x y g s most both split up le sum start moves =
     omega arith
 
 -- the task that runs
-ran_further : (E r s : ℕ) (p : Running) (now : ℕ) (t : Task) → IsWellFormed p → IsLevel E r s p → p.current ≡ Some t → (let u = charged eevdf t (rise p now) in weight_at p * u.v ≤ moment_at (charge eevdf p now) + most_ahead E (s + rise p now) (weight_at p) t.weight)
+ran_further : (E r s : ℕ) (p : Running) (now : ℕ) (t : Task) → IsWellFormed p → IsLevel E r s p → p.current ≡ Some t → (let u = charged eevdf t (rise p now) in weight_at p * u.v ≤ weighted_v_at (charge eevdf p now) + most_ahead E (s + rise p now) (weight_at p) t.weight)
 ran_further E r s p now t w l c =
     let f = current_present p.queue p.kept p.current p.last t c in
     let ends = w.ends t.id t f in
@@ -66,12 +66,12 @@ ran_further E r s p now t w l c =
     let few : u.v - t.v ≤ vdelta_of (rise p now) t.weight = omega arith in
     let add = vdelta_of-add s (rise p now) t.weight (w.weights t.id t f).0 in
     let moves = weighted_sum-busy eevdf p now t c in
-    let sum : moment_at (charge eevdf p now) + t.weight * t.v ≡ moment_at p + t.weight * u.v = omega (arith, moment_charged p now) in
-    let start : weight_at p * t.v ≤ moment_at p + (E + rest * vdelta_of s t.weight) = rw (← less) (l.runs t c) in
-    let law = further (weight_at p) t.weight rest (moment_at p) (moment_at (charge eevdf p now)) E t.v u.v (u.v - t.v) (vdelta_of s t.weight) (vdelta_of (rise p now) t.weight) (vdelta_of (s + rise p now) t.weight) split up few add start sum in
+    let sum : weighted_v_at (charge eevdf p now) + t.weight * t.v ≡ weighted_v_at p + t.weight * u.v = omega (arith, moment_charged p now) in
+    let start : weight_at p * t.v ≤ weighted_v_at p + (E + rest * vdelta_of s t.weight) = rw (← less) (l.runs t c) in
+    let law = further (weight_at p) t.weight rest (weighted_v_at p) (weighted_v_at (charge eevdf p now)) E t.v u.v (u.v - t.v) (vdelta_of s t.weight) (vdelta_of (rise p now) t.weight) (vdelta_of (s + rise p now) t.weight) split up few add start sum in
     rw less law
 
-ahead_by : (E r s : ℕ) (p : Running) (now i : ℕ) (t u : Task) → IsWellFormed p → IsLevel E r s p → s + rise p now ≤ r → task_at i p ≡ Some t → Change eevdf p now i t u → weight_at p * u.v ≤ moment_at (charge eevdf p now) + most_ahead E r (weight_at p) u.weight
+ahead_by : (E r s : ℕ) (p : Running) (now i : ℕ) (t u : Task) → IsWellFormed p → IsLevel E r s p → s + rise p now ≤ r → task_at i p ≡ Some t → Change eevdf p now i t u → weight_at p * u.v ≤ weighted_v_at (charge eevdf p now) + most_ahead E r (weight_at p) u.weight
 ahead_by E r s p now i t u w l le f (Stays e z) =
     let h = l.each i t f in
     let up = moment_up eevdf p now w in
@@ -109,7 +109,7 @@ decide E r s p w l =
       runs = λ t e.
           let first = of_some (IsEarliestOf (present_at p)) q.current t (runs_earliest p w.distinct) e in
           let eligible = eligible_at_most_mean (present_at p) t (earliest_is_eligible (present_at p) t w.distinct first) in
-          let kept = at_most_of_same (weight_at p) (weight_at q) (moment_at p) (moment_at q) t.v (total_weight-decided eevdf p) (weighted_sum-decided eevdf p) eligible in
+          let kept = at_most_of_same (weight_at p) (weight_at q) (weighted_v_at p) (weighted_v_at q) t.v (total_weight-decided eevdf p) (weighted_sum-decided eevdf p) eligible in
           omega arith;
       each = λ i u f.
           let h = l.each i u (sym ((keeps_present eevdf p (own_preempt eevdf p.queue p.current) w.distinct).same i) ∙ f) in
@@ -122,7 +122,7 @@ decide E r s p w l =
 record Left (E r : ℕ) (p q : Running) : Type 0 where
   pub formed : IsWellFormed q
   pub weight : weight_at q ≡ weight_at p
-  pub each : (i : ℕ) (t : Task) → task_at i q ≡ Some t → weight_at q * t.v ≤ moment_at q + most_ahead E r (weight_at q) t.weight
+  pub each : (i : ℕ) (t : Task) → task_at i q ≡ Some t → weight_at q * t.v ≤ weighted_v_at q + most_ahead E r (weight_at q) t.weight
 
 via : (E r : ℕ) (p m q : Running) → weight_at m ≡ weight_at p → Left E r m q → Left E r p q
 via E r p m q e l = record { formed = l.formed; weight = l.weight ∙ e; each = l.each }
@@ -161,8 +161,8 @@ begins r p w =
     let a = furthest mean xs in
     let all = All-from_recursion (λ (t : Task). t.v ≤ mean + a) xs (none_further mean a xs (omega arith)) in
     record {
-      runs = λ t e. begins_by (weight_at p) (moment_at p) mean a t.v (weight_at p - t.weight) (vdelta_of 0 t.weight) (mean_below xs) (of_each (λ (x : Task). x.v ≤ mean + a) p t.id t all (current_present p.queue p.kept p.current p.last t e));
-      each = λ i t f. begins_by (weight_at p) (moment_at p) mean a t.v (weight_at p - t.weight) (vdelta_of r t.weight) (mean_below xs) (of_each (λ (x : Task). x.v ≤ mean + a) p i t all f);
+      runs = λ t e. begins_by (weight_at p) (weighted_v_at p) mean a t.v (weight_at p - t.weight) (vdelta_of 0 t.weight) (mean_below xs) (of_each (λ (x : Task). x.v ≤ mean + a) p t.id t all (current_present p.queue p.kept p.current p.last t e));
+      each = λ i t f. begins_by (weight_at p) (weighted_v_at p) mean a t.v (weight_at p - t.weight) (vdelta_of r t.weight) (mean_below xs) (of_each (λ (x : Task). x.v ≤ mean + a) p i t all f);
     }
 
 -- The bound in time
@@ -202,13 +202,13 @@ mean_is : (j : ℕ) (xs : List Task) (b : Task) → with_id j xs ≡ Some b → 
 mean_is j [] b f = cc
 mean_is j (t ∷ xs) b f = refl
 
-finish : (r a W : ℕ) (q : Running) (j : ℕ) (b : Task) → task_at j q ≡ Some b → 15 ≤ b.weight → weight_at q ≡ W → b.weight * moment_at q ≤ b.weight * (weight_at q * b.v) + ((weight_at q - b.weight) * (W * a) + 1024 * r * ((length (present_at q) - 2) * weight_at q + b.weight)) → owed (mean_at (present_at q)) b ≤ allowed a r (length (present_at q)) (weight_at q) b.weight
+finish : (r a W : ℕ) (q : Running) (j : ℕ) (b : Task) → task_at j q ≡ Some b → 15 ≤ b.weight → weight_at q ≡ W → b.weight * weighted_v_at q ≤ b.weight * (weight_at q * b.v) + ((weight_at q - b.weight) * (W * a) + 1024 * r * ((length (present_at q) - 2) * weight_at q + b.weight)) → owed (mean_at (present_at q)) b ≤ allowed a r (length (present_at q)) (weight_at q) b.weight
 finish r a W q j b f low same law =
     let xs = present_at q in
     let split = weights_split j xs b f in
     let o = weight_at q - b.weight in
     let all : W * a ≡ weight_at q * a = ap (λ n. n * a) (sym same) in
-    rw (mean_is j xs b f) (behind_by (weight_at q) (moment_at q) b.weight b.v a r (length xs - 2) o (leb (moment_at q / weight_at q) b.v) refl (omega arith) (omega arith) (rw all at law))
+    rw (mean_is j xs b f) (behind_by (weight_at q) (weighted_v_at q) b.weight b.v a r (length xs - 2) o (leb (weighted_v_at q / weight_at q) b.v) refl (omega arith) (omega arith) (rw all at law))
 
 -- under EEVDF, while none comes and none goes, no task is owed more than is allowed
 pub eevdf_owes_within : EevdfOwesWithin
@@ -221,7 +221,7 @@ eevdf_owes_within r p ss j b s k d f =
     let e = end.formed in
     let flat : Running = record q { current = None; queue = present_at q } in
     let sound_flat = well_formed_is_sound flat (record { distinct = e.distinct; weights = e.weights; ends = e.ends }) in
-    let ahead : Task → Type 0 = λ t. weight_at q * t.v ≤ moment_at q + most_ahead E r (weight_at q) t.weight in
+    let ahead : Task → Type 0 = λ t. weight_at q * t.v ≤ weighted_v_at q + most_ahead E r (weight_at q) t.weight in
     let bal : IsBalanced E r flat = record { current = tt; each = All-from_ids ahead (present_at q) e.distinct end.each } in
     let long = none_is_owed_long E r flat j b sound_flat bal f in
     finish r a (weight_at p) q j b f (e.weights j b f).0 end.weight long

@@ -9,7 +9,7 @@ use Rattle.bq_disc.specs.Totals.{total_weight, weighted_sum}
 use Rattle.bq_disc.specs.OneProcessor.{present_at}
 use Rattle.bq_disc.proofs.SameSumLemmas.{sum_of-without}
 use Rattle.bq_cfs.proofs.MoveLemmas.{each-without}
-use Rattle.bq_fairness.specs.Work.{weight_at, moment_at}
+use Rattle.bq_fairness.specs.Work.{weight_at, weighted_v_at}
 use Rattle.bq_fairness.specs.EevdfFairness.{most_ahead, ahead_together, NoneIsOwedMore, NoneIsOwedLong}
 use Rattle.bq_fairness.proofs.SoundLemmas.{vdelta_of-weighted}
 use Rattle.bq_fairness.proofs.SumLemmas.{length-sum}
@@ -34,7 +34,7 @@ none_is_owed_more E r p j b s bal f =
     let xs = present_at p in
     let others = without j xs in
     let W = weight_at p in
-    let M = moment_at p in
+    let M = weighted_v_at p in
     let ahead : Task → Type 0 = λ t. W * t.v ≤ M + most_ahead E r W t.weight in
     let each = each-without ahead j xs (recursion_from_All ahead xs bal.each) in
     owed_by W M b.weight b.v (total_weight others) (weighted_sum others) (ahead_together E r W others) (weights_split j xs b f) (moments_split j xs b f) (together E r W M others each)
@@ -80,4 +80,4 @@ none_is_owed_long E r p j b s bal f =
     let split = weights_split j xs b f in
     let n : length xs ≡ length others + 1 = omega (arith, length-sum xs, length-sum others, sum_of-without (λ t. 1) j xs b f) in
     let less : W - b.weight ≡ total_weight others = omega arith in
-    rw (n, less) (long_by E r W b.weight b.v (moment_at p) (total_weight others) (length others) (ahead_together E r W others) split (none_is_owed_more E r p j b s bal f) (long E r W others each) (none_ahead E r W others))
+    rw (n, less) (long_by E r W b.weight b.v (weighted_v_at p) (total_weight others) (length others) (ahead_together E r W others) split (none_is_owed_more E r p j b s bal f) (long E r W others each) (none_ahead E r W others))

@@ -8,7 +8,7 @@ use Rattle.bq_disc.specs.Discipline.{Discipline, next_of}
 use Rattle.bq_disc.specs.OneProcessor.{Running, reading, charge, decided, exchanged, own_preempt, ticked, rise}
 use Rattle.bq_cfs.proofs.SpreadStayLemmas.{busy_processor}
 use Rattle.bq_fairness.specs.Histories.{history}
-use Rattle.bq_fairness.specs.Work.{weight_at, moment_at, booked_at, booked, elapsed, BooksTheTime, MovesTheSum}
+use Rattle.bq_fairness.specs.Work.{weight_at, weighted_v_at, booked_at, booked, elapsed, BooksTheTime, MovesTheSum}
 use Rattle.bq_fairness.proofs.PlaceLemmas.{current_present}
 use Rattle.bq_fairness.proofs.TickLemmas.{tick_keeps}
 use Rattle.bq_fairness.proofs.SoundLemmas.{IsWellFormed, well_formed, well_formed_ticked, EachHasRoom, each_has_room, room_ticked, tick_leaves_room, vdelta_of-weighted}
@@ -80,7 +80,7 @@ books_the_time d p nows s h = let b = books d p nows (well_formed p s) h in (b.1
 
 -- What it moves
 
-moves_by : (d : Discipline) (p : Running) (now : ℕ) (o : Option Task) → p.current ≡ o → IsWellFormed p → EachHasRoom p → moment_at (ticked d p now) ≡ moment_at p + booked_at p now
+moves_by : (d : Discipline) (p : Running) (now : ℕ) (o : Option Task) → p.current ≡ o → IsWellFormed p → EachHasRoom p → weighted_v_at (ticked d p now) ≡ weighted_v_at p + booked_at p now
 moves_by d p now None e w room =
     let here : booked_at p now ≡ 0 = ap (λ o. option_map_or (λ (t : Task). t.weight * vdelta_of (rise p now) t.weight) o 0) e in
     omega (arith, weighted_sum-idle d p now e)
@@ -94,7 +94,7 @@ moves_by d p now (Some t) e w room =
     let sum = weighted_sum-busy d p now t e in
     omega arith
 
-moves : (d : Discipline) (p : Running) (nows : List ℕ) → IsWellFormed p → EachHasRoom p → (moment_at (history d p nows) ≡ moment_at p + booked d p nows) × (weight_at (history d p nows) ≡ weight_at p)
+moves : (d : Discipline) (p : Running) (nows : List ℕ) → IsWellFormed p → EachHasRoom p → (weighted_v_at (history d p nows) ≡ weighted_v_at p + booked d p nows) × (weight_at (history d p nows) ≡ weight_at p)
 moves d p [] w room = (omega arith, refl)
 moves d p (now ∷ nows) w room =
     let rest = moves d (ticked d p now) nows (well_formed_ticked d p now w) (room_ticked d p now w room) in

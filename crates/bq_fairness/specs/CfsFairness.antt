@@ -6,7 +6,7 @@ use Rattle.bq_disc.specs.OneProcessor.{Running, present_at}
 use Rattle.bq_cfs.specs.Cfs.{cfs}
 use Rattle.bq_cfs.specs.Spread.{IsSound}
 use Rattle.bq_fairness.specs.Histories.{HasRoom, RisesByAtMost, task_at, served}
-use Rattle.bq_fairness.specs.Work.{weight_at, moment_at, booked, elapsed}
+use Rattle.bq_fairness.specs.Work.{weight_at, weighted_v_at, booked, elapsed, most_lost}
 
 -- Proportional service: of two tasks a and b, of ids i and j, a comes to no more virtual time than where it began, or than
 -- 1,000,000 beyond where b began, and what b was served, and one rise at its own weight
@@ -28,11 +28,11 @@ abbrev pub CfsServesItsShare : Type 0
 CfsServesItsShare =
     (V r : ℕ) (p : Running) (nows : List ℕ) (j : ℕ) (b : Task) →
     IsSound p → HasRoom p → All (λ t. t.v ≤ V) (present_at p) → RisesByAtMost r cfs p nows → task_at j p ≡ Some b →
-    moment_at p + booked cfs p nows ≤ weight_at p * (served j cfs p nows + max V (b.v + 1000000)) + 1024 * r * length (present_at p)
+    weighted_v_at p + booked cfs p nows ≤ weight_at p * (served j cfs p nows + max V (b.v + 1000000)) + 1024 * r * length (present_at p)
 
--- Bounded waiting: while a task is served nothing the clock rises by no more than this
+-- Bounded waiting: as long as a task is served nothing, the clock rises by no more than this
 abbrev pub CfsWaiting : Type 0
 CfsWaiting =
     (L S r : ℕ) (p : Running) (nows : List ℕ) (j : ℕ) (b : Task) →
     IsSound p → HasRoom p → All (λ t. (L ≤ t.v) × (t.v ≤ L + S)) (present_at p) → RisesByAtMost r cfs p nows → IsSome p.current → task_at j p ≡ Some b → served j cfs p nows ≡ 0 →
-    1024 * elapsed cfs p nows ≤ weight_at p * (S + 1000000) + 1024 * r * length (present_at p) + 88760 * length nows
+    1024 * elapsed cfs p nows ≤ weight_at p * (S + 1000000) + 1024 * r * length (present_at p) + most_lost nows

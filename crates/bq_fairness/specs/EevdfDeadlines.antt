@@ -7,7 +7,7 @@ use Rattle.bq_disc.specs.OneProcessor.{Running, present_at}
 use Rattle.bq_cfs.specs.Spread.{IsSound}
 use Rattle.bq_eevdf.specs.Eevdf.{eevdf}
 use Rattle.bq_fairness.specs.Histories.{HasRoom, RisesByAtMost, history, task_at, served}
-use Rattle.bq_fairness.specs.Work.{weight_at, moment_at, booked, elapsed}
+use Rattle.bq_fairness.specs.Work.{weight_at, weighted_v_at, booked, elapsed, most_lost}
 
 -- each task is due no earlier than it stands, and no later than one slice from there, as it is at each entry
 abbrev pub HasDeadlines : Running → Type 0
@@ -27,7 +27,7 @@ abbrev pub EevdfOwedBySlices : Type 0
 EevdfOwedBySlices =
     (V r : ℕ) (p : Running) (nows : List ℕ) (j : ℕ) (b : Task) →
     IsSound p → HasDeadlines p → All (λ t. t.v ≤ V) (present_at p) → RisesByAtMost r eevdf p nows → task_at j (history eevdf p nows) ≡ Some b →
-    (let q = history eevdf p nows in moment_at q ≤ weight_at q * max V (b.v + vdelta_of b.slice b.weight) + 1024 * r * length (present_at q))
+    (let q = history eevdf p nows in weighted_v_at q ≤ weight_at q * max V (b.v + vdelta_of b.slice b.weight) + 1024 * r * length (present_at q))
 
 -- Proportional service: of two tasks a and b, a comes to no more virtual time than where it began, or than one slice beyond
 -- where b began, and what b was served, and one rise at its own weight
@@ -42,11 +42,11 @@ abbrev pub EevdfSharesBySlices : Type 0
 EevdfSharesBySlices =
     (V r : ℕ) (p : Running) (nows : List ℕ) (j : ℕ) (b : Task) →
     IsSound p → HasRoom p → HasDeadlines p → All (λ t. t.v ≤ V) (present_at p) → RisesByAtMost r eevdf p nows → task_at j p ≡ Some b →
-    moment_at p + booked eevdf p nows ≤ weight_at p * (served j eevdf p nows + max V (b.v + vdelta_of b.slice b.weight)) + 1024 * r * length (present_at p)
+    weighted_v_at p + booked eevdf p nows ≤ weight_at p * (served j eevdf p nows + max V (b.v + vdelta_of b.slice b.weight)) + 1024 * r * length (present_at p)
 
--- Bounded waiting: while a task is served nothing the clock rises by no more than this
+-- Bounded waiting: as long as a task is served nothing, the clock rises by no more than this
 abbrev pub EevdfWaitsBySlices : Type 0
 EevdfWaitsBySlices =
     (L S r : ℕ) (p : Running) (nows : List ℕ) (j : ℕ) (b : Task) →
     IsSound p → HasRoom p → HasDeadlines p → All (λ t. (L ≤ t.v) × (t.v ≤ L + S)) (present_at p) → RisesByAtMost r eevdf p nows → IsSome p.current → task_at j p ≡ Some b → served j eevdf p nows ≡ 0 →
-    1024 * elapsed eevdf p nows ≤ weight_at p * (S + vdelta_of b.slice b.weight) + 1024 * r * length (present_at p) + 88760 * length nows
+    1024 * elapsed eevdf p nows ≤ weight_at p * (S + vdelta_of b.slice b.weight) + 1024 * r * length (present_at p) + most_lost nows

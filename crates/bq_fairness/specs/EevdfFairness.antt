@@ -1,6 +1,7 @@
 -- EEVDF is fair: no task is far ahead of the mean, so none is far behind it.
 -- With W the weights of all that are present together and M the sum of weight times v, the mean is M / W. A task is ahead of
--- it by v - M / W, so by (W * v - M) / W; each law is stated times W, without a division.
+-- it by v - M / W, so by (W * v - M) / W; each law is stated times W, without a division. E is how far, times W, the running task may be
+-- ahead of the mean.
 use Rattle.std.specs.Prelude.{◌≡◌, ℕ, ◌+◌, ◌-◌, ◌*◌, ◌≤◌, true, List, [], ◌∷◌, length, Some, All, IfSome, IsSome}
 use Rattle.bq_weights.specs.VirtualTime.{vdelta_of}
 use Rattle.bq_disc.specs.Tasks.{Task, without}
@@ -9,7 +10,7 @@ use Rattle.bq_disc.specs.OneProcessor.{Running, present_at, ticked, rise}
 use Rattle.bq_cfs.specs.Spread.{IsSound}
 use Rattle.bq_eevdf.specs.Eevdf.{eevdf, is_eligible}
 use Rattle.bq_fairness.specs.Histories.{HasRoom, RisesByAtMost, history, task_at, served}
-use Rattle.bq_fairness.specs.Work.{weight_at, moment_at, booked, elapsed}
+use Rattle.bq_fairness.specs.Work.{weight_at, weighted_v_at, booked, elapsed, most_lost}
 use Rattle.bq_fairness.specs.Steps.{Decide, stepped}
 
 -- the task that runs is eligible
@@ -24,18 +25,18 @@ DecideRunsEligible = (p : Running) → HasDistinctIds (present_at p) → RunsEli
 abbrev pub TickRunsEligible : Type 0
 TickRunsEligible = (p : Running) (now : ℕ) → IsSound p → RunsEligible (ticked eevdf p now)
 
--- how far a task of a weight may come ahead of the mean, times W: by E, and by one rise, of which its own share moves the mean
+-- how far a task of a weight may come ahead of the mean, times W: by E and by one rise, less what that rise moves the mean itself
 abbrev pub most_ahead : ℕ → ℕ → ℕ → ℕ → ℕ
 most_ahead E r W weight = E + (W - weight) * vdelta_of r weight
 
 -- the task that runs is ahead by at most E, and each task by at most E and one rise
 pub record IsBalanced (E r : ℕ) (p : Running) : Type 0 where
-  pub current : IfSome p.current (λ t. weight_at p * t.v ≤ moment_at p + E)
-  pub each : All (λ t. weight_at p * t.v ≤ moment_at p + most_ahead E r (weight_at p) t.weight) (present_at p)
+  pub current : IfSome p.current (λ t. weight_at p * t.v ≤ weighted_v_at p + E)
+  pub each : All (λ t. weight_at p * t.v ≤ weighted_v_at p + most_ahead E r (weight_at p) t.weight) (present_at p)
 
 -- it is so where no task is ahead by more than E
 abbrev pub BeginsBalanced : Type 0
-BeginsBalanced = (E r : ℕ) (p : Running) → All (λ t. weight_at p * t.v ≤ moment_at p + E) (present_at p) → IsBalanced E r p
+BeginsBalanced = (E r : ℕ) (p : Running) → All (λ t. weight_at p * t.v ≤ weighted_v_at p + E) (present_at p) → IsBalanced E r p
 
 -- a Tick at which the clock rises by at most r keeps it so
 abbrev pub StaysBalanced : Type 0
@@ -58,26 +59,22 @@ ahead_together E r W (t ∷ xs) = t.weight * most_ahead E r W t.weight + ahead_t
 abbrev pub NoneIsOwedMore : Type 0
 NoneIsOwedMore =
     (E r : ℕ) (p : Running) (j : ℕ) (b : Task) → IsSound p → IsBalanced E r p → task_at j p ≡ Some b →
-    b.weight * moment_at p ≤ b.weight * (weight_at p * b.v) + ahead_together E r (weight_at p) (without j (present_at p))
+    b.weight * weighted_v_at p ≤ b.weight * (weight_at p * b.v) + ahead_together E r (weight_at p) (without j (present_at p))
 
--- the most that a task of a weight may be owed, times that weight and W: where n are present, E for the weight of the others,
--- and n - 2 rises and its own share of one, 1024 for each nanosecond
+-- the most that a task of a weight may be owed, times that weight and W. With n present: E times the others' weight, and 1024 * r for
+-- n - 2 tasks at weight W and for one at its own
 abbrev pub most_behind : ℕ → ℕ → Running → ℕ → ℕ
 most_behind E r p weight = (weight_at p - weight) * E + 1024 * r * ((length (present_at p) - 2) * weight_at p + weight)
 
--- In time, none is owed more than that
+-- The same bound, by the rise r alone
 abbrev pub NoneIsOwedLong : Type 0
 NoneIsOwedLong =
     (E r : ℕ) (p : Running) (j : ℕ) (b : Task) → IsSound p → IsBalanced E r p → task_at j p ≡ Some b →
-    b.weight * moment_at p ≤ b.weight * (weight_at p * b.v) + most_behind E r p b.weight
+    b.weight * weighted_v_at p ≤ b.weight * (weight_at p * b.v) + most_behind E r p b.weight
 
 -- the virtual time to which a task of an id comes in a history, times W: where it stood, and what it is served
 abbrev pub comes_to : ℕ → Task → Running → List ℕ → ℕ
 comes_to id t p nows = weight_at p * (t.v + served id eevdf p nows)
-
--- the most that rounding takes from what is booked: less than the greatest weight at each Tick
-abbrev pub most_lost : List ℕ → ℕ
-most_lost nows = 88760 * length nows
 
 -- Service by share: what a task is served, times its weight and W, is at least its weight of what is booked, except for what it
 -- was ahead of the mean at the start and what one may be owed
@@ -85,7 +82,7 @@ abbrev pub EevdfServesItsShare : Type 0
 EevdfServesItsShare =
     (E r : ℕ) (p : Running) (nows : List ℕ) (j : ℕ) (b : Task) →
     IsSound p → HasRoom p → IsBalanced E r p → RisesByAtMost r eevdf p nows → task_at j p ≡ Some b →
-    b.weight * (moment_at p + booked eevdf p nows) ≤ b.weight * comes_to j b p nows + most_behind E r p b.weight
+    b.weight * (weighted_v_at p + booked eevdf p nows) ≤ b.weight * comes_to j b p nows + most_behind E r p b.weight
 
 -- Proportional service: of two tasks a and b, a comes beyond b by no more than it may be ahead and b may be owed
 abbrev pub EevdfServesInProportion : Type 0
@@ -94,9 +91,9 @@ EevdfServesInProportion =
     IsSound p → HasRoom p → IsBalanced E r p → RisesByAtMost r eevdf p nows → task_at i p ≡ Some a → task_at j p ≡ Some b →
     b.weight * comes_to i a p nows ≤ b.weight * comes_to j b p nows + b.weight * most_ahead E r (weight_at p) a.weight + most_behind E r p b.weight
 
--- Bounded waiting: while a task is served nothing the clock rises by no more than this
+-- Bounded waiting: as long as a task is served nothing, the clock rises by no more than this
 abbrev pub EevdfWaiting : Type 0
 EevdfWaiting =
     (E r : ℕ) (p : Running) (nows : List ℕ) (j : ℕ) (b : Task) →
     IsSound p → HasRoom p → IsBalanced E r p → RisesByAtMost r eevdf p nows → IsSome p.current → task_at j p ≡ Some b → served j eevdf p nows ≡ 0 →
-    b.weight * (moment_at p + 1024 * elapsed eevdf p nows) ≤ b.weight * (weight_at p * b.v + most_lost nows) + most_behind E r p b.weight
+    b.weight * (weighted_v_at p + 1024 * elapsed eevdf p nows) ≤ b.weight * (weight_at p * b.v + most_lost nows) + most_behind E r p b.weight

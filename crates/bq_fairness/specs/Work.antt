@@ -8,12 +8,17 @@ use Rattle.bq_disc.specs.OneProcessor.{Running, present_at, ticked, rise}
 use Rattle.bq_cfs.specs.Spread.{IsSound}
 use Rattle.bq_fairness.specs.Histories.{history, HasRoom}
 
--- the weights of all that are present, and the sum of weight times v
+-- the weights of all that are present, together
 abbrev pub weight_at : Running → ℕ
 weight_at p = total_weight (present_at p)
 
-abbrev pub moment_at : Running → ℕ
-moment_at p = weighted_sum (present_at p)
+-- the sum of weight times v of all that are present
+abbrev pub weighted_v_at : Running → ℕ
+weighted_v_at p = weighted_sum (present_at p)
+
+-- the most that rounding takes from what is booked: less than the greatest weight at each Tick
+abbrev pub most_lost : List ℕ → ℕ
+most_lost nows = 88760 * length nows
 
 -- what a Tick books
 abbrev pub booked_at : Running → ℕ → ℕ
@@ -32,10 +37,10 @@ elapsed d p nows = (history d p nows).last - p.last
 abbrev pub BooksTheTime : Type 0
 BooksTheTime =
     (d : Discipline) (p : Running) (nows : List ℕ) → IsSound p → IsSome p.current →
-    (booked d p nows ≤ 1024 * elapsed d p nows) × (1024 * elapsed d p nows ≤ booked d p nows + 88760 * length nows)
+    (booked d p nows ≤ 1024 * elapsed d p nows) × (1024 * elapsed d p nows ≤ booked d p nows + most_lost nows)
 
 -- and it is what the sum of weight times v rises by, however the rule decides
 abbrev pub MovesTheSum : Type 0
 MovesTheSum =
     (d : Discipline) (p : Running) (nows : List ℕ) → IsSound p → HasRoom p →
-    (moment_at (history d p nows) ≡ moment_at p + booked d p nows) × (weight_at (history d p nows) ≡ weight_at p)
+    (weighted_v_at (history d p nows) ≡ weighted_v_at p + booked d p nows) × (weight_at (history d p nows) ≡ weight_at p)

@@ -21,8 +21,9 @@ use Rattle.bq_hooks.specs.Settled.{settled as chosen}
 use Rattle.bq_parts.specs.declared.carried.Carried.{Carried}
 use Rattle.bq_parts.specs.Processors.{Processor, size_of}
 
--- what the world runs under: the discipline, and how a policy answers: on a context, maps, a reading and a processor's
--- number it gives r0, the maps that it leaves and how many steps it took, having asked so much of the counters
+-- what the world runs under: the discipline, and how a policy answers. `Answers policy context maps now processor r0 left steps calls`: on
+-- this context and these maps, at this reading and processor, the policy answers r0, leaves the maps so, takes so many steps and makes
+-- these calls of counters
 pub record PolicySemantics : Type 1 where
   pub discipline : Discipline
   pub Answers : Accepted → List ℕ → List (List ℕ) → ℕ → ℕ → ℕ → List (List ℕ) → ℕ → List Asked → Type 0
@@ -43,7 +44,7 @@ pub record Decision : Type 0 where
 abbrev pub unasked : ℕ → Attached → Decision
 unasked own attached = record { choice = own; by = who.Discipline; steps = 0; calls = []; attached = attached }
 
--- a policy settles it: it answers r0, which is the choice where it is permitted, and else the own one is
+-- a policy settles it: it answers r0. That is the choice if permitted; otherwise the discipline's own choice is
 pub record PolicySettles (s : PolicySemantics) (policy : Accepted) (context : Version → List ℕ) (attached : Attached) (now processor : ℕ) (permitted : ℕ → Bool) (own : ℕ) (settled : Decision) : Type 0 where
   pub r0 : ℕ
   pub maps : List (List ℕ)
@@ -85,9 +86,9 @@ SettlesPreempt s processor p (Some current) settled =
     let context = preempt_bytes (record { processor = processor; queue = queue; current = current; choice = s.discipline.choice queue; own = own }) in
     Settles s (λ version. context) p.hooks.preempt p.running.last processor may_preempt (as_number own) settled
 
--- where the other processor has at least two tasks more, its movable one of greatest (v, id)
+-- the discipline's own pull from another processor: the id of its task, if there is one
 abbrev pub own_pull : ℕ → Processor → Processor → Option ℕ
-own_pull processor p from = id_of (pull_of processor (size_of p) (size_of from) from.running.queue)
+own_pull processor p other = id_of (pull_of processor (size_of p) (size_of other) other.running.queue)
 
 -- a pull is settled, from another processor
 abbrev pub SettlesPull : PolicySemantics → ℕ → ℕ → Processor → Processor → Decision → Type 0

@@ -75,7 +75,7 @@ pub record TakesInHand (id : ℕ) (loads : List ℕ) (p : Processor) (lobby : Li
   pub in_hand : q ≡ record p { hand = Some (record { task = task; loads = loads }) }
   pub away : lobby' ≡ slice_set lobby id Away
 
--- it does, or is refused
+-- a task comes into the hand, or the wake is refused
 abbrev pub BeginsWake : ℕ → List ℕ → Processor → List LobbyEntry → Result Reply Refusal → Processor → List LobbyEntry → Type 0
 BeginsWake id loads p lobby (Ok r) q lobby' = TakesInHand id loads p lobby r q lobby'
 BeginsWake id loads p lobby (Err e) q lobby' = (begin_refusal (slice_index_or lobby id Absent) p.hand ≡ Some e) × (q ≡ p) × (lobby' ≡ lobby)
@@ -84,7 +84,7 @@ BeginsWake id loads p lobby (Err e) q lobby' = (begin_refusal (slice_index_or lo
 abbrev pub placed_by : Processor → Decision → Processor
 placed_by p settled = record p { hand = None; hooks = record p.hooks { place = settled.attached } }
 
--- after the time has passed the task in the hand is given for the processor that is chosen among this many
+-- time passes; then a processor is chosen among this many, and the task leaves the hand for it
 pub record PlacesTask (s : PolicySemantics) (count processor now : ℕ) (p : Processor) (calls : List Asked) (x : Placement) (q : Processor) : Type 0 where
   pub carried : Carried
   pub settled : Decision
@@ -98,12 +98,12 @@ pub record PlacesTask (s : PolicySemantics) (count processor now : ℕ) (p : Pro
   pub asks : calls ≡ settled.calls
   pub here : q ≡ placed_by (after_time s.discipline now p) settled
 
--- it is, unless the hand is empty
+-- the task in the hand is placed, if there is one
 abbrev pub Places : PolicySemantics → ℕ → ℕ → ℕ → Processor → List Asked → Option Placement → Processor → Type 0
 Places s count processor now p calls None q = (calls ≡ []) × (p.hand ≡ None) × (q ≡ p)
 Places s count processor now p calls (Some x) q = PlacesTask s count processor now p calls x q
 
--- something else that may stand there stands at a hook, where this many numbers were drawn
+-- a hook gets what may stand there, or refuses it, where this many generations were drawn
 abbrev pub Installs : Hook → ℕ → Processor → Attached → Result Reply Refusal → Processor → Type 0
 Installs h drawn p new (Ok r) q =
     (install_refusal (at_hook h p.hooks).generation drawn new.generation ≡ None) × (r ≡ Installed) × (q ≡ record p { hooks = with_attached h p.hooks new }) × MayStand h new
