@@ -62,10 +62,10 @@ impl Sink for Gatherer {
                 self.latencies.take(&change)
             }
             TraceEvent::Skipped { .. }
-            | TraceEvent::Unspelled
-            | TraceEvent::Unloaded { .. }
-            | TraceEvent::Shown { .. }
-            | TraceEvent::Counted { .. }
+            | TraceEvent::NotHex
+            | TraceEvent::NotLoaded { .. }
+            | TraceEvent::ProcessorAsked { .. }
+            | TraceEvent::CounterRead { .. }
             | TraceEvent::Bad { .. } => Ok(()),
         }
     }

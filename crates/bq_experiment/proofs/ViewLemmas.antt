@@ -22,34 +22,34 @@ use Rattle.bq_experiment.specs.Passing.{TakesAndPasses}
 use Rattle.bq_experiment.specs.Views.{IsViewed}
 use Rattle.bq_experiment.specs.declared.fault.RunFault.{RunFault}
 use Rattle.bq_experiment.specs.declared.fault.RunFault.TheVariants as fault
-use Rattle.bq_experiment.specs.declared.later.Later.{Later}
+use Rattle.bq_experiment.specs.declared.below.Below.{Below}
 use Rattle.bq_experiment.specs.declared.limited.Limited.{Limited}
 use Rattle.bq_experiment.specs.declared.passing.Passing.{Passing}
 use Rattle.bq_experiment.proofs.LimitLemmas.{lets_through}
 use Rattle.bq_streams.specs.Counts.{inner_of}
 
 -- a viewer further below takes an event
-abbrev pub TakesLater : Later → ℕ → TraceEvent → Later → Type 0
-TakesLater old n traced new = (new.above ≡ old.above) × Keeps old.viewer traced new.viewer
+abbrev pub TakesBelow : Below → ℕ → TraceEvent → Below → Type 0
+TakesBelow old n traced new = (new.above ≡ old.above) × Keeps old.viewer traced new.viewer
 
 -- the text of a viewer that is not written yet
-abbrev pub pending : Later → List ℕ
-pending later = string_bytes later.viewer.screen.text
+abbrev pub pending : Below → List ℕ
+pending below = string_bytes below.viewer.screen.text
 
 -- clearing leaves the schedule and the troubles
-abbrev pub Clears : Later → Later → Type 0
+abbrev pub Clears : Below → Below → Type 0
 Clears old new = (new.viewer.schedule ≡ old.viewer.schedule) × (new.viewer.troubles ≡ old.viewer.troubles)
 
 -- what it takes its viewer takes, whatever is passed on
-keeps_one : (old new : Later) (was now : Option (List ℕ)) (n : ℕ) (traced : TraceEvent) → TakesAndPasses TakesLater pending Clears old was n traced new now → Keeps old.viewer traced new.viewer
+keeps_one : (old new : Below) (was now : Option (List ℕ)) (n : ℕ) (traced : TraceEvent) → TakesAndPasses TakesBelow pending Clears old was n traced new now → Keeps old.viewer traced new.viewer
 keeps_one old new was now n traced h = elim h.passed [
-  | inl same ↦ (ap (λ (l : Later). l.viewer.schedule) same.0 ∙ h.taken.1.0, ap (λ (l : Later). l.viewer.troubles) same.0 ∙ h.taken.1.1)
+  | inl same ↦ (ap (λ (l : Below). l.viewer.schedule) same.0 ∙ h.taken.1.0, ap (λ (l : Below). l.viewer.troubles) same.0 ∙ h.taken.1.1)
   | inr emptied ↦ (emptied.cleared.0 ∙ h.taken.1.0, emptied.cleared.1 ∙ h.taken.1.1)
 ]
 
 -- and so it is with all of it
-pub viewer_takes : {P : Type 0} (sink : P → Later) (got : P → Option (List ℕ)) (old new : P) (told : Told)
-    → TakesAll (λ o n x w. TakesAndPasses TakesLater pending Clears (sink o) (got o) n x (sink w) (got w)) old told new → TakesAll Takes (sink old).viewer told (sink new).viewer
+pub viewer_takes : {P : Type 0} (sink : P → Below) (got : P → Option (List ℕ)) (old new : P) (told : Told)
+    → TakesAll (λ o n x w. TakesAndPasses TakesBelow pending Clears (sink o) (got o) n x (sink w) (got w)) old told new → TakesAll Takes (sink old).viewer told (sink new).viewer
 viewer_takes {P} sink got old new [] h = ap (λ (p : P). (sink p).viewer) h
 viewer_takes sink got old new ((n, traced) ∷ more) h =
     ((sink h.0).viewer, keeps_one (sink old) (sink h.0) (got old) (got h.0) n traced h.1, viewer_takes sink got h.0 new more h.2)
@@ -97,7 +97,7 @@ views_simulation old new policies w told most left empty zero sound taken simula
 
 -- a viewer and what its text is passed on to
 abbrev pub ViewedRun : Type 0 → Type 0 → Type 0
-ViewedRun W E = Passing Later W E
+ViewedRun W E = Passing Below W E
 
 -- what its output has
 abbrev pub got : {W E : Type 0} → (W → Option (List ℕ)) → ViewedRun W E → Option (List ℕ)
@@ -105,7 +105,7 @@ got contents run = contents (inner_of run.output)
 
 -- what it takes, and passes on
 abbrev pub TakesRun : {W E : Type 0} → (W → Option (List ℕ)) → ViewedRun W E → ℕ → TraceEvent → ViewedRun W E → Type 0
-TakesRun contents old n traced new = TakesAndPasses TakesLater pending Clears old.sink (got contents old) n traced new.sink (got contents new)
+TakesRun contents old n traced new = TakesAndPasses TakesBelow pending Clears old.sink (got contents old) n traced new.sink (got contents new)
 
 -- where its limit is not passed, the viewer has viewed the simulation that came
 pub run_viewed : {W E : Type 0} (contents : W → Option (List ℕ)) (old new : Limited (ViewedRun W E)) (policies : List Accepted) (w : Workload) → Gets (PassesOn (TakesRun contents)) old new (IsSimulation policies w)

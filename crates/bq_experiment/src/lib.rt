@@ -7,8 +7,8 @@
 #![tactic(auto)]
 
 pub mod asked;
+pub mod below;
 mod fault;
-pub mod later;
 pub mod laws;
 mod limited;
 pub mod names;

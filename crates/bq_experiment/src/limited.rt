@@ -1,4 +1,4 @@
-//! A sink that gets no more events than a limit.
+//! A sink that passes on no more of a machine's events than a limit.
 ghost use Rattle.std.specs.Prelude.{◌≡◌, ◌+◌, ◌<◌, ◌⊎◌, false, true};
 ghost use Rattle.bq_trace.specs.Borrowed.{event_of};
 ghost use Rattle.bq_experiment.specs.Limits.{PassesOn, event_count};
@@ -7,18 +7,18 @@ use bq_simulate::Enough;
 use bq_trace::{Sink, TraceEvent};
 use std::alloc::AllocError;
 
-/// A sink that gets what comes, up to a limit of events: it has enough once one more comes, and gets nothing from there on.
+/// Passes on to a sink what comes, up to a limit of machine events. Once one more comes it has enough, and passes on nothing more.
 #[derive(Drop)]
 pub struct Limited<S> {
     pub sink: S,
-    /// How many events more it may get.
+    /// How many more machine events it may pass on.
     pub left: u64,
     /// Whether one more came.
     pub is_over: bool,
 }
 
 impl<S> Limited<S> {
-    /// The sink may get this many events.
+    /// The sink may get this many machine events.
     pub fn new(sink: S, most: u64) -> Limited<S>
         ensures sink { result.sink ≡ sink }
         ensures left { result.left ≡ most }
@@ -31,7 +31,7 @@ impl<S> Limited<S> {
         }
     }
 
-    /// Counts an event that is about to be done, and nothing else.
+    /// Counts a machine event that is about to be done, and nothing else.
     fn count(&mut self, event: &TraceEvent<'_>)
         ensures sink { self.new.sink ≡ self.old.sink }
         ensures within { self.new.is_over ≡ false → (self.old.left ≡ event_count (event_of event.now) + self.new.left) × (self.old.is_over ≡ false) }
@@ -45,10 +45,10 @@ impl<S> Limited<S> {
             TraceEvent::Opened { .. }
             | TraceEvent::Skipped { .. }
             | TraceEvent::Answered { .. }
-            | TraceEvent::Unspelled
-            | TraceEvent::Unloaded { .. }
-            | TraceEvent::Shown { .. }
-            | TraceEvent::Counted { .. }
+            | TraceEvent::NotHex
+            | TraceEvent::NotLoaded { .. }
+            | TraceEvent::ProcessorAsked { .. }
+            | TraceEvent::CounterRead { .. }
             | TraceEvent::Bad { .. } => {}
         }
     }

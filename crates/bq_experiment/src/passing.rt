@@ -11,8 +11,8 @@ use bq_trace::{Sink, TraceEvent};
 use std::alloc::AllocError;
 use std::io::Write;
 
-/// A sink, and the writers that get its texts: each piece as it comes, notes first. It ends the run by an error if a write of the
-/// text fails.
+/// A sink, with the writers of its text and notes. Both are written once the text has a piece's length, or there is a note; notes
+/// first. If a write of the text fails, `take` fails.
 #[derive(Drop)]
 pub struct Passing<'a, S, W, E> {
     pub sink: S,
@@ -79,6 +79,7 @@ impl<S: Texts, W: Write, E: Write> Passing<'_, S, W, E> {
         ensures { OnOk result (Empties S.pending S.clears self.old.sink (W.contents (inner_of self.old.output)) self.new.sink (W.contents (inner_of self.new.output))) }
     {
         let _ = self.errors.write_all(self.sink.notes().as_bytes());
+        // A sink can fail only by `AllocError`. `is_failed` tells a failed write from lack of memory.
         if self.write_text().is_err() {
             return Err(AllocError);
         }

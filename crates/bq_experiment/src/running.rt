@@ -1,5 +1,5 @@
 //! One run of a workload, and what is written of it.
-ghost use Rattle.std.specs.Prelude.{◌≡◌, [], false, true, IfErr, IfOk, None, OnOk, string_bytes};
+ghost use Rattle.std.specs.Prelude.{◌≡◌, ◌≢◌, [], false, true, IfErr, IfOk, None, OnOk, string_bytes};
 ghost use Rattle.bq_streams.specs.Counts.{failures_of, inner_of};
 ghost use Rattle.bq_simulate.specs.Faults.{TellsNoOther};
 ghost use Rattle.bq_simulate.specs.Simulations.{HasEnough, IsFollowed, IsSimulation};
@@ -15,7 +15,7 @@ ghost use Rattle.bq_experiment.specs.declared.asked.ShownAs.TheVariants as shown
 
 use crate::asked::ShownAs;
 use crate::fault::RunFault;
-use crate::later::Later;
+use crate::below::Below;
 use crate::limited::Limited;
 use crate::names::{show_names, tell_names};
 use crate::passing::Passing;
@@ -28,7 +28,7 @@ use bq_streams::Counted;
 use bq_timeline::Settings;
 use bq_timeline::viewer::Viewer;
 use bq_trace::Sink;
-use bq_workload::Workload;
+use bq_workload::{Workload, soundness};
 use std::alloc::{AllocError, Global};
 use std::io::Write;
 
@@ -47,12 +47,12 @@ pub struct Ran<W> {
     pub outcome: Result<String, RunFault>,
 }
 
-/// A run of which each piece is written as it comes.
-type Run<'a, S, W, E> = Limited<Passing<'a, S, W, E>>;
+/// The sink of a run: it writes what comes piece by piece, up to a limit of events.
+type RunSink<'a, S, W, E> = Limited<Passing<'a, S, W, E>>;
 
 /// Runs a workload with these policies at all processors, and writes what is asked for as it comes. A run of more events than
-/// `most` is cut off there, and what was written stays written, in whole lines. Notes go to standard error as they come; that one
-/// is not taken there stops nothing.
+/// `most` is cut off there, and what was written stays written, in whole lines. Notes go to standard error as they come; a note
+/// that cannot be written stops nothing.
 pub fn run_as<W: Write + Drop, E: Write + Drop>(
     alloc: Global,
     workload: &Workload,
@@ -63,7 +63,7 @@ pub fn run_as<W: Write + Drop, E: Write + Drop>(
 ) -> Ran<W>
     ensures written { IfOk result.outcome (λ notes. IsWritten shown workload.now policies.now most (W.contents streams.entry.output) (W.contents (inner_of result.output)) (string_bytes notes)) }
 
-    // No write has failed then: the first failure ends it.
+    // After a run that came to its end no write has failed: the first failure ends a run.
     ensures writes { OnOk result.outcome (failures_of result.output ≡ 0) }
 
     // Each fault has its cause. Where a flaw is reported, it is the first that the workload has; and only a longer run is cut off.
@@ -77,13 +77,13 @@ pub fn run_as<W: Write + Drop, E: Write + Drop>(
     }
 }
 
-/// A run before a sink, with no more events than that.
-fn begun<'a, S, W, E>(
+/// The sink of a run: it writes what comes, and has enough after `most` events.
+fn sink_of_run<'a, S, W, E>(
     workload: &Workload,
     sink: S,
     most: u64,
     streams: Streams<'a, W, E>,
-) -> Run<'a, S, W, E>
+) -> RunSink<'a, S, W, E>
     ensures sink { result.sink.sink ≡ sink }
     ensures output { inner_of result.sink.output ≡ streams.entry.output }
     ensures left { result.left ≡ most }
@@ -111,7 +111,7 @@ fn as_trace<W: Write + Drop, E: Write + Drop>(
     ensures fault { IfErr result.outcome (λ e. IsRunFault policies.now.loaded workload.now most e (failures_of result.output)) }
 {
     let writer = TraceWriter::new(alloc, policies.images());
-    let mut run = begun(workload, writer, most, streams);
+    let mut run = sink_of_run(workload, writer, most, streams);
     let outcome = match write_trace(alloc, workload, policies, &mut run) {
         Ok(()) => Ok(String::new(alloc)),
         Err(fault) => Err(fault),
@@ -128,7 +128,7 @@ fn write_trace<W: Write, E: Write>(
     alloc: Global,
     workload: &Workload,
     policies: &Policies,
-    run: &mut Run<'_, TraceWriter<'_>, W, E>,
+    run: &mut RunSink<'_, TraceWriter<'_>, W, E>,
 ) -> Result<(), RunFault>
     requires empty { string_bytes run.old.sink.sink.text ≡ [] }
     requires images { image_at run.old.sink.sink.images ≡ image_for policies.now.images }
@@ -137,9 +137,9 @@ fn write_trace<W: Write, E: Write>(
     ensures writes { OnOk result (failures_of run.new.sink.output ≡ 0) }
     ensures fault { IfErr result (λ e. IsRunFault policies.now.loaded workload.now run.old.left e (failures_of run.new.sink.output)) }
 {
-    match tell_run(alloc, workload, policies, run) {
+    match simulate_before(alloc, workload, policies, run) {
         Ok(()) => {}
-        Err(fault) => return Err(stopped(run, fault)),
+        Err(fault) => return Err(write_rest(run, fault)),
     }
     match run.sink.write_text() {
         Ok(()) => Ok(()),
@@ -147,8 +147,8 @@ fn write_trace<W: Write, E: Write>(
     }
 }
 
-/// Tells a sink of the run, after the names of the tasks.
-fn tell_run<S: Sink + Enough>(
+/// Simulates the workload before a sink, which gets the names of the tasks first.
+fn simulate_before<S: Sink + Enough>(
     alloc: Global,
     workload: &Workload,
     policies: &Policies,
@@ -160,15 +160,17 @@ fn tell_run<S: Sink + Enough>(
     ensures sound { OnOk result (first_flaw workload.now ≡ None) }
     ensures of_images { OnOk result (AreOfTheirImages policies.now) }
     ensures flaw { IfErr result (TellsNoOther workload.now) }
+    ensures untold { first_flaw workload.now ≢ None → sink.new ≡ sink.old }
 {
+    soundness(workload).map_err(SimulateFault::Unsound)?;
     tell_names(alloc, workload, sink)?;
     simulate(alloc, workload, policies.loaded(), sink)?;
     Ok(())
 }
 
-/// Why a run was stopped, by the fault that came of it. Where it was cut off, what has come is written.
-fn stopped<S: Texts, W: Write, E: Write>(
-    run: &mut Run<'_, S, W, E>,
+/// The fault of a run, by the fault of its simulation. Where the run was cut off, what has come is written first.
+fn write_rest<S: Texts, W: Write, E: Write>(
+    run: &mut RunSink<'_, S, W, E>,
     fault: SimulateFault,
 ) -> RunFault
     ensures { IsStopped (λ why. why ≡ fault) result (failures_of run.new.sink.output) }
@@ -199,7 +201,7 @@ fn as_timeline<W: Write + Drop, E: Write + Drop>(
     ensures fault { IfErr result.outcome (λ e. IsRunFault policies.now.loaded workload.now most e (failures_of result.output)) }
 {
     let viewer = Viewer::new(alloc, settings);
-    let mut run = begun(workload, Later { viewer, above: 0 }, most, streams);
+    let mut run = sink_of_run(workload, Below { viewer, above: 0 }, most, streams);
     let outcome = write_timeline(alloc, workload, policies, &mut run);
     let passing = run.sink;
     Ran {
@@ -213,7 +215,7 @@ fn write_timeline<W: Write, E: Write>(
     alloc: Global,
     workload: &Workload,
     policies: &Policies,
-    run: &mut Run<'_, Later, W, E>,
+    run: &mut RunSink<'_, Below, W, E>,
 ) -> Result<String, RunFault>
     requires schedule { run.old.sink.sink.viewer.schedule ≡ None }
     requires troubles { run.old.sink.sink.viewer.troubles ≡ 0 }
@@ -224,7 +226,7 @@ fn write_timeline<W: Write, E: Write>(
 {
     let notes = match view(alloc, workload, policies, run) {
         Ok(notes) => notes,
-        Err(fault) => return Err(stopped(run, fault)),
+        Err(fault) => return Err(write_rest(run, fault)),
     };
     match run.sink.write_text() {
         Ok(()) => Ok(notes),
@@ -237,7 +239,7 @@ fn view<W: Write, E: Write>(
     alloc: Global,
     workload: &Workload,
     policies: &Policies,
-    run: &mut Run<'_, Later, W, E>,
+    run: &mut RunSink<'_, Below, W, E>,
 ) -> Result<String, SimulateFault>
     requires schedule { run.old.sink.sink.viewer.schedule ≡ None }
     requires troubles { run.old.sink.sink.viewer.troubles ≡ 0 }
@@ -247,17 +249,17 @@ fn view<W: Write, E: Write>(
 {
     watch(alloc, workload, policies, run)?;
     let passing = &mut run.sink;
-    let later = &mut passing.sink;
-    later.viewer.end()?;
-    Ok(later.viewer.screen.notes.clone()?)
+    let below = &mut passing.sink;
+    below.viewer.end()?;
+    Ok(below.viewer.screen.notes.clone()?)
 }
 
-/// The same, up to the end of the simulation.
+/// Runs the simulation before the viewer, which is not ended yet.
 fn watch<W: Write, E: Write>(
     alloc: Global,
     workload: &Workload,
     policies: &Policies,
-    run: &mut Run<'_, Later, W, E>,
+    run: &mut RunSink<'_, Below, W, E>,
 ) -> Result<(), SimulateFault>
     requires schedule { run.old.sink.sink.viewer.schedule ≡ None }
     requires troubles { run.old.sink.sink.viewer.troubles ≡ 0 }
@@ -269,16 +271,16 @@ fn watch<W: Write, E: Write>(
     name_tasks(alloc, workload, &mut passing.sink)?;
     let counts = simulate(alloc, workload, policies.loaded(), run)?;
     let passing = &mut run.sink;
-    let later = &mut passing.sink;
-    later.viewer.count_missed(counts.missed);
+    let below = &mut passing.sink;
+    below.viewer.count_missed(counts.missed);
     Ok(())
 }
 
-/// Names the tasks on the screen. Each line comes below as many as that takes in a trace.
-fn name_tasks(alloc: Global, workload: &Workload, later: &mut Later) -> Result<(), AllocError>
-    ensures schedule { later.new.viewer.schedule ≡ later.old.viewer.schedule }
-    ensures troubles { later.new.viewer.troubles ≡ later.old.viewer.troubles }
+/// Names the tasks on the screen. From then on each line number is higher by as many lines as these comments take.
+fn name_tasks(alloc: Global, workload: &Workload, below: &mut Below) -> Result<(), AllocError>
+    ensures schedule { below.new.viewer.schedule ≡ below.old.viewer.schedule }
+    ensures troubles { below.new.viewer.troubles ≡ below.old.viewer.troubles }
 {
-    later.above = show_names(alloc, workload, &mut later.viewer.screen)?;
+    below.above = show_names(alloc, workload, &mut below.viewer.screen)?;
     Ok(())
 }

@@ -24,7 +24,7 @@ use Rattle.bq_report.specs.Windows.{ShowsProcessor, ShowsTask, part_of}
 
 -- ---- what it holds
 
--- any of a run is held: some of it lies in the window, and its processor is shown, be its task shown or not
+-- some of a run is held: it lasts within the window, and its processor is shown, whether its task is or not
 pub record IsHeld (w : Window) (s : Slice) : Type 0 where
   pub lasts : (part_of w s).from < (part_of w s).to
   pub processor : ShowsProcessor w s.processor
@@ -66,7 +66,7 @@ HoldsLast w s (suc p) old new = (before : List Row) × HoldsLast w s p old befor
 
 -- ---- its columns
 
--- how many columns there are for times where a line has so many
+-- how many columns of a line show time: all but 8, from 1 to 65,535
 abbrev pub columns_in : ℕ → ℕ
 columns_in width = max (min (width - 8) (2 ^ 16 - 1)) 1
 
@@ -203,7 +203,7 @@ pub record IsDrawn (w : Window) (names : NamedTasks) (tasks : List ℕ) (rows : 
   pub below : IsLegend names tasks g.step (all_columns drawn) legend
   pub whole : text ≡ ruler_text g ++ (rows_text tasks drawn ++ legend)
 
--- the same by the step, if there is one: nothing where time is longer than any clock counts
+-- a map with this step. There is always one: a round step covers 48 bits
 abbrev pub IsDrawnBy : Window → NamedTasks → List ℕ → List Row → Extent → Option ℕ → List ℕ → Type 0
 IsDrawnBy w names tasks rows e None text = text ≡ []
 IsDrawnBy w names tasks rows e (Some step) text = IsDrawn w names tasks rows (grid_over e step) text

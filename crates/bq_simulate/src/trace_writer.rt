@@ -58,10 +58,10 @@ impl Sink for TraceWriter<'_> {
                 write_event(self.alloc, &mut self.text, event, image)
             }
             TraceEvent::Answered { .. }
-            | TraceEvent::Unspelled
-            | TraceEvent::Unloaded { .. }
-            | TraceEvent::Shown { .. }
-            | TraceEvent::Counted { .. }
+            | TraceEvent::NotHex
+            | TraceEvent::NotLoaded { .. }
+            | TraceEvent::ProcessorAsked { .. }
+            | TraceEvent::CounterRead { .. }
             | TraceEvent::Bad { .. } => Ok(()),
         }
     }

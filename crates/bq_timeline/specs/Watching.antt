@@ -3,7 +3,7 @@ use Rattle.std.specs.Prelude.{ℕ, [], ◌∷◌, Option, Some, Err, nat_lt, if�
 use Rattle.bq_parts.specs.World.{count_in}
 use Rattle.bq_words.specs.Sizes.{processors_in}
 use Rattle.bq_streams.specs.Counts.{one_more}
-use Rattle.bq_trace.specs.TraceEvents.{TraceEvent, Told, Opened, Answered, Unspelled, Unloaded, Shown, Bad}
+use Rattle.bq_trace.specs.TraceEvents.{TraceEvent, Told, Opened, Answered, NotHex, NotLoaded, ProcessorAsked, Bad}
 use Rattle.bq_schedule.specs.Figures.{Figures, opening}
 use Rattle.bq_schedule.specs.Steps.{after}
 
@@ -16,9 +16,9 @@ watched s traced = s
 -- each line that is bad or refused is counted once
 abbrev pub troubled : ℕ → TraceEvent → ℕ
 troubled n (Answered event (Err refusal) m) = one_more n
-troubled n Unspelled = one_more n
-troubled n (Unloaded why) = one_more n
-troubled n (Shown c m) = if nat_lt c (count_in m.world) then n else one_more n
+troubled n NotHex = one_more n
+troubled n (NotLoaded why) = one_more n
+troubled n (ProcessorAsked c m) = if nat_lt c (count_in m.world) then n else one_more n
 troubled n (Bad line) = one_more n
 troubled n traced = n
 

@@ -125,22 +125,22 @@ impl Sink for Viewer {
                 }
                 Ok(())
             }
-            TraceEvent::Unspelled => {
+            TraceEvent::NotHex => {
                 self.begin_trouble()?;
                 self.screen.unspelled(number)
             }
-            TraceEvent::Unloaded { fault } => {
+            TraceEvent::NotLoaded { fault } => {
                 self.begin_trouble()?;
                 self.screen.unloaded(number, *fault)
             }
-            TraceEvent::Shown { processor, machine } => {
+            TraceEvent::ProcessorAsked { processor, machine } => {
                 if machine.seen(*processor).is_some() {
                     return self.begin();
                 }
                 self.begin_trouble()?;
                 self.screen.not_there(number, *processor)
             }
-            TraceEvent::Counted { .. } => Ok(()),
+            TraceEvent::CounterRead { .. } => Ok(()),
             TraceEvent::Bad { line } => {
                 self.begin_trouble()?;
                 self.screen.bad(number, *line, self.schedule.is_some())

@@ -18,7 +18,7 @@ use Rattle.bq_trace.specs.Texts.{event_line, bad_line, counter_line, show_line}
 use Rattle.bq_trace.specs.Trace.{Answers, AnswersLine, AnswersAll, EndsWake, Wakes}
 use Rattle.bq_trace.specs.Feeding.{Continues}
 use Rattle.bq_trace.specs.Writing.{Adds}
-use Rattle.bq_trace.specs.TraceEvents.{Told, Counted, Bad, Gets, text_of, texts}
+use Rattle.bq_trace.specs.TraceEvents.{Told, CounterRead, Bad, Gets, text_of, texts}
 use Rattle.bq_trace.specs.Telling.{Happens, EndHappens, WakeHappens, LoadHappens, Tells, TellsLine, Story, GoesOn, skips}
 use Rattle.bq_trace.specs.declared.progress.Phase.{Phase}
 use Rattle.bq_trace.specs.declared.progress.Phase.TheVariants.{Waiting, Over, Running}
@@ -62,7 +62,7 @@ skips_text n (Some line) = refl
 bad_text : (n : ℕ) (line : Option (List ℕ)) (told : Told) → told ≡ (n, Bad line) ∷ [] → texts told ≡ bad_line n
 bad_text n line told h = ap texts h ∙ append-nil (bad_line n)
 
-counter_text : (n i value : ℕ) (line : Option (List ℕ)) (b : Bool) → texts (cond b ((n, Counted i value) ∷ []) ((n, Bad line) ∷ [])) ≡ cond b (counter_line i value) (bad_line n)
+counter_text : (n i value : ℕ) (line : Option (List ℕ)) (b : Bool) → texts (cond b ((n, CounterRead i value) ∷ []) ((n, Bad line) ∷ [])) ≡ cond b (counter_line i value) (bad_line n)
 counter_text n i value line true = append-nil (counter_line i value)
 counter_text n i value line false = append-nil (bad_line n)
 

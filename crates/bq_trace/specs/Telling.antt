@@ -24,7 +24,7 @@ use Rattle.bq_trace.specs.Bare.{bare}
 use Rattle.bq_streams.specs.Counts.{one_more}
 use Rattle.bq_trace.specs.Feeding.{with_feeds}
 use Rattle.bq_trace.specs.Machines.{Driven, opening_machine, semantics_of, Advances}
-use Rattle.bq_trace.specs.TraceEvents.{Told, Opened, Skipped, Comes, Answered, Unspelled, Unloaded, Shown, Counted, Bad}
+use Rattle.bq_trace.specs.TraceEvents.{Told, Opened, Skipped, Comes, Answered, NotHex, NotLoaded, ProcessorAsked, CounterRead, Bad}
 use Rattle.bq_trace.specs.declared.progress.Phase.{Phase}
 use Rattle.bq_trace.specs.declared.progress.Phase.TheVariants.{Waiting, Over, Running}
 use Rattle.bq_trace.specs.declared.progress.Progress.{Progress}
@@ -60,8 +60,8 @@ pub record WakeHappens (m : Driven) (n c task now : ℕ) (told : Told) (k : Driv
 -- An image is refused, and nothing happens, or its policy is installed as an event.
 abbrev pub LoadHappens : Driven → ℕ → ℕ → Hook → ℕ → List ℕ → Told → Driven → Type 0
 LoadHappens m n c hook generation image told k =
-    ((error : FromHexError) × (decode_of image ≡ Err error) × (told ≡ (n, Unspelled) ∷ []) × (k ≡ m))
-    ⊎ (((bytes : List ℕ) × (why : LoadFault) × (decode_of image ≡ Ok bytes) × IsUnloaded bytes why × (why ≢ fault.OutOfMemory) × (told ≡ (n, Unloaded why) ∷ []) × (k ≡ m))
+    ((error : FromHexError) × (decode_of image ≡ Err error) × (told ≡ (n, NotHex) ∷ []) × (k ≡ m))
+    ⊎ (((bytes : List ℕ) × (why : LoadFault) × (decode_of image ≡ Ok bytes) × IsUnloaded bytes why × (why ≢ fault.OutOfMemory) × (told ≡ (n, NotLoaded why) ∷ []) × (k ≡ m))
     ⊎ ((bytes : List ℕ) × (policy : Accepted) × (answer : Result Reply Refusal) × (decode_of image ≡ Ok bytes) × Loads bytes policy
     × Happens m n (Install c hook generation (Some policy)) answer told k))
 
@@ -84,8 +84,8 @@ Tells (Running m) n line (says.Says (Wake c task now)) told after bad = (k : Dri
 Tells (Running m) n line (says.Says (Load c hook generation image)) told after bad =
     (k : Driven) × LoadHappens m n c hook generation image told k × (after ≡ Running k) × (bad ≡ false)
 Tells (Running m) n line (says.Says (Counter i)) told after bad =
-    (told ≡ (if nat_lt i COUNTERS then (n, Counted i (slice_index m.counters i)) ∷ [] else (n, Bad line) ∷ [])) × (after ≡ Running m) × (bad ≡ not (nat_lt i COUNTERS))
-Tells (Running m) n line (says.Says (Show c)) told after bad = (told ≡ (n, Shown c m) ∷ []) × (after ≡ Running m) × (bad ≡ false)
+    (told ≡ (if nat_lt i COUNTERS then (n, CounterRead i (slice_index m.counters i)) ∷ [] else (n, Bad line) ∷ [])) × (after ≡ Running m) × (bad ≡ not (nat_lt i COUNTERS))
+Tells (Running m) n line (says.Says (Show c)) told after bad = (told ≡ (n, ProcessorAsked c m) ∷ []) × (after ≡ Running m) × (bad ≡ false)
 Tells (Running m) n line (says.Says (Machine rule size)) told after bad = (told ≡ (n, Bad line) ∷ []) × (after ≡ Running m) × (bad ≡ true)
 Tells (Running m) n line says.Bad told after bad = (told ≡ (n, Bad line) ∷ []) × (after ≡ Running m) × (bad ≡ true)
 

@@ -14,21 +14,21 @@ use Rattle.bq_trace.specs.Texts.{event_line, bad_line, show_line, counter_line}
 pub data TraceEvent : Type 0 where
   -- a machine is made
   Opened : Rule → ProcessorCount → TraceEvent
-  -- the line says nothing: it has no words, or is a comment
+  -- the line says nothing: it has no words, or is a comment; a comment too long to keep is not reported
   Skipped : List ℕ → TraceEvent
   -- this event is about to be done in the machine
   Comes : Event → Driven → TraceEvent
-  -- it was answered, and the machine is this
+  -- the event of the last Comes was done or refused, and the machine is as it is after it
   Answered : Event → Result Reply Refusal → Driven → TraceEvent
-  -- the word of an image is no hex
-  Unspelled : TraceEvent
-  -- an image doesn't load
-  Unloaded : LoadFault → TraceEvent
-  -- a processor is to be shown
-  Shown : ℕ → Driven → TraceEvent
+  -- the word of an image is not hex
+  NotHex : TraceEvent
+  -- an image does not load
+  NotLoaded : LoadFault → TraceEvent
+  -- a processor is asked for, which the machine may not have
+  ProcessorAsked : ℕ → Driven → TraceEvent
   -- a counter has this value
-  Counted : ℕ → ℕ → TraceEvent
-  -- the line is bad: what is heard of it, unless it is too long
+  CounterRead : ℕ → ℕ → TraceEvent
+  -- the line is bad: what was kept of it, unless it is too long
   Bad : Option (List ℕ) → TraceEvent
 
 -- events, each with the number of its line
@@ -41,10 +41,10 @@ text_of n (Opened rule size) = []
 text_of n (Skipped line) = []
 text_of n (Comes event m) = []
 text_of n (Answered event answer m) = event_line answer
-text_of n Unspelled = no_hex_line
-text_of n (Unloaded why) = fault_line why
-text_of n (Shown c m) = show_line m.world c
-text_of n (Counted i value) = counter_line i value
+text_of n NotHex = no_hex_line
+text_of n (NotLoaded why) = fault_line why
+text_of n (ProcessorAsked c m) = show_line m.world c
+text_of n (CounterRead i value) = counter_line i value
 text_of n (Bad heard) = bad_line n
 
 -- the text that answers all of them

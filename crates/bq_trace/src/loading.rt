@@ -46,7 +46,7 @@ impl AnyCore {
         let bytes = match hex::decode(alloc, image.as_bytes()) {
             Ok(bytes) => bytes,
             Err(hex::FromHexError::OutOfMemory) => return Err(AllocError),
-            Err(_) => return report(number, &TraceEvent::Unspelled, sink),
+            Err(_) => return report(number, &TraceEvent::NotHex, sink),
         };
         match load(alloc, bytes.as_slice()) {
             Ok(program) => {
@@ -57,11 +57,11 @@ impl AnyCore {
                     generation,
                     policy,
                 };
-                self.happen(alloc, number, event, sink)?;
+                self.perform(alloc, number, event, sink)?;
                 Ok(())
             }
             Err(LoadFault::OutOfMemory) => Err(AllocError),
-            Err(fault) => report(number, &TraceEvent::Unloaded { fault }, sink),
+            Err(fault) => report(number, &TraceEvent::NotLoaded { fault }, sink),
         }
     }
 }

@@ -20,7 +20,7 @@ use bq_lines::{Command, LineReading, read_heard};
 use bq_parts::{Event, Refusal, Reply};
 use std::alloc::{AllocError, Global};
 
-/// Whether memory was wanted for an event.
+/// Whether memory ran out in an event.
 fn is_out_of_memory(answer: &Result<Reply, Refusal>) -> bool
     ensures { IsTrue result ↔ (answer.now ≡ Err no.OutOfMemory) }
 {
@@ -31,8 +31,8 @@ fn is_out_of_memory(answer: &Result<Reply, Refusal>) -> bool
 }
 
 impl AnyCore {
-    /// Does an event, and tells it before and after. True where it was not refused.
-    pub fn happen<S: Sink>(
+    /// Does an event, and reports it before and after. True where it was not refused.
+    pub fn perform<S: Sink>(
         &mut self,
         alloc: Global,
         number: u64,
@@ -73,9 +73,9 @@ impl AnyCore {
     ) -> Result<bool, AllocError>
         ensures { IfOk result (λ bad. (bad ≡ false) × Gets S.takes sink.old sink.new (λ told. WakeHappens self.old number processor task now told self.new)) }
     {
-        let begun = self.happen(alloc, number, Event::BeginWake { processor, task }, sink)?;
+        let begun = self.perform(alloc, number, Event::BeginWake { processor, task }, sink)?;
         if begun {
-            self.happen(alloc, number, Event::EndWake { processor, now }, sink)?;
+            self.perform(alloc, number, Event::EndWake { processor, now }, sink)?;
         }
         Ok(false)
     }
@@ -95,7 +95,7 @@ impl AnyCore {
         match reading {
             LineReading::Skipped => report_skipped(number, line, sink),
             LineReading::Says(Command::Does(event)) => {
-                self.happen(alloc, number, event, sink)?;
+                self.perform(alloc, number, event, sink)?;
                 Ok(false)
             }
             LineReading::Says(
@@ -127,11 +127,11 @@ impl AnyCore {
                     return report_bad(number, line, sink);
                 }
                 let value = self.counter(counter);
-                report(number, &TraceEvent::Counted { counter, value }, sink)?;
+                report(number, &TraceEvent::CounterRead { counter, value }, sink)?;
                 Ok(false)
             }
             LineReading::Says(Command::Show { processor }) => {
-                let shown = TraceEvent::Shown {
+                let shown = TraceEvent::ProcessorAsked {
                     processor,
                     machine: self,
                 };
@@ -150,7 +150,7 @@ impl AnyCore {
 pub enum Phase {
     /// No machine line has come yet.
     Waiting,
-    /// The first line was no machine line, so nothing is done any more.
+    /// The first line that says something was no machine line, so nothing is done any more.
     Over,
     /// The machine, after the events so far.
     Running(AnyCore),
@@ -160,7 +160,7 @@ impl Phase {
     /// Does what the line of this number says, where no machine line has come yet, and tells what comes of it. True where
     /// the line is bad.
     ///
-    /// A machine is large, and room for it is made here: so this stands apart from what each line goes through.
+    /// A machine is large and is built on the stack here, so this is kept out of the path of every other line.
     #[inline(never)]
     fn begin<S: Sink>(
         &mut self,
@@ -237,8 +237,8 @@ impl Progress {
         }
     }
 
-    /// Does what the next line says, of which so much is heard, and tells what comes of it. After an `Err` the state is of
-    /// no use.
+    /// Does what the next line says, and reports what comes of it. `line` is what was kept of it: `None` if it is too long.
+    /// After an `Err` the state is of no use.
     pub fn answer<S: Sink>(
         &mut self,
         alloc: Global,

@@ -17,7 +17,7 @@ pub fn report<S: Sink>(number: u64, event: &TraceEvent<'_>, sink: &mut S) -> Res
     sink.take(number, event)
 }
 
-/// Reports a line that says nothing, unless it is too long. It is not bad.
+/// Reports a line that says nothing, unless it is too long to keep. Answers false: such a line is not bad.
 pub fn report_skipped<S: Sink>(
     number: u64,
     line: Option<&[u8]>,

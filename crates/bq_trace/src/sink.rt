@@ -13,10 +13,10 @@ use std::alloc::AllocError;
 ///
 /// A `String` is a sink: it takes the lines that answer a trace.
 pub trait Sink {
-    /// What a sink is, once it has taken an event of the line of this number.
+    /// How a sink stands before an event and after it, with the number of its line.
     ghost takes: { Self → ℕ → Traced → Self → Type 0 };
 
-    /// Takes an event of the line of this number, from 1.
+    /// Takes an event. `number` is that of its line, from 1; 0 for a comment that a simulation puts above the trace.
     fn take(&mut self, number: u64, event: &TraceEvent<'_>) -> Result<(), AllocError>
         ensures { OnOk result (takes self.old number (event_of event.now) self.new) };
 }
@@ -24,16 +24,18 @@ pub trait Sink {
 impl Sink for String {
     ghost takes = { λ old n traced new. string_bytes new ≡ string_bytes old ++ text_of n traced };
 
+    // Inlined, so that no event is built where nothing reads it.
+    #[inline(always)]
     fn take(&mut self, number: u64, event: &TraceEvent<'_>) -> Result<(), AllocError> {
         match event {
             TraceEvent::Opened { .. } | TraceEvent::Skipped { .. } | TraceEvent::Comes { .. } => {
                 Ok(())
             }
             TraceEvent::Answered { answer, .. } => write_answer(self, answer),
-            TraceEvent::Unspelled => self.push_str("refused hex\n"),
-            TraceEvent::Unloaded { fault } => write_fault(self, *fault),
-            TraceEvent::Shown { processor, machine } => write_shown(self, *processor, machine),
-            TraceEvent::Counted { counter, value } => write_counter(self, *counter, *value),
+            TraceEvent::NotHex => self.push_str("refused hex\n"),
+            TraceEvent::NotLoaded { fault } => write_fault(self, *fault),
+            TraceEvent::ProcessorAsked { processor, machine } => write_shown(self, *processor, machine),
+            TraceEvent::CounterRead { counter, value } => write_counter(self, *counter, *value),
             TraceEvent::Bad { .. } => write_bad(self, number),
         }
     }

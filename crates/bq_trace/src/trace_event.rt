@@ -13,7 +13,7 @@ pub enum TraceEvent<'a> {
         rule: Rule,
         size: ProcessorCount,
     },
-    /// The line says nothing: it has no words, or is a comment.
+    /// The line says nothing: it has no words, or is a comment. A comment too long to keep is not reported.
     Skipped {
         line: &'a [u8],
     },
@@ -22,29 +22,29 @@ pub enum TraceEvent<'a> {
         event: &'a Event,
         machine: &'a AnyCore,
     },
-    /// It was done in the machine, or refused.
+    /// The event of the last `Comes` was done or refused; `machine` is as it is after it.
     Answered {
         event: &'a Event,
         answer: &'a Result<Reply, Refusal>,
         machine: &'a AnyCore,
     },
     /// The word of an image is not hex.
-    Unspelled,
+    NotHex,
     /// An image does not load.
-    Unloaded {
+    NotLoaded {
         fault: LoadFault,
     },
-    /// A processor is to be shown, which the machine may not have.
-    Shown {
+    /// A processor is asked for. The machine may not have it.
+    ProcessorAsked {
         processor: u8,
         machine: &'a AnyCore,
     },
     /// A counter has this value.
-    Counted {
+    CounterRead {
         counter: u8,
         value: u64,
     },
-    /// The line is bad. A line that is too long is not kept.
+    /// The line is bad. `None`: it is too long to keep.
     Bad {
         line: Option<&'a [u8]>,
     },

@@ -5,4 +5,4 @@ use Rattle.bq_experiment.proofs.running.write_timeline.Goals as goal
 
 pub returns-in-Err-clause-fault : goal.returns-in-Err-clause-fault
 returns-in-Err-clause-fault g c =
-    IsStopped-by (IsNoEnd c.args.policies.now.loaded c.args.workload.now c.args.run.now.left) c.in-Err.fault c.stopped.result _ c.in-Err.ensures.fault c.stopped.ensures
+    IsStopped-by (IsNoEnd c.args.policies.now.loaded c.args.workload.now c.args.run.now.left) c.in-Err.fault c.write_rest.result _ c.in-Err.ensures.fault c.write_rest.ensures

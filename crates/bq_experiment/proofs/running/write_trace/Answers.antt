@@ -13,7 +13,7 @@ pub returns-in-Ok-write_text-clause-written : goal.returns-in-Ok-write_text-clau
 returns-in-Ok-write_text-clause-written g c =
     let contents = g.W.Write.contents in
     let policies = c.args.policies.now in
-    run_written contents c.args.run.now c.tell_run.new.sink (contents (inner_of c.write_text.new.self.output)) c.args.workload.now policies.loaded (image_for policies.images)
+    run_written contents c.args.run.now c.simulate_before.new.sink (contents (inner_of c.write_text.new.self.output)) c.args.workload.now policies.loaded (image_for policies.images)
     c.requires.empty c.requires.images c.in-Ok.ensures.of_images c.in-Ok.ensures.sound c.in-Ok.ensures.wants c.in-Ok.ensures.told c.in-Ok-write_text.ensures.added
 
 -- where the limit was passed, more came
@@ -25,5 +25,5 @@ returns-in-Err-clause-fault g c =
     let said = c.in-Err.ensures in
     let longer : c.in-Err.fault ≡ Enough → IsLonger policies w old.left = λ enough.
     let got = said.enough enough in
-    longer_named (TakesRun g.W.Write.contents) old c.tell_run.new.sink policies w got.0 c.requires.over got.1.0 got.1.1 in
-    IsStopped-by (IsNoEnd policies w old.left) c.in-Err.fault c.stopped.result _ (said.flaw, longer) c.stopped.ensures
+    longer_named (TakesRun g.W.Write.contents) old c.simulate_before.new.sink policies w got.0 c.requires.over got.1.0 got.1.1 in
+    IsStopped-by (IsNoEnd policies w old.left) c.in-Err.fault c.write_rest.result _ (said.flaw, longer) c.write_rest.ensures

@@ -24,7 +24,7 @@ returns g c =
 
 pub returns-in-Ok-load : goal.returns-in-Ok-load
 returns-in-Ok-load g c =
-    let done = c.in_ok-happen-in-Ok-load.ensures in
+    let done = c.in_ok-perform-in-Ok-load.ensures in
     let bytes = c.in-Ok.bytes.items in
     let spelled : decode_of c.args.installation.image ≡ Ok bytes = ap decode_of (sym c.as_bytes.ensures) ∙ c.in-Ok.ensures.ok in
     let loads = subst (Loads bytes) (sym c.in_ok-new-in-Ok-load.ensures) (subst (λ xs. Loads xs c.in-Ok-load.program) c.as_slice.ensures.value c.in-Ok-load.ensures.loaded) in

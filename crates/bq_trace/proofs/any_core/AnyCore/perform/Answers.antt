@@ -3,7 +3,7 @@ use Rattle.bq_parts.specs.declared.refusal.Refusal.TheVariants as no
 use Rattle.bq_trace.specs.TraceEvents.{Comes, Answered}
 use Rattle.bq_trace.specs.Telling.{Happens}
 use Rattle.bq_trace.proofs.TakingLemmas.{gets_two}
-use Rattle.bq_trace.proofs.any_core.AnyCore.happen.Goals as goal
+use Rattle.bq_trace.proofs.any_core.AnyCore.perform.Goals as goal
 
 pub returns : goal.returns
 returns g c =

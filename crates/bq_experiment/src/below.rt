@@ -1,4 +1,4 @@
-//! Lines that stand further below.
+//! A viewer below the comments that begin a trace.
 ghost use Rattle.std.specs.Prelude.{◌≡◌};
 ghost use Rattle.bq_timeline.specs.Timelines.{Keeps};
 
@@ -6,15 +6,14 @@ use bq_timeline::viewer::Viewer;
 use bq_trace::{Sink, TraceEvent};
 use std::alloc::AllocError;
 
-/// A viewer that gets each line with the number that it has below some others: those with the tasks' names, which stand
-/// above all in a trace.
+/// A viewer whose line numbers are raised by the comments that name the tasks, since those begin a trace.
 #[derive(Drop)]
-pub struct Later {
+pub struct Below {
     pub viewer: Viewer,
     pub above: u64,
 }
 
-impl Sink for Later {
+impl Sink for Below {
     ghost takes = { λ old n traced new. (new.above ≡ old.above) × Keeps old.viewer traced new.viewer };
 
     fn take(&mut self, number: u64, event: &TraceEvent<'_>) -> Result<(), AllocError> {
