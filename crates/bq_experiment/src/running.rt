@@ -14,8 +14,8 @@ ghost use Rattle.bq_experiment.specs.Views.{AreNotesOf, IsViewed};
 ghost use Rattle.bq_experiment.specs.declared.asked.ShownAs.TheVariants as shown_as;
 
 use crate::asked::ShownAs;
-use crate::fault::RunFault;
 use crate::below::Below;
+use crate::fault::RunFault;
 use crate::limited::Limited;
 use crate::names::{show_names, tell_names};
 use crate::passing::Passing;

@@ -1,8 +1,8 @@
 -- Two tasks that stay at a processor of the world where only the discipline decides are served in proportion.
 use Rattle.std.proofs.Common.{◌≡◌, ℕ, ◌+◌, ◌<◌, ◌≤◌, List, [], ◌∷◌, Result, ap, subst, ◌∙◌, arith}
-use Rattle.std.specs.Prelude.{◌^◌, max, All, Ok, Err}
+use Rattle.std.specs.Prelude.{max, All, Ok, Err}
 use Rattle.std.proofs.lemmas.List.{length-replicate}
-use Rattle.bq_weights.specs.VirtualTime.{IsWeight, vdelta_of, held_within}
+use Rattle.bq_weights.specs.VirtualTime.{vdelta_of, held_within}
 use Rattle.bq_disc.specs.Tasks.{Task}
 use Rattle.bq_disc.specs.Totals.{IsBounded}
 use Rattle.bq_disc.specs.Discipline.{Discipline, charged, woken, pulled}

@@ -1,17 +1,16 @@
 -- A copy of a copy is a copy.
-use Rattle.std.proofs.Common.{◌≡◌, ℕ, ◌+◌, ◌<◌, ◌≤◌, Bool, true, false, List, Option, Some, None, length, map, get_or, refl, arith, sym, ap, ◌∙◌, subst, ◌⊎◌, inl, inr, ℤ, pos}
+use Rattle.std.proofs.Common.{◌≡◌, ℕ, ◌+◌, Bool, true, false, List, Option, Some, length, map, get_or, refl, arith, sym, ap, ◌∙◌, subst, ℤ}
 use Rattle.std.specs.Prelude.{slice_index, nat_le, nat_lt, ◌&&◌}
 use Rattle.std.proofs.lemmas.List.{get_or-map}
 use Rattle.bq_insn.specs.declared.Insn.{Insn}
 use Rattle.bq_insn.specs.declared.Insn.TheVariants.{Alu, MovSx, Neg, End, Load, StoreImm, StoreReg, Imm64, MapRef, Goto, Goto32, Branch, Call, Exit}
 use Rattle.bq_insn.specs.Slots.{slots_of}
 use Rattle.bq_bpf.specs.Memory.{reference}
-use Rattle.bq_bpf.specs.Steps.{LeadsTo, instruction_at}
 use Rattle.bq_bpf.specs.Instructions.{distance_of, goes_on}
 use Rattle.bq_verify.specs.Edges.{IsStart}
-use Rattle.bq_insn.proofs.OptionLemmas.{some_same, some_none}
+use Rattle.bq_insn.proofs.OptionLemmas.{some_same}
 use Rattle.bq_verify.proofs.EdgeLemmas.{leads_same, start_inside}
-use Rattle.bq_import.specs.Copies.{AreComposed, IsCopy, IsCopyAt, JumpsAlike, Stands, copied, is_reference, wide_copy}
+use Rattle.bq_import.specs.Copies.{AreComposed, IsCopy, IsCopyAt, Stands, copied, is_reference, wide_copy}
 use Rattle.bq_import.proofs.PathLemmas.{copy_has_shape}
 
 -- beside no maps no number is a reference

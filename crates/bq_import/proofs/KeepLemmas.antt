@@ -1,26 +1,23 @@
 -- What control comes to of a program whose jumps go forward, each instruction once.
-use Rattle.std.proofs.Common.{◌≡◌, ℕ, zero, suc, ◌+◌, ◌-◌, ◌<◌, ◌≤◌, ◌≢◌, Bool, true, false, List, [], ◌∷◌, ◌++◌, length, replicate, Option, Some, None, refl, arith, sym, ap, ◌∙◌, subst, ◌⊎◌, inl, inr, ℤ, reverse}
-use Rattle.std.specs.Prelude.{slice_index, slice_set}
-use Rattle.std.proofs.lemmas.List.{get_or-set_same, get_or-set_other, length-set, length-reverse}
+use Rattle.std.proofs.Common.{◌≡◌, ℕ, zero, suc, ◌+◌, ◌-◌, ◌<◌, ◌≤◌, ◌≢◌, Bool, true, false, List, [], ◌∷◌, ◌++◌, length, replicate, Option, Some, None, refl, arith, sym, ap, ◌∙◌, subst, ◌⊎◌, inl, inr}
+use Rattle.std.specs.Prelude.{slice_set}
+use Rattle.std.proofs.lemmas.List.{get_or-set_same, get_or-set_other, length-set}
 use Rattle.bq_insn.specs.declared.Insn.{Insn}
 use Rattle.bq_insn.specs.Slots.{slots_of, spread}
 use Rattle.bq_bpf.specs.Steps.{instruction_at}
-use Rattle.bq_bpf.specs.Instructions.{distance_of, goes_on}
 use Rattle.bq_verify.specs.Edges.{IsEdge, IsStart}
 use Rattle.bq_verify.specs.Paths.{Path}
 use Rattle.bq_verify.specs.Passes.{IsOf}
 use Rattle.bq_verify.specs.declared.edges.Targets.{Targets}
 use Rattle.bq_insn.proofs.OptionLemmas.{some_same, some_none}
-use Rattle.bq_insn.proofs.CountLemmas.{slots_positive}
 use Rattle.bq_verify.proofs.EdgeLemmas.{start_inside, IsPath-push, end_of-push}
-use Rattle.bq_verify.proofs.SpreadLemmas.{one_or_two}
-use Rattle.bq_import.specs.Copies.{Stands, IsCopy}
+use Rattle.bq_import.specs.Copies.{Stands}
 use Rattle.bq_import.specs.Backward.{IsBuilt, IsFront, IsLengthened, IsOneMore}
 use Rattle.bq_import.specs.Faults.{AllForward, HasGaps, IsFull, IsLinked}
 use Rattle.bq_import.specs.declared.fault.Disorder.{Disorder}
 use Rattle.bq_import.specs.declared.fault.Disorder.TheVariants.{Outside, Ends, Loop, Long, OutOfMemory}
 use Rattle.bq_import.specs.Search.{AreKnown, AreTargets, IsDone, IsReady, is_open, place_at}
-use Rattle.bq_import.specs.Keeping.{AllReached, AreFollowed, AreReached, HasRoom, IsKeeping, IsMarked}
+use Rattle.bq_import.specs.Keeping.{AreFollowed, AreReached, IsKeeping, IsMarked}
 use Rattle.bq_import.proofs.RoomLemmas.{lies_within}
 
 same_or_not : (a b : ℕ) → (a ≡ b) ⊎ (a ≢ b)

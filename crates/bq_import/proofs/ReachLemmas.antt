@@ -1,5 +1,5 @@
 -- Where control goes, and that a copy of what control comes to has nothing else.
-use Rattle.std.proofs.Common.{◌≡◌, ℕ, ◌+◌, ◌-◌, ◌<◌, ◌≤◌, Bool, true, false, List, Option, Some, None, length, reverse, refl, arith, sym, ap, ◌∙◌, subst, ◌⊎◌, inl, inr, ℤ}
+use Rattle.std.proofs.Common.{◌≡◌, ℕ, ◌+◌, ◌-◌, ◌<◌, ◌≤◌, Bool, true, List, Option, Some, None, length, reverse, refl, arith, sym, ap, ◌∙◌, subst, ◌⊎◌, inl, inr, ℤ}
 use Rattle.std.specs.Prelude.{slice_index}
 use Rattle.std.proofs.lemmas.List.{length-reverse}
 use Rattle.bq_insn.specs.declared.Insn.{Insn}
@@ -7,17 +7,16 @@ use Rattle.bq_insn.specs.Laws.{AllFit}
 use Rattle.bq_insn.specs.Slots.{slots_of, spread}
 use Rattle.bq_insn.specs.Spelling.{is_well_formed}
 use Rattle.bq_bpf.specs.Steps.{LeadsTo, instruction_at}
-use Rattle.bq_bpf.specs.Instructions.{distance_of, goes_on}
-use Rattle.bq_verify.specs.Edges.{IsEdge, IsStart}
-use Rattle.bq_verify.specs.Paths.{Path, end_of}
+use Rattle.bq_bpf.specs.Instructions.{distance_of}
+use Rattle.bq_verify.specs.Paths.{end_of}
 use Rattle.bq_verify.specs.declared.edges.Targets.{Targets}
 use Rattle.bq_insn.proofs.OptionLemmas.{some_same, some_none}
-use Rattle.bq_verify.proofs.EdgeLemmas.{edge_inside, start_inside}
+use Rattle.bq_verify.proofs.EdgeLemmas.{start_inside}
 use Rattle.bq_verify.proofs.SlotLemmas.{few_slots}
 use Rattle.bq_import.specs.Copies.{IsCopy, Stands, copied}
-use Rattle.bq_import.specs.Backward.{IsBuilt, IsFront}
+use Rattle.bq_import.specs.Backward.{IsFront}
 use Rattle.bq_import.specs.Faults.{AllForward, IsDisorder, IsLinked, IsSearchFault, LeadsWell}
-use Rattle.bq_import.specs.Search.{AreTargets, is_open, place_at}
+use Rattle.bq_import.specs.Search.{AreTargets}
 use Rattle.bq_import.specs.Keeping.{AllReached, AreReached, IsKeeping, LeadsForward}
 use Rattle.bq_import.specs.declared.fault.Disorder.{Disorder}
 use Rattle.bq_import.specs.declared.fault.Disorder.TheVariants.{Outside, Ends, Loop, Long, OutOfMemory}

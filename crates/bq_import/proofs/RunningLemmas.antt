@@ -1,5 +1,5 @@
 -- A run of instructions that is put in front from its end.
-use Rattle.std.proofs.Common.{◌≡◌, ℕ, zero, suc, ◌+◌, ◌<◌, ◌≤◌, true, List, length, Option, Some, None, refl, arith, sym, ap, ◌∙◌, subst, ◌⊎◌, inl, inr}
+use Rattle.std.proofs.Common.{◌≡◌, ℕ, zero, suc, ◌+◌, ◌<◌, ◌≤◌, List, length, Option, Some, None, refl, arith, sym, ap, ◌∙◌, subst, ◌⊎◌, inl, inr}
 use Rattle.bq_insn.specs.declared.Insn.{Insn}
 use Rattle.bq_insn.specs.Slots.{slots_of}
 use Rattle.bq_bpf.specs.Steps.{instruction_at}
@@ -9,7 +9,6 @@ use Rattle.bq_insn.proofs.OptionLemmas.{some_same, some_none}
 use Rattle.bq_insn.proofs.CountLemmas.{slots_positive}
 use Rattle.bq_verify.specs.declared.edges.Targets.{Targets}
 use Rattle.bq_import.specs.declared.fault.Disorder.{Disorder}
-use Rattle.bq_import.specs.Copies.{Stands}
 use Rattle.bq_import.specs.Backward.{IsBuilt, IsFront, IsLengthened}
 use Rattle.bq_import.specs.Faults.{IsFull, IsLinked}
 use Rattle.bq_import.specs.Search.{AreClosed, AreTargets, IsNext, IsReady, Suffices, width_at, width_of}

@@ -1,8 +1,6 @@
 -- What control comes to in a program whose jumps go forward, and the copy of just that.
-use Rattle.std.specs.Prelude.{◌≡◌, ◌≢◌, ℕ, ◌+◌, ◌<◌, ◌≤◌, ◌⊎◌, Bool, true, List, Option, Some, None, length}
+use Rattle.std.specs.Prelude.{◌≡◌, ℕ, ◌+◌, ◌<◌, ◌≤◌, ◌⊎◌, Bool, true, List, Option, Some, length}
 use Rattle.bq_insn.specs.declared.Insn.{Insn}
-use Rattle.bq_insn.specs.Slots.{slots_of}
-use Rattle.bq_bpf.specs.Steps.{instruction_at}
 use Rattle.bq_verify.specs.Edges.{IsEdge, IsStart}
 use Rattle.bq_verify.specs.Paths.{Path}
 use Rattle.bq_import.specs.Copies.{Stands}

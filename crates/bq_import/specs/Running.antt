@@ -2,8 +2,7 @@
 use Rattle.std.specs.Prelude.{◌≡◌, ℕ, ◌+◌, ◌<◌, ◌≤◌, List, length, Option}
 use Rattle.bq_insn.specs.declared.Insn.{Insn}
 use Rattle.bq_verify.specs.Edges.{IsStart}
-use Rattle.bq_import.specs.Copies.{Stands}
-use Rattle.bq_import.specs.Backward.{IsBuilt, IsFront, IsLengthened, Keeps}
+use Rattle.bq_import.specs.Backward.{IsBuilt, IsFront, Keeps}
 use Rattle.bq_import.specs.Lengths.{run_at}
 use Rattle.bq_import.specs.Search.{IsNext, IsReady, width_at}
 

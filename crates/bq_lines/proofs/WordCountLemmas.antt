@@ -1,5 +1,5 @@
 -- A text's words are its first one and those behind it.
-use Rattle.std.proofs.Common.{◌≡◌, ℕ, List, [], ◌∷◌, Option, Some, None, refl}
+use Rattle.std.proofs.Common.{◌≡◌, ℕ, List, [], ◌∷◌, refl}
 use Rattle.std.specs.Option.{option_map}
 use Rattle.bq_lines.specs.Lines.{one_of, two_of, three_of, four_of}
 

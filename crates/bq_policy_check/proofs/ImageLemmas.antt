@@ -1,5 +1,5 @@
 -- The image of a policy by the head and the limits that words say.
-use Rattle.std.proofs.Common.{ℕ, List, Option, Some, None, inl, inr}
+use Rattle.std.proofs.Common.{ℕ, List, Option, Some, None, inr}
 use Rattle.std.specs.Prelude.{MatchOption}
 use Rattle.std.specs.declared.alloc.Global.{Global}
 use Rattle.std.specs.declared.vec.Vec.{Vec}

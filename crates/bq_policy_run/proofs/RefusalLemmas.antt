@@ -1,5 +1,5 @@
 -- Words that make no step.
-use Rattle.std.proofs.Common.{◌≡◌, ◌≢◌, ℕ, ◌<◌, ◌≤◌, ◌^◌, List, [], ◌∷◌, length, get_or, Option, Some, Ok, true, codes, inl, inr, refl, sym, subst, ap, ◌∙◌, arith, slice_get, slice_set, IfNone, None, String, string_bytes}
+use Rattle.std.proofs.Common.{◌≡◌, ◌≢◌, ℕ, ◌<◌, ◌≤◌, ◌^◌, List, length, get_or, Option, Some, Ok, true, codes, inl, inr, refl, sym, subst, ap, ◌∙◌, arith, slice_get, slice_set, IfNone, None, String, string_bytes}
 use Rattle.std.specs.declared.alloc.Global.{Global}
 use Rattle.std.specs.Int.{bytes_low_first}
 use Rattle.std.specs.Option.{option_zip}

@@ -118,8 +118,7 @@ comes_later end now time a (Pull processor) early h comes = look_comes end now t
 pub nothing_is_missed : NothingIsMissed
 nothing_is_missed end now time a due early h next =
     let c : Comes now time end = comes_later end now time a due early h next.comes in
-    let first : (other : Due) (x : ℕ) → comes_at end a other ≡ until end x → time ≤ x = λ other x is. next_first end time x a due other next c.until early is in
-    (
+    let first : (other : Due) (x : ℕ) → comes_at end a other ≡ until end x → time ≤ x = λ other x is. next_first end time x a due other next c.until early is in (
       c.later,
       c.until,
       record {

@@ -163,16 +163,15 @@ drain_kept d periods w v a to now calls r h step =
     let size : more.size ≡ size_of q = omega (arith, size_there w a to l.0 m l.1, counted, ap size_of is, ap (λ (y : Processor). tally each (present_at y.running)) is, tally_length (present_at q.running), tally-decided each d entered entered.current (settled.choice == 1) refl, tally-enter_all each d c.running tasks, tally-charge each d p.running now, tally_length (present_at p.running), tally_length tasks) in
     let form : World = with_inbox (with_processor w to q) to [] in
     let low' : to < length w.inboxes = omega (arith, h.low, h.orderly.even) in
-    let runs_as = runs_written w a b to q run more.size m h.low reads (ap runs_now k.1.3) size in
-    (
+    let runs_as = runs_written w a b to q run more.size m h.low reads (ap runs_now k.1.3) size in (
       counted ∙ ap length h.comes,
       agree_after (policies d) w form v (Drain to now) calls r b h.orderly step k.2 h.entries
-      (record {
-        hands = at_set (λ n (z : Processor). z.hand ≡ None) w.processors to q opening (ap (λ (z : Processor). z.hand) is ∙ h.hands to) h.hands;
-        inboxes = at_set_else (λ n (ts : List Task). ts ≡ []) w.inboxes to [] [] low' refl h.inboxes;
-      })
-      (record { tasks = tasks_kept w a b reads.states h.mirrors.tasks; processors = record { many = runs_as.many; runs = runs_as.runs; sizes = runs_as.sizes } })
-      (homes_switched (count_in w) to run now periods mid h.low h.homes),
+          (record {
+            hands = at_set (λ n (z : Processor). z.hand ≡ None) w.processors to q opening (ap (λ (z : Processor). z.hand) is ∙ h.hands to) h.hands;
+            inboxes = at_set_else (λ n (ts : List Task). ts ≡ []) w.inboxes to [] [] low' refl h.inboxes;
+          })
+          (record { tasks = tasks_kept w a b reads.states h.mirrors.tasks; processors = record { many = runs_as.many; runs = runs_as.runs; sizes = runs_as.sizes } })
+          (homes_switched (count_in w) to run now periods mid h.low h.homes),
     )
 
 -- a hand that holds a task is not empty

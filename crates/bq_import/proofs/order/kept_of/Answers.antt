@@ -1,4 +1,4 @@
-use Rattle.std.proofs.Common.{◌≡◌, ℕ, List, Option, length, subst, sym, ap, ◌∙◌}
+use Rattle.std.proofs.Common.{ℕ, List, Option, subst, sym, ap, ◌∙◌}
 use Rattle.bq_insn.specs.declared.Insn.{Insn}
 use Rattle.bq_insn.specs.Slots.{spread}
 use Rattle.bq_import.specs.Copies.{AreComposed, IsCopy}

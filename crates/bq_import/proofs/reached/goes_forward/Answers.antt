@@ -1,4 +1,4 @@
-use Rattle.std.proofs.Common.{arith, below_more, refl}
+use Rattle.std.proofs.Common.{arith, below_more}
 use Rattle.bq_verify.proofs.EdgeLemmas.{edge_inside}
 use Rattle.bq_import.proofs.reached.goes_forward.Goals as goal
 

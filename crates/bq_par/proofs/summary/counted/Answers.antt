@@ -1,4 +1,4 @@
-use Rattle.std.proofs.Common.{◌≡◌, map, length, arith, sym, ap, ◌∙◌}
+use Rattle.std.proofs.Common.{◌≡◌, map, sym, ap, ◌∙◌}
 use Rattle.std.specs.List.{sum_by}
 use Rattle.bq_par.specs.Ticks.{one_tick, ticks_in}
 use Rattle.bq_par.proofs.CountLemmas.{total_map}

@@ -1,7 +1,5 @@
-use Rattle.std.proofs.Common.{◌≡◌, Option, Some, None, inl, inr, List, ℕ}
+use Rattle.std.proofs.Common.{inl}
 use Rattle.std.proofs.lemmas.Result.{IfOk-weaker}
-use Rattle.std.specs.Prelude.{MatchOption}
-use Rattle.bq_policy_check.specs.Accepting.{HasNoImage, IsAcceptedImage, IsImageUnder, IsNoImage}
 use Rattle.bq_policy_check.specs.Checking.{SaysTerms}
 use Rattle.bq_policy_check.proofs.ImageLemmas.{by_terms}
 use Rattle.bq_console.proofs.SayingLemmas.{said_none}

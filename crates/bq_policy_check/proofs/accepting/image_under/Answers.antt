@@ -1,4 +1,4 @@
-use Rattle.std.proofs.Common.{◌≡◌, ◌∙◌, inr, sym}
+use Rattle.std.proofs.Common.{◌∙◌, inr, sym}
 use Rattle.bq_policy_check.proofs.accepting.image_under.Goals as goal
 
 pub returns-then-not-is_accepted : goal.returns-then-not-is_accepted

@@ -1,4 +1,4 @@
-use Rattle.std.proofs.Common.{rules, ◌≡◌, ◌≤◌, ◌<◌, ◌+◌, ℕ, arith, subst, sym}
+use Rattle.std.proofs.Common.{rules, ◌≡◌, ◌<◌, ◌+◌, arith, subst, sym}
 use Rattle.bq_verify.specs.Subjects.{judged}
 use Rattle.bq_verify.specs.Control.{IsKnown}
 use Rattle.bq_verify.specs.declared.refused.Refused.TheVariants.{OutOfMemory}

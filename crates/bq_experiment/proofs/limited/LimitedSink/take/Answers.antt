@@ -1,5 +1,5 @@
 -- Unless the limit is passed, what comes is passed on.
-use Rattle.std.proofs.Common.{sym, subst}
+use Rattle.std.proofs.Common.{subst}
 use Rattle.std.specs.Prelude.{OnOk}
 use Rattle.bq_trace.specs.Borrowed.{event_of}
 use Rattle.bq_experiment.proofs.LimitLemmas.{OnOk-passes, passes_nothing}

@@ -1,4 +1,4 @@
-use Rattle.std.proofs.Common.{◌≡◌, ◌+◌, ◌-◌, ◌≤◌, ◌<◌, ℕ, arith, subst}
+use Rattle.std.proofs.Common.{◌≡◌, ◌+◌, ◌-◌, ℕ, arith, subst}
 use Rattle.std.proofs.lemmas.Result.{err_from_is_err_and}
 use Rattle.bq_import.specs.Running.{IsPutting}
 use Rattle.bq_import.proofs.RunningLemmas.{all_fits, all_put, first_full, first_put, fits_in, next_front, next_full, next_put}

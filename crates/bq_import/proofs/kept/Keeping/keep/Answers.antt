@@ -1,7 +1,5 @@
-use Rattle.std.proofs.Common.{◌≡◌, ◌+◌, ◌-◌, ◌≤◌, ℕ, List, Option, Some, false, true, arith, length, subst, sym, ◌∙◌}
+use Rattle.std.proofs.Common.{◌≡◌, ◌-◌, ℕ, Some, false, true, arith, length, subst, sym, ◌∙◌}
 use Rattle.std.specs.Prelude.{slice_set}
-use Rattle.bq_insn.specs.declared.Insn.{Insn}
-use Rattle.bq_insn.specs.Slots.{slots_of}
 use Rattle.bq_bpf.specs.Steps.{instruction_at}
 use Rattle.bq_import.specs.Search.{is_open}
 use Rattle.bq_import.specs.Keeping.{IsKeeping}

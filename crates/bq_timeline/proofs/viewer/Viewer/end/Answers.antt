@@ -1,5 +1,5 @@
 -- The notes stand behind those that were there when the form had begun.
-use Rattle.std.proofs.Common.{ℕ, List, ◌++◌, Option, ap, ◌∙◌, string_bytes}
+use Rattle.std.proofs.Common.{ℕ, ◌++◌, Option, ap, ◌∙◌, string_bytes}
 use Rattle.bq_schedule.specs.Figures.{Figures}
 use Rattle.bq_timeline.specs.Notes.{absent_notes, last_notes}
 use Rattle.bq_timeline.proofs.viewer.Viewer.end.Goals as goal
