@@ -42,7 +42,8 @@ pub record HasFaultyProgram (bytes : List ℕ) (slot : ℕ) (cause : Cause) : Ty
   pub framed : IsFramed bytes header program
   pub faulty : IsProgramFault program (At slot cause)
 
--- the first fault; of the program only its length
+-- the first fault: bytes that are cut or too many, of the program only its length, and else a field that is bad, which is Magic, Version,
+-- Hook or Shape (IsBadNext has no other)
 abbrev pub IsFault : List ℕ → LoadFault → Type 0
 IsFault bytes fault.Cut = IsCut bytes
 IsFault bytes fault.Rest = HasMore bytes

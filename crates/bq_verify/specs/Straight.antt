@@ -140,7 +140,9 @@ abbrev pub LeavesPointerIn : ValueKind → ℕ → Option Insn → Type 0
 LeavesPointerIn kind r None = ⊥
 LeavesPointerIn kind r (Some insn) = (spares r (Some insn) ≡ true) × LeavesPointer kind insn
 
--- the register is such a pointer at the slot: the slots back to where it was made have one way to each; the list has them, backwards
+-- the register is such a pointer at the slot: the slots back to where it was made have one way to each; the list has them, backwards.
+-- In `0: r1 = map 0; 2: r2 = r10; 3: r2 += -4; 4: call lookup; 5: if r0 == 0 goto +1; 6: ..` register 0 is an entry of map 0 at slot 6,
+-- by 5 (the side on which it is not 0), 4 (the answer of a look-up by r1), 3 and 2 (which leave r1 as it is) and 0 (which names the map)
 abbrev pub IsPointerFrom : List (Option Insn) → ValueKind → ℕ → ℕ → ℕ → List ℕ → Type 0
 IsPointerFrom slots kind o r slot [] = ⊥
 IsPointerFrom slots kind o r slot (before ∷ back) =
