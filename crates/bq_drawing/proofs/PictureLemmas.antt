@@ -72,7 +72,7 @@ row_added s number top row waits wakes old t1 t2 t3 new first second e1 e2 e3 e4
       row_text s number top row.runs waits wakes,
       record { top = top; waits = waits; wakes = wakes; waits_in_order = first; wakes_in_order = second; whole = refl },
       all_added old t1 t2 new (band_text top ++ row_name number top) drawn (below ++ above) e1 e2 (both_added t2 t3 new below above e3 e4)
-      ∙ ap (λ t. old ++ t) (append_assoc (band_text top) (row_name number top) (drawn ++ (below ++ above))),
+          ∙ ap (λ t. old ++ t) (append_assoc (band_text top) (row_name number top) (drawn ++ (below ++ above))),
     )
 
 -- one more of some shapes that stand one after another
@@ -177,7 +177,7 @@ picture_at_end held between last s names e old new first second runs waits over 
     let roster : last.roster ≡ held.roster = ap (λ (v : Svg). v.roster) second ∙ ap (λ (v : Svg). v.roster) first in
     let own : Adds (IsPicture held.window (drawn_in e held.roster names) last.drawing) old new
     = subst (λ r. Adds (IsPicture held.window (drawn_in e r names) last.drawing) old new) roster
-      (subst (λ w. Adds (IsPicture w (drawn_in e last.roster names) last.drawing) old new) window added) in (
+    (subst (λ w. Adds (IsPicture w (drawn_in e last.roster names) last.drawing) old new) window added) in (
       own.0,
       record {
         running = between.drawing;

@@ -34,7 +34,9 @@ impl Sink for String {
             TraceEvent::Answered { answer, .. } => write_answer(self, answer),
             TraceEvent::NotHex => self.push_str("refused hex\n"),
             TraceEvent::NotLoaded { fault } => write_fault(self, *fault),
-            TraceEvent::ProcessorAsked { processor, machine } => write_shown(self, *processor, machine),
+            TraceEvent::ProcessorAsked { processor, machine } => write_shown(
+                self, *processor, machine,
+            ),
             TraceEvent::CounterRead { counter, value } => write_counter(self, *counter, *value),
             TraceEvent::Bad { .. } => write_bad(self, number),
         }
