@@ -1,8 +1,8 @@
-//! Any command, on the files that its words name, to the exit status.
+//! What the words after the program's name ask, to the exit status.
 
 use crate::asm::do_asm;
 use crate::check::{do_check, is_plain_check};
-use crate::command::Command;
+use crate::command::{Command, job};
 use crate::dis::{do_dis, is_plain_dis};
 use crate::import::do_import;
 use crate::performing::perform;
@@ -25,9 +25,22 @@ use std::thread::Threads;
 /// What is said of an empty trace.
 const EMPTY: &str = with_first_line!("bqsim: the trace is empty: ", "");
 
-/// Does a command: reads the files that its words name, or standard input, and writes to standard output. A fault says that a value
-/// among the words is not of its kind, and then nothing was read.
-pub fn execute<T: Threads + Wait + Sync>(
+/// Does what the words after the program's name ask: a command on the files that they name, or on standard input, to standard output. A
+/// fault says what is wrong with the words, and then nothing was read; or it is the help that they ask for. The version goes to standard
+/// output: it is no refusal and no help.
+pub fn run<T: Threads + Wait + Sync>(
+    rt: &HostRuntime,
+    threads: &T,
+    words: &[&str],
+) -> Result<ExitCode, WordsFault> {
+    match words {
+        ["--version" | "-V"] => Ok(write_version(rt)),
+        words => execute(rt, threads, &job(rt.alloc(), words)?),
+    }
+}
+
+/// Does a command: reads the files that its words name, or standard input, and writes to standard output.
+fn execute<T: Threads + Wait + Sync>(
     rt: &HostRuntime,
     threads: &T,
     command: &Command,
@@ -70,7 +83,7 @@ pub(crate) fn perform_from<T: Threads + Wait + Sync, R: Read + Drop>(
 }
 
 /// Writes the version of the program.
-pub fn write_version(rt: &HostRuntime) -> ExitCode {
+fn write_version(rt: &HostRuntime) -> ExitCode {
     match format!(in rt.alloc(); "bqsim {VERSION}\n") {
         Ok(line) => written(rt, line.as_str(), ExitCode::SUCCESS),
         Err(_) => say_out_of_memory(rt),

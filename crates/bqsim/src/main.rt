@@ -1,7 +1,7 @@
 //! bqsim: does what its words ask, from a file or standard input to standard output.
 #![tactic(auto)]
 
-use bq_cli::{execute, job, write_version};
+use bq_cli::run;
 use bq_console::{WordsFault, as_texts, given_words, say_refused};
 use std::process::ExitCode;
 use std::sync::Wait;
@@ -14,12 +14,9 @@ fn main(rt: HostRuntime) -> ExitCode {
     }
 }
 
-/// Does what the words after the program's name ask. The version goes to standard output: it is no refusal and no help.
+/// Does what the words after the program's name ask.
 fn done<T: Threads + Wait + Sync>(rt: &HostRuntime, threads: &T) -> Result<ExitCode, WordsFault> {
     let given = given_words(rt)?;
     let words = as_texts(rt.alloc(), &given)?;
-    match words.as_slice() {
-        ["--version" | "-V"] => Ok(write_version(rt)),
-        words => execute(rt, threads, &job(rt.alloc(), words)?),
-    }
+    run(rt, threads, words.as_slice())
 }
