@@ -28,7 +28,7 @@ const EMPTY: &str = with_first_line!("bqsim: the trace is empty: ", "");
 /// Does what the words after the program's name ask: a command on the files that they name, or on standard input, to standard output. A
 /// fault says what is wrong with the words, and then nothing was read; or it is the help that they ask for. The version goes to standard
 /// output: it is no refusal and no help.
-pub fn run<T: Threads + Wait + Sync>(
+pub fn do_command<T: Threads + Wait + Sync>(
     rt: &HostRuntime,
     threads: &T,
     words: &[&str],

@@ -1,6 +1,6 @@
 //! The commands of bqsim, one file each, from the words after the program's name to the exit status.
 //! Promises that words ask for what clap finds in them by the one table of commands (`job`), and what is read and written for an
-//! assembler text, a program's hex, threads of processors and a trace (`perform`). `run` does any command on its files.
+//! assembler text, a program's hex, threads of processors and a trace (`perform`). `do_command` does any command on its files.
 //! Stands on the crates that answer: bq_policy_check, bq_policy_run, bq_import, bq_par, bq_trace, bq_timeline, bq_comparison.
 #![tactic(auto)]
 
@@ -27,5 +27,5 @@ pub use bq_console::{WordsFault as JobFault, exit_status};
 pub use bq_streams::Counted;
 pub use bq_trace::{ReplayFault, Session, replay};
 pub use command::{Command, job};
-pub use dispatch::run;
+pub use dispatch::do_command;
 pub use performing::perform;

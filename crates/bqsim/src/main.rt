@@ -1,7 +1,7 @@
 //! bqsim: does what its words ask, from a file or standard input to standard output.
 #![tactic(auto)]
 
-use bq_cli::run;
+use bq_cli::do_command;
 use bq_console::{WordsFault, as_texts, given_words, say_refused};
 use std::process::ExitCode;
 use std::sync::Wait;
@@ -18,5 +18,5 @@ fn main(rt: HostRuntime) -> ExitCode {
 fn done<T: Threads + Wait + Sync>(rt: &HostRuntime, threads: &T) -> Result<ExitCode, WordsFault> {
     let given = given_words(rt)?;
     let words = as_texts(rt.alloc(), &given)?;
-    run(rt, threads, words.as_slice())
+    do_command(rt, threads, words.as_slice())
 }
