@@ -204,7 +204,7 @@ impl Simulation {
             if sink.has_enough() {
                 return Ok(());
             }
-            let Some((now, due)) = self.roster.first()? else {
+            let Some((now, due)) = self.roster.first() else {
                 return Ok(());
             };
             if now < last || now > end {

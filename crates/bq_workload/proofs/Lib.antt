@@ -9,4 +9,5 @@ pub mod LogarithmLemmas
 pub mod MaskLemmas
 pub mod OverLemmas
 pub mod SoundLemmas
+pub mod StrayLemmas
 pub mod TreeLemmas

@@ -3,7 +3,7 @@ use Rattle.std.proofs.Common.{◌≡◌, ◌≢◌, ℕ, zero, suc, ◌+◌, ◌
 use Rattle.std.proofs.lemmas.Grind.{get_or_default_zero, get_or-set_at}
 use Rattle.std.proofs.lemmas.List.{get_or-replicate, get_or-set_other}
 use Rattle.std.proofs.lemmas.Bool.{cases_lt, cases_eq}
-use Rattle.bq_workload.specs.Minima.{IsLess, HasMinima, HasOtherMinima, HasPlaces, IsFirst, AreNever, never}
+use Rattle.bq_workload.specs.Minima.{IsLess, HasMinima, HasOtherMinima, HasPlaces, HasSpareLeaves, IsFirst, AreNever, never}
 
 -- a number is one of the two below its half
 pub below-half : (k : ℕ) → (k ≡ 2 * (k / 2)) ⊎ (k ≡ 2 * (k / 2) + 1)
@@ -84,6 +84,13 @@ first-due xs m places due =
       taken = let e : get_or xs (2048 + get_or xs 1 0 % 2048) 0 ≡ get_or xs (2048 + leaf.0) 0 = ap (λ i. get_or xs (2048 + i) 0) stand in omega (arith, e, leaf.2);
       bound = λ other h. let up : get_or xs 1 0 ≤ get_or xs (2048 + other) 0 = root-bounds 4096 (2048 + other) xs m (omega arith) (omega arith) (omega arith) in omega (arith, up);
     }
+
+-- what is due first has a place, and no spare leaf
+pub first-place : (xs : List ℕ) (time place : ℕ) → HasPlaces xs → HasSpareLeaves xs → time * 2048 + place ≢ never → IsFirst xs time place → place < 1216
+first-place xs time place places spare due first = elim (cases_lt place 1216) [
+  | inl low ↦ low
+  | inr high ↦ absurd (due (sym first.taken ∙ spare place high first.within))
+]
 
 -- what stands inside a list is the same whatever would stand outside
 pub same-number : (xs : List ℕ) (n : ℕ) → 1 < length xs → n ≡ get_or xs 1 n → n ≡ get_or xs 1 0

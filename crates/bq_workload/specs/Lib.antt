@@ -8,6 +8,7 @@ pub mod Dues
 pub mod Minima
 pub mod Plans
 pub mod Next
+pub mod Strays
 pub mod Kinds
 pub mod Bounds
 pub mod Soundness

@@ -1,5 +1,5 @@
 -- A tree of least numbers, written level by level: what is at k is the less of what is at 2k and at 2k + 1. The
--- leaves stand from 2048 on: one for each place of what may come due.
+-- leaves stand from 2048 on: one for each of the 1216 places of what may come due, and spare ones behind them.
 use Rattle.std.specs.Prelude.{◌≡◌, ◌≢◌, ℕ, ◌+◌, ◌*◌, ◌%◌, ◌<◌, ◌≤◌, ◌⊎◌, List, slice_index, min, Option, Some, None}
 
 -- the number for what is never due: above all others
@@ -29,6 +29,10 @@ HasOtherMinima but xs = (k : ℕ) → 1 ≤ k → k < 2048 → k ≢ but → IsL
 -- each leaf is never due, or its number is of its place
 abbrev pub HasPlaces : List ℕ → Type 0
 HasPlaces xs = (place : ℕ) → place < 2048 → (at_place xs place ≡ never) ⊎ ((at_place xs place % 2048 ≡ place) × (at_place xs place < never))
+
+-- behind the leaves of the places nothing is ever due
+abbrev pub HasSpareLeaves : List ℕ → Type 0
+HasSpareLeaves xs = (place : ℕ) → 1216 ≤ place → place < 2048 → at_place xs place ≡ never
 
 -- no other leaf is changed
 abbrev pub ChangesOnly : ℕ → List ℕ → List ℕ → Type 0

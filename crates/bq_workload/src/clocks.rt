@@ -1,9 +1,10 @@
 //! When the processors of a simulation tick, and when they look for tasks to pull, and where.
-ghost use Rattle.std.specs.Prelude.{◌≡◌, ◌⊎◌, ◌≤◌, ◌^◌, None, Some, IfOk, IfErr, OnOk, unwrap_or};
+ghost use Rattle.std.specs.Prelude.{◌≡◌, ◌⊎◌, ◌≤◌, None, Some, IfOk, IfErr, OnOk, unwrap_or};
 ghost use Rattle.bq_workload.specs.Accounts.{LooksAt, TicksAt, accounts_of, beaten, first_look, looked};
 ghost use Rattle.bq_workload.specs.Dues.{HasLargest, IsPlanned, IsSource, larger, next_multiple, size_at};
 ghost use Rattle.bq_workload.specs.Next.{StaysAgreed};
 ghost use Rattle.bq_workload.specs.Plans.{PlansLook, PlansTick};
+ghost use Rattle.bq_workload.specs.Strays.{HasNoNext, IsStrayBeat, IsStrayLook};
 
 use crate::Due;
 use crate::roster::{BrokenInvariant, Roster};
@@ -19,7 +20,7 @@ pub(crate) fn first_look(processors: u8, balance: u64) -> Option<u64>
 /// The first multiple of the time between two things that comes after an instant.
 fn next_after(now: u64, between: u64) -> Result<u64, BrokenInvariant>
     ensures next { IfOk result (λ next. next ≡ next_multiple between now) }
-    ensures stray { IfErr result (λ _. (between ≡ 0) ⊎ (2 ^ 64 ≤ next_multiple between now)) }
+    ensures stray { IfErr result (λ _. HasNoNext between now) }
 {
     if between == 0 {
         return Err(BrokenInvariant);
@@ -36,6 +37,7 @@ impl Roster {
         ensures planned { OnOk result (IsPlanned self.old.periods.end (Due.Tick processor) (next_multiple self.old.periods.tick now) self.old.event_queue self.new.event_queue) }
         ensures agrees { OnOk result (StaysAgreed self.old self.new) }
         ensures periods { self.new.periods ≡ self.old.periods }
+        ensures stray { IfErr result (λ _. IsStrayBeat processor now self.old.periods.tick (accounts_of self.old)) }
     {
         let mut processor_state = self.processor_state(processor)?;
         if processor_state.tick != Some(now) {
@@ -43,7 +45,8 @@ impl Roster {
         }
         let next = self.plan_tick(processor, now)?;
         processor_state.tick = Some(next);
-        self.set_processor_state(processor, processor_state)
+        self.set_processor_state(processor, processor_state);
+        Ok(())
     }
 
     /// When a processor that runs something from now on ticks next: then, or if it has no tick yet, at one that is planned.
@@ -55,6 +58,7 @@ impl Roster {
     ) -> Result<u64, BrokenInvariant>
         ensures next { IfOk result (λ next. next ≡ unwrap_or tick (next_multiple self.old.periods.tick now)) }
         ensures plans { OnOk result (PlansTick self.old.periods processor now tick self.old.event_queue self.new.event_queue) }
+        ensures stray { IfErr result (λ _. (64 ≤ processor) ⊎ HasNoNext self.old.periods.tick now) }
         ensures by_task { self.new.by_task ≡ self.old.by_task }
         ensures by_processor { self.new.by_processor ≡ self.old.by_processor }
         ensures periods { self.new.periods ≡ self.old.periods }
@@ -73,6 +77,7 @@ impl Roster {
         now: u64,
     ) -> Result<(), BrokenInvariant>
         ensures plans { OnOk result (PlansLook self.old.periods processor now look self.old.event_queue self.new.event_queue) }
+        ensures stray { IfErr result (λ _. 64 ≤ processor) }
         ensures by_task { self.new.by_task ≡ self.old.by_task }
         ensures by_processor { self.new.by_processor ≡ self.old.by_processor }
         ensures periods { self.new.periods ≡ self.old.periods }
@@ -90,7 +95,7 @@ impl Roster {
         ensures by_task { self.new.by_task ≡ self.old.by_task }
         ensures by_processor { self.new.by_processor ≡ self.old.by_processor }
         ensures periods { self.new.periods ≡ self.old.periods }
-        ensures stray { IfErr result (λ _. (64 ≤ processor) ⊎ (self.old.periods.tick ≡ 0) ⊎ (2 ^ 64 ≤ next_multiple self.old.periods.tick now)) }
+        ensures stray { IfErr result (λ _. (64 ≤ processor) ⊎ HasNoNext self.old.periods.tick now) }
     {
         let next = next_after(now, self.periods.tick)?;
         self.plan(Due::Tick(processor), next)?;
@@ -106,6 +111,7 @@ impl Roster {
         ensures planned { OnOk result (IsPlanned self.old.periods.end (Due.Pull processor) (next_multiple self.old.periods.balance now) self.old.event_queue self.new.event_queue) }
         ensures agrees { OnOk result (StaysAgreed self.old self.new) }
         ensures periods { self.new.periods ≡ self.old.periods }
+        ensures stray { IfErr result (λ _. IsStrayLook processor now self.old.periods.balance (accounts_of self.old)) }
     {
         let mut processor_state = self.processor_state(processor)?;
         if processor_state.look != Some(now) {
@@ -115,7 +121,7 @@ impl Roster {
         let next = next_after(now, self.periods.balance)?;
         self.plan(Due::Pull(processor), next)?;
         processor_state.look = Some(next);
-        self.set_processor_state(processor, processor_state)?;
+        self.set_processor_state(processor, processor_state);
         Ok(source)
     }
 

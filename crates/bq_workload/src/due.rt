@@ -27,15 +27,12 @@ const TICKS: u16 = WAKES + TASKS;
 /// The place of the first look.
 const LOOKS: u16 = TICKS + PROCESSORS as u16;
 
-/// How many places there are.
-const PLACES: u16 = LOOKS + PROCESSORS as u16;
-
 impl Due {
-    /// Its place in the order of one instant, below 2,048.
+    /// Its place in the order of one instant, below 1,216.
     pub fn place(self) -> u16
         requires { IsDue self }
         ensures place { result ≡ place_of self }
-        ensures few { result < 2048 }
+        ensures few { result < 1216 }
         ensures back { due_at result ≡ Some self }
     {
         match self {
@@ -47,19 +44,18 @@ impl Due {
     }
 
     /// What is at a place.
-    pub fn at(place: u16) -> Option<Due>
-        ensures { result ≡ due_at place }
+    pub fn at(place: u16) -> Due
+        requires { place < 1216 }
+        ensures { due_at place ≡ Some result }
     {
         if place < WAKES {
-            Some(Due::End(place as u8))
+            Due::End(place as u8)
         } else if place < TICKS {
-            Some(Due::Wake(place - WAKES))
+            Due::Wake(place - WAKES)
         } else if place < LOOKS {
-            Some(Due::Tick((place - TICKS) as u8))
-        } else if place < PLACES {
-            Some(Due::Pull((place - LOOKS) as u8))
+            Due::Tick((place - TICKS) as u8)
         } else {
-            None
+            Due::Pull((place - LOOKS) as u8)
         }
     }
 }

@@ -5,16 +5,17 @@ ghost use Rattle.bq_workload.specs.Minima.{number_of, at_place, AreNever, Change
 use std::alloc::{AllocError, Global};
 use std::marker::Model;
 
-/// How many places there are.
-const PLACES: usize = 2048;
+/// How many leaves the tree has: more than there are places, as many as a whole tree has.
+const LEAVES: usize = 2048;
 
 /// The number of what is never due.
 const NEVER: u64 = u64::MAX;
 
-/// The time at which what is at each of 2,048 places is due, if it is. Contracts see a number for each: the time and
+/// The time at which what is at each of 1,216 places is due, if it is. Contracts see a number for each: the time and
 /// the place as one, or `never`.
 ///
 /// The numbers are the leaves of a tree, in which each node has the less of the two below it. So the first is the root.
+/// The leaves behind those of the places are never due.
 #[derive(Drop)]
 pub struct EventQueue {
     numbers: Vec<u64>,
@@ -22,13 +23,13 @@ pub struct EventQueue {
 
 impl Model for EventQueue {
     ghost use Rattle.std.specs.Prelude.{◌≡◌, List, ℕ, length};
-    ghost use Rattle.bq_workload.specs.Minima.{HasMinima, HasPlaces};
+    ghost use Rattle.bq_workload.specs.Minima.{HasMinima, HasPlaces, HasSpareLeaves};
 
     ghost Value = { List ℕ };
 
     ghost view = { λ a. a.numbers.items };
 
-    ghost invariant = { λ a. (length a.numbers.items ≡ 4096) × HasMinima a.numbers.items × HasPlaces a.numbers.items };
+    ghost invariant = { λ a. (length a.numbers.items ≡ 4096) × HasMinima a.numbers.items × HasPlaces a.numbers.items × HasSpareLeaves a.numbers.items };
 }
 
 impl EventQueue {
@@ -37,18 +38,18 @@ impl EventQueue {
         ensures { IfOk result AreNever }
     {
         Ok(EventQueue {
-            numbers: vec![in alloc; NEVER; 2 * PLACES]?,
+            numbers: vec![in alloc; NEVER; 2 * LEAVES]?,
         })
     }
 
     /// What is at a place is due at this time from now on, or never.
     pub fn set(&mut self, place: u16, time: Option<u64>)
-        requires place { place < 2048 }
+        requires place { place < 1216 }
         requires time { IfSome time (λ t. t < 2 ^ 48) }
         ensures due { at_place self.new place ≡ number_of place time }
         ensures others { ChangesOnly place self.old self.new }
     {
-        let leaf = PLACES + usize::from(place);
+        let leaf = LEAVES + usize::from(place);
         let number = number_of(place, time);
         if self.numbers[leaf] == number {
             return;
@@ -61,6 +62,7 @@ impl EventQueue {
     pub fn first(&self) -> Option<(u64, u16)>
         ensures none { IfNone result (AreNever self.now) }
         ensures first { IfSome result (λ due. IsFirst self.now due.0 due.1) }
+        ensures place { IfSome result (λ due. due.1 < 1216) }
     {
         let number = self.numbers[1];
         if number == NEVER {

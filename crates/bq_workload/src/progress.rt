@@ -1,5 +1,5 @@
 //! How far a task has come in what it does.
-ghost use Rattle.std.specs.Prelude.{◌≡◌, ◌≤◌, ◌+◌, ◌^◌, true, IfSome, IfNone};
+ghost use Rattle.std.specs.Prelude.{◌≡◌, ◌<◌, ◌≤◌, ◌+◌, ◌^◌, true, IfSome, IfNone};
 
 /// Where a task is.
 #[derive(Clone, Copy)]
@@ -72,7 +72,10 @@ impl TaskProgress {
         ensures some { IfSome result (λ _. self.new ≡ run_for ran self.old) }
         ensures none { IfNone result (self.new ≡ self.old) }
         ensures cause { IfNone result (2 ^ 64 ≤ self.old.got + ran) }
+        ensures overrun { IfNone result (self.old.due < self.old.got + ran) }
     {
+        // 64 bits count each phase, so what they do not count is longer than the phase.
+        prove!(self.due <= u64::MAX);
         self.got = self.got.checked_add(ran)?;
         Some(())
     }

@@ -1,12 +1,13 @@
 //! All tasks and processors of a simulation.
-ghost use Rattle.std.specs.Prelude.{◌≡◌, ℕ, ◌<◌, ◌≤◌, ◌⊎◌, ◌^◌, ◌++◌, [], ◌∷◌, min, None, Some, IfOk, IfErr, IfSome, MatchOption, OnOk, option_and_then, slice_get, slice_set, length};
+ghost use Rattle.std.specs.Prelude.{◌≡◌, ◌<◌, ◌≤◌, ◌⊎◌, ◌^◌, ◌++◌, [], ◌∷◌, min, None, Some, IfOk, IfErr, IfSome, MatchOption, OnOk, option_and_then, slice_get, slice_set, length};
 ghost use Rattle.std.specs.List.{list_all};
 ghost use Rattle.bq_workload.specs.TaskProgress.{keeps_phase, keeps_time, woken};
 ghost use Rattle.bq_workload.specs.Accounts.{accounts_of, charged, first_look, IsDone, is_over, of_task, opening, rests_past, runs_past};
-ghost use Rattle.bq_workload.specs.Dues.{AreLooks, IsDropped, IsDue, IsPlanned, due_at, end_of, place_of, until};
+ghost use Rattle.bq_workload.specs.Dues.{AreLooks, IsDropped, IsDue, IsPlanned, end_of, place_of, until};
 ghost use Rattle.bq_workload.specs.Minima.{AreNever, IsFirst};
 ghost use Rattle.bq_workload.specs.Next.{HaveHomes, IsAgreed, IsNext, NothingComes, Rests, StaysAgreed, runs_at};
 ghost use Rattle.bq_workload.specs.Plans.{PlansProgress, PlansTimer};
+ghost use Rattle.bq_workload.specs.Strays.{IsStrayEnd, IsStrayProgress, IsStrayWake, NoneIsDone};
 
 use crate::clocks::first_look;
 use crate::processor_state::ProcessorState;
@@ -17,7 +18,7 @@ use bq_disc::limits::{PROCESSORS, TASKS};
 use std::alloc::{AllocError, Global};
 
 /// A number that stands for no task or processor, a time that does not fit, or a phase that ended too early or too late:
-/// the keeper of the roster lost count.
+/// the keeper of the roster lost count. The contract of each call says which of these it may find.
 #[derive(Clone, Copy, Drop)]
 pub struct BrokenInvariant;
 
@@ -89,6 +90,7 @@ impl Roster {
         ensures by_processor { self.new.by_processor ≡ self.old.by_processor }
         ensures event_queue { self.new.event_queue ≡ self.old.event_queue }
         ensures periods { self.new.periods ≡ self.old.periods }
+        ensures missing { IfErr result (λ _. slice_get self.old.by_task.items task ≡ None) }
     {
         let Some(place) = self.by_task.get_mut(usize::from(task)) else {
             return Err(BrokenInvariant);
@@ -108,22 +110,15 @@ impl Roster {
             .ok_or(BrokenInvariant)
     }
 
-    pub(crate) fn set_processor_state(
-        &mut self,
-        processor: u8,
-        processor_state: ProcessorState,
-    ) -> Result<(), BrokenInvariant>
-        ensures there { OnOk result (processor < length self.old.by_processor.items) }
-        ensures by_processor { OnOk result (self.new.by_processor.items ≡ slice_set self.old.by_processor.items processor processor_state) }
+    /// This is known of a processor from now on.
+    pub(crate) fn set_processor_state(&mut self, processor: u8, processor_state: ProcessorState)
+        requires there { processor < length self.old.by_processor.items }
+        ensures by_processor { self.new.by_processor.items ≡ slice_set self.old.by_processor.items processor processor_state }
         ensures by_task { self.new.by_task ≡ self.old.by_task }
         ensures event_queue { self.new.event_queue ≡ self.old.event_queue }
         ensures periods { self.new.periods ≡ self.old.periods }
     {
-        let Some(place) = self.by_processor.get_mut(usize::from(processor)) else {
-            return Err(BrokenInvariant);
-        };
-        *place = processor_state;
-        Ok(())
+        self.by_processor[usize::from(processor)] = processor_state;
     }
 
     /// How many processors there are.
@@ -134,17 +129,13 @@ impl Roster {
     }
 
     /// What comes due first, and when.
-    pub fn first(&self) -> Result<Option<(u64, Due)>, BrokenInvariant>
-        ensures first { IfOk result (λ due. MatchOption due (AreNever self.now.event_queue) (λ d. IsFirst self.now.event_queue d.0 (place_of d.1))) }
-        ensures next { IfOk result (λ due. IsAgreed self.now → MatchOption due (NothingComes self.now.periods.end (accounts_of self.now)) (λ d. IsNext self.now.periods.end (accounts_of self.now) d.1 d.0)) }
-        ensures stray { IfErr result (λ _. (time : ℕ) × (place : ℕ) × IsFirst self.now.event_queue time place × (due_at place ≡ None)) }
+    pub fn first(&self) -> Option<(u64, Due)>
+        ensures first { MatchOption result (AreNever self.now.event_queue) (λ d. IsFirst self.now.event_queue d.0 (place_of d.1)) }
+        ensures next { IsAgreed self.now → MatchOption result (NothingComes self.now.periods.end (accounts_of self.now)) (λ d. IsNext self.now.periods.end (accounts_of self.now) d.1 d.0) }
     {
         match self.event_queue.first() {
-            None => Ok(None),
-            Some((time, place)) => match Due::at(place) {
-                Some(due) => Ok(Some((time, due))),
-                None => Err(BrokenInvariant),
-            },
+            None => None,
+            Some((time, place)) => Some((time, Due::at(place))),
         }
     }
 
@@ -199,7 +190,7 @@ fn plan_looks(event_queue: &mut EventQueue, processors: u8, time: Option<u64>)
 /// The place of what comes due.
 fn place_of(due: Due) -> Result<u16, BrokenInvariant>
     ensures place { IfOk result (λ place. place ≡ place_of due) }
-    ensures few { IfOk result (λ place. place < 2048) }
+    ensures few { IfOk result (λ place. place < 1216) }
     ensures due { OnOk result (IsDue due) }
     ensures stray { IfErr result (λ _. IsDue due → ⊥) }
 {
@@ -216,7 +207,8 @@ fn place_of(due: Due) -> Result<u16, BrokenInvariant>
 impl Roster {
     /// A task does not run where it ran last, as far as is kept; so it runs nowhere.
     pub(crate) fn find_at_rest(&self, task: u16) -> Result<(), BrokenInvariant>
-        ensures { OnOk result (Rests (accounts_of self.now) task) }
+        ensures rests { OnOk result (Rests (accounts_of self.now) task) }
+        ensures stray { IfErr result (λ _. Rests (accounts_of self.now) task → ⊥) }
     {
         let progress = self.progress(task)?;
         if self.runs_at(progress.home, task) {
@@ -260,23 +252,22 @@ impl Roster {
         ensures dropped { OnOk result (IsDropped (Due.Wake task) self.old.event_queue self.new.event_queue) }
         ensures agrees { OnOk result (StaysAgreed self.old self.new) }
         ensures periods { self.new.periods ≡ self.old.periods }
+        ensures stray { IfErr result (λ _. IsStrayWake task (accounts_of self.old)) }
     {
         self.find_at_rest(task)?;
         self.drop_plan(Due::Wake(task))?;
-        self.rouse(task)
+        self.rouse(task);
+        Ok(())
     }
 
     /// A task has no phase yet, and can run.
-    fn rouse(&mut self, task: u16) -> Result<(), BrokenInvariant>
-        ensures accounts { OnOk result (accounts_of self.new ≡ of_task woken task (accounts_of self.old)) }
+    fn rouse(&mut self, task: u16)
+        requires there { task < length self.old.by_task.items }
+        ensures accounts { accounts_of self.new ≡ of_task woken task (accounts_of self.old) }
         ensures event_queue { self.new.event_queue ≡ self.old.event_queue }
         ensures periods { self.new.periods ≡ self.old.periods }
     {
-        let Some(progress) = self.by_task.get_mut(usize::from(task)) else {
-            return Err(BrokenInvariant);
-        };
-        progress.wake();
-        Ok(())
+        self.by_task[usize::from(task)].wake();
     }
 
     /// The task that runs at a processor has come so far: the end of its phase is put down, and its timer where it sleeps by one.
@@ -292,6 +283,7 @@ impl Roster {
         ensures plans { OnOk result ((processor_state : ProcessorState) × (slice_get self.old.by_processor.items processor ≡ Some processor_state) × PlansProgress self.old.periods.end processor task processor_state progress self.old.event_queue self.new.event_queue) }
         ensures agrees { OnOk result (StaysAgreed self.old self.new) }
         ensures periods { self.new.periods ≡ self.old.periods }
+        ensures stray { IfErr result (λ _. IsStrayProgress processor task progress (accounts_of self.old)) }
     {
         self.set_progress(task, progress)?;
         self.plan_progress(processor, task, &progress)
@@ -305,6 +297,7 @@ impl Roster {
         progress: &TaskProgress,
     ) -> Result<(), BrokenInvariant>
         ensures plans { OnOk result ((processor_state : ProcessorState) × (slice_get self.old.by_processor.items processor ≡ Some processor_state) × PlansProgress self.old.periods.end processor task processor_state progress.now self.old.event_queue self.new.event_queue) }
+        ensures stray { IfErr result (λ _. IsStrayProgress processor task progress.now (accounts_of self.old)) }
         ensures by_task { self.new.by_task ≡ self.old.by_task }
         ensures by_processor { self.new.by_processor ≡ self.old.by_processor }
         ensures periods { self.new.periods ≡ self.old.periods }
@@ -320,6 +313,7 @@ impl Roster {
     /// The timer of a task is put down where it sleeps by one.
     fn plan_timer(&mut self, task: u16, progress: &TaskProgress) -> Result<(), BrokenInvariant>
         ensures timer { OnOk result (PlansTimer self.old.periods.end task progress.now.task_state progress.now.timer self.old.event_queue self.new.event_queue) }
+        ensures stray { IfErr result (λ _. 1024 ≤ task) }
         ensures by_task { self.new.by_task ≡ self.old.by_task }
         ensures by_processor { self.new.by_processor ≡ self.old.by_processor }
         ensures periods { self.new.periods ≡ self.old.periods }
@@ -342,6 +336,7 @@ impl Roster {
         ensures event_queue { self.new.event_queue ≡ self.old.event_queue }
         ensures agrees { OnOk result (StaysAgreed self.old self.new) }
         ensures periods { self.new.periods ≡ self.old.periods }
+        ensures stray { IfErr result (λ _. IsStrayEnd processor now (accounts_of self.old)) }
     {
         self.charge(processor, now)?;
         self.done_at(processor)
@@ -349,7 +344,8 @@ impl Roster {
 
     /// The task that runs at a processor, and how far it has come, where it has got what its phase takes.
     fn done_at(&self, processor: u8) -> Result<(u16, TaskProgress), BrokenInvariant>
-        ensures { IfOk result (λ ended. IsDone (accounts_of self.now) processor ended.0 ended.1) }
+        ensures done { IfOk result (λ ended. IsDone (accounts_of self.now) processor ended.0 ended.1) }
+        ensures stray { IfErr result (λ _. NoneIsDone processor (accounts_of self.now)) }
     {
         let Some(task) = self.processor_state(processor)?.run else {
             return Err(BrokenInvariant);

@@ -1,11 +1,13 @@
 //! Which task runs where from now on.
-ghost use Rattle.std.specs.Prelude.{◌≡◌, ◌≤◌, ◌-◌, None, Some, IfOk, IfSome, OnOk, slice_get};
+ghost use Rattle.std.specs.Prelude.{◌≡◌, ◌<◌, ◌≤◌, ◌-◌, None, Some, IfErr, IfSome, OnOk, length, slice_get};
 ghost use Rattle.bq_workload.specs.declared.progress.TaskProgress.{TaskProgress};
 ghost use Rattle.bq_workload.specs.declared.processor_state.ProcessorState.{ProcessorState};
 ghost use Rattle.bq_workload.specs.TaskProgress.{moved_to, run_for};
 ghost use Rattle.bq_workload.specs.Accounts.{accounts_of, charged, entered_by, grown, left_by, of_task, passed, shrunk, switched, taken_over};
+ghost use Rattle.bq_workload.specs.Dues.{size_at};
 ghost use Rattle.bq_workload.specs.Next.{Rests, StaysAgreed};
 ghost use Rattle.bq_workload.specs.Plans.{PlansNone, PlansSwitch, PlansTask};
+ghost use Rattle.bq_workload.specs.Strays.{IsStrayCharge, IsStrayEntry, IsStrayGrowth, IsStrayLeave, IsStrayPass, IsStrayProcessor, IsStrayRun, IsStrayStart, IsStraySwitch};
 
 use crate::Due;
 use crate::progress::TaskProgress;
@@ -23,6 +25,7 @@ impl Roster {
         ensures plans { OnOk result (PlansSwitch self.old.periods processor run now (accounts_of self.old) self.new.by_task.items self.old.event_queue self.new.event_queue) }
         ensures agrees { OnOk result (StaysAgreed self.old self.new) }
         ensures periods { self.new.periods ≡ self.old.periods }
+        ensures stray { IfErr result (λ _. IsStraySwitch self.old.periods processor run now (accounts_of self.old)) }
     {
         let processor_state = self.processor_state(processor)?;
         if processor_state.run == run {
@@ -41,13 +44,15 @@ impl Roster {
         ensures since { OnOk result ((processor_state : ProcessorState) × (slice_get self.old.by_processor.items processor ≡ Some processor_state) × IfSome processor_state.run (λ _. processor_state.since ≤ now)) }
         ensures event_queue { self.new.event_queue ≡ self.old.event_queue }
         ensures periods { self.new.periods ≡ self.old.periods }
+        ensures stray { IfErr result (λ _. IsStrayCharge processor now (accounts_of self.old)) }
     {
         let mut processor_state = self.processor_state(processor)?;
         if let Some(task) = processor_state.run {
             self.run_since(task, processor_state.since, now)?;
         }
         processor_state.since = now;
-        self.set_processor_state(processor, processor_state)
+        self.set_processor_state(processor, processor_state);
+        Ok(())
     }
 
     /// A task has run from one instant to another.
@@ -56,6 +61,7 @@ impl Roster {
         ensures since { OnOk result (since ≤ now) }
         ensures event_queue { self.new.event_queue ≡ self.old.event_queue }
         ensures periods { self.new.periods ≡ self.old.periods }
+        ensures stray { IfErr result (λ _. IsStrayRun task since now (accounts_of self.old)) }
     {
         let Some(ran) = now.checked_sub(since) else {
             return Err(BrokenInvariant);
@@ -72,6 +78,7 @@ impl Roster {
         ensures rests { OnOk result (Rests (accounts_of self.old) task) }
         ensures plans { OnOk result ((processor_state : ProcessorState) × (slice_get self.old.by_processor.items processor ≡ Some processor_state) × (progress : TaskProgress) × (slice_get self.new.by_task.items task ≡ Some progress) × PlansTask self.old.periods processor now processor_state.tick progress self.old.event_queue self.new.event_queue) }
         ensures periods { self.new.periods ≡ self.old.periods }
+        ensures stray { IfErr result (λ _. IsStrayStart self.old.periods processor task now (accounts_of self.old)) }
     {
         self.find_at_rest(task)?;
         let mut processor_state = self.processor_state(processor)?;
@@ -79,24 +86,23 @@ impl Roster {
         processor_state.run = Some(task);
         processor_state.since = now;
         processor_state.tick = Some(tick);
-        self.set_processor_state(processor, processor_state)?;
-        let progress = self.move_to(processor, task)?;
+        self.set_processor_state(processor, processor_state);
+        let progress = self.move_to(processor, task);
         self.plan_end(processor, &progress, now)
     }
 
     /// A task is taken to a processor: how far it has come with that.
-    fn move_to(&mut self, processor: u8, task: u16) -> Result<TaskProgress, BrokenInvariant>
-        ensures accounts { OnOk result (accounts_of self.new ≡ of_task (moved_to processor self.old.periods.migration_cost) task (accounts_of self.old)) }
-        ensures there { IfOk result (λ progress. slice_get self.new.by_task.items task ≡ Some progress) }
+    fn move_to(&mut self, processor: u8, task: u16) -> TaskProgress
+        requires there { task < length self.old.by_task.items }
+        ensures accounts { accounts_of self.new ≡ of_task (moved_to processor self.old.periods.migration_cost) task (accounts_of self.old) }
+        ensures there { slice_get self.new.by_task.items task ≡ Some result }
         ensures event_queue { self.new.event_queue ≡ self.old.event_queue }
         ensures periods { self.new.periods ≡ self.old.periods }
     {
         let cost = self.periods.migration_cost;
-        let Some(progress) = self.by_task.get_mut(usize::from(task)) else {
-            return Err(BrokenInvariant);
-        };
+        let progress = &mut self.by_task[usize::from(task)];
         progress.move_to(processor, cost);
-        Ok(*progress)
+        *progress
     }
 
     /// Nothing runs at a processor from now on: it does not tick, and looks at once for a task to pull.
@@ -104,13 +110,14 @@ impl Roster {
         ensures accounts { OnOk result (accounts_of self.new ≡ taken_over processor None now self.old.periods (accounts_of self.old)) }
         ensures periods { self.new.periods ≡ self.old.periods }
         ensures plans { OnOk result ((processor_state : ProcessorState) × (slice_get self.old.by_processor.items processor ≡ Some processor_state) × PlansNone self.old.periods processor now processor_state.look self.old.event_queue self.new.event_queue) }
+        ensures stray { IfErr result (λ _. IsStrayProcessor processor (accounts_of self.old)) }
     {
         let mut processor_state = self.processor_state(processor)?;
         let look = processor_state.look;
         processor_state.run = None;
         processor_state.tick = None;
         processor_state.look = look.map(|_| now);
-        self.set_processor_state(processor, processor_state)?;
+        self.set_processor_state(processor, processor_state);
         self.drop_plan(Due::End(processor))?;
         self.drop_plan(Due::Tick(processor))?;
         self.look_at_once(processor, look, now)
@@ -127,6 +134,7 @@ impl Roster {
         ensures plans { OnOk result (PlansSwitch self.old.periods processor run now (shrunk processor (accounts_of self.old)) self.new.by_task.items self.old.event_queue self.new.event_queue) }
         ensures agrees { OnOk result (StaysAgreed self.old self.new) }
         ensures periods { self.new.periods ≡ self.old.periods }
+        ensures stray { IfErr result (λ _. IsStrayLeave self.old.periods processor run now (accounts_of self.old)) }
     {
         self.shrink(processor)?;
         self.switch(processor, run, now)
@@ -144,6 +152,7 @@ impl Roster {
         ensures plans { OnOk result (PlansSwitch self.old.periods processor run now (grown processor count (accounts_of self.old)) self.new.by_task.items self.old.event_queue self.new.event_queue) }
         ensures agrees { OnOk result (StaysAgreed self.old self.new) }
         ensures periods { self.new.periods ≡ self.old.periods }
+        ensures stray { IfErr result (λ _. IsStrayEntry self.old.periods processor count run now (accounts_of self.old)) }
     {
         self.grow(processor, count)?;
         self.switch(processor, run, now)
@@ -155,6 +164,7 @@ impl Roster {
         ensures event_queue { self.new.event_queue ≡ self.old.event_queue }
         ensures agrees { OnOk result (StaysAgreed self.old self.new) }
         ensures periods { self.new.periods ≡ self.old.periods }
+        ensures stray { IfErr result (λ _. IsStrayPass from to (accounts_of self.old)) }
     {
         self.shrink(from)?;
         self.grow(to, 1)
@@ -165,6 +175,7 @@ impl Roster {
         ensures accounts { OnOk result (accounts_of self.new ≡ shrunk processor (accounts_of self.old)) }
         ensures event_queue { self.new.event_queue ≡ self.old.event_queue }
         ensures periods { self.new.periods ≡ self.old.periods }
+        ensures stray { IfErr result (λ _. size_at self.old.by_processor.items processor ≡ 0) }
     {
         let Some(processor_state) = self.by_processor.get_mut(usize::from(processor)) else {
             return Err(BrokenInvariant);
@@ -181,6 +192,7 @@ impl Roster {
         ensures accounts { OnOk result (accounts_of self.new ≡ grown processor count (accounts_of self.old)) }
         ensures event_queue { self.new.event_queue ≡ self.old.event_queue }
         ensures periods { self.new.periods ≡ self.old.periods }
+        ensures stray { IfErr result (λ _. IsStrayGrowth processor count (accounts_of self.old)) }
     {
         let Some(processor_state) = self.by_processor.get_mut(usize::from(processor)) else {
             return Err(BrokenInvariant);

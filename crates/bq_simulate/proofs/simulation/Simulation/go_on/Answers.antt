@@ -19,7 +19,7 @@ steps-preserved g c =
     let later : last ≤ now = omega (arith, c.if-now-last.false) in
     let here = c.steps.self.roster in
     let next : IsAgreed here → IsNext here.periods.end (accounts_of here) due now =
-    λ agreed. MatchOption-at_some (NothingComes here.periods.end (accounts_of here)) (λ d. IsNext here.periods.end (accounts_of here) d.1 d.0) (now, due) c.in-Some.is (c.in_ok-now.ensures.next agreed) in
+    λ agreed. MatchOption-at_some (NothingComes here.periods.end (accounts_of here)) (λ d. IsNext here.periods.end (accounts_of here) d.1 d.0) (now, due) c.in-Some.is (c.first.ensures.next agreed) in
     record {
       lived = met-more g.S.Sink.takes c.args.workload.now.tasks.items count last now due _ _ _ _ _ _ later next c.steps.invariant.lived c.in_ok-meet.ensures;
       within = omega (arith, c.if-now-end.false);
@@ -37,7 +37,7 @@ steps-init g c =
 pub returns-in_default-clause-none : goal.returns-in_default-clause-none
 returns-in_default-clause-none g c =
     let here = c.steps.self.roster in
-    λ wants agreed. MatchOption-at_none (NothingComes here.periods.end (accounts_of here)) (λ d. IsNext here.periods.end (accounts_of here) d.1 d.0) c.in_default.is (c.in_ok-now.ensures.next agreed)
+    λ wants agreed. MatchOption-at_none (NothingComes here.periods.end (accounts_of here)) (λ d. IsNext here.periods.end (accounts_of here) d.1 d.0) c.in_default.is (c.first.ensures.next agreed)
 
 pub returns-in_default-clause-lived : goal.returns-in_default-clause-lived
 returns-in_default-clause-lived g c =

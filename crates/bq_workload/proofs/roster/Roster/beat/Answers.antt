@@ -1,4 +1,3 @@
-use Rattle.std.proofs.lemmas.Result.{on_ok_weaker}
 use Rattle.bq_workload.specs.declared.roster.Roster.{Roster}
 use Rattle.bq_workload.proofs.DueLemmas.{beaten-agreed}
 use Rattle.bq_workload.proofs.roster.Roster.beat.Goals as goal
@@ -10,6 +9,4 @@ returns-clause-agrees c =
     let new : Roster = c.set_processor_state.new.self in
     let plan = c.in_ok-next.ensures in
     let set = c.set_processor_state.ensures in
-    on_ok_weaker c.set_processor_state.result
-    (λ is. beaten-agreed c.args.processor c.args.now c.in_ok-next.next c.in_ok-processor_state.processor_state old mid new c.in_ok-processor_state.ensures.there plan.next plan.planned plan.by_task plan.by_processor plan.periods is set.by_task set.event_queue set.periods)
-    set.by_processor
+    beaten-agreed c.args.processor c.args.now c.in_ok-next.next c.in_ok-processor_state.processor_state old mid new c.in_ok-processor_state.ensures.there plan.next plan.planned plan.by_task plan.by_processor plan.periods set.by_processor set.by_task set.event_queue set.periods

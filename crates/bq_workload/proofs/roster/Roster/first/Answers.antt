@@ -1,4 +1,3 @@
-use Rattle.std.proofs.Common.{sym}
 use Rattle.bq_workload.specs.Accounts.{accounts_of}
 use Rattle.bq_workload.proofs.DueLemmas.{first-next, none-next}
 use Rattle.bq_workload.proofs.roster.Roster.first.Goals as goal
@@ -6,5 +5,5 @@ use Rattle.bq_workload.proofs.roster.Roster.first.Goals as goal
 pub returns-in-None-clause-next : goal.returns-in-None-clause-next
 returns-in-None-clause-next c = none-next c.args.self.now.periods.end (accounts_of c.args.self.now) c.args.self.now.event_queue c.in-None.ensures.none
 
-pub returns-in-Some-at-clause-next : goal.returns-in-Some-at-clause-next
-returns-in-Some-at-clause-next c = first-next c.args.self.now.periods.end (accounts_of c.args.self.now) c.args.self.now.event_queue c.in-Some.time c.in-Some.place c.in-Some-at.due c.in-Some.ensures.first (sym c.in-Some-at.ensures)
+pub returns-in-Some-clause-next : goal.returns-in-Some-clause-next
+returns-in-Some-clause-next c = first-next c.args.self.now.periods.end (accounts_of c.args.self.now) c.args.self.now.event_queue c.in-Some.time c.in-Some.place c.at.result c.in-Some.ensures.first c.at.ensures
