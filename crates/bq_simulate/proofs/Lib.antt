@@ -1,6 +1,7 @@
 pub mod AccountLemmas
 pub mod AdmissionLemmas
 pub mod AdmissionTakenLemmas
+pub mod CallLemmas
 pub mod DeedLemmas
 pub mod InstallLemmas
 pub mod KindLemmas
@@ -24,6 +25,5 @@ pub mod RetellingLemmas
 pub mod SimulationAgreeLemmas
 pub mod TakenLemmas
 pub mod TextLemmas
-pub mod TimeKeptLemmas
 pub mod TimeLemmas
 pub mod WakeTakenLemmas

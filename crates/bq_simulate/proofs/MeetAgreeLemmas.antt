@@ -200,7 +200,7 @@ sleeps_if_woken a Runnable home from h = absurd h
 sleeps_if_woken a Over home from h = absurd h
 
 -- the same machine under one rule
-same_rule : (d : Driver) (event : Event) (reply : Reply) (told : Told) (e : Driver) → Does d event reply told e → discipline_of e.machine.rule ≡ discipline_of d.machine.rule
+pub same_rule : (d : Driver) (event : Event) (reply : Reply) (told : Told) (e : Driver) → Does d event reply told e → discipline_of e.machine.rule ≡ discipline_of d.machine.rule
 same_rule d event reply told e does = ap discipline_of does.happens.moves.same_rule
 
 wake_agrees : (kinds : List TaskKind) (seed : ℕ) (periods : Periods) (d e : Driver) (b c : Book) (from task now to : ℕ) (begun placed drained : Reply) (told : Told) → placed_at placed ≡ Some to

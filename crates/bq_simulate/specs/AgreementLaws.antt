@@ -28,7 +28,7 @@ use Rattle.bq_simulate.specs.declared.drive_fault.DriveFault.{DriveFault}
 use Rattle.bq_simulate.specs.declared.drive_fault.DriveFault.TheVariants.{OutOfMemory}
 use Rattle.bq_simulate.specs.declared.driver.Driver.{Driver}
 use Rattle.bq_simulate.specs.Chronicles.{Book, Deed, Lives, after_event, is_busy}
-use Rattle.bq_simulate.specs.Drives.{IsDriveFault, count_entered, placed_at, reading_of}
+use Rattle.bq_simulate.specs.Drives.{IsDriveFault, IsWakeFault, Places, count_entered, placed_at, reading_of}
 use Rattle.bq_simulate.specs.Simulations.{Begins, IsSimulation}
 use Rattle.bq_simulate.specs.Steps.{Meet}
 
@@ -105,6 +105,33 @@ pub record SimulationsAgree : Type 0 where
 -- An event whose reading can be given, and which is not refused, fails only if memory is wanted.
 abbrev pub OnlyMemoryIsWanted : Type 0
 OnlyMemoryIsWanted = (d : Driver) (event : Event) (why : DriveFault) → IsReadable d.now (reading_of event) → refusal d.machine.world event ≡ None → IsDriveFault d event why → why ≡ OutOfMemory
+
+-- an event of a driver fails only if memory is wanted
+abbrev pub FailsForMemory : Driver → Event → Type 0
+FailsForMemory d event = (why : DriveFault) → IsDriveFault d event why → why ≡ OutOfMemory
+
+-- accounts agree with a driver's world, and its clocks can be given this instant
+pub record IsReady (d : Driver) (a : Accounts) (now : ℕ) : Type 0 where
+  pub agrees : AgreesWith d.machine.world a
+  pub reading : IsReadable d.now (Some now)
+
+-- So each call of the loop fails only if memory is wanted, where the accounts agree with the world and the instant can be read.
+pub record CallsFailForMemory : Type 0 where
+  pub draws : (d : Driver) → FailsForMemory d Draw
+  pub installs : (d : Driver) (a : Accounts) (processor generation : ℕ) (policy : Accepted) → AgreesWith d.machine.world a → processor < count_in d.machine.world →
+      (at_hook policy.hook (processor_at d.machine.world processor).hooks).generation < generation → generation ≤ d.machine.world.drawn → FailsForMemory d (Install processor policy.hook generation (Some policy))
+  pub admissions : (d : Driver) (a : Accounts) (home : ℕ) (kind : TaskKind) → AgreesWith d.machine.world a → length a.by_task < 1024 → has_numbers kind ≡ true →
+      IsFirstAllowed (count_in d.machine.world) kind.mask home → FailsForMemory d (Admit (length a.by_task) kind.nice kind.mask kind.slice)
+  pub ticks : (d : Driver) (a : Accounts) (processor now : ℕ) → IsReady d a now → processor < count_in d.machine.world → FailsForMemory d (Tick processor now)
+  pub blocks : (d : Driver) (a : Accounts) (processor task now : ℕ) → AgreesBut task d.machine.world a → IsReadable d.now (Some now) → processor < count_in d.machine.world →
+      run_at a.by_processor processor ≡ Some task → FailsForMemory d (Block processor now)
+  pub pulls : (d : Driver) (a : Accounts) (processor from now : ℕ) → IsReady d a now → processor < count_in d.machine.world → from < count_in d.machine.world → processor ≢ from →
+      FailsForMemory d (Pull processor from now)
+  pub wakes : (d : Driver) (a : Accounts) (from task now : ℕ) (c : TaskProgress) (why : DriveFault) → IsReady d a now → from < count_in d.machine.world → slice_get a.by_task task ≡ Some c →
+      can_run c.task_state ≡ false → IsWakeFault d from task now why → why ≡ OutOfMemory
+  -- where a wake has placed its task it can be taken in
+  pub drains : (d e : Driver) (a : Accounts) (from task to now : ℕ) (c : TaskProgress) (told : Told) → IsReady d a now → from < count_in d.machine.world → slice_get a.by_task task ≡ Some c →
+      can_run c.task_state ≡ false → Places d from task now to told e → FailsForMemory e (Drain to now)
 
 -- Each answer is of its event's kind.
 abbrev pub AnswersFit : Type 0

@@ -55,6 +55,12 @@ IsDriveFault d event (Refused why) = refusal d.machine.world event ≡ Some why
 IsDriveFault d event OutOfMemory = Unit {0}
 IsDriveFault d event Answer = ⊥
 
+-- why a wake from a processor is not done: its begin is not, or it has begun and its end is not
+abbrev pub IsWakeFault : Driver → ℕ → ℕ → ℕ → DriveFault → Type 0
+IsWakeFault d from task now why =
+    IsDriveFault d (BeginWake from task) why
+    ⊎ ((begun : Reply) × (told : Told) × (mid : Driver) × Does d (BeginWake from task) begun told mid × IsDriveFault mid (EndWake from now) why)
+
 -- a reading that falls leaves the machine as it was, and the sink gets nothing
 abbrev pub IsUntouched : {S : Type 0} → DriveFault → Driver → Driver → S → S → Type 0
 IsUntouched Reading d e old new = (e ≡ d) × (new ≡ old)

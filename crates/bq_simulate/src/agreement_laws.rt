@@ -1,5 +1,5 @@
 //! Laws of agreement between the accounts of a simulation and its machine.
-ghost use Rattle.bq_simulate.specs.AgreementLaws.{AdmissionsAreTaken, AnswersFit, BlocksAreTaken, DrawsAreTaken, InstallsAreTaken, MeetingsAgree, MeetingsAreOnTime, NothingIsMissed, OnlyMemoryIsWanted, PullsAreTaken, SimulationsAgree, StaysOnTime, TasksRunAlone, TicksAreTaken, WakesAreTaken};
+ghost use Rattle.bq_simulate.specs.AgreementLaws.{AdmissionsAreTaken, AnswersFit, BlocksAreTaken, CallsFailForMemory, DrawsAreTaken, InstallsAreTaken, MeetingsAgree, MeetingsAreOnTime, NothingIsMissed, OnlyMemoryIsWanted, PullsAreTaken, SimulationsAgree, StaysOnTime, TasksRunAlone, TicksAreTaken, WakesAreTaken};
 
 /// A tick is taken, and accounts that agreed with the world agree with the one that it leaves.
 pub fn ticks_are_taken()
@@ -49,6 +49,11 @@ pub fn simulations_agree()
 /// An event that can be read, and is taken, fails only if memory is wanted.
 pub fn only_memory_is_wanted()
     ensures { OnlyMemoryIsWanted }
+{}
+
+/// So does each call of a simulation, while world and accounts agree and its instant can be read.
+pub fn calls_fail_for_memory()
+    ensures { CallsFailForMemory }
 {}
 
 /// Each answer is of its event's kind.

@@ -1,9 +1,9 @@
 //! The events by their answers.
-ghost use Rattle.std.specs.Prelude.{◌≡◌, ◌∷◌, [], IfOk, OnOk, Some};
+ghost use Rattle.std.specs.Prelude.{◌≡◌, ◌∷◌, [], IfErr, IfOk, OnOk, Some};
 ghost use Rattle.bq_parts.specs.declared.event.Event.TheVariants.{Admit, Draw, Install, EndWake, Drain, Tick, Block, Pull};
 ghost use Rattle.bq_parts.specs.declared.reply.Reply.{Reply};
 ghost use Rattle.bq_parts.specs.declared.reply.Reply.TheVariants.{Drawn};
-ghost use Rattle.bq_simulate.specs.Drives.{count_entered, Did, Drove, Places, placed_at, runs_now, task_pulled};
+ghost use Rattle.bq_simulate.specs.Drives.{count_entered, Did, Drove, IsDriveFault, IsWakeFault, Places, placed_at, runs_now, task_pulled};
 ghost use Rattle.bq_trace.specs.TraceEvents.{Gets};
 
 use crate::drive_fault::DriveFault;
@@ -39,7 +39,8 @@ impl Driver {
         slice: u64,
         sink: &mut S,
     ) -> Result<(), DriveFault>
-        ensures { OnOk result ((reply : Reply) × Did S.takes sink.old self.old (Admit task nice mask slice) reply sink.new self.new) }
+        ensures does { OnOk result ((reply : Reply) × Did S.takes sink.old self.old (Admit task nice mask slice) reply sink.new self.new) }
+        ensures fault { IfErr result (λ fault. IsDriveFault self.old (Admit task nice mask slice) fault) }
     {
         let event = Event::Admit {
             task,
@@ -62,7 +63,8 @@ impl Driver {
         now: u64,
         sink: &mut S,
     ) -> Result<u8, DriveFault>
-        ensures { IfOk result (λ to. Gets S.takes sink.old sink.new (λ told. Places self.old processor task now to told self.new)) }
+        ensures does { IfOk result (λ to. Gets S.takes sink.old sink.new (λ told. Places self.old processor task now to told self.new)) }
+        ensures fault { IfErr result (λ fault. IsWakeFault self.old processor task now fault) }
     {
         match self.perform(alloc, Event::BeginWake { processor, task }, sink)? {
             Reply::Begun { .. } => self.place(alloc, processor, now, sink),
@@ -78,7 +80,8 @@ impl Driver {
         now: u64,
         sink: &mut S,
     ) -> Result<u8, DriveFault>
-        ensures { IfOk result (λ to. (reply : Reply) × (placed_at reply ≡ Some to) × Did S.takes sink.old self.old (EndWake processor now) reply sink.new self.new) }
+        ensures does { IfOk result (λ to. (reply : Reply) × (placed_at reply ≡ Some to) × Did S.takes sink.old self.old (EndWake processor now) reply sink.new self.new) }
+        ensures fault { IfErr result (λ fault. IsDriveFault self.old (EndWake processor now) fault) }
     {
         match self.perform(alloc, Event::EndWake { processor, now }, sink)? {
             Reply::Placed { to, .. } => Ok(to),
@@ -94,7 +97,8 @@ impl Driver {
         now: u64,
         sink: &mut S,
     ) -> Result<Entered, DriveFault>
-        ensures { IfOk result (λ entered. (reply : Reply) × (runs_now reply ≡ entered.run) × (count_entered reply ≡ entered.count) × Did S.takes sink.old self.old (Drain processor now) reply sink.new self.new) }
+        ensures does { IfOk result (λ entered. (reply : Reply) × (runs_now reply ≡ entered.run) × (count_entered reply ≡ entered.count) × Did S.takes sink.old self.old (Drain processor now) reply sink.new self.new) }
+        ensures fault { IfErr result (λ fault. IsDriveFault self.old (Drain processor now) fault) }
     {
         match self.perform(alloc, Event::Drain { processor, now }, sink)? {
             Reply::Drained { count, run, .. } => Ok(Entered { count, run }),
@@ -110,7 +114,8 @@ impl Driver {
         now: u64,
         sink: &mut S,
     ) -> Result<Option<u16>, DriveFault>
-        ensures { IfOk result (λ run. (reply : Reply) × (runs_now reply ≡ run) × Did S.takes sink.old self.old (Tick processor now) reply sink.new self.new) }
+        ensures does { IfOk result (λ run. (reply : Reply) × (runs_now reply ≡ run) × Did S.takes sink.old self.old (Tick processor now) reply sink.new self.new) }
+        ensures fault { IfErr result (λ fault. IsDriveFault self.old (Tick processor now) fault) }
     {
         match self.perform(alloc, Event::Tick { processor, now }, sink)? {
             Reply::Ticked { run, .. } => Ok(run),
@@ -126,7 +131,8 @@ impl Driver {
         now: u64,
         sink: &mut S,
     ) -> Result<Option<u16>, DriveFault>
-        ensures { IfOk result (λ run. (reply : Reply) × (runs_now reply ≡ run) × Did S.takes sink.old self.old (Block processor now) reply sink.new self.new) }
+        ensures does { IfOk result (λ run. (reply : Reply) × (runs_now reply ≡ run) × Did S.takes sink.old self.old (Block processor now) reply sink.new self.new) }
+        ensures fault { IfErr result (λ fault. IsDriveFault self.old (Block processor now) fault) }
     {
         match self.perform(alloc, Event::Block { processor, now }, sink)? {
             Reply::Blocked { run, .. } => Ok(run),
@@ -143,7 +149,8 @@ impl Driver {
         now: u64,
         sink: &mut S,
     ) -> Result<Moved, DriveFault>
-        ensures { IfOk result (λ moved. (reply : Reply) × (runs_now reply ≡ moved.run) × (task_pulled reply ≡ moved.task) × Did S.takes sink.old self.old (Pull processor from now) reply sink.new self.new) }
+        ensures does { IfOk result (λ moved. (reply : Reply) × (runs_now reply ≡ moved.run) × (task_pulled reply ≡ moved.task) × Did S.takes sink.old self.old (Pull processor from now) reply sink.new self.new) }
+        ensures fault { IfErr result (λ fault. IsDriveFault self.old (Pull processor from now) fault) }
     {
         let event = Event::Pull {
             processor,
@@ -158,7 +165,8 @@ impl Driver {
 
     /// The next generation's number.
     pub fn draw<S: Sink>(&mut self, alloc: Global, sink: &mut S) -> Result<u64, DriveFault>
-        ensures { IfOk result (λ generation. Did S.takes sink.old self.old Draw (Drawn generation) sink.new self.new) }
+        ensures does { IfOk result (λ generation. Did S.takes sink.old self.old Draw (Drawn generation) sink.new self.new) }
+        ensures fault { IfErr result (λ fault. IsDriveFault self.old Draw fault) }
     {
         match self.perform(alloc, Event::Draw, sink)? {
             Reply::Drawn { generation } => Ok(generation),
@@ -176,7 +184,8 @@ impl Driver {
         policy: Policy,
         sink: &mut S,
     ) -> Result<(), DriveFault>
-        ensures { OnOk result (Drove S.takes sink.old self.old (Install processor hook generation (Some policy) ∷ []) sink.new self.new) }
+        ensures does { OnOk result (Drove S.takes sink.old self.old (Install processor hook generation (Some policy) ∷ []) sink.new self.new) }
+        ensures fault { IfErr result (λ fault. IsDriveFault self.old (Install processor hook generation (Some policy)) fault) }
     {
         let event = Event::Install {
             processor,

@@ -7,7 +7,7 @@ use Rattle.bq_simulate.proofs.simulation.Simulation.block.Goals as goal
 
 pub returns : goal.returns
 returns g c =
-    let said = c.in_ok-run.ensures in
+    let said = c.in_ok-run.ensures.does in
     let was = c.args.self.now.roster in
     let event = Block c.args.processor c.args.now in
     let accounts = c.in_ok-leave.ensures.accounts ∙ ap (λ (r : Option ℕ). left_by c.args.processor r c.args.now was.periods (accounts_of was)) (sym said.1) in

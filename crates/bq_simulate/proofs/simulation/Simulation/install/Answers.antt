@@ -23,7 +23,7 @@ policies-preserved g c =
     let number = c.policies.policy-index in
     let policy : Accepted = c.policy-item.result in
     let there : slice_get policies number ≡ Some policy = slice_get_read policies _ number policy refl c.policies-test.true c.policy-item.is in
-    let drawn = Lived-event takes (IsDrawn generation) _ _ _ _ Draw (Drawn generation) refl tt (record { agrees = λ h. h; periods = refl; seed = refl; streams = refl; firsts = refl }) c.in_ok-generation.ensures refl in
+    let drawn = Lived-event takes (IsDrawn generation) _ _ _ _ Draw (Drawn generation) refl tt (record { agrees = λ h. h; periods = refl; seed = refl; streams = refl; firsts = refl }) c.in_ok-generation.ensures.does refl in
     let installs = AreJust (installs_of all generation policy) in
     let one = IsInstalled all policy in
     let both : (xs ys : List Deed) → IsDrawn generation xs → installs ys → one (xs ++ ys) = λ xs ys draw install. (generation, ys, ap (λ (l : List Deed). l ++ ys) draw, install) in

@@ -19,7 +19,7 @@ processors-preserved g c =
     let event = Install count c.hook.result generation (Some c.in_ok-copy.copy) in
     let same : event ≡ Install count policy.hook generation (Some policy) =
     ap (λ (h : Hook). Install count h generation (Some c.in_ok-copy.copy)) c.hook.ensures ∙ ap (λ (p : Accepted). Install count policy.hook generation (Some p)) c.in_ok-copy.ensures.cases in
-    let installed = Lived-drove takes (AreJust (event ∷ [])) _ _ _ _ event (λ reply. (reply, [], refl, refl)) tt (record { agrees = λ h. h; periods = refl; seed = refl; streams = refl; firsts = refl }) (λ reply a. refl) c.in_ok-install.ensures refl in
+    let installed = Lived-drove takes (AreJust (event ∷ [])) _ _ _ _ event (λ reply. (reply, [], refl, refl)) tt (record { agrees = λ h. h; periods = refl; seed = refl; streams = refl; firsts = refl }) (λ reply a. refl) c.in_ok-install.ensures.does refl in
     let before = installs_of count generation policy in
     let after = installs_of (count + 1) generation policy in
     let events : before ++ event ∷ [] ≡ after = ap (λ (e : Event). before ++ e ∷ []) same ∙ sym (installs_more count generation policy) in

@@ -9,7 +9,7 @@ use Rattle.bq_simulate.proofs.simulation.Simulation.pull_from.Goals as goal
 
 pub returns : goal.returns
 returns g c =
-    let said = c.in_ok-moved.ensures in
+    let said = c.in_ok-moved.ensures.does in
     let was = c.args.self.now.roster in
     let event = Pull c.args.processor c.args.from c.args.now in
     let moved : Option ℕ → Accounts = λ o. option_map_or (λ (task : ℕ). passed c.args.from c.args.processor (accounts_of was)) o (accounts_of was) in

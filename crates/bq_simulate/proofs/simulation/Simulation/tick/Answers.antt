@@ -9,7 +9,7 @@ use Rattle.bq_simulate.proofs.simulation.Simulation.tick.Goals as goal
 
 pub returns-clause-befell : goal.returns-clause-befell
 returns-clause-befell g c =
-    let said = c.in_ok-run.ensures in
+    let said = c.in_ok-run.ensures.does in
     let was = c.args.self.now.roster in
     let event = Tick c.args.processor c.args.now in
     let accounts = c.in_ok-switch.ensures.accounts ∙ ap (λ (r : Option ℕ). switched c.args.processor r c.args.now was.periods (accounts_of was)) (sym said.1) in
