@@ -20,7 +20,7 @@ abbrev pub read : {A B : Type 0} → (A → B) → B → List A → ℕ → B
 read v d xs k = option_map_or v (slice_get xs k) d
 
 -- where nothing stands at a place nothing is changed
-unchanged : {A : Type 0} (f : A → A) (xs : List A) (n : ℕ) → slice_get xs n ≡ None → changed_at f xs n ≡ xs
+pub unchanged : {A : Type 0} (f : A → A) (xs : List A) (n : ℕ) → slice_get xs n ≡ None → changed_at f xs n ≡ xs
 unchanged {A} f xs n h = ap (λ (o : Option A). option_map_or (λ (y : A). slice_set xs n (f y)) o xs) h
 
 -- what a change leaves as it is can be read as before
@@ -165,5 +165,6 @@ reads_grown processor count a l at = reads_processor (λ x. record x { size = x.
 pub state_woken : (task : ℕ) (a : Accounts) (c : TaskProgress) → slice_get a.by_task task ≡ Some c → state_at (of_task woken task a).by_task task ≡ Some Runnable
 state_woken task a c there = read_changed woken (λ (x : TaskProgress). Some x.task_state) None a.by_task task c there
 
+-- and the other tasks are in the states that they were in
 pub state_others : (f : TaskProgress → TaskProgress) (task other : ℕ) (a : Accounts) → other ≢ task → state_at (of_task f task a).by_task other ≡ state_at a.by_task other
 state_others f task other a apart = read_others f (λ (x : TaskProgress). Some x.task_state) None a.by_task task other apart

@@ -35,11 +35,13 @@ use Rattle.bq_simulate.proofs.MirrorLemmas.{agree_after, at_set_else}
 
 -- the numbers of a kind, as an admission asks for them
 pub record HasNumbers (kind : TaskKind) : Type 0 where
+  pub some : 1 ≤ kind.count
   pub nice : is_nice kind.nice ≡ true
   pub least : LEAST_SLICE ≤ kind.slice
   pub greatest : kind.slice ≤ GREATEST_SLICE
 
-numbers_of : (kind : TaskKind) → has_numbers kind ≡ true → HasNumbers kind
+-- a kind whose numbers are in their ranges has them
+pub numbers_of : (kind : TaskKind) → has_numbers kind ≡ true → HasNumbers kind
 numbers_of kind h =
     let one : Bool = nat_le 1 kind.count in
     let two : Bool = one && is_nice kind.nice in
@@ -51,7 +53,7 @@ numbers_of kind h =
     let to_three = and_parts three (nat_le kind.slice GREATEST_SLICE) to_four.0 in
     let to_two = and_parts two (nat_le LEAST_SLICE kind.slice) to_three.0 in
     let to_one = and_parts one (is_nice kind.nice) to_two.0 in
-    record { nice = to_one.1; least = leb-true LEAST_SLICE kind.slice to_two.1; greatest = leb-true kind.slice GREATEST_SLICE to_three.1 }
+    record { some = leb-true 1 kind.count to_one.0; nice = to_one.1; least = leb-true LEAST_SLICE kind.slice to_two.1; greatest = leb-true kind.slice GREATEST_SLICE to_three.1 }
 
 product : (a b : ℕ) → 1 ≤ a → 1 ≤ b → a * b ≡ 0 → ⊥
 product a b h k z = omega (arith, mul-pos {m = a} {n = b} h k, z)
@@ -70,11 +72,12 @@ mask_has mask home count low h z =
     mask_has_more mask home (count - home - 1) h (subst (λ n. mask % 2 ^ n ≡ 0) e z)
 
 -- one more at the end of a list
-appended : {A : Type 0} (xs : List A) (x : A) → slice_get (xs ++ x ∷ []) (length xs) ≡ Some x
+pub appended : {A : Type 0} (xs : List A) (x : A) → slice_get (xs ++ x ∷ []) (length xs) ≡ Some x
 appended [] x = refl
 appended (y ∷ ys) x = appended ys x
 
-appended_others : {A : Type 0} (xs : List A) (x : A) (k : ℕ) → k ≢ length xs → slice_get (xs ++ x ∷ []) k ≡ slice_get xs k
+-- and what stands before it
+pub appended_others : {A : Type 0} (xs : List A) (x : A) (k : ℕ) → k ≢ length xs → slice_get (xs ++ x ∷ []) k ≡ slice_get xs k
 appended_others [] x zero h = absurd (h refl)
 appended_others [] x (suc k) h = refl
 appended_others (y ∷ ys) x zero h = refl
@@ -84,6 +87,7 @@ appended_others (y ∷ ys) x (suc k) h = appended_others ys x k (λ e. h (ap suc
 abbrev state_of : Option TaskProgress → Option TaskState
 state_of o = option_map_or (λ (c : TaskProgress). Some c.task_state) o None
 
+-- a task that is admitted, and is there, leaves them in agreement
 pub admit_kept : (d : Discipline) (w v : World) (a : Accounts) (c : TaskProgress) (kind : TaskKind) (calls : List Asked) (r : Reply) → AgreesWith w a → length a.by_task < 1024 → c.task_state ≡ Asleep → c.home < count_in w → WorldStep (policies d) w (Admit (length a.by_task) kind.nice kind.mask kind.slice) calls (Ok r) v
     → AgreesWith v (with_task c a)
 admit_kept d w v a c kind calls r h few asleep low step =
@@ -107,6 +111,7 @@ admit_kept d w v a c kind calls r h few asleep low step =
     })
     homes
 
+-- so an admission is taken
 pub admissions_are_taken : AdmissionsAreTaken
 admissions_are_taken d w a number home kind h few numbers first =
     let n : ℕ = length a.by_task in

@@ -1,5 +1,5 @@
 -- Calls that fail only if memory is wanted.
-use Rattle.std.proofs.Common.{◌≡◌, ℕ, ◌<◌, ◌≤◌, ◌^◌, inl, inr, false, Option, Some, None, refl, sym, subst, arith}
+use Rattle.std.proofs.Common.{◌≡◌, ℕ, ◌<◌, inl, inr, false, Some, None, refl, sym, subst, arith}
 use Rattle.std.specs.Prelude.{Ok, slice_get}
 use Rattle.bq_parts.specs.declared.event.Event.{Event}
 use Rattle.bq_parts.specs.declared.event.Event.TheVariants.{Admit, BeginWake, Block, Drain, Draw, EndWake, Install, Pull, Tick}
@@ -55,6 +55,7 @@ drain_fails d e a from task to now c told ready low at sleeps places =
     let read : e.now ≡ now = ends.rises.2 in
     for_memory e (Drain to now) (omega (arith, read), ready.reading.1) drain.taken
 
+-- so each call fails only if memory is wanted
 pub calls_fail_for_memory : CallsFailForMemory
 calls_fail_for_memory = record {
   draws = λ d. for_memory d Draw tt refl;

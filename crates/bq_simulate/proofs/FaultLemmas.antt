@@ -13,12 +13,14 @@ readable last None h falls = falls
 readable last (Some now) h (inl early) = omega (arith, h.0, early)
 readable last (Some now) h (inr late) = omega (arith, h.1, late)
 
+-- so what can be read and is not refused fails only if memory is wanted
 pub only_memory_is_wanted : OnlyMemoryIsWanted
 only_memory_is_wanted d event fault.OutOfMemory h taken why = refl
 only_memory_is_wanted d event (fault.Refused refusal) h taken why = absurd (none-some refusal (sym taken ∙ why))
 only_memory_is_wanted d event fault.Reading h taken why = absurd (readable d.now (reading_of event) h why)
 only_memory_is_wanted d event fault.Answer h taken why = absurd why
 
+-- an answer is of its event's kind
 pub answers_fit : AnswersFit
 answers_fit d w v (Admit id nice mask slice) calls r step = subst (IsAnswerTo (Admit id nice mask slice)) (sym step.1.1.1) tt
 answers_fit d w v (Retire id) calls r step = subst (IsAnswerTo (Retire id)) (sym step.1.1.1) tt

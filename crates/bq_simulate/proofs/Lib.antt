@@ -7,13 +7,17 @@ pub mod InstallLemmas
 pub mod KindLemmas
 pub mod ProcessorStateLemmas
 pub mod OrderLemmas
+pub mod SoundKindLemmas
+pub mod StandingLemmas
 pub mod StepLemmas
 pub mod StreamLemmas
 pub mod WholeLemmas
 pub mod DriveLemmas
 pub mod FaultLemmas
 pub mod FromImagesLemmas
+pub mod GenerationLemmas
 pub mod HexWordLemmas
+pub mod KeptLemmas
 pub mod LineLawLemmas
 pub mod MeetAgreeLemmas
 pub mod MeetTimeLemmas
@@ -25,5 +29,6 @@ pub mod RetellingLemmas
 pub mod SimulationAgreeLemmas
 pub mod TakenLemmas
 pub mod TextLemmas
+pub mod TimeKeptLemmas
 pub mod TimeLemmas
 pub mod WakeTakenLemmas

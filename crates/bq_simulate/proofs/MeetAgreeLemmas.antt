@@ -60,6 +60,7 @@ counted_true : (b : Bool) → 1 ≤ as_number b → b ≡ true
 counted_true true h = refl
 counted_true false h = absurd (omega arith)
 
+-- so the entry of a task that runs says that it is away
 pub runs_away : (w : World) (processor task : ℕ) → IsOrderly w → id_of (processor_at w processor).running.current ≡ Some task → is_away (entry w task) ≡ true
 runs_away w processor task o runs =
     let p : Processor = processor_at w processor in
@@ -169,6 +170,7 @@ pub record LivedOne (periods : Periods) (d : Driver) (b : Book) (event : Event) 
 pub step_of : (d : Driver) (event : Event) (reply : Reply) (told : Told) (e : Driver) (does : Does d event reply told e) → WorldStep (policies (discipline_of d.machine.rule)) (world_of d) event does.happens.moves.step.calls (Ok reply) (world_of e)
 step_of d event reply told e does = does.happens.moves.step.step
 
+-- a tick
 pub tick_agrees : (periods : Periods) (d e : Driver) (b : Book) (processor now : ℕ) (reply : Reply) (told : Told) → Does d (Tick processor now) reply told e → Agree d b → Agree e (after_answer periods (Tick processor now) reply b)
 tick_agrees periods d e b processor now reply told does h =
     let w : World = world_of d in
@@ -228,18 +230,22 @@ wake_met kinds seed periods d e b c from task now deeds told (begun, placed, dra
 
 -- What an action leaves
 
+-- a task that has done its action is in the state that it was in
 pub advanced_state : (actions : ℕ) (c : TaskProgress) → (advanced actions c).task_state ≡ c.task_state
 advanced_state actions c =
     elim (nat_le actions (c.action + 1)) as (λ b. (if b then record c { action = 0; woken = 0; loops = min (c.loops + 1) 18446744073709551615 } else record c { action = c.action + 1; woken = 0 }).task_state ≡ c.task_state) [ true ↦ refl | false ↦ refl ]
 
+-- and was last where it was
 pub advanced_home : (actions : ℕ) (c : TaskProgress) → (advanced actions c).home ≡ c.home
 advanced_home actions c =
     elim (nat_le actions (c.action + 1)) as (λ b. (if b then record c { action = 0; woken = 0; loops = min (c.loops + 1) 18446744073709551615 } else record c { action = c.action + 1; woken = 0 }).home ≡ c.home) [ true ↦ refl | false ↦ refl ]
 
+-- a task whose wake has come to one more is in the state that it was in
 pub woken_one_state : (kinds : List TaskKind) (kind : ℕ) (c : TaskProgress) → (woken_one_in kinds kind c).task_state ≡ c.task_state
 woken_one_state kinds kind c =
     elim (nat_lt (c.woken + 1) (count_of_kind kinds kind)) as (λ b. (if b then record c { woken = c.woken + 1 } else advanced_in kinds c).task_state ≡ c.task_state) [ true ↦ refl | false ↦ advanced_state (actions_of kinds c) c ]
 
+-- and was last where it was
 pub woken_one_home : (kinds : List TaskKind) (kind : ℕ) (c : TaskProgress) → (woken_one_in kinds kind c).home ≡ c.home
 woken_one_home kinds kind c =
     elim (nat_lt (c.woken + 1) (count_of_kind kinds kind)) as (λ b. (if b then record c { woken = c.woken + 1 } else advanced_in kinds c).home ≡ c.home) [ true ↦ refl | false ↦ advanced_home (actions_of kinds c) c ]
@@ -265,6 +271,7 @@ pub one_event : (event : Event) → KeepsAgreement event → (kinds : List TaskK
 one_event event keeps kinds seed periods d e b c reply told (due, mid, first, rest, does, (nothing, same, kept), whole) h =
     subst (λ x. Agree e x) (sym kept) (subst (λ x. Agree x (after_answer periods event reply b)) (sym same) (keeps periods d mid b reply first does h))
 
+-- a single event, as it is met
 pub event_met : (event : Event) → KeepsAgreement event → (kinds : List TaskKind) (seed : ℕ) (periods : Periods) (d e : Driver) (b c : Book) (deeds : List Deed) (told : Told) → AreJust (event ∷ []) deeds → Lives kinds seed periods d b deeds told e c → Agree d b → Agree e c
 event_met event keeps kinds seed periods d e b c deeds told (reply, more, is, none) lives h =
     let whole : deeds ≡ Happens event reply ∷ [] = is ∙ ap (λ l. Happens event reply ∷ l) none in
@@ -329,6 +336,7 @@ look_met None kinds seed periods d e b c processor now deeds told none lives h =
 look_met (Some from) kinds seed periods d e b c processor now deeds told just lives h =
     event_met (Pull processor from now) (λ p x y k reply some does agree. pull_agrees p x y k processor from now reply some does agree) kinds seed periods d e b c deeds told just lives h
 
+-- so they agree after each thing that is met
 pub meetings_agree : MeetingsAgree
 meetings_agree kinds seed periods d e b c (due.End processor) now deeds told meet lives h = end_met kinds seed periods d e b c processor now deeds told meet lives h
 meetings_agree kinds seed periods d e b c (due.Wake task) now deeds told (home, more, is, wake) lives h =

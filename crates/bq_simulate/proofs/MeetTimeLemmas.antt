@@ -233,6 +233,7 @@ end_time kinds seed periods d e b c processor now deeds told some early (task, a
           follow_time next aim kinds seed periods d e a (after_act kinds seed processor task now k b) c processor task long now k more told some (subst (λ o. Follow o aim processor now more) its follow) refl done.there agrees rest after given
     ]
 
+-- so nothing is past after a thing that is met
 pub meetings_are_on_time : MeetingsAreOnTime
 meetings_are_on_time kinds seed periods d e b c (due.End processor) now deeds told tick balance early meet lives h time =
     end_time kinds seed periods d e b c processor now deeds told tick early meet lives h (meetings_agree kinds seed periods d e b c (due.End processor) now deeds told meet lives h) time

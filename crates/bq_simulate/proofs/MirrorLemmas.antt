@@ -1,9 +1,9 @@
 -- How accounts that mirror a world mirror the one that an event leaves.
-use Rattle.std.proofs.Common.{◌≡◌, ◌≢◌, ℕ, zero, suc, ◌-◌, ◌<◌, inl, inr, Bool, true, false, cond, List, [], ◌∷◌, length, Option, Some, None, refl, sym, subst, ap, ◌∙◌, arith, get_or, set}
+use Rattle.std.proofs.Common.{◌≡◌, ◌≢◌, ℕ, ◌-◌, ◌<◌, inl, inr, Bool, true, false, cond, List, [], ◌∷◌, length, Option, Some, None, refl, sym, subst, ap, ◌∙◌, arith, get_or, set}
 use Rattle.std.specs.Prelude.{Ok, slice_get, if◌then◌else◌}
 use Rattle.std.specs.Option.{option_map_or}
-use Rattle.std.proofs.lemmas.Bool.{lt-leb}
-use Rattle.std.proofs.lemmas.List.{length-set}
+use Rattle.std.proofs.lemmas.Bool.{cases_eq, lt-leb}
+use Rattle.std.proofs.lemmas.List.{get_or-set_other, get_or-set_same, length-set}
 use Rattle.std.proofs.lemmas.Option.{slice_get-get_or}
 use Rattle.bq_bpf.specs.declared.board.Call.{Call as Asked}
 use Rattle.bq_disc.specs.Tasks.{Task, id_of}
@@ -34,16 +34,16 @@ use Rattle.bq_simulate.proofs.AccountLemmas.{Reads}
 
 -- a fact of each place of a list, after one place was written, where it may have been false
 pub at_set_else : {X : Type 0} (Q : ℕ → X → Type 0) (xs : List X) (i : ℕ) (x d : X) → i < length xs → Q i x → ((j : ℕ) → j ≢ i → Q j (get_or xs j d)) → (j : ℕ) → Q j (get_or (set xs i x) j d)
-at_set_else Q [] i x d l q h j = absurd (omega arith)
-at_set_else Q (y ∷ ys) zero x d l q h zero = q
-at_set_else Q (y ∷ ys) zero x d l q h (suc j) = h (suc j) (omega arith)
-at_set_else Q (y ∷ ys) (suc i) x d l q h zero = h zero (omega arith)
-at_set_else Q (y ∷ ys) (suc i) x d l q h (suc j) = at_set_else (λ n. Q (suc n)) ys i x d (omega arith) q (λ n e. h (suc n) (omega arith)) j
+at_set_else Q xs i x d low here others j = elim (cases_eq j i) [
+  | inl same ↦ subst (λ n. Q n (get_or (set xs i x) n d)) (sym same) (subst (Q i) (sym (get_or-set_same xs i x d low)) here)
+  | inr apart ↦ subst (Q j) (sym (get_or-set_other xs i j x d apart)) (others j apart)
+]
 
 -- how many some tasks are
 abbrev pub each : ℕ → ℕ → ℕ
 each id mask = 1
 
+-- where each counts as one, a tally is how many there are
 pub tally_length : (xs : List Task) → tally each xs ≡ length xs
 tally_length [] = refl
 tally_length (x ∷ xs) = omega (arith, tally_length xs)
@@ -90,6 +90,7 @@ settled_written w processor q h empty = record {
 
 -- homes
 
+-- a task has come further, and was last at one of the processors
 pub homes_task : (count task : ℕ) (f : TaskProgress → TaskProgress) (a : Accounts) → ((c : TaskProgress) → c.home < count → (f c).home < count) → HaveProcessors count a → HaveProcessors count (of_task f task a)
 homes_task count task f a kept h k c at =
     let was = stood_before_change f a.by_task task k c at in
@@ -102,6 +103,7 @@ homes_charged_by : (count : ℕ) (l : ProcessorState) (now : ℕ) (a : Accounts)
 homes_charged_by count l now a h =
     elim l.run as (λ (o : Option ℕ). HaveProcessors count (charged_by (record l { run = o }) now a)) [ None ↦ h | Some task ↦ homes_task count task (run_for (now - l.since)) a (λ c low. low) h ]
 
+-- the time of a processor is counted
 pub homes_charged : (count processor now : ℕ) (a : Accounts) → HaveProcessors count a → HaveProcessors count (charged processor now a)
 homes_charged count processor now a h =
     let f : ProcessorState → ProcessorState = λ x. record x { since = now } in

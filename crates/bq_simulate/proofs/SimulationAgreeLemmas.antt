@@ -1,9 +1,10 @@
 -- World and accounts agree from the opening of a simulation on.
-use Rattle.std.proofs.Common.{◌≡◌, ℕ, zero, suc, ◌+◌, ◌<◌, List, [], ◌∷◌, ◌++◌, length, Some, None, refl, sym, subst, ap, ◌∙◌, arith, length-append, map, replicate}
-use Rattle.std.specs.Prelude.{Ok, nat_le}
-use Rattle.std.proofs.lemmas.Bool.{leb-false}
+use Rattle.std.proofs.Common.{◌≡◌, ℕ, zero, suc, ◌+◌, ◌<◌, inl, inr, List, [], ◌∷◌, ◌++◌, length, Some, None, refl, sym, subst, ap, ◌∙◌, arith, length-append, map, replicate}
+use Rattle.std.specs.Prelude.{Ok, nat_le, slice_get, sum_by}
+use Rattle.std.proofs.lemmas.Bool.{cases_eq, leb-false}
 use Rattle.std.proofs.lemmas.List.{length-replicate}
-use Rattle.std.proofs.lemmas.Option.{none-some}
+use Rattle.std.proofs.lemmas.List.Sums.{sum_by-append}
+use Rattle.std.proofs.lemmas.Option.{none-some, same_Some, slice_get_within}
 use Rattle.bq_disc.specs.Tasks.{id_of}
 use Rattle.bq_verify.specs.Accepted.{Accepted}
 use Rattle.bq_parts.specs.declared.event.Event.{Event}
@@ -28,20 +29,23 @@ use Rattle.bq_workload.specs.declared.roster.Periods.{Periods}
 use Rattle.bq_workload.specs.declared.workload.TaskKind.{TaskKind}
 use Rattle.bq_workload.specs.declared.workload.Workload.{Workload}
 use Rattle.bq_workload.specs.Accounts.{Accounts, at_rest, first_look, opening}
+use Rattle.bq_workload.specs.declared.progress.TaskProgress.{TaskProgress}
+use Rattle.bq_workload.specs.Kinds.{tasks_in}
 use Rattle.bq_workload.specs.Soundness.{IsFirstAllowed}
 use Rattle.bq_workload.specs.TaskProgress.{fresh}
 use Rattle.bq_simulate.specs.declared.driver.Driver.{Driver}
 use Rattle.bq_simulate.specs.Actions.{start_of}
-use Rattle.bq_simulate.specs.Agreement.{AgreesWith}
-use Rattle.bq_simulate.specs.AgreementLaws.{Agree, SimulationsAgree}
+use Rattle.bq_simulate.specs.Agreement.{AgreesWith, IsOnTime, ProcessorIsOnTime, RunsOnTime, TaskIsOnTime}
+use Rattle.bq_simulate.specs.AgreementLaws.{Agree, SimulationsAgree, with_task}
 use Rattle.bq_simulate.specs.Chronicles.{Acts, Beats, Book, Deed, Happens, Joins, Lives, Looks, Misses, Reaches, Rings, after_act, after_answer, after_beat, after_look, joined}
 use Rattle.bq_simulate.specs.Drives.{Does, Starts}
 use Rattle.bq_simulate.specs.Simulations.{IsSimulation, Proceeds, opening_book, periods_of}
-use Rattle.bq_simulate.specs.Steps.{AreAdmitted, AreAllAdmitted, AreInstalled, AreJust, Step, all_processors, deeds_of}
+use Rattle.bq_simulate.specs.Steps.{AreAdmitted, AreAllAdmitted, AreInstalled, AreJust, Opens, Step, all_processors, deeds_of}
 use Rattle.bq_simulate.proofs.AccountLemmas.{read}
-use Rattle.bq_simulate.proofs.AdmissionTakenLemmas.{admit_kept}
+use Rattle.bq_simulate.proofs.AdmissionTakenLemmas.{admit_kept, appended, appended_others}
 use Rattle.bq_simulate.proofs.MeetAgreeLemmas.{meetings_agree, step_of, tick_agrees, world_of}
 use Rattle.bq_simulate.proofs.TakenLemmas.{draws_are_taken, install_kept}
+use Rattle.bq_simulate.proofs.TimeKeptLemmas.{carried}
 
 -- deeds that were done in two parts
 pub record Parted (kinds : List TaskKind) (seed : ℕ) (periods : Periods) (d : Driver) (b : Book) (xs ys : List Deed) (e : Driver) (c : Book) : Type 0 where
@@ -52,6 +56,7 @@ pub record Parted (kinds : List TaskKind) (seed : ℕ) (periods : Periods) (d : 
   pub one : Lives kinds seed periods d b xs first mid book
   pub two : Lives kinds seed periods mid book ys more e c
 
+-- deeds in a row are done in two parts
 pub part : (kinds : List TaskKind) (seed : ℕ) (periods : Periods) (d e : Driver) (b c : Book) (xs ys : List Deed) (told : Told) → Lives kinds seed periods d b (xs ++ ys) told e c → Parted kinds seed periods d b xs ys e c
 part kinds seed periods d e b c [] ys told h = record { mid = d; book = b; first = []; more = told; one = (refl, refl, refl); two = h }
 part kinds seed periods d e b c (Happens event reply ∷ xs) ys told (due, mid, first, rest, does, lives, whole) =
@@ -84,7 +89,7 @@ abbrev pub Keeps : (Driver → Book → Type 0) → Event → Type 0
 Keeps P event = (periods : Periods) (d e : Driver) (b : Book) (reply : Reply) (told : Told) → Does d event reply told e → P d b → P e (after_answer periods event reply b)
 
 -- no deed keeps all
-none_kept : (P : Driver → Book → Type 0) (kinds : List TaskKind) (seed : ℕ) (periods : Periods) (d e : Driver) (b c : Book) (deeds : List Deed) (told : Told) → deeds ≡ [] → Lives kinds seed periods d b deeds told e c → P d b → P e c
+pub none_kept : (P : Driver → Book → Type 0) (kinds : List TaskKind) (seed : ℕ) (periods : Periods) (d e : Driver) (b c : Book) (deeds : List Deed) (told : Told) → deeds ≡ [] → Lives kinds seed periods d b deeds told e c → P d b → P e c
 none_kept P kinds seed periods d e b c deeds told none lives h =
     let (nothing, same, kept) = subst (λ l. Lives kinds seed periods d b l told e c) none lives in
     subst (λ x. P e x) (sym kept) (subst (λ x. P x b) (sym same) h)
@@ -96,9 +101,11 @@ just_kept P f keeps kinds seed periods d e b c (n ∷ numbers) deeds told (reply
     let (due, mid, first, rest, does, later, whole) = subst (λ l. Lives kinds seed periods d b l told e c) is lives in
     just_kept P f keeps kinds seed periods mid e (after_answer periods (f n) reply b) c numbers more rest just later (keeps n periods d mid b reply first does h)
 
--- a simulation that opens, with this many processors and so many tasks so far
+-- a simulation that opens, with this many processors and so many tasks so far, at instant 0
 pub record IsOpening (processors tasks : ℕ) (d : Driver) (b : Book) : Type 0 where
   pub agree : Agree d b
+  pub on_time : IsOnTime 0 b.accounts
+  pub read : d.now ≡ 0
   pub processors_there : count_in (world_of d) ≡ processors
   pub tasks_there : length b.accounts.by_task ≡ tasks
 
@@ -108,6 +115,8 @@ draw_opens processors tasks periods d e b reply told does h =
     let r = discipline_of d.machine.rule in
     record {
       agree = (draws_are_taken r periods (world_of d) b.accounts h.agree).leaves does.happens.moves.step.calls reply (world_of e) step;
+      on_time = h.on_time;
+      read = does.rises ∙ h.read;
       processors_there = step_count (under_policies r) (world_of d) Draw does.happens.moves.step.calls (Ok reply) (world_of e) step ∙ h.processors_there;
       tasks_there = h.tasks_there;
     }
@@ -121,6 +130,8 @@ install_opens processors tasks generation policy processor periods d e b reply t
     let low = (not_refused_is_there (count_in w) processor _ (accepted w event step.0).0).0 in
     record {
       agree = install_kept r w (world_of e) b.accounts processor generation policy.hook (Some policy) does.happens.moves.step.calls reply h.agree low step;
+      on_time = h.on_time;
+      read = does.rises ∙ h.read;
       processors_there = step_count (under_policies r) w event does.happens.moves.step.calls (Ok reply) (world_of e) step ∙ h.processors_there;
       tasks_there = h.tasks_there;
     }
@@ -135,6 +146,23 @@ installed_opens kinds seed periods d e b c processors tasks (policy ∷ policies
     let drawn = draw_opens processors tasks periods d mid b (Drawn generation) first does h in
     let one = just_kept (IsOpening processors tasks) (λ processor. Install processor policy.hook generation (Some policy)) (install_opens processors tasks generation policy) kinds seed periods mid s.mid (after_answer periods Draw (Drawn generation) b) s.book (all_processors processors) rest left just later drawn in
     installed_opens kinds seed periods s.mid e s.book c processors tasks policies more s.more others s.two one
+
+-- one more task has got nothing yet
+joined_on_time : (a : Accounts) (c : TaskProgress) → c.got ≡ 0 → IsOnTime 0 a → IsOnTime 0 (with_task c a)
+joined_on_time a c none h =
+    let cs : List TaskProgress = a.by_task in
+    let ds : List TaskProgress = cs ++ c ∷ [] in
+    record {
+      tasks = λ task x at. elim (cases_eq task (length cs)) [
+        | inr apart ↦ h.tasks task x (sym (appended_others cs c task apart) ∙ at)
+        | inl here ↦
+            let same : c ≡ x = same_Some c x (sym (appended cs c) ∙ ap (slice_get ds) (sym here) ∙ at) in
+            subst (λ (y : TaskProgress). TaskIsOnTime 0 y) same (record { phase = omega (arith, none); timer = λ asleep. omega arith })
+      ];
+      processors = λ processor l at.
+          let p : ProcessorIsOnTime 0 cs l = h.processors processor l at in
+          carried 0 cs ds l (λ task runs. let r : RunsOnTime 0 cs l task = p.runs task runs in appended_others cs c task (λ e. omega (arith, e, slice_get_within cs task r.progress r.there))) p;
+    }
 
 -- a task is admitted, and is there
 admission_opens : (kinds : List TaskKind) (seed : ℕ) (periods : Periods) (d e : Driver) (b c : Book) (processors number task home : ℕ) (kind : TaskKind) (reply : Reply) (told : Told) → IsFirstAllowed processors kind.mask home
@@ -152,6 +180,8 @@ admission_opens kinds seed periods d e b c processors number task home kind repl
     let after : Book = joined kinds number home (after_answer periods (event task) reply b) in
     let done : IsOpening processors (task + 1) mid after = record {
       agree = admit_kept r w (world_of mid) a new kind does.happens.moves.step.calls reply h.agree few refl low step;
+      on_time = joined_on_time a new refl h.on_time;
+      read = does.rises ∙ h.read;
       processors_there = step_count (under_policies r) w (event (length a.by_task)) does.happens.moves.step.calls (Ok reply) (world_of mid) step ∙ h.processors_there;
       tasks_there = omega (arith, length-append a.by_task (new ∷ []), h.tasks_there);
     } in
@@ -170,13 +200,19 @@ admitted_open kinds seed periods d e b c processors number kind task (suc count)
     subst (λ n. IsOpening processors n e c) all (admitted_open kinds seed periods s.mid e s.book c processors number kind (task + 1) count more s.more rest s.two one)
 
 -- all tasks
-all_admitted_agree : (all : List TaskKind) (seed : ℕ) (periods : Periods) (d e : Driver) (b c : Book) (processors number task : ℕ) (kinds : List TaskKind) (deeds : List Deed) (told : Told) → AreAllAdmitted processors number task kinds deeds → Lives all seed periods d b deeds told e c
-    → IsOpening processors task d b → Agree e c
-all_admitted_agree all seed periods d e b c processors number task [] deeds told none lives h = none_kept Agree all seed periods d e b c deeds told none lives h.agree
-all_admitted_agree all seed periods d e b c processors number task (kind ∷ kinds) deeds told (some, more, whole, are, rest) lives h =
+all_admitted_open : (all : List TaskKind) (seed : ℕ) (periods : Periods) (d e : Driver) (b c : Book) (processors number task : ℕ) (kinds : List TaskKind) (deeds : List Deed) (told : Told) → AreAllAdmitted processors number task kinds deeds → Lives all seed periods d b deeds told e c
+    → IsOpening processors task d b → IsOpening processors (task + tasks_in kinds) e c
+all_admitted_open all seed periods d e b c processors number task [] deeds told none lives h =
+    let same : task ≡ task + tasks_in [] = omega arith in
+    subst (λ n. IsOpening processors n e c) same (none_kept (IsOpening processors task) all seed periods d e b c deeds told none lives h)
+all_admitted_open all seed periods d e b c processors number task (kind ∷ kinds) deeds told (some, more, whole, are, rest) lives h =
     let s = part all seed periods d e b c some more told (subst (λ l. Lives all seed periods d b l told e c) whole lives) in
     let one = admitted_open all seed periods d s.mid b s.book processors number kind task kind.count some s.first are s.one h in
-    all_admitted_agree all seed periods s.mid e s.book c processors (number + 1) (task + kind.count) kinds more s.more rest s.two one
+    let count : TaskKind → ℕ = λ k. k.count in
+    let first : sum_by count (kind ∷ []) ≡ kind.count = omega arith in
+    let both : tasks_in (kind ∷ kinds) ≡ sum_by count (kind ∷ []) + tasks_in kinds = sum_by-append count (kind ∷ []) kinds in
+    let sum : (task + kind.count) + tasks_in kinds ≡ task + tasks_in (kind ∷ kinds) = omega (arith, first, both) in
+    subst (λ n. IsOpening processors n e c) sum (all_admitted_open all seed periods s.mid e s.book c processors (number + 1) (task + kind.count) kinds more s.more rest s.two one)
 
 -- all that is met
 met_agree : (kinds : List TaskKind) (seed : ℕ) (periods : Periods) (d e : Driver) (b c : Book) (steps : List Step) (told : Told) → Lives kinds seed periods d b (deeds_of steps) told e c → Agree d b → Agree e c
@@ -214,10 +250,26 @@ opening_agrees n balance =
       homes = λ task c at. absurd (none-some c at);
     }
 
--- from the opening to where nothing comes any more
-proceeds_agree : (policies : List Accepted) (w : Workload) (d e : Driver) (b : Book) (most end : ℕ) (deeds : List Deed) (first told : Told) → Starts w.machine.rule w.machine.size first d
-    → Proceeds policies (processors_in w.machine.size) w.tasks.items w.machine.seed (periods_of w.machine) most end (opening_book w.machine) deeds → Lives w.tasks.items w.machine.seed (periods_of w.machine) d (opening_book w.machine) deeds told e b → Agree e b
-proceeds_agree policies w d e b most end deeds first told starts p lives =
+-- of equals each is the same
+replicated : {A : Type 0} (n k : ℕ) (x y : A) → slice_get (replicate n x) k ≡ Some y → x ≡ y
+replicated zero k x y at = absurd (none-some y at)
+replicated (suc n) zero x y at = same_Some x y at
+replicated (suc n) (suc k) x y at = replicated n k x y at
+
+-- and nothing of it is past
+opening_on_time : (n balance : ℕ) → IsOnTime 0 (opening n balance)
+opening_on_time n balance =
+    let x : ProcessorState = at_rest (first_look n balance) in
+    let rests : ProcessorIsOnTime 0 [] x = record { since = omega arith; looks = λ time is. omega arith; runs = λ task runs. absurd (none-some task runs); rests = λ none. refl } in
+    record {
+      tasks = λ task c at. absurd (none-some c at);
+      processors = λ k l at. subst (λ (y : ProcessorState). ProcessorIsOnTime 0 [] y) (replicated n k x l at) rests;
+    }
+
+-- once a simulation has opened all of its tasks are there
+pub opened_open : (policies : List Accepted) (w : Workload) (d e : Driver) (b : Book) (deeds : List Deed) (first told : Told) → Starts w.machine.rule w.machine.size first d → Opens policies (processors_in w.machine.size) w.tasks.items deeds
+    → Lives w.tasks.items w.machine.seed (periods_of w.machine) d (opening_book w.machine) deeds told e b → IsOpening (processors_in w.machine.size) (tasks_in w.tasks.items) e b
+opened_open policies w d e b deeds first told starts o lives =
     let kinds = w.tasks.items in
     let seed = w.machine.seed in
     let periods = periods_of w.machine in
@@ -226,16 +278,28 @@ proceeds_agree policies w d e b most end deeds first told starts p lives =
     let world : world_of d ≡ opening_world n = ap (λ m. m.world) starts.machine in
     let opens : IsOpening n 0 d start = record {
       agree = subst (λ x. AgreesWith x start.accounts) (sym world) (opening_agrees n w.machine.balance);
+      on_time = opening_on_time n w.machine.balance;
+      read = starts.now;
       processors_there = ap count_in world ∙ length-replicate n opening_processor;
       tasks_there = refl;
     } in
-    let s = part kinds seed periods d e start b p.opening p.met told (subst (λ l. Lives kinds seed periods d start l told e b) p.whole lives) in
-    let o = p.opens in
-    let t = part kinds seed periods d s.mid start s.book o.installs o.admissions s.first (subst (λ l. Lives kinds seed periods d start l s.first s.mid s.book) o.whole s.one) in
+    let t = part kinds seed periods d e start b o.installs o.admissions told (subst (λ l. Lives kinds seed periods d start l told e b) o.whole lives) in
     let installed = installed_opens kinds seed periods d t.mid start t.book n 0 policies o.installs t.first o.installed t.one opens in
-    let admitted = all_admitted_agree kinds seed periods t.mid s.mid t.book s.book n 0 0 kinds o.admissions t.more o.admitted t.two installed in
+    let all : 0 + tasks_in kinds ≡ tasks_in kinds = omega arith in
+    subst (λ i. IsOpening n i e b) all (all_admitted_open kinds seed periods t.mid e t.book b n 0 0 kinds o.admissions t.more o.admitted t.two installed)
+
+-- from the opening to where nothing comes any more
+proceeds_agree : (policies : List Accepted) (w : Workload) (d e : Driver) (b : Book) (most end : ℕ) (deeds : List Deed) (first told : Told) → Starts w.machine.rule w.machine.size first d
+    → Proceeds policies (processors_in w.machine.size) w.tasks.items w.machine.seed (periods_of w.machine) most end (opening_book w.machine) deeds → Lives w.tasks.items w.machine.seed (periods_of w.machine) d (opening_book w.machine) deeds told e b → Agree e b
+proceeds_agree policies w d e b most end deeds first told starts p lives =
+    let kinds = w.tasks.items in
+    let seed = w.machine.seed in
+    let periods = periods_of w.machine in
+    let start = opening_book w.machine in
+    let s = part kinds seed periods d e start b p.opening p.met told (subst (λ l. Lives kinds seed periods d start l told e b) p.whole lives) in
+    let opened = opened_open policies w d s.mid s.book p.opening first s.first starts p.opens s.one in
     let m = p.meets in
-    met_agree kinds seed periods s.mid e s.book b m.steps s.more (subst (λ l. Lives kinds seed periods s.mid s.book l s.more e b) m.whole s.two) admitted
+    met_agree kinds seed periods s.mid e s.book b m.steps s.more (subst (λ l. Lives kinds seed periods s.mid s.book l s.more e b) m.whole s.two) opened.agree
 
 whole_agrees : (policies : List Accepted) (w : Workload) (told : Told) (s : IsSimulation policies w told) → Agree s.closing s.book
 whole_agrees policies w told s =
@@ -248,6 +312,7 @@ whole_agrees policies w told s =
     let until : Agree p.mid p.book = proceeds_agree policies w s.opening p.mid p.book _ _ x.until s.first p.first s.starts x.proceeds p.one in
     just_kept Agree (λ processor. Tick processor w.machine.duration) (λ processor q y z k reply some does agree. tick_agrees q y z k processor w.machine.duration reply some does agree) kinds seed periods p.mid s.closing p.book s.book _ x.last p.more x.ticks p.two until
 
+-- so they agree wherever a simulation has been followed to
 pub simulations_agree : SimulationsAgree
 simulations_agree = record {
   whole = whole_agrees;

@@ -67,6 +67,7 @@ tick_kept d periods w v a processor now calls r h low step =
     })
     (homes_switched (count_in w) processor (runs_now r) now periods a low h.homes)
 
+-- so a tick is taken
 pub ticks_are_taken : TicksAreTaken
 ticks_are_taken d periods w a processor now h low = record {
   taken = ap (λ o. either o None) (there (count_in w) processor low);
@@ -132,6 +133,7 @@ block_kept d periods w v a processor task now calls r h low runs step =
     })
     (homes_switched (count_in w) processor run now periods (shrunk processor a) low h.homes)
 
+-- so a block is taken
 pub blocks_are_taken : BlocksAreTaken
 blocks_are_taken d periods w a processor task now h low runs = record {
   taken =
@@ -232,6 +234,7 @@ pull_kept d periods w v a processor from now calls r h low low' apart step =
     (record { tasks = tasks_kept w a b pulled.states h.mirrors.tasks; processors = pulled.processors })
     (homes_switched (count_in w) processor (runs_now r) now periods (option_map_or (λ _. passed from processor a) (task_pulled r) a) low (homes_passed (count_in w) processor from (task_pulled r) a h.homes))
 
+-- so a pull is taken
 pub pulls_are_taken : PullsAreTaken
 pulls_are_taken d periods w a processor from now h low low' apart = record {
   taken = rw (lt-leb (count_in w) processor low, lt-leb (count_in w) from low', ne_eqb processor from apart) refl;
@@ -240,6 +243,7 @@ pulls_are_taken d periods w a processor from now h low low' apart = record {
 
 -- Draws and installs
 
+-- a draw is taken
 pub draws_are_taken : DrawsAreTaken
 draws_are_taken d periods w a h =
     let m = h.mirrors.processors in
@@ -261,6 +265,7 @@ same_hook_itself hooks.Pull = refl
 newer_stands : (newest drawn g : ℕ) → newest < g → g ≤ drawn → install_refusal newest drawn g ≡ None
 newer_stands newest drawn g newer was = rw (and_right (nat_lt 0 newest) (nat_le g newest) (lt-leb g newest newer), or_from (g == 0) (nat_lt drawn g) (ne_eqb g 0 (λ e. omega arith)) (le-ltb drawn g was)) refl
 
+-- an install leaves them in agreement
 pub install_kept : (d : Discipline) (w v : World) (a : Accounts) (processor generation : ℕ) (hook : Hook) (policy : Option Accepted) (calls : List Asked) (r : Reply) → AgreesWith w a → processor < count_in w → WorldStep (policies d) w (Install processor hook generation policy) calls (Ok r) v → AgreesWith v a
 install_kept d w v a processor generation hook policy calls r h low step =
     let k = step.1 in
@@ -276,6 +281,7 @@ install_kept d w v a processor generation hook policy calls r h low step =
     })
     h.homes
 
+-- so an install is taken
 pub installs_are_taken : InstallsAreTaken
 installs_are_taken d periods w a processor generation policy h low newer drawn = record {
   taken = rw (lt-leb (count_in w) processor low, same_hook_itself policy.hook) (newer_stands (at_hook policy.hook (processor_at w processor).hooks).generation w.drawn generation newer drawn);

@@ -116,6 +116,7 @@ run_of a processor l at = ap (λ (o : Option ProcessorState). option_map_or (λ 
 
 -- The time of a processor is counted
 
+-- it is counted until now, and nothing is past
 pub charged_on_time : (now processor : ℕ) (a : Accounts) (l : ProcessorState) → slice_get a.by_processor processor ≡ Some l → RunsAlone a processor → IsOnTime now a → IsOnTime now (charged processor now a)
 charged_on_time now processor a l at alone h =
     let ls = a.by_processor in
@@ -242,6 +243,7 @@ switched_by_test false periods now processor run v a l some at alone agrees read
     (λ task k runs away there. away (tasks_run_alone v over processor whole k task (is.run_here ∙ runs) (is.runs k away ∙ sym (counted_reads.runs k away) ∙ there)))
     (charged_on_time now processor a l at alone h)
 
+-- another task runs, as an answer says
 pub switched_kept : (periods : Periods) (now processor : ℕ) (run : Option ℕ) (v : World) (a : Accounts) (l : ProcessorState) → 1 ≤ periods.tick → slice_get a.by_processor processor ≡ Some l → RunsAlone a processor → AgreesWith v (switched processor run now periods a) → IsOnTime now a
     → IsOnTime now (switched processor run now periods a)
 switched_kept periods now processor run v a l some at alone agrees h =
@@ -258,6 +260,7 @@ some_not_none : (o : Option ℕ) → is_some o ≡ true → o ≡ None → ⊥
 some_not_none None h none = cc
 some_not_none (Some x) h none = cc
 
+-- a clock beats
 pub beaten_kept : (now processor tick : ℕ) (a : Accounts) → 1 ≤ tick → is_busy a processor ≡ true → IsOnTime now a → IsOnTime now (beaten processor now tick a)
 beaten_kept now processor tick a some busy h =
     let f : ProcessorState → ProcessorState = λ l. record l { tick = Some (next_multiple tick now) } in
@@ -273,6 +276,7 @@ beaten_kept now processor tick a some busy h =
           h.processors;
     }
 
+-- a processor looks for a task
 pub looked_kept : (now processor balance : ℕ) (a : Accounts) → 1 ≤ balance → IsOnTime now a → IsOnTime now (looked processor now balance a)
 looked_kept now processor balance a some h =
     let f : ProcessorState → ProcessorState = λ l. record l { look = Some (next_multiple balance now) } in
@@ -288,5 +292,6 @@ looked_kept now processor balance a some h =
           h.processors;
     }
 
+-- so nothing is past after what is done at an instant
 pub stays_on_time : StaysOnTime
 stays_on_time = record { switched_on_time = switched_kept; beaten_on_time = beaten_kept; looked_on_time = looked_kept }

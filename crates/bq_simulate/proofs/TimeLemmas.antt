@@ -115,6 +115,7 @@ comes_later end now time a (Wake task) early h comes = wake_comes end now time t
 comes_later end now time a (Tick processor) early h comes = tick_comes end now time processor a h comes
 comes_later end now time a (Pull processor) early h comes = look_comes end now time processor a h comes
 
+-- so nothing is missed
 pub nothing_is_missed : NothingIsMissed
 nothing_is_missed end now time a due early h next =
     let c : Comes now time end = comes_later end now time a due early h next.comes in

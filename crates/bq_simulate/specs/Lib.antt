@@ -6,6 +6,8 @@ pub mod Simulations
 pub mod Steps
 pub mod Drives
 pub mod Faults
+pub mod Kept
+pub mod KeptLaws
 pub mod Laws
 pub mod Spelling
 pub mod Retelling

@@ -15,6 +15,7 @@ pub mod enough;
 pub mod fault;
 pub mod following;
 pub mod images;
+pub mod kept_laws;
 pub mod laws;
 pub mod line_laws;
 pub mod opening;

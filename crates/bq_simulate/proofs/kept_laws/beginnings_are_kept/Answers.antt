@@ -1,0 +1,5 @@
+use Rattle.bq_simulate.proofs.KeptLemmas as Kept
+use Rattle.bq_simulate.proofs.kept_laws.beginnings_are_kept.Goals as goal
+
+pub returns : goal.returns
+returns c = Kept.beginnings_are_kept

@@ -1,0 +1,5 @@
+use Rattle.bq_simulate.proofs.GenerationLemmas as Generations
+use Rattle.bq_simulate.proofs.kept_laws.generations_are_newer.Goals as goal
+
+pub returns : goal.returns
+returns c = Generations.generations_are_newer

@@ -1,0 +1,5 @@
+use Rattle.bq_simulate.proofs.StandingLemmas as Standing
+use Rattle.bq_simulate.proofs.kept_laws.standing_is_kept.Goals as goal
+
+pub returns : goal.returns
+returns c = Standing.standing_is_kept

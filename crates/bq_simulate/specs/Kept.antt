@@ -1,0 +1,42 @@
+-- What is kept of a simulation between two things that come due, so that whatever comes next can be done.
+use Rattle.std.specs.Prelude.{◌≡◌, ℕ, ◌<◌, ◌≤◌, List, Some, length, slice_get}
+use Rattle.bq_hooks.specs.declared.hook.Hook.{Hook}
+use Rattle.bq_installed.specs.Attachments.{at_hook}
+use Rattle.bq_parts.specs.World.{World, processor_at}
+use Rattle.bq_workload.specs.declared.action.Action.TheVariants.{Wake}
+use Rattle.bq_workload.specs.declared.progress.TaskProgress.{TaskProgress}
+use Rattle.bq_workload.specs.declared.workload.TaskKind.{TaskKind}
+use Rattle.bq_workload.specs.Kinds.{count_of, tasks_in}
+use Rattle.bq_simulate.specs.declared.driver.Driver.{Driver}
+use Rattle.bq_simulate.specs.Actions.{IsOfKind, actions_of, next_action}
+use Rattle.bq_simulate.specs.Agreement.{AgreesWith, IsOnTime}
+use Rattle.bq_simulate.specs.Chronicles.{Book}
+
+-- a task stands at one of the actions of its kind; where it wakes others next, its wake has come to fewer than there are
+pub record StandsAtAction (kinds : List TaskKind) (task : ℕ) (c : TaskProgress) : Type 0 where
+  pub of_kind : IsOfKind kinds task c.kind
+  pub action : c.action < actions_of kinds c
+  pub woken : (number : ℕ) → next_action kinds c ≡ Some (Wake number) → c.woken < count_of kinds number
+
+-- each task does, and has a stream of its own
+pub record StandAtActions (kinds : List TaskKind) (b : Book) : Type 0 where
+  pub tasks : (task : ℕ) (c : TaskProgress) → slice_get b.accounts.by_task task ≡ Some c → StandsAtAction kinds task c
+  pub streams : length b.drawn ≡ length b.accounts.by_task
+
+-- All that is kept at an instant, once all tasks of these kinds are there: the accounts agree with the machine's world, nothing of them
+-- is past, no clock was given a later reading, and each task stands at an action.
+pub record IsKept (kinds : List TaskKind) (now : ℕ) (d : Driver) (b : Book) : Type 0 where
+  pub agrees : AgreesWith d.machine.world b.accounts
+  pub on_time : IsOnTime now b.accounts
+  pub read : d.now ≤ now
+  pub standing : StandAtActions kinds b
+  pub all : length b.accounts.by_task ≡ tasks_in kinds
+
+-- each generation that stands at a hook was drawn
+abbrev pub WereDrawn : World → Type 0
+WereDrawn w = (processor : ℕ) (hook : Hook) → (at_hook hook (processor_at w processor).hooks).generation ≤ w.drawn
+
+-- a generation was drawn, and is newer than each that stands at a hook of the processors from this one on
+pub record IsNewerFrom (processor generation : ℕ) (w : World) : Type 0 where
+  pub drawn : generation ≤ w.drawn
+  pub newer : (other : ℕ) (hook : Hook) → processor ≤ other → (at_hook hook (processor_at w other).hooks).generation < generation

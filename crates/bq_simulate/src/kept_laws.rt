@@ -1,0 +1,22 @@
+//! Laws of what is kept of a simulation between two things that come due.
+ghost use Rattle.bq_simulate.specs.KeptLaws.{AllIsKept, BeginningsAreKept, GenerationsAreNewer, StandingIsKept};
+
+/// Each task stands at an action of its kind whatever is done, if each did before.
+pub fn standing_is_kept()
+    ensures { StandingIsKept }
+{}
+
+/// All is kept once a simulation has opened, until the next thing comes, and when that is met.
+pub fn all_is_kept()
+    ensures { AllIsKept }
+{}
+
+/// So it is wherever a simulation has been followed to.
+pub fn beginnings_are_kept()
+    ensures { BeginningsAreKept }
+{}
+
+/// A generation that is drawn is newer than those that stand at hooks.
+pub fn generations_are_newer()
+    ensures { GenerationsAreNewer }
+{}
