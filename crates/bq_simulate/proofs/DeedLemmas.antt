@@ -1,5 +1,5 @@
 -- Deeds after deeds.
-use Rattle.std.proofs.Common.{◌≡◌, ℕ, List, [], ◌∷◌, ◌++◌, length, Option, Some, refl, sym, ◌∙◌, ap, subst, append_assoc, append-nil}
+use Rattle.std.proofs.Common.{◌≡◌, ℕ, ◌+◌, ◌≤◌, List, [], ◌∷◌, ◌++◌, length, length-append, Option, Some, refl, sym, ◌∙◌, ap, subst, append_assoc, append-nil, arith}
 use Rattle.std.specs.Option.{option_map_or}
 use Rattle.std.specs.Prelude.{slice_get, slice_set}
 use Rattle.bq_parts.specs.declared.event.Event.{Event}
@@ -23,7 +23,7 @@ use Rattle.bq_workload.proofs.DueLemmas.{same-accounts}
 use Rattle.bq_simulate.specs.declared.simulation.Simulation.{Simulation}
 use Rattle.bq_simulate.specs.Actions.{IsOfKind, acted, aim_of, asked_by, first_of, next_action, start_of}
 use Rattle.bq_simulate.specs.Chronicles.{Acts, Beats, Book, Deed, Happens, IsDue, IsWoken, Joins, Lives, Looks, Misses, Reaches, Rings, after_act, after_answer, after_beat, after_event, after_look, drawn_with, events_of, joined, length_taken}
-use Rattle.bq_simulate.specs.Simulations.{Befell, DrawsFor, Goes, HasDrawn, HasFirsts, Lived, Same, Silent, Stays, book_of, streams_after}
+use Rattle.bq_simulate.specs.Simulations.{BeginsMore, Befell, DrawsFor, Goes, HasDrawn, HasFirsts, Lived, Same, Silent, Stays, book_of, streams_after}
 use Rattle.bq_simulate.specs.Steps.{AreJust, AreWake, Follow, IsAct, IsJoin}
 use Rattle.bq_simulate.proofs.KindLemmas.{firsts-pushed}
 use Rattle.bq_simulate.proofs.StreamLemmas.{gives_if_asked, opened-streams}
@@ -70,6 +70,7 @@ Goes-join takes kinds A B C x y z s t u drawn first second are =
       seed = second.seed ∙ first.seed;
       streams = second.streams;
       firsts = second.firsts;
+      begun = omega (arith, first.begun, second.begun);
       agrees = λ h. second.agrees (first.agrees h);
       tells = record {
         told = first.tells.told ++ second.tells.told;
@@ -89,7 +90,7 @@ Lived-join takes kinds A B C join x y z s t u goes more drawn had firsts =
 
 -- what holds of the deeds by which it goes on holds in other words
 pub Goes-weaker : {S : Type 0} (takes : S → ℕ → TraceEvent → S → Type 0) (kinds : List TaskKind) (A B : List Deed → Type 0) → ((xs : List Deed) → A xs → B xs) → (x y : S) (s : Simulation) (drawn : List ℕ) (t : Simulation) → Goes takes kinds A x s drawn y t → Goes takes kinds B x s drawn y t
-Goes-weaker takes kinds A B weaker x y s drawn t h = record { deeds = h.deeds; after = h.after; periods = h.periods; seed = h.seed; streams = h.streams; firsts = h.firsts; agrees = h.agrees; tells = h.tells; are = weaker h.deeds h.are }
+Goes-weaker takes kinds A B weaker x y s drawn t h = record { deeds = h.deeds; after = h.after; periods = h.periods; seed = h.seed; streams = h.streams; firsts = h.firsts; begun = h.begun; agrees = h.agrees; tells = h.tells; are = weaker h.deeds h.are }
 
 -- what holds of its deeds holds in other words
 pub Lived-weaker : {S : Type 0} (takes : S → ℕ → TraceEvent → S → Type 0) (kinds : List TaskKind) (A B : List Deed → Type 0) → ((xs : List Deed) → A xs → B xs) → (x y : S) (s t : Simulation) → Lived takes kinds A x s y t → Lived takes kinds B x s y t
@@ -103,7 +104,7 @@ Befell-weaker takes A B weaker x y s t befell kinds = Lived-weaker takes kinds A
 pub Lived-silent : {S : Type 0} (takes : S → ℕ → TraceEvent → S → Type 0) (kinds : List TaskKind) (A : List Deed → Type 0) (x : S) (s t : Simulation) → Silent kinds A s t → Lived takes kinds A x s x t
 Lived-silent takes kinds A x s t silent drawn had firsts =
     let h = silent drawn had firsts in
-    record { deeds = h.deeds; after = h.after; periods = h.periods; seed = h.seed; streams = h.streams; firsts = h.firsts; agrees = h.agrees; tells = record { told = []; taken = refl; holds = h.lives }; are = h.are }
+    record { deeds = h.deeds; after = h.after; periods = h.periods; seed = h.seed; streams = h.streams; firsts = h.firsts; begun = h.begun; agrees = h.agrees; tells = record { told = []; taken = refl; holds = h.lives }; are = h.are }
 
 -- streams that have not changed
 streams-stay : (s t : Simulation) (drawn : List ℕ) → Stays s t → HasDrawn s drawn → HasDrawn t drawn
@@ -112,6 +113,13 @@ streams-stay s t drawn stays had = ap (λ v. v.items) stays.streams ∙ had ∙ 
 -- the first tasks of kinds have not changed
 firsts-stay : (kinds : List TaskKind) (s t : Simulation) → Stays s t → HasFirsts kinds s → HasFirsts kinds t
 firsts-stay kinds s t stays had number first there = had number first (ap (λ v. slice_get v.items number) (sym stays.firsts) ∙ there)
+
+-- nor are they fewer
+begun-same : (s t : Simulation) → t.firsts ≡ s.firsts → BeginsMore s t
+begun-same s t same = omega (arith, ap (λ v. length v.items) same)
+
+begun-stay : (s t : Simulation) → Stays s t → BeginsMore s t
+begun-stay s t stays = begun-same s t stays.firsts
 
 -- nothing was done
 pub Lived-same : {S : Type 0} (takes : S → ℕ → TraceEvent → S → Type 0) (A : List Deed → Type 0) → A [] → (x : S) (s t : Simulation) → Same s t → Befell takes A x s x t
@@ -122,6 +130,7 @@ Lived-same takes A none x s t same kinds drawn had firsts = record {
   seed = same.stays.seed;
   streams = streams-stay s t drawn same.stays had;
   firsts = firsts-stay kinds s t same.stays firsts;
+  begun = begun-stay s t same.stays;
   agrees = same.stays.agrees;
   tells = record { told = []; taken = refl; holds = (refl, same.driver, ap (λ (a : Accounts). record { accounts = a; drawn = drawn }) same.accounts) };
   are = none;
@@ -180,6 +189,7 @@ Silent-acts kinds s m n t processor task now length action c next is ended drive
       seed = set.seed ∙ g.seed ∙ ended.seed;
       streams = streams-stay n t (drawn_with task drawn asked) set g.streams;
       firsts = λ number first there. firsts number first (ap (λ v. slice_get v.items number) (sym (set.firsts ∙ g.firsts ∙ ended.firsts)) ∙ there);
+      begun = begun-same s t (set.firsts ∙ g.firsts ∙ ended.firsts);
       agrees = λ h. set.agrees (subst IsAgreed (sym g.roster) (ended.agrees h));
       lives = (c, subst P counted done, is, ap (aim_of kinds c) is, (refl, driver' ∙ g.driver ∙ driver, ap (λ (a : Accounts). record { accounts = a; drawn = drawn_with task drawn asked }) accounts));
       are = refl;
@@ -197,6 +207,7 @@ Silent-joins kinds s t kind home agrees periods seed driver kept by_task by_proc
   seed = seed;
   streams = opened-streams s t drawn seed streams had;
   firsts = λ number first there. firsts number first (ap (λ v. slice_get v.items number) (sym kept) ∙ there);
+  begun = begun-same s t kept;
   agrees = agrees;
   lives = (of, (refl, driver, ap (λ (a : Accounts). record { accounts = a; drawn = drawn ++ 0 ∷ [] }) (same-accounts _ _ _ _ by_task by_processor)));
   are = refl;
@@ -212,6 +223,7 @@ Silent-begins kinds s t number long roster seed streams driver pushed drawn had 
   seed = seed;
   streams = ap (λ v. v.items) streams ∙ had ∙ ap (λ n. streams_after n 0 drawn) (sym seed);
   firsts = λ n first there. firsts-pushed kinds s.firsts.items number long firsts n first (ap (λ (l : List ℕ). slice_get l n) (sym pushed) ∙ there);
+  begun = omega (arith, ap (λ (l : List ℕ). length l) pushed, length-append s.firsts.items (first_of kinds number ∷ []));
   agrees = λ h. subst IsAgreed (sym roster) h;
   lives = (refl, driver, ap (λ r. record { accounts = accounts_of r; drawn = drawn }) roster);
   are = refl;
@@ -224,7 +236,7 @@ pub Befell-first : {S : Type 0} (takes : S → ℕ → TraceEvent → S → Type
 Befell-first takes A B x y s t u deed stays lives first befell kinds =
     let one : List Deed → Type 0 = λ xs. xs ≡ deed ∷ [] in
     let silent : Silent kinds one s t =
-    λ drawn had firsts. record { deeds = deed ∷ []; after = drawn; periods = stays.periods; seed = stays.seed; streams = streams-stay s t drawn stays had; firsts = firsts-stay kinds s t stays firsts; agrees = stays.agrees; lives = lives kinds drawn; are = refl } in
+    λ drawn had firsts. record { deeds = deed ∷ []; after = drawn; periods = stays.periods; seed = stays.seed; streams = streams-stay s t drawn stays had; firsts = firsts-stay kinds s t stays firsts; begun = begun-stay s t stays; agrees = stays.agrees; lives = lives kinds drawn; are = refl } in
     Lived-join takes kinds one A B (λ xs ys is are. subst (λ (l : List Deed). B (l ++ ys)) (sym is) (first ys are)) x x y s t u (Lived-silent takes kinds one x s t silent) (befell kinds)
 
 -- in one simulation nothing changes
@@ -255,6 +267,7 @@ Lived-event takes A x y s t event reply are due stays did accounts kinds drawn h
   seed = stays.seed;
   streams = streams-stay s t drawn stays had;
   firsts = firsts-stay kinds s t stays firsts;
+  begun = begun-stay s t stays;
   agrees = stays.agrees;
   tells = record {
     told = did.told;
@@ -276,6 +289,7 @@ Lived-drove takes A x y s t event are due stays quiet drove accounts kinds drawn
       seed = stays.seed;
       streams = streams-stay s t drawn stays had;
       firsts = firsts-stay kinds s t stays firsts;
+      begun = begun-stay s t stays;
       agrees = stays.agrees;
       tells = record {
         told = drove.told;
@@ -299,6 +313,7 @@ Lived-wakes takes x y z s t m from task to now reply due stays woke did accounts
       seed = stays.seed;
       streams = streams-stay s t drawn stays had;
       firsts = firsts-stay kinds s t stays firsts;
+      begun = begun-stay s t stays;
       agrees = stays.agrees;
       tells = record {
         told = woke.told ++ did.told;

@@ -8,6 +8,7 @@ use Rattle.bq_workload.specs.declared.progress.TaskProgress.{TaskProgress}
 use Rattle.bq_workload.specs.declared.workload.TaskKind.{TaskKind}
 use Rattle.bq_workload.specs.Kinds.{count_of, tasks_in}
 use Rattle.bq_simulate.specs.declared.driver.Driver.{Driver}
+use Rattle.bq_simulate.specs.declared.simulation.Simulation.{Simulation}
 use Rattle.bq_simulate.specs.Actions.{IsOfKind, actions_of, next_action}
 use Rattle.bq_simulate.specs.Agreement.{AgreesWith, IsOnTime}
 use Rattle.bq_simulate.specs.Chronicles.{Book}
@@ -31,6 +32,10 @@ pub record IsKept (kinds : List TaskKind) (now : ℕ) (d : Driver) (b : Book) : 
   pub read : d.now ≤ now
   pub standing : StandAtActions kinds b
   pub all : length b.accounts.by_task ≡ tasks_in kinds
+
+-- of each kind the first task is kept
+abbrev pub HasAllFirsts : List TaskKind → Simulation → Type 0
+HasAllFirsts kinds s = length kinds ≤ length s.firsts.items
 
 -- each generation that stands at a hook was drawn
 abbrev pub WereDrawn : World → Type 0

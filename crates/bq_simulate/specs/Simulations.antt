@@ -1,5 +1,5 @@
 -- What a simulation tells.
-use Rattle.std.specs.Prelude.{◌≡◌, ◌⊎◌, ℕ, ◌++◌, ◌+◌, Bool, true, List, [], ◌∷◌, Option, Some, None, slice_get, slice_set}
+use Rattle.std.specs.Prelude.{◌≡◌, ◌⊎◌, ℕ, ◌++◌, ◌+◌, ◌≤◌, Bool, true, List, [], ◌∷◌, Option, Some, None, length, slice_get, slice_set}
 use Rattle.rand_pcg.specs.Lcg.{Lcg}
 use Rattle.bq_workload.specs.declared.action.Length.{Length}
 use Rattle.bq_workload.specs.declared.roster.Periods.{Periods}
@@ -113,6 +113,10 @@ HasDrawn s drawn = s.streams.items ≡ streams_after s.seed 0 drawn
 abbrev pub HasFirsts : List TaskKind → Simulation → Type 0
 HasFirsts kinds s = (number first : ℕ) → slice_get s.firsts.items number ≡ Some first → first ≡ first_of kinds number
 
+-- the first tasks of as many kinds are kept at least
+abbrev pub BeginsMore : Simulation → Simulation → Type 0
+BeginsMore s t = length s.firsts.items ≤ length t.firsts.items
+
 abbrev pub book_of : Simulation → List ℕ → Book
 book_of s drawn = record { accounts = accounts_of s.roster; drawn = drawn }
 
@@ -124,6 +128,7 @@ pub record Goes {S : Type 0} (takes : S → ℕ → TraceEvent → S → Type 0)
   pub seed : t.seed ≡ s.seed
   pub streams : HasDrawn t after
   pub firsts : HasFirsts kinds t
+  pub begun : BeginsMore s t
   pub agrees : StaysAgreed s.roster t.roster
   pub tells : Gets takes old new (λ told. Lives kinds s.seed s.roster.periods s.driver (book_of s drawn) deeds told t.driver (book_of t after))
   pub are : Are deeds
@@ -147,6 +152,7 @@ pub record GoesUntold (kinds : List TaskKind) (Are : List Deed → Type 0) (s : 
   pub seed : t.seed ≡ s.seed
   pub streams : HasDrawn t after
   pub firsts : HasFirsts kinds t
+  pub begun : BeginsMore s t
   pub agrees : StaysAgreed s.roster t.roster
   pub lives : Lives kinds s.seed s.roster.periods s.driver (book_of s drawn) deeds [] t.driver (book_of t after)
   pub are : Are deeds

@@ -4,6 +4,7 @@ ghost use Rattle.bq_parts.specs.declared.event.Event.TheVariants.{Admit};
 ghost use Rattle.bq_workload.specs.Kinds.{tasks_in};
 ghost use Rattle.bq_workload.specs.declared.workload.TaskKind.{TaskKind};
 ghost use Rattle.bq_simulate.specs.Actions.{IsOfKind, first_of, start_of};
+ghost use Rattle.bq_simulate.specs.Kept.{HasAllFirsts};
 ghost use Rattle.bq_simulate.specs.Simulations.{Befell, Lived, Same, Silent};
 ghost use Rattle.bq_simulate.specs.Steps.{AreAdmitted, AreAllAdmitted, AreInstalled, AreJust, IsJoin, installs_of};
 ghost use Rattle.bq_words.specs.Sizes.{processors_in};
@@ -27,6 +28,7 @@ impl Simulation {
         ensures befell { OnOk result (Befell S.takes (AreInstalled processors policies.now) sink.old self.old sink.new self.new) }
         ensures roster { self.new.roster ≡ self.old.roster }
         ensures streams { self.new.streams ≡ self.old.streams }
+        ensures firsts { self.new.firsts ≡ self.old.firsts }
     {
         'policies: for policy in policies {
             let generation = self.driver.draw(alloc, sink)?;
@@ -46,6 +48,7 @@ impl Simulation {
         ensures befell { OnOk result (Befell S.takes (AreJust (installs_of processors generation policy.now)) sink.old self.old sink.new self.new) }
         ensures roster { self.new.roster ≡ self.old.roster }
         ensures streams { self.new.streams ≡ self.old.streams }
+        ensures firsts { self.new.firsts ≡ self.old.firsts }
     {
         'processors: for processor in 0..processors {
             let copy = policy.clone()?;
@@ -66,6 +69,7 @@ impl Simulation {
         requires streams { length self.old.streams.items ≡ 0 }
         ensures lived { OnOk result (Lived S.takes workload.now.tasks.items (AreAllAdmitted (processors_in workload.now.machine.size) 0 0 workload.now.tasks.items) sink.old self.old sink.new self.new) }
         ensures streams { OnOk result (length self.new.streams.items ≡ tasks_in workload.now.tasks.items) }
+        ensures firsts { OnOk result (length self.old.firsts.items ≡ 0 → HasAllFirsts workload.now.tasks.items self.new) }
     {
         'kinds: for (number, kind) in workload.tasks.iter().enumerate() {
             self.begin_kind(number)?;
@@ -89,6 +93,7 @@ impl Simulation {
         ensures lived { OnOk result (Lived S.takes workload.now.tasks.items (AreAdmitted (processors_in workload.now.machine.size) number kind.now (first_of workload.now.tasks.items number) kind.now.count) sink.old self.old sink.new self.new) }
         ensures tasks { OnOk result (length self.new.roster.by_task.items ≡ length self.old.roster.by_task.items + kind.now.count) }
         ensures streams { OnOk result (length self.new.streams.items ≡ length self.old.streams.items + kind.now.count) }
+        ensures firsts { OnOk result (self.new.firsts ≡ self.old.firsts) }
     {
         let processors = workload.machine.size.processors();
         let home = first_of_mask(kind.mask, processors).ok_or(SimulateFault::BrokenInvariant)?;
@@ -106,6 +111,7 @@ impl Simulation {
         ensures silent { OnOk result ((kinds : List TaskKind) → length self.old.streams.items ≡ first_of kinds number → Silent kinds (AreJust []) self.old self.new) }
         ensures by_task { self.new.roster ≡ self.old.roster }
         ensures streams { self.new.streams ≡ self.old.streams }
+        ensures firsts { OnOk result (length self.new.firsts.items ≡ length self.old.firsts.items + 1) }
     {
         let first = self.tasks()?;
         if self.firsts.len() != number {
@@ -143,6 +149,7 @@ impl Simulation {
         ensures number { OnOk result (task ≡ length self.old.streams.items) }
         ensures streams { OnOk result (length self.new.streams.items ≡ length self.old.streams.items + 1) }
         ensures tasks { OnOk result (length self.new.roster.by_task.items ≡ length self.old.roster.by_task.items + 1) }
+        ensures firsts { self.new.firsts ≡ self.old.firsts }
     {
         if self.streams.len() != usize::from(task) {
             return Err(SimulateFault::BrokenInvariant);
@@ -165,6 +172,7 @@ impl Simulation {
         ensures befell { OnOk result (Befell S.takes (AreJust (Admit task kind.now.nice kind.now.mask kind.now.slice ∷ [])) sink.old self.old sink.new self.new) }
         ensures by_task { self.new.roster ≡ self.old.roster }
         ensures streams { self.new.streams ≡ self.old.streams }
+        ensures firsts { self.new.firsts ≡ self.old.firsts }
     {
         self.driver
             .admit(alloc, task, kind.nice, kind.mask, kind.slice, sink)?;

@@ -19,6 +19,7 @@ kinds-init g c =
       lived = Lived-same g.S.Sink.takes (AreAllAdmitted (processors_in w.machine.size) 0 0 []) refl _ _ _ (Same-here _) w.tasks.items;
       tasks = c.requires.tasks;
       streams = c.requires.streams;
+      firsts = omega arith;
     }
 
 pub admit_kind-requires-clause-kind : goal.admit_kind-requires-clause-kind
@@ -54,6 +55,7 @@ kinds-preserved g c =
       lived = Lived-join takes kinds before these after more _ _ _ _ _ _ c.kinds.invariant.lived (Lived-join takes kinds (AreJust []) these these (λ xs ys none are. subst (λ (l : List Deed). these (l ++ ys)) (sym none) are) _ _ _ _ _ _ (Lived-silent takes kinds (AreJust []) _ _ _ (c.in_ok-begin_kind.ensures.silent kinds c.kinds.invariant.streams)) c.in_ok-admit_kind.ensures.lived);
       tasks = c.in_ok-admit_kind.ensures.tasks ∙ ap (λ n. n + kind.count) tasks ∙ next;
       streams = c.in_ok-admit_kind.ensures.streams ∙ ap (λ n. n + kind.count) streams ∙ next;
+      firsts = omega (arith, ap (λ v. length v.items) c.in_ok-admit_kind.ensures.firsts, c.in_ok-begin_kind.ensures.firsts, c.kinds.invariant.firsts);
     }
 
 pub returns-clause-streams : goal.returns-clause-streams
@@ -70,3 +72,9 @@ returns-clause-lived g c =
     let number = c.kinds.number in
     let late : length kinds ≤ number = omega (arith, ap length c.deref-kind-items.ensures.value, c.kinds-test.false) in
     Lived-weaker g.S.Sink.takes kinds (AreAllAdmitted all 0 0 (take number kinds)) (AreAllAdmitted all 0 0 kinds) (λ xs are. subst (λ (l : List TaskKind). AreAllAdmitted all 0 0 l xs) (take_all number kinds late) are) _ _ _ _ c.kinds.invariant.lived
+
+pub returns-clause-firsts : goal.returns-clause-firsts
+returns-clause-firsts g c =
+    let kinds = c.args.workload.now.tasks.items in
+    let late : length kinds ≤ c.kinds.number = omega (arith, ap length c.deref-kind-items.ensures.value, c.kinds-test.false) in
+    λ none. omega (arith, late, c.kinds.invariant.firsts, none)

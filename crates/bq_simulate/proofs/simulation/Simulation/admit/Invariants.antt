@@ -1,4 +1,4 @@
-use Rattle.std.proofs.Common.{◌≡◌, length, take}
+use Rattle.std.proofs.Common.{◌≡◌, ◌+◌, length, take}
 use Rattle.bq_words.specs.Sizes.{processors_in}
 use Rattle.bq_simulate.specs.Actions.{first_of}
 use Rattle.bq_simulate.specs.Simulations.{Lived}
@@ -10,4 +10,5 @@ invariant-kinds g l = record {
   lived : Lived g.S.Sink.takes l.workload.tasks.items (AreAllAdmitted (processors_in l.workload.machine.size) 0 0 (take l.number l.workload.tasks.items)) l.initial.sink l.initial.self l.sink l.self;
   tasks : length l.self.roster.by_task.items ≡ first_of l.workload.tasks.items l.number;
   streams : length l.self.streams.items ≡ first_of l.workload.tasks.items l.number;
+  firsts : length l.self.firsts.items ≡ length l.initial.self.firsts.items + l.number;
 }

@@ -21,6 +21,7 @@ tasks-init g c =
       lived = Lived-same g.S.Sink.takes (AreAdmitted (processors_in w.machine.size) c.args.number c.args.kind.now (first_of w.tasks.items c.args.number) 0) refl _ _ _ (Same-here _) w.tasks.items;
       tasks = omega arith;
       streams = omega arith;
+      firsts = refl;
     }
 
 pub tasks-preserved : goal.tasks-preserved
@@ -55,4 +56,5 @@ tasks-preserved g c =
       lived = Lived-join takes kinds before one after more _ _ _ _ _ _ c.tasks.invariant.lived begun;
       tasks = ap (λ v. length v.items) c.count_task.ensures.by_task ∙ c.in_ok-join.ensures.tasks ∙ omega (arith, here, c.requires.first);
       streams = ap (λ v. length v.items) c.count_task.ensures.same.stays.streams ∙ c.in_ok-join.ensures.streams ∙ omega (arith, streams, c.requires.streams);
+      firsts = c.count_task.ensures.same.stays.firsts ∙ c.in_ok-join.ensures.firsts ∙ c.in_ok-admit_one.ensures.firsts ∙ c.tasks.invariant.firsts;
     }

@@ -10,4 +10,5 @@ invariant-tasks g l = record {
   lived : Lived g.S.Sink.takes l.workload.tasks.items (AreAdmitted (processors_in l.workload.machine.size) l.number l.kind (first_of l.workload.tasks.items l.number) l.counter) l.initial.sink l.initial.self l.sink l.self;
   tasks : length l.self.roster.by_task.items ≡ length l.initial.self.roster.by_task.items + l.counter;
   streams : length l.self.streams.items ≡ length l.initial.self.streams.items + l.counter;
+  firsts : l.self.firsts ≡ l.initial.self.firsts;
 }

@@ -34,10 +34,11 @@ policies-preserved g c =
       befell = λ kinds. Lived-join takes kinds before one after more _ _ _ _ _ _ (c.policies.invariant.befell kinds) (Lived-join takes kinds (IsDrawn generation) installs one both _ _ _ _ _ _ (drawn kinds) (c.in_ok-install_one.ensures.befell kinds));
       roster = c.in_ok-install_one.ensures.roster ∙ c.policies.invariant.roster;
       streams = c.in_ok-install_one.ensures.streams ∙ c.policies.invariant.streams;
+      firsts = c.in_ok-install_one.ensures.firsts ∙ c.policies.invariant.firsts;
     }
 
 pub policies-init : goal.policies-init
-policies-init g c = record { befell = Lived-same g.S.Sink.takes (AreInstalled c.args.processors []) refl _ _ _ (Same-here _); roster = refl; streams = refl }
+policies-init g c = record { befell = Lived-same g.S.Sink.takes (AreInstalled c.args.processors []) refl _ _ _ (Same-here _); roster = refl; streams = refl; firsts = refl }
 
 pub returns-clause-befell : goal.returns-clause-befell
 returns-clause-befell g c =

@@ -28,10 +28,11 @@ processors-preserved g c =
       befell = λ kinds. Lived-join takes kinds (AreJust before) (AreJust (event ∷ [])) (AreJust after) join _ _ _ _ _ _ (c.processors.invariant.befell kinds) (installed kinds);
       roster = c.processors.invariant.roster;
       streams = c.processors.invariant.streams;
+      firsts = c.processors.invariant.firsts;
     }
 
 pub processors-init : goal.processors-init
-processors-init g c = record { befell = Lived-same g.S.Sink.takes (AreJust []) refl _ _ _ (Same-here _); roster = refl; streams = refl }
+processors-init g c = record { befell = Lived-same g.S.Sink.takes (AreJust []) refl _ _ _ (Same-here _); roster = refl; streams = refl; firsts = refl }
 
 pub returns-clause-befell : goal.returns-clause-befell
 returns-clause-befell g c =

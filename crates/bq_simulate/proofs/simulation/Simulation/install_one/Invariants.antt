@@ -8,4 +8,5 @@ invariant-processors g l = record {
   befell : Befell g.S.Sink.takes (AreJust (installs_of l.processor l.generation l.policy)) l.initial.sink l.initial.self l.sink l.self;
   roster : l.self.roster ≡ l.initial.self.roster;
   streams : l.self.streams ≡ l.initial.self.streams;
+  firsts : l.self.firsts ≡ l.initial.self.firsts;
 }
