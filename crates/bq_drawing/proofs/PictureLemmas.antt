@@ -1,10 +1,13 @@
 -- The runs of a picture: held, and drawn, and the picture as a whole.
-use Rattle.std.proofs.Common.{◌≡◌, ℕ, ◌+◌, ◌<◌, List, [], ◌∷◌, ◌++◌, Option, Some, drop, get_or, length, refl, sym, ap, ◌∙◌, subst, append_assoc, append-nil, add-one}
+use Rattle.std.proofs.Common.{◌≡◌, ℕ, ◌+◌, ◌<◌, List, [], ◌∷◌, ◌++◌, Option, Some, drop, get_or, length, refl, sym, ap, ◌∙◌, subst, append_assoc, append-nil, add-one, arith, inl, string_bytes, ◌*◌, BTreeMap}
 use Rattle.std.proofs.lemmas.List.{at_drop_more}
 use Rattle.std.proofs.lemmas.List.Concat.{flat_map-append}
 use Rattle.std.proofs.lemmas.Result.{on_ok_weaker}
+use Rattle.std.specs.BTreeMap.{Updates, get}
 use Rattle.std.specs.Option.{option_map}
+use Rattle.std.specs.Ordering.{nat_cmp}
 use Rattle.std.specs.Prelude.{OnOk, Result, codes, flat_map}
+use Rattle.bq_parts.specs.Counts.{counted}
 use Rattle.bq_schedule.specs.declared.change.Change.{Change}
 use Rattle.bq_schedule.specs.declared.change.Stop.{Stop}
 use Rattle.bq_schedule.specs.declared.change.Wake.{Wake}
@@ -14,24 +17,38 @@ use Rattle.bq_schedule.specs.Figures.{Figures, processor_of, task_of}
 use Rattle.bq_report.specs.declared.extent.Extent.{Extent}
 use Rattle.bq_report.specs.declared.window.Window.{Window}
 use Rattle.bq_report.specs.Names.{NamedTasks}
-use Rattle.bq_report.specs.Reports.{Adds, AreParts}
+use Rattle.bq_report.specs.Reports.{Adds}
 use Rattle.bq_report.specs.Windows.{Shows, ShowsProcessor}
-use Rattle.bq_report.proofs.ReportLemmas.{AreParts-end, AreParts-more, AreParts-none, adds_none, adds_part}
+use Rattle.bq_drawing.specs.declared.drawing.WrittenRows.{WrittenRows}
 use Rattle.bq_drawing.specs.declared.lanes.Stretch.{Stretch}
+use Rattle.bq_drawing.specs.declared.legend.Key.{Key}
+use Rattle.bq_drawing.specs.declared.links.Link.{Link}
+use Rattle.bq_drawing.specs.declared.links.LinkKind.{LinkKind}
+use Rattle.bq_drawing.specs.declared.look.Look.{Look}
 use Rattle.bq_drawing.specs.declared.svg.Svg.{Svg}
-use Rattle.bq_drawing.specs.Lanes.{lane_of, taken}
-use Rattle.bq_drawing.specs.Pictures.{ArePutInOrder, HasRow, HoldsChange, HoldsRun, HoldsRunners, HoldsWait, HoldsWaiting, HoldsWake, IsDrawing, IsDrawnOver, IsPicture, IsPictureOf, IsRowIf, IsRowText, Row, Rows, row_of, wait_at, wait_before, wait_ended, with_wake}
+use Rattle.bq_words.specs.declared.rule.Rule.{Rule}
+use Rattle.bq_drawing.specs.Axes.{axis_text}
+use Rattle.bq_drawing.specs.Headings.{heading_text, title_of}
+use Rattle.bq_drawing.specs.Holdings.{Held, HoldsChange, HoldsPull, HoldsRun, HoldsRunners, HoldsStart, HoldsWait, HoldsWaiting, HoldsWake, Stops, wait_at, with_stop, with_wake}
+use Rattle.bq_drawing.specs.Keys.{key_of, legend_of, legend_top, tasks_shown}
+use Rattle.bq_drawing.specs.Legends.{legend_height, legend_text}
+use Rattle.bq_drawing.specs.Links.{line_of, links_text}
+use Rattle.bq_drawing.specs.Lanes.{lane_of, lanes_after, left_out, taken}
+use Rattle.bq_drawing.specs.Pictures.{IsDrawing, IsDrawnOver, IsHead, IsPicture, IsPictureOf}
+use Rattle.bq_drawing.specs.Places.{band_height, lane_height, level_height, row_gap, rows_edge}
+use Rattle.bq_drawing.specs.Rows.{ArePutInOrder, Row, Rows, labels_text, row_of, row_text}
 use Rattle.bq_drawing.specs.Runs.{ended_run, run_on}
-use Rattle.bq_drawing.specs.Shapes.{Setting, band_text, drawn_in, in_lanes, row_name, row_text, run_text, shape_in, waits_text, wakes_text}
-use Rattle.bq_drawing.specs.Titles.{xml_letter}
+use Rattle.bq_drawing.specs.Shapes.{Setting, arrow_of, band_text, drawn_in, in_lanes, label_text, row_name, run_text, shape_in, waits_text, wakes_text}
+use Rattle.bq_drawing.specs.Titles.{axis_step, xml_letter}
+use Rattle.bq_drawing.specs.Writing.{AreDrawn, IsRowWritten, IsRowWrittenIf, key_beside}
 
 -- no run that goes on is held yet
-pub runners_none : (w : Window) (s : Figures) (rows : Rows) → HoldsRunners w s 0 rows rows
+pub runners_none : (w : Window) (s : Figures) (rows : Held) → HoldsRunners w s 0 rows rows
 unfolding HoldsRunners
 runners_none w s rows = refl
 
 -- one more processor's
-pub runner_held : (w : Window) (s : Figures) (number : ℕ) (p : ProcessorFigures) (old now new : Rows) → HoldsRunners w s number old now
+pub runner_held : (w : Window) (s : Figures) (number : ℕ) (p : ProcessorFigures) (old now new : Held) → HoldsRunners w s number old now
     → p ≡ processor_of s number → HoldsRun w p.running (run_on p) now new → HoldsRunners w s (number + 1) old new
 unfolding HoldsRunners
 runner_held w s number p old now new before is holds =
@@ -39,7 +56,7 @@ runner_held w s number p old now new before is holds =
     subst (λ n. HoldsRunners w s n old new) (sym (add-one number)) (now, before, here)
 
 -- those of all processors
-pub runners_all : (w : Window) (s : Figures) (number : ℕ) (old new : Rows) → number ≡ 64 → HoldsRunners w s number old new → HoldsRunners w s 64 old new
+pub runners_all : (w : Window) (s : Figures) (number : ℕ) (old new : Held) → number ≡ 64 → HoldsRunners w s number old new → HoldsRunners w s 64 old new
 runners_all w s number old new is holds = subst (λ n. HoldsRunners w s n old new) is holds
 
 -- ---- the whole
@@ -60,20 +77,41 @@ added_as r old new a told is e1 = on_ok_weaker r (λ e. e ∙ ap (λ t. old ++ t
 all_added : (old t1 t2 t3 a b c : List ℕ) → t1 ≡ old ++ a → t2 ≡ t1 ++ b → t3 ≡ t2 ++ c → t3 ≡ old ++ (a ++ (b ++ c))
 all_added old t1 t2 t3 a b c e1 e2 e3 = both_added old t1 t3 a (b ++ c) e1 (both_added t1 t2 t3 b c e2 e3)
 
--- a row: its band and its name, then its runs, its waits and its wakes
-pub row_added : (s : Setting) (number top : ℕ) (row : Row) (waits wakes : List Stretch) (old t1 t2 t3 new : List ℕ)
-    → ArePutInOrder row.waits waits → ArePutInOrder row.wakes wakes
-    → t1 ≡ old ++ (band_text top ++ row_name number top) → t2 ≡ t1 ++ flat_map (run_text s top) row.runs → t3 ≡ t2 ++ waits_text s top waits
-    → new ≡ t3 ++ wakes_text s top wakes → Adds (IsRowText s number row) old new
-row_added s number top row waits wakes old t1 t2 t3 new first second e1 e2 e3 e4 =
+-- a row: its band and its name, then its runs, its waits and its wakes, and the names upon the runs
+pub row_written : (s : Setting) (number : ℕ) (row : Row) (waits wakes : List Stretch) (levels lanes top below above : ℕ) (old new : WrittenRows) (t1 t2 t3 : List ℕ)
+    → ArePutInOrder row.waits waits → ArePutInOrder row.wakes wakes → levels ≡ length (lanes_after (arrow_of s.extent) [] wakes)
+    → top ≡ counted old.bottom (levels * level_height + 4) → lanes ≡ length (lanes_after (λ (wait : Stretch). wait) [] waits)
+    → new.bottom ≡ counted top (band_height + (lanes * lane_height + row_gap)) → below ≡ counted 0 (left_out (λ (wait : Stretch). wait) [] waits)
+    → new.waits_left_out ≡ counted old.waits_left_out below → above ≡ counted 0 (left_out (arrow_of s.extent) [] wakes)
+    → new.wakes_left_out ≡ counted old.wakes_left_out above → new.links ≡ old.links → Updates nat_cmp old.bands new.bands number (Some top)
+    → string_bytes new.labels ≡ string_bytes old.labels ++ flat_map (label_text s top) row.runs
+    → t1 ≡ string_bytes old.text ++ (band_text top ++ row_name number top) → t2 ≡ t1 ++ flat_map (run_text s top) row.runs → t3 ≡ t2 ++ waits_text s top waits
+    → string_bytes new.text ≡ t3 ++ wakes_text s top wakes → IsRowWritten s number row old new
+row_written s number row waits wakes levels lanes top below above old new t1 t2 t3 first second high at wide ends few less some fewer links bands labels e1 e2 e3 e4 =
     let drawn = flat_map (run_text s top) row.runs in
-    let below = waits_text s top waits in
-    let above = wakes_text s top wakes in (
-      row_text s number top row.runs waits wakes,
-      record { top = top; waits = waits; wakes = wakes; waits_in_order = first; wakes_in_order = second; whole = refl },
-      all_added old t1 t2 new (band_text top ++ row_name number top) drawn (below ++ above) e1 e2 (both_added t2 t3 new below above e3 e4)
-          ∙ ap (λ t. old ++ t) (append_assoc (band_text top) (row_name number top) (drawn ++ (below ++ above))),
-    )
+    let under = waits_text s top waits in
+    let over = wakes_text s top wakes in record {
+      placed = record { number = number; top = top; row = record { runs = row.runs; waits = waits; wakes = wakes } };
+      is_placed = record {
+        of_processor = refl;
+        below = at ∙ ap (λ n. counted old.bottom (n * level_height + 4)) high;
+        runs_stay = refl;
+        waits_in_order = first;
+        wakes_in_order = second;
+      };
+      text = all_added (string_bytes old.text) t1 t2 (string_bytes new.text) (band_text top ++ row_name number top) drawn (under ++ over) e1 e2
+          (both_added t2 t3 (string_bytes new.text) under over e3 e4)
+          ∙ ap (λ t. string_bytes old.text ++ t) (append_assoc (band_text top) (row_name number top) (drawn ++ (under ++ over)));
+      labels = labels;
+      links = links;
+      bands = bands;
+      bottom = ends ∙ ap (λ n. counted top (band_height + (n * lane_height + row_gap))) wide;
+      waits = less ∙ ap (λ n. counted old.waits_left_out n) few ∙ counted_anew old.waits_left_out (left_out (λ (wait : Stretch). wait) [] waits);
+      wakes = fewer ∙ ap (λ n. counted old.wakes_left_out n) some ∙ counted_anew old.wakes_left_out (left_out (arrow_of s.extent) [] wakes);
+    }
+  where
+    counted_anew : (n more : ℕ) → counted n (counted 0 more) ≡ counted n more
+    counted_anew n more = omega arith
 
 -- one more of some shapes that stand one after another
 pub shapes_next : {A : Type 0} (draw : A → List ℕ) (items : List A) (i : ℕ) (d : A) (whole now next : List ℕ) → i < length items
@@ -87,6 +125,16 @@ shapes_next {A} draw items i d whole now next there e is =
 pub shapes_end : {A : Type 0} (draw : A → List ℕ) (items : List A) (i : ℕ) (whole now : List ℕ) → drop i items ≡ []
     → now ++ flat_map draw (drop i items) ≡ whole → now ≡ whole
 shapes_end {A} draw items i whole now none is = sym (append-nil now) ∙ sym (ap (λ (l : List A). now ++ flat_map draw l) none) ∙ is
+
+-- one more line between rows
+pub line_written : (kind : LinkKind) (s : Setting) (links : List Link) (i : ℕ) (d : Link) (old now next : WrittenRows) (whole : List ℕ) → i < length links
+    → now ≡ record old { links = now.links }
+    → string_bytes next.links ≡ string_bytes now.links ++ line_of kind s (get nat_cmp now.bands) (get_or links i d)
+    → string_bytes now.links ++ flat_map (line_of kind s (get nat_cmp old.bands)) (drop i links) ≡ whole
+    → string_bytes next.links ++ flat_map (line_of kind s (get nat_cmp old.bands)) (drop (i + 1) links) ≡ whole
+line_written kind s links i d old now next whole there same e is =
+    shapes_next (line_of kind s (get nat_cmp old.bands)) links i d whole (string_bytes now.links) (string_bytes next.links) there
+    (e ∙ ap (λ (m : BTreeMap ℕ ℕ). string_bytes now.links ++ line_of kind s (get nat_cmp m) (get_or links i d)) (ap (λ (r : WrittenRows). r.bands) same)) is
 
 -- one more of some shapes in lanes
 pub lanes_next : (room : Stretch → Stretch) (draw : ℕ → Stretch → List ℕ) (lanes after : List ℕ) (items : List Stretch) (i : ℕ) (d place : Stretch) (lane : Option ℕ)
@@ -122,70 +170,64 @@ letters_more old now next yielded letter so_far e =
     e ∙ ap (λ t. t ++ xml_letter letter) so_far ∙ append_assoc old (flat_map xml_letter yielded) (xml_letter letter) ∙ ap (λ t. old ++ t) (sym all)
 
 -- the row of a processor that is there, and is shown
-pub row_there : (w : Window) (s : Setting) (rows : Rows) (number : ℕ) (row : Row) (old new : List ℕ)
-    → number < length rows → ShowsProcessor w number → row ≡ row_of rows number → Adds (IsRowText s number row) old new
-    → Adds (IsRowIf w s rows number) old new
-row_there w s rows number row old new there shown is added =
-    let own : Adds (IsRowText s number (row_of rows number)) old new = subst (λ r. Adds (IsRowText s number r) old new) is added in
-    adds_part (HasRow w rows number) (IsRowText s number (row_of rows number)) old new own.0 (record { exists = there; shown = shown }) own.1 own.2
+pub row_there : (w : Window) (s : Setting) (rows : Rows) (number : ℕ) (row : Row) (old new : WrittenRows)
+    → number < length rows → ShowsProcessor w number → row ≡ row_of rows number → IsRowWritten s number row old new → IsRowWrittenIf w s rows number old new
+row_there w s rows number row old new there shown is written =
+    inl (record { exists = there; shown = shown }, subst (λ r. IsRowWritten s number r old new) is written)
 
--- no row of a processor that is not there, or is not shown
-pub no_row : (w : Window) (s : Setting) (rows : Rows) (number : ℕ) (text : List ℕ) → ¬ (HasRow w rows number) → Adds (IsRowIf w s rows number) text text
-no_row w s rows number text none = adds_none (HasRow w rows number) (IsRowText s number (row_of rows number)) text none
-
--- the rows, between what stands before them and behind them
-pub drawing_whole : (w : Window) (s : Setting) (rows : Rows) (head drawn links labels legend t1 t2 t3 t4 : List ℕ)
-    → AreParts (IsRowIf w s rows) 64 drawn → t1 ≡ head ++ drawn → t2 ≡ t1 ++ links → t3 ≡ t2 ++ labels → t4 ≡ t3 ++ legend → IsDrawing w s rows t4
-drawing_whole w s rows head drawn links labels legend t1 t2 t3 t4 are e1 e2 e3 e4 = record {
-  head = head;
-  drawn = drawn;
-  tail = links ++ (labels ++ legend);
-  are_rows = are;
-  whole = both_added head t1 t4 drawn (links ++ (labels ++ legend)) e1 (all_added t1 t2 t3 t4 links labels legend e2 e3 e4);
-}
+-- what stands above, the axis, the rows, and what stands behind them
+pub drawing_whole : (w : Window) (s : Setting) (title : List ℕ) (rule : Option Rule) (held : Held) (written : WrittenRows) (height : ℕ) (t0 t1 t2 t3 t4 t5 : List ℕ)
+    → AreDrawn w s held written → t0 ≡ heading_text s title rule → t1 ≡ t0 ++ axis_text s (axis_step s.extent) rows_edge written.bottom
+    → t2 ≡ t1 ++ string_bytes written.text → t3 ≡ t2 ++ string_bytes written.links → t4 ≡ t3 ++ string_bytes written.labels
+    → t5 ≡ t4 ++ legend_text s (tasks_shown s.tasks held.tasks) (key_beside held.links written) (legend_top written.bottom)
+    → height ≡ counted (legend_top written.bottom) (legend_height (length (tasks_shown s.tasks held.tasks)) (key_beside held.links written))
+    → IsDrawing w s title rule held height t5
+drawing_whole w s title rule held written height t0 t1 t2 t3 t4 t5 drawn_so e0 e1 e2 e3 e4 e5 high =
+    let are = drawn_so.are_written in
+    let axis = axis_text s (axis_step s.extent) rows_edge written.bottom in
+    let drawn = flat_map (row_text s) are.placed in
+    let lines = links_text s are.placed held.links in
+    let labels = flat_map (labels_text s) are.placed in
+    let legend = legend_of s held are.placed written.bottom in
+    let behind = lines ++ (labels ++ legend) in
+    let key : key_beside held.links written ≡ key_of s held.links are.placed
+    = ap (λ n. record (key_beside held.links written) { waits_left_out = n }) are.waits
+    ∙ ap (λ n. record (key_of s held.links are.placed) { wakes_left_out = n }) are.wakes in record {
+      placed = are.placed;
+      edge = written.bottom;
+      are_placed = are.are_placed;
+      is_high = high ∙ ap (λ (k : Key). counted (legend_top written.bottom) (legend_height (length (tasks_shown s.tasks held.tasks)) k)) key;
+      whole = all_added t0 t1 t2 t5 axis drawn behind e1 (e2 ∙ ap (λ t. t1 ++ t) are.text)
+          (all_added t2 t3 t4 t5 lines labels legend (e3 ∙ ap (λ t. t2 ++ t) drawn_so.lines) (e4 ∙ ap (λ t. t3 ++ t) are.labels)
+          (e5 ∙ ap (λ (k : Key). t4 ++ legend_text s (tasks_shown s.tasks held.tasks) k (legend_top written.bottom)) key))
+          ∙ ap (λ t. t ++ (axis ++ (drawn ++ behind))) e0;
+    }
 
 -- a picture: its head, what is drawn, and its end
-pub picture_added : (w : Window) (s : Setting) (rows : Rows) (head drawn old t1 t2 t3 : List ℕ) → IsDrawing w s rows drawn
-    → t1 ≡ old ++ head → t2 ≡ t1 ++ drawn → t3 ≡ t2 ++ codes "</svg>\n" → Adds (IsPicture w s rows) old t3
-picture_added w s rows head drawn old t1 t2 t3 is e1 e2 e3 =
-    (head ++ (drawn ++ codes "</svg>\n"), (head, drawn, is, refl), all_added old t1 t2 t3 head drawn (codes "</svg>\n") e1 e2 e3)
-
--- one more row
-pub rows_more : (w : Window) (s : Setting) (rows : Rows) (number : ℕ) (now next : List ℕ)
-    → AreParts (IsRowIf w s rows) number now → Adds (IsRowIf w s rows number) now next → AreParts (IsRowIf w s rows) (number + 1) next
-rows_more w s rows number now next before own =
-    subst (λ t. AreParts (IsRowIf w s rows) (number + 1) t) (sym own.2) (AreParts-more (IsRowIf w s rows) number now own.0 before own.1)
-
--- the rows of as many processors as there can be, in the text that they are written to
-pub rows_all : (w : Window) (s : Setting) (rows : Rows) (number : ℕ) (now next : List ℕ) → number ≡ 64 → next ≡ now
-    → AreParts (IsRowIf w s rows) number now → AreParts (IsRowIf w s rows) 64 next
-rows_all w s rows number now next is same are =
-    subst (λ t. AreParts (IsRowIf w s rows) 64 t) (sym same) (AreParts-end (IsRowIf w s rows) number 64 now is are)
-
--- no row is written yet
-pub rows_none : (w : Window) (s : Setting) (rows : Rows) (text : List ℕ) → text ≡ [] → AreParts (IsRowIf w s rows) 0 text
-rows_none w s rows text is = subst (λ t. AreParts (IsRowIf w s rows) 0 t) (sym is) (AreParts-none (IsRowIf w s rows))
+pub picture_added : (w : Window) (look : Look) (s : Setting) (rule : Option Rule) (held : Held) (height : ℕ) (head drawn old t1 t2 t3 : List ℕ)
+    → IsDrawing w s (title_of look) rule held height drawn → IsHead look drawn height head → t1 ≡ old ++ head → t2 ≡ t1 ++ drawn → t3 ≡ t2 ++ codes "</svg>\n"
+    → Adds (IsPicture w look s rule held) old t3
+picture_added w look s rule held height head drawn old t1 t2 t3 is is_head e1 e2 e3 =
+    (head ++ (drawn ++ codes "</svg>\n"), record { head = head; drawn = drawn; height = height; is_drawing = is; is_head = is_head; whole = refl }, all_added old t1 t2 t3 head drawn (codes "</svg>\n") e1 e2 e3)
 
 -- the picture at the end: only the runs and the waits that go on have come to what was held
 pub picture_at_end : (held between last : Svg) (s : Figures) (names : NamedTasks) (e : Extent) (old new : List ℕ)
     → between ≡ record held { drawing = between.drawing } → last ≡ record between { drawing = last.drawing }
     → HoldsRunners held.window s 64 held.drawing between.drawing → HoldsWaiting between.window s 1024 between.drawing last.drawing → IsDrawnOver last.window s e
-    → Adds (IsPicture last.window (drawn_in e last.roster names) last.drawing) old new → Adds (IsPictureOf held.window s names held.roster held.drawing) old new
+    → Adds (IsPicture last.window last.look (drawn_in e last.roster names) last.rule last.drawing) old new
+    → Adds (IsPictureOf held.window held.look held.rule s names held.roster held.drawing) old new
 picture_at_end held between last s names e old new first second runs waits over added =
-    let same : between.window ≡ held.window = ap (λ (v : Svg). v.window) first in
-    let window : last.window ≡ held.window = ap (λ (v : Svg). v.window) second ∙ same in
-    let roster : last.roster ≡ held.roster = ap (λ (v : Svg). v.roster) second ∙ ap (λ (v : Svg). v.roster) first in
-    let own : Adds (IsPicture held.window (drawn_in e held.roster names) last.drawing) old new
-    = subst (λ r. Adds (IsPicture held.window (drawn_in e r names) last.drawing) old new) roster
-    (subst (λ w. Adds (IsPicture w (drawn_in e last.roster names) last.drawing) old new) window added) in (
+    let whole : last ≡ record held { drawing = last.drawing } = second ∙ ap (λ (v : Svg). record v { drawing = last.drawing }) first in
+    let own : Adds (IsPicture held.window held.look (drawn_in e held.roster names) held.rule last.drawing) old new
+    = subst (λ (v : Svg). Adds (IsPicture v.window v.look (drawn_in e v.roster names) v.rule last.drawing) old new) whole added in (
       own.0,
       record {
         running = between.drawing;
-        rows = last.drawing;
+        held = last.drawing;
         extent = e;
         holds_runs = runs;
-        holds_waits = subst (λ w. HoldsWaiting w s 1024 between.drawing last.drawing) same waits;
-        drawn_over = subst (λ w. IsDrawnOver w s e) window over;
+        holds_waits = subst (λ w. HoldsWaiting w s 1024 between.drawing last.drawing) (ap (λ (v : Svg). v.window) first) waits;
+        drawn_over = subst (λ (v : Svg). IsDrawnOver v.window s e) whole over;
         whole = own.1;
       },
       own.2,
@@ -194,12 +236,12 @@ picture_at_end held between last s names e old new first second runs waits over 
 -- ---- what is held
 
 -- no wait that goes on is held yet
-pub waiting_none : (w : Window) (s : Figures) (rows : Rows) → HoldsWaiting w s 0 rows rows
+pub waiting_none : (w : Window) (s : Figures) (rows : Held) → HoldsWaiting w s 0 rows rows
 unfolding HoldsWaiting
 waiting_none w s rows = refl
 
 -- one more task's
-pub waiting_held : (w : Window) (s : Figures) (id : ℕ) (wait : Option Slice) (old now new : Rows) → HoldsWaiting w s id old now
+pub waiting_held : (w : Window) (s : Figures) (id : ℕ) (wait : Option Slice) (old now new : Held) → HoldsWaiting w s id old now
     → wait ≡ wait_at s id (task_of s id).place → HoldsWait w wait now new → HoldsWaiting w s (id + 1) old new
 unfolding HoldsWaiting
 waiting_held w s id wait old now new before is holds =
@@ -207,32 +249,35 @@ waiting_held w s id wait old now new before is holds =
     subst (λ n. HoldsWaiting w s n old new) (sym (add-one id)) (now, before, here)
 
 -- those of all tasks
-pub waiting_all : (w : Window) (s : Figures) (id : ℕ) (old new : Rows) → id ≡ 1024 → HoldsWaiting w s id old new → HoldsWaiting w s 1024 old new
+pub waiting_all : (w : Window) (s : Figures) (id : ℕ) (old new : Held) → id ≡ 1024 → HoldsWaiting w s id old new → HoldsWaiting w s 1024 old new
 waiting_all w s id old new is holds = subst (λ n. HoldsWaiting w s n old new) is holds
 
 -- a wake that is shown
-pub wake_held : (w : Window) (wake : Option Wake) (k : Wake) (old new : Rows) → wake ≡ Some k → Shows w k.to k.task k.at → new ≡ with_wake (Some k) old
+pub wake_held : (w : Window) (wake : Option Wake) (k : Wake) (old new : Held) → wake ≡ Some k → Shows w k.to k.task k.at → new ≡ with_wake (Some k) old
     → HoldsWake w wake old new
 wake_held w wake k old new is shown e =
     let own : HoldsWake w (Some k) old new = (Some k, (shown, refl), e) in
     subst (λ (o : Option Wake). HoldsWake w o old new) (sym is) own
 
 -- all that a change tells, part after part
-pub change_held : (change : Change) (v0 v1 v2 v3 : Svg) (new : Rows) → v1 ≡ record v0 { drawing = v1.drawing } → v2 ≡ record v1 { drawing = v2.drawing }
+pub change_held : (change : Change) (v0 v1 v2 v3 : Svg) (new : Held) → v1 ≡ record v0 { drawing = v1.drawing } → v2 ≡ record v1 { drawing = v2.drawing }
     → v3 ≡ record v2 { drawing = v3.drawing; stops = v3.stops } → HoldsWake v0.window change.wake v0.drawing v1.drawing
-    → HoldsWait v1.window (option_map wait_ended change.pull) v1.drawing v2.drawing
+    → HoldsPull v1.window change.pull v1.drawing v2.drawing
     → HoldsRun v2.window (option_map (λ (s : Stop). s.start) change.stop) (ended_run change.stop) v2.drawing v3.drawing
-    → HoldsWait v3.window (option_map wait_before change.start) v3.drawing new → HoldsChange v0.window change v0.drawing new
-change_held change v0 v1 v2 v3 new s1 s2 s3 wake pull stop start =
+    → v3.stops.entries ≡ with_stop change.stop v2.stops.entries → HoldsStart v3.window v3.stops.entries change.start v3.drawing new
+    → HoldsChange v0.window change v0.stops.entries v3.stops.entries v0.drawing new
+change_held change v0 v1 v2 v3 new s1 s2 s3 wake pull stop stops start =
     let w1 : v1.window ≡ v0.window = ap (λ (v : Svg). v.window) s1 in
     let w2 : v2.window ≡ v0.window = ap (λ (v : Svg). v.window) s2 ∙ w1 in
     let w3 : v3.window ≡ v0.window = ap (λ (v : Svg). v.window) s3 ∙ w2 in
+    let before : v2.stops.entries ≡ v0.stops.entries = ap (λ (v : Svg). v.stops.entries) s2 ∙ ap (λ (v : Svg). v.stops.entries) s1 in
     record {
       woken = v1.drawing;
       pulled = v2.drawing;
       stopped = v3.drawing;
       wake = wake;
-      pull = subst (λ w. HoldsWait w (option_map wait_ended change.pull) v1.drawing v2.drawing) w1 pull;
+      pull = subst (λ w. HoldsPull w change.pull v1.drawing v2.drawing) w1 pull;
       stop = subst (λ w. HoldsRun w (option_map (λ (s : Stop). s.start) change.stop) (ended_run change.stop) v2.drawing v3.drawing) w2 stop;
-      start = subst (λ w. HoldsWait w (option_map wait_before change.start) v3.drawing new) w3 start;
+      stops = stops ∙ ap (λ (l : Stops). with_stop change.stop l) before;
+      start = subst (λ w. HoldsStart w v3.stops.entries change.start v3.drawing new) w3 start;
     }

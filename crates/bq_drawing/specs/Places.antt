@@ -3,13 +3,58 @@ use Rattle.std.specs.Prelude.{ℕ, ◌+◌, ◌-◌, ◌*◌, ◌/◌, ◌%◌, 
 use Rattle.std.specs.Fmt.{decimal}
 use Rattle.bq_report.specs.declared.extent.Extent.{Extent}
 
--- how far from the left edge, in hundredths: 72, and of 1080 so much as of the extent has passed; the end for what is later
+-- where the time begins, from the left edge
+abbrev pub left_edge : ℕ
+left_edge = 72
+
+-- how wide the time is drawn
+abbrev pub time_width : ℕ
+time_width = 1080
+
+-- how wide the picture is, with the room on the right
+abbrev pub page_width : ℕ
+page_width = left_edge + time_width + 24
+
+-- where the rows begin, from the upper edge
+abbrev pub rows_edge : ℕ
+rows_edge = 84
+
+-- how high the band of a row is
+abbrev pub band_height : ℕ
+band_height = 36
+
+-- how high a wait is drawn, with the space above it
+abbrev pub lane_height : ℕ
+lane_height = 12
+
+-- how high a wake is drawn, with the space below it
+abbrev pub level_height : ℕ
+level_height = 13
+
+-- how far a row is from the next
+abbrev pub row_gap : ℕ
+row_gap = 24
+
+-- how high the axis is below the rows, with its numbers and its name
+abbrev pub axis_height : ℕ
+axis_height = 48
+
+-- the least width that can be seen, in hundredths
+abbrev pub least_width : ℕ
+least_width = 40
+
+-- how wide the arrow of a wake is
+abbrev pub arrow_width : ℕ
+arrow_width = 9
+
+-- how far from the left edge, in hundredths: the time's edge, and of its width so much as of the extent has passed; the end for what is
+-- later
 abbrev pub place_of : Extent → ℕ → ℕ
-place_of e time = 7200 + (min time e.to - e.from) * 108000 / max (e.to - e.from) 1
+place_of e time = left_edge * 100 + (min time e.to - e.from) * (time_width * 100) / max (e.to - e.from) 1
 
 -- how wide the stretch between two moments is drawn, in hundredths: from the place of one to that of the other, and no less than can be seen
 abbrev pub width_of : Extent → ℕ → ℕ → ℕ
-width_of e from to = max (place_of e to - place_of e from) 40
+width_of e from to = max (place_of e to - place_of e from) least_width
 
 -- hundredths, as a number with two decimals
 abbrev pub hundredths : ℕ → List ℕ
@@ -17,4 +62,4 @@ hundredths n = decimal (n / 100) ++ (codes "." ++ (decimal (n / 10 % 10) ++ deci
 
 -- how long the time is over which the arrow of a wake is drawn: as long as the arrow is wide, in whole units of the picture
 abbrev pub arrow_time : Extent → ℕ
-arrow_time e = (e.to - e.from) / 1080 * 9 + 1
+arrow_time e = (e.to - e.from) / time_width * arrow_width + 1

@@ -1,16 +1,17 @@
 -- The shapes of a row: its name, its runs, the waits below them, and the wakes above.
-use Rattle.std.specs.Prelude.{ℕ, ◌+◌, ◌-◌, ◌*◌, ◌%◌, ◌^◌, List, [], ◌∷◌, ◌++◌, Option, Some, None, codes, flat_map, unwrap_or}
+use Rattle.std.specs.Prelude.{ℕ, ◌+◌, ◌-◌, ◌*◌, ◌/◌, ◌%◌, ◌^◌, List, [], ◌∷◌, ◌++◌, Option, Some, None, chars, codes, flat_map, if◌then◌else◌, length, min, nat_lt, unwrap_or}
 use Rattle.std.specs.Fmt.{decimal}
+use Rattle.std.specs.Option.{option_map}
 use Rattle.bq_parts.specs.Counts.{counted}
 use Rattle.bq_report.specs.declared.extent.Extent.{Extent}
-use Rattle.bq_report.specs.Names.{NamedTasks}
+use Rattle.bq_report.specs.Names.{NamedTasks, name_of}
 use Rattle.bq_report.specs.Rosters.{place_in}
 use Rattle.bq_drawing.specs.declared.frame.Frame.{Frame}
 use Rattle.bq_drawing.specs.declared.lanes.Stretch.{Stretch}
 use Rattle.bq_drawing.specs.declared.shapes.DrawnRun.{DrawnRun}
 use Rattle.bq_drawing.specs.declared.unit.TimeUnit.{TimeUnit}
 use Rattle.bq_drawing.specs.Lanes.{lane_of, taken}
-use Rattle.bq_drawing.specs.Places.{arrow_time, hundredths, place_of, width_of}
+use Rattle.bq_drawing.specs.Places.{arrow_time, band_height, hundredths, lane_height, left_edge, level_height, place_of, time_width, width_of}
 use Rattle.bq_drawing.specs.Titles.{amount_text, axis_step, shown_name, time_text, unit_name, unit_of_step}
 
 -- what the shapes of a picture share: the time that it is drawn over, the unit of its times, the tasks of the trace, in order, and
@@ -39,11 +40,11 @@ whole_name s task = shown_name (2 ^ 64 - 1) s.names task
 
 -- ---- the band
 
--- the band at this height in which the runs of a row lie
+-- the band in which the runs of a row lie, whose upper edge is at `top`
 abbrev pub band_text : ℕ → List ℕ
 band_text top =
-    codes "<rect class=\"band\" x=\"" ++ (decimal 72 ++ (codes "\" y=\"" ++ (decimal top ++ (codes "\" width=\"" ++ (decimal 1080
-    ++ (codes "\" height=\"" ++ (decimal 36 ++ codes "\"/>\n")))))))
+    codes "<rect class=\"band\" x=\"" ++ (decimal left_edge ++ (codes "\" y=\"" ++ (decimal top ++ (codes "\" width=\"" ++ (decimal time_width
+    ++ (codes "\" height=\"" ++ (decimal band_height ++ codes "\"/>\n")))))))
 
 -- the name of a processor's row, in its band
 abbrev pub row_name : ℕ → ℕ → List ℕ
@@ -52,12 +53,12 @@ row_name number top =
 
 -- ---- runs
 
--- the rectangle of a run, in the band at this height
+-- the rectangle of a run, in the band whose upper edge is at `top`
 abbrev pub rectangle_text : Setting → ℕ → DrawnRun → List ℕ
 rectangle_text s top run =
     codes "<g><rect class=\"run c" ++ (decimal (colour_of s.tasks run.task) ++ (codes "\" x=\"" ++ (hundredths (place_of s.extent run.from)
     ++ (codes "\" y=\"" ++ (decimal top ++ (codes "\" width=\"" ++ (hundredths (width_of s.extent run.from run.to)
-    ++ (codes "\" height=\"" ++ (decimal 36 ++ codes "\" rx=\"2\"/>")))))))))
+    ++ (codes "\" height=\"" ++ (decimal band_height ++ codes "\" rx=\"2\"/>")))))))))
 
 -- when a run is, and how long
 abbrev pub run_times : Setting → DrawnRun → List ℕ
@@ -100,9 +101,9 @@ in_lanes room draw lanes (stretch ∷ later) =
     shape_in draw (lane_of (room stretch) lanes) stretch
     ++ in_lanes room draw (taken (lane_of (room stretch) lanes) (room stretch).to lanes) later
 
--- where a wait in this lane is drawn, below the band at this height
+-- where a wait in this lane is drawn, below the band whose upper edge is at `top`
 abbrev pub wait_height : ℕ → ℕ → ℕ
-wait_height top lane = counted (lane * 12) (36 + (top + 3))
+wait_height top lane = counted (lane * lane_height) (band_height + (top + 3))
 
 -- its hatched rectangle, up to the name in its tooltip
 abbrev pub hatched_text : Setting → ℕ → Stretch → List ℕ
@@ -121,9 +122,9 @@ wait_times s wait =
 abbrev pub wait_text : Setting → ℕ → Stretch → List ℕ
 wait_text s height wait = hatched_text s height wait ++ (whole_name s wait.task ++ wait_times s wait)
 
--- where the arrow of a wake at this level ends, above the band at this height
+-- where the arrow of a wake at this level ends, above the band whose upper edge is at `top`
 abbrev pub wake_height : ℕ → ℕ → ℕ
-wake_height top level = top - level * 13
+wake_height top level = top - level * level_height
 
 -- that arrow, up to the name in its tooltip
 abbrev pub arrow_text : Setting → ℕ → Stretch → List ℕ
@@ -143,11 +144,11 @@ wake_text s end wake = arrow_text s end wake ++ (whole_name s wake.task ++ wake_
 abbrev pub arrow_of : Extent → Stretch → Stretch
 arrow_of e wake = record wake { to = counted wake.from (arrow_time e) }
 
--- a wait in its lane, below the band at this height
+-- a wait in its lane, below the band whose upper edge is at `top`
 abbrev pub wait_in : Setting → ℕ → ℕ → Stretch → List ℕ
 wait_in s top lane wait = wait_text s (wait_height top lane) wait
 
--- a wake at its level, above the band at this height
+-- a wake at its level, above the band whose upper edge is at `top`
 abbrev pub wake_in : Setting → ℕ → ℕ → Stretch → List ℕ
 wake_in s top level wake = wake_text s (wake_height top level) wake
 
@@ -159,7 +160,31 @@ waits_text s top waits = in_lanes (λ wait. wait) (wait_in s top) [] waits
 abbrev pub wakes_text : Setting → ℕ → List Stretch → List ℕ
 wakes_text s top wakes = in_lanes (arrow_of s.extent) (wake_in s top) [] wakes
 
--- the row of a processor whose band is at this height: the band and the name, then its runs, its waits and its wakes, each in order
-abbrev pub row_text : Setting → ℕ → ℕ → List DrawnRun → List Stretch → List Stretch → List ℕ
-row_text s number top runs waits wakes =
+-- what is drawn in the row of a processor whose band has its upper edge at `top`: the band and the name, then its runs, its waits and
+-- its wakes, each in order
+abbrev pub shapes_text : Setting → ℕ → ℕ → List DrawnRun → List Stretch → List Stretch → List ℕ
+shapes_text s number top runs waits wakes =
     band_text top ++ (row_name number top ++ (flat_map (run_text s top) runs ++ (waits_text s top waits ++ wakes_text s top wakes)))
+
+-- ---- names upon runs
+
+-- how many characters the name of a task has, or its number
+abbrev pub name_length : NamedTasks → ℕ → ℕ
+name_length names task = unwrap_or (option_map (λ name. length (chars name)) (name_of names task)) 9
+
+-- the width that the name needs, in hundredths: ten for each character, and ten more
+abbrev pub label_width : NamedTasks → ℕ → ℕ
+label_width names task = counted (min (name_length names task * 1000) (2 ^ 64 - 1)) 1000
+
+-- the name of a run's task, around this place, in the band whose upper edge is at `top`
+abbrev pub name_upon : Setting → ℕ → ℕ → ℕ → List ℕ
+name_upon s task middle top =
+    (codes "<text class=\"in l" ++ (decimal (colour_of s.tasks task) ++ (codes "\" x=\"" ++ (hundredths middle
+    ++ (codes "\" y=\"" ++ (decimal (counted top 24) ++ codes "\">"))))))
+    ++ (whole_name s task ++ codes "</text>\n")
+
+-- the name upon a run, in its middle, where it is wide enough
+abbrev pub label_text : Setting → ℕ → DrawnRun → List ℕ
+label_text s top run =
+    if nat_lt (width_of s.extent run.from run.to) (label_width s.names run.task) then []
+    else name_upon s run.task (counted (place_of s.extent run.from) (width_of s.extent run.from run.to / 2)) top

@@ -46,6 +46,13 @@ unit_of_step step =
 abbrev pub axis_step : Extent → ℕ
 axis_step e = unwrap_or (find (λ (step : ℕ). covers (e.to - e.from) 10 step) round_steps) 1
 
+-- how many nanoseconds a unit has
+abbrev pub unit_length : TimeUnit → ℕ
+unit_length Nanoseconds = 1
+unit_length Microseconds = 1000
+unit_length Milliseconds = 1000000
+unit_length Seconds = 1000000000
+
 -- how a unit is written behind a number
 abbrev pub unit_name : TimeUnit → List ℕ
 unit_name Nanoseconds = codes "ns"

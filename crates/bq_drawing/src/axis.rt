@@ -1,7 +1,10 @@
 //! The axis of time.
+ghost use Rattle.std.specs.Prelude.{◌≡◌, ◌++◌, OnOk, string_bytes};
+ghost use Rattle.bq_drawing.specs.Axes.{axis_name, axis_text, first_line, grid_count, grid_line, line_at, mark_if};
+ghost use Rattle.bq_drawing.specs.Shapes.{setting_of};
 
 use crate::frame::Frame;
-use crate::scale::{Hundredths, LEFT, WIDTH};
+use crate::scale::{Hundredths, LEFT, Scale, WIDTH};
 use std::alloc::AllocError;
 
 /// How high the axis is below the rows, with its numbers and its name.
@@ -17,20 +20,47 @@ pub fn write_axis(
     top: usize,
     bottom: usize,
     text: &mut String,
-) -> Result<(), AllocError> {
-    let scale = &frame.scale;
-    let mut at = scale.extent.from.div_ceil(step.max(1)).saturating_mul(step);
-    for _ in 0..MOST {
-        if at > scale.extent.to {
-            break;
-        }
-        let place = scale.place(at);
-        let count = at / frame.unit.length().max(1);
-        write_grid_line(place, top, bottom, text)?;
-        write_grid_count(place, bottom.saturating_add(20), count, text)?;
-        at = at.saturating_add(step);
+) -> Result<(), AllocError>
+    ensures { OnOk result (string_bytes text.new ≡ string_bytes text.old ++ axis_text (setting_of frame.now) step top bottom) }
+{
+    for number in 0..MOST {
+        let at = line_at(step, number, &frame.scale);
+        write_mark(at, frame, top, bottom, text)?;
     }
     write_axis_name(frame.unit.name(), bottom.saturating_add(42), text)
+}
+
+/// The moment of a line: so many steps after the first.
+fn line_at(step: u64, number: u8, scale: &Scale) -> u64
+    ensures { result ≡ line_at scale.now.extent step number }
+{
+    first_line(step, scale).saturating_add(step.saturating_mul(u64::from(number)))
+}
+
+/// The first multiple of the step that is not before the time that is drawn.
+fn first_line(step: u64, scale: &Scale) -> u64
+    ensures { result ≡ first_line scale.now.extent step }
+{
+    scale.extent.from.div_ceil(step.max(1)).saturating_mul(step)
+}
+
+/// A line of the axis and its number, if its moment is drawn.
+fn write_mark(
+    at: u64,
+    frame: &Frame<'_>,
+    top: usize,
+    bottom: usize,
+    text: &mut String,
+) -> Result<(), AllocError>
+    ensures { OnOk result (string_bytes text.new ≡ string_bytes text.old ++ mark_if (setting_of frame.now) top bottom at) }
+{
+    if at > frame.scale.extent.to {
+        return Ok(());
+    }
+    let place = frame.scale.place(at);
+    let count = at / frame.unit.length();
+    write_grid_line(place, top, bottom, text)?;
+    write_grid_count(place, bottom.saturating_add(20), count, text)
 }
 
 /// A line of the axis.
@@ -39,7 +69,9 @@ fn write_grid_line(
     top: usize,
     bottom: usize,
     text: &mut String,
-) -> Result<(), AllocError> {
+) -> Result<(), AllocError>
+    ensures { OnOk result (string_bytes text.new ≡ string_bytes text.old ++ grid_line place.0 top bottom) }
+{
     write!(text, "<path class=\"grid\" d=\"M{place} {top}V{bottom}\"/>")
 }
 
@@ -49,7 +81,9 @@ fn write_grid_count(
     line: usize,
     count: u64,
     text: &mut String,
-) -> Result<(), AllocError> {
+) -> Result<(), AllocError>
+    ensures { OnOk result (string_bytes text.new ≡ string_bytes text.old ++ grid_count place.0 line count) }
+{
     write!(
         text,
         "<text class=\"small middle\" x=\"{place}\" y=\"{line}\">{count}</text>\n"
@@ -57,7 +91,9 @@ fn write_grid_count(
 }
 
 /// What the axis tells, by the name of its unit.
-fn write_axis_name(name: &str, line: usize, text: &mut String) -> Result<(), AllocError> {
+fn write_axis_name(name: &str, line: usize, text: &mut String) -> Result<(), AllocError>
+    ensures { OnOk result (string_bytes text.new ≡ string_bytes text.old ++ axis_name name.now line) }
+{
     let middle = LEFT + WIDTH / 2;
     write!(
         text,

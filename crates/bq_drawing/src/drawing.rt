@@ -1,8 +1,18 @@
 //! What is drawn, and where.
-ghost use Rattle.std.specs.Prelude.{◌≡◌, ◌++◌, [], IfOk, OnOk, Some, flat_map, replicate, string_bytes};
-ghost use Rattle.bq_report.specs.Reports.{Adds, AreParts};
-ghost use Rattle.bq_drawing.specs.Pictures.{ArePutInOrder, IsDrawing, IsRowIf, IsRowText, empty_row, row_with_run, row_with_wait, row_with_wake, waking, with_run, with_stretch, with_wake};
-ghost use Rattle.bq_drawing.specs.Shapes.{arrow_of, drawn_in, run_text, setting_of, shape_in, wait_in, waits_text, wake_in, wakes_text};
+ghost use Rattle.std.specs.Prelude.{◌≡◌, ◌+◌, ◌*◌, ◌++◌, [], ◌∷◌, IfOk, OnOk, Some, flat_map, length, string_bytes};
+ghost use Rattle.bq_parts.specs.Counts.{counted};
+ghost use Rattle.std.specs.BTreeMap.{get};
+ghost use Rattle.std.specs.Ordering.{nat_cmp};
+ghost use Rattle.bq_drawing.specs.Holdings.{nothing_of, row_with_run, row_with_wait, row_with_wake, waking, with_link, with_run, with_stretch, with_wake};
+ghost use Rattle.bq_drawing.specs.Keys.{has_line, legend_top, tasks_shown};
+ghost use Rattle.bq_drawing.specs.Legends.{legend_height, legend_text};
+ghost use Rattle.bq_drawing.specs.Links.{line_of};
+ghost use Rattle.bq_drawing.specs.Lanes.{lanes_after, left_out, without_lane};
+ghost use Rattle.bq_drawing.specs.Pictures.{IsDrawing};
+ghost use Rattle.bq_drawing.specs.Places.{band_height, lane_height, level_height, row_gap};
+ghost use Rattle.bq_drawing.specs.Rows.{ArePutInOrder, empty_row};
+ghost use Rattle.bq_drawing.specs.Shapes.{arrow_of, drawn_in, label_text, run_text, setting_of, shape_in, wait_in, waits_text, wake_in, wakes_text};
+ghost use Rattle.bq_drawing.specs.Writing.{AreDrawn, IsRowWritten, IsRowWrittenIf, key_beside};
 
 use crate::axis::{AXIS, write_axis};
 use crate::frame::Frame;
@@ -41,14 +51,14 @@ pub struct ProcessorRow {
 }
 
 impl Model for ProcessorRow {
-    ghost use Rattle.bq_drawing.specs.Pictures.{Row};
+    ghost use Rattle.bq_drawing.specs.Rows.{Row};
 
     ghost Value = { Row };
 
     ghost view = { λ r. record { runs = r.runs.items; waits = r.waits.items; wakes = r.wakes.items } };
 }
 
-/// What is drawn. Contracts see the row of each processor.
+/// What is drawn. Contracts see what is held: the row of each processor, the lines between them, and the tasks that appear.
 #[derive(Drop)]
 pub struct Drawing {
     alloc: Global,
@@ -58,11 +68,11 @@ pub struct Drawing {
 }
 
 impl Model for Drawing {
-    ghost use Rattle.bq_drawing.specs.Pictures.{Rows};
+    ghost use Rattle.bq_drawing.specs.Holdings.{Held};
 
-    ghost Value = { Rows };
+    ghost Value = { Held };
 
-    ghost view = { λ d. d.rows.items };
+    ghost view = { λ d. record { rows = d.rows.items; links = d.links.items; tasks = d.tasks.keys } };
 }
 
 /// What is written of a drawing, and how high it is.
@@ -74,7 +84,7 @@ pub struct Written {
 
 /// The rows as far as they are written.
 #[derive(Drop)]
-struct Rows {
+struct WrittenRows {
     text: String,
     /// What leads from one row to another.
     links: String,
@@ -101,7 +111,7 @@ struct Shapes {
 impl Drawing {
     /// Nothing, of no processor.
     pub fn new(alloc: Global) -> Drawing
-        ensures { result ≡ [] }
+        ensures { result ≡ nothing_of 0 }
     {
         Drawing {
             alloc,
@@ -113,7 +123,7 @@ impl Drawing {
 
     /// Nothing, of this many processors.
     pub fn of(alloc: Global, processors: usize) -> Result<Drawing, AllocError>
-        ensures { IfOk result (λ d. d ≡ replicate processors empty_row) }
+        ensures { IfOk result (λ d. d ≡ nothing_of processors) }
     {
         let mut rows = Vec::with_capacity(alloc, processors)?;
         'processors: for _ in 0..processors {
@@ -131,8 +141,8 @@ impl Drawing {
     pub fn push_run(&mut self, start: &Start, part: &Slice) -> Result<(), AllocError>
         ensures { OnOk result (self.new ≡ with_run (Some start.now) (Some part.now) self.old) }
     {
+        self.tasks.insert(part.task)?;
         if let Some(row) = self.rows.get_mut(usize::from(part.processor)) {
-            self.tasks.insert(part.task)?;
             row.push_run(DrawnRun::of(start, part))?;
         }
         Ok(())
@@ -142,8 +152,8 @@ impl Drawing {
     pub fn push_wait(&mut self, processor: u8, wait: Stretch) -> Result<(), AllocError>
         ensures { OnOk result (self.new ≡ with_stretch processor wait self.old) }
     {
+        self.tasks.insert(wait.task)?;
         if let Some(row) = self.rows.get_mut(usize::from(processor)) {
-            self.tasks.insert(wait.task)?;
             row.push_wait(wait)?;
         }
         Ok(())
@@ -153,8 +163,8 @@ impl Drawing {
     pub fn push_wake(&mut self, wake: &Wake) -> Result<(), AllocError>
         ensures { OnOk result (self.new ≡ with_wake (Some wake.now) self.old) }
     {
+        self.tasks.insert(wake.task)?;
         if let Some(row) = self.rows.get_mut(usize::from(wake.to)) {
-            self.tasks.insert(wake.task)?;
             row.push_wake(wake)?;
         }
         Ok(())
@@ -162,7 +172,7 @@ impl Drawing {
 
     /// A pull or a migration.
     pub fn push_link(&mut self, link: Link) -> Result<(), AllocError>
-        ensures { self.new ≡ self.old }
+        ensures { OnOk result (self.new ≡ with_link link self.old) }
     {
         self.tasks.insert(link.task)?;
         self.links.push(link)?;
@@ -178,7 +188,8 @@ impl Drawing {
         roster: &Roster,
         names: &Names,
     ) -> Result<Written, AllocError>
-        ensures { IfOk result (λ d. IsDrawing window.now (drawn_in extent roster.now names.now) self.now (string_bytes d.text)) }
+        ensures { IfOk result (λ d. IsDrawing window.now (drawn_in extent roster.now names.now) heading.now.title.now heading.now.rule self.now
+            d.height (string_bytes d.text)) }
     {
         let step = round_step(extent.length(), STEPS).unwrap_or(1);
         let frame = Frame {
@@ -201,10 +212,15 @@ impl Drawing {
     }
 
     /// The legend below the rows, and how high the picture is with it.
-    fn legend(&self, rows: &Rows, frame: &Frame<'_>) -> Result<Written, AllocError> {
+    fn legend(&self, rows: &WrittenRows, frame: &Frame<'_>) -> Result<Written, AllocError>
+        ensures text { IfOk result (λ legend. string_bytes legend.text ≡ legend_text (setting_of frame.now)
+            (tasks_shown frame.now.roster.now self.now.tasks) (key_beside self.now.links rows.now) (legend_top rows.now.bottom)) }
+        ensures height { IfOk result (λ legend. legend.height ≡ counted (legend_top rows.now.bottom)
+            (legend_height (length (tasks_shown frame.now.roster.now self.now.tasks)) (key_beside self.now.links rows.now))) }
+    {
         let tasks = self.tasks_shown(frame.roster)?;
         let key = self.key(rows);
-        let first = rows.bottom.saturating_add(AXIS).saturating_add(GAP);
+        let first = legend_top(rows.bottom);
         let mut text = String::new(self.alloc);
         write_legend(tasks.as_slice(), &key, first, frame, &mut text)?;
         let height = first.saturating_add(legend_height(tasks.len(), &key));
@@ -212,18 +228,32 @@ impl Drawing {
     }
 
     /// The tasks that appear, by their places.
-    fn tasks_shown(&self, roster: &Roster) -> Result<Vec<u16>, AllocError> {
+    fn tasks_shown(&self, roster: &Roster) -> Result<Vec<u16>, AllocError>
+        ensures { IfOk result (λ tasks. tasks.items ≡ tasks_shown roster.now self.now.tasks) }
+    {
         let mut tasks = Vec::new(self.alloc);
-        for task in roster.tasks() {
-            if self.tasks.contains(task) {
-                tasks.push(*task)?;
-            }
+        let all = roster.tasks();
+        for task in all {
+            self.push_if_shown(*task, &mut tasks)?;
         }
         Ok(tasks)
     }
 
+    /// Adds a task, if it appears.
+    fn push_if_shown(&self, task: u16, tasks: &mut Vec<u16>) -> Result<(), AllocError>
+        ensures { OnOk result (tasks.new.items ≡ tasks.old.items ++ tasks_shown (task ∷ []) self.now.tasks) }
+    {
+        if !self.tasks.contains(&task) {
+            return Ok(());
+        }
+        tasks.push(task)?;
+        Ok(())
+    }
+
     /// What the legend tells besides the tasks.
-    fn key(&self, rows: &Rows) -> Key {
+    fn key(&self, rows: &WrittenRows) -> Key
+        ensures { result ≡ key_beside self.now.links rows.now }
+    {
         Key {
             has_pulls: self.has_link(LinkKind::Pull),
             has_migrations: self.has_link(LinkKind::Migration),
@@ -232,15 +262,18 @@ impl Drawing {
         }
     }
 
-    fn has_link(&self, kind: LinkKind) -> bool {
-        self.links.iter().any(|link| link.kind == kind)
+    /// Whether there is a line of a kind.
+    fn has_link(&self, kind: LinkKind) -> bool
+        ensures { result ≡ has_line kind self.now.links }
+    {
+        self.links.iter().any(|link| link.kind.is(kind))
     }
 
     /// The rows of the window, and what leads from one to another.
-    fn write_rows(&self, window: &Window, frame: &Frame<'_>) -> Result<Rows, AllocError>
-        ensures { IfOk result (λ rows. AreParts (IsRowIf window.now (setting_of frame.now) self.now) 64 (string_bytes rows.text)) }
+    fn write_rows(&self, window: &Window, frame: &Frame<'_>) -> Result<WrittenRows, AllocError>
+        ensures { IfOk result (AreDrawn window.now (setting_of frame.now) self.now) }
     {
-        let mut rows = Rows {
+        let mut rows = WrittenRows {
             text: String::new(self.alloc),
             links: String::new(self.alloc),
             labels: String::new(self.alloc),
@@ -263,10 +296,9 @@ impl Drawing {
         number: u8,
         window: &Window,
         frame: &Frame<'_>,
-        rows: &mut Rows,
+        rows: &mut WrittenRows,
     ) -> Result<(), AllocError>
-        ensures { OnOk result (Adds (IsRowIf window.now (setting_of frame.now) self.now number)
-            (string_bytes rows.old.text) (string_bytes rows.new.text)) }
+        ensures { OnOk result (IsRowWrittenIf window.now (setting_of frame.now) self.now.rows number rows.old rows.new) }
     {
         if !window.shows_processor(number) {
             return Ok(());
@@ -284,24 +316,34 @@ impl Drawing {
         &self,
         kind: LinkKind,
         frame: &Frame<'_>,
-        rows: &mut Rows,
+        rows: &mut WrittenRows,
     ) -> Result<(), AllocError>
-        ensures { rows.new.text ≡ rows.old.text }
+        ensures text { OnOk result (string_bytes rows.new.links ≡ string_bytes rows.old.links
+            ++ flat_map (line_of kind (setting_of frame.now) (get nat_cmp rows.old.bands)) self.now.links) }
+        ensures same { rows.new ≡ record rows.old { links = rows.new.links } }
     {
         for link in self.links.iter() {
-            if link.kind == kind {
-                rows.write_link(link, frame)?;
-            }
+            rows.write_link(kind, link, frame)?;
         }
         Ok(())
     }
 }
 
-impl Rows {
-    /// Draws what leads from one row to another, where both are shown.
-    fn write_link(&mut self, link: &Link, frame: &Frame<'_>) -> Result<(), AllocError>
-        ensures { self.new.text ≡ self.old.text }
+impl WrittenRows {
+    /// Draws what leads from one row to another, if it is of this kind, where both are shown.
+    fn write_link(
+        &mut self,
+        kind: LinkKind,
+        link: &Link,
+        frame: &Frame<'_>,
+    ) -> Result<(), AllocError>
+        ensures text { OnOk result (string_bytes self.new.links
+            ≡ string_bytes self.old.links ++ line_of kind (setting_of frame.now) (get nat_cmp self.old.bands) link.now) }
+        ensures same { self.new ≡ record self.old { links = self.new.links } }
     {
+        if !link.kind.is(kind) {
+            return Ok(());
+        }
         let from = self.bands.get(&link.from.processor).copied();
         let to = self.bands.get(&link.to.processor).copied();
         match (from, to) {
@@ -354,7 +396,9 @@ impl ProcessorRow {
         top: usize,
         frame: &Frame<'_>,
         labels: &mut String,
-    ) -> Result<(), AllocError> {
+    ) -> Result<(), AllocError>
+        ensures { OnOk result (string_bytes labels.new ≡ string_bytes labels.old ++ flat_map (label_text (setting_of frame.now) top) self.now.runs) }
+    {
         for run in self.runs.iter() {
             write_label(run, top, frame, labels)?;
         }
@@ -367,18 +411,14 @@ impl ProcessorRow {
         alloc: Global,
         number: u8,
         frame: &Frame<'_>,
-        rows: &mut Rows,
+        rows: &mut WrittenRows,
     ) -> Result<(), AllocError>
-        ensures { OnOk result (Adds (IsRowText (setting_of frame.now) number self.now)
-            (string_bytes rows.old.text) (string_bytes rows.new.text)) }
+        ensures { OnOk result (IsRowWritten (setting_of frame.now) number self.now rows.old rows.new) }
     {
         let waits = in_order(alloc, self.waits.as_slice())?;
         let wakes = in_order(alloc, self.wakes.as_slice())?;
         let levels = levels(alloc, wakes.as_slice(), frame)?;
-        let top = rows
-            .bottom
-            .saturating_add(levels.saturating_mul(LEVEL))
-            .saturating_add(4);
+        let top = band_top(rows.bottom, levels);
         rows.bands.insert(number, top)?;
         write_row_name(number, top, &mut rows.text)?;
         write_runs(alloc, self.runs.as_slice(), top, frame, &mut rows.text)?;
@@ -389,10 +429,7 @@ impl ProcessorRow {
         rows.text.push_str(above.text.as_str())?;
         rows.waits_left_out = rows.waits_left_out.saturating_add(below.left_out);
         rows.wakes_left_out = rows.wakes_left_out.saturating_add(above.left_out);
-        rows.bottom = top
-            .saturating_add(BAND)
-            .saturating_add(below.lanes.saturating_mul(LANE))
-            .saturating_add(GAP);
+        rows.bottom = row_end(top, below.lanes);
         Ok(())
     }
 }
@@ -406,8 +443,35 @@ fn in_order(alloc: Global, given: &[Stretch]) -> Result<Vec<Stretch>, AllocError
     Ok(sorted)
 }
 
+/// Where the band of a row begins, below this height, with this many levels of wakes above it.
+fn band_top(bottom: usize, levels: usize) -> usize
+    ensures { result ≡ counted bottom (levels * level_height + 4) }
+{
+    bottom
+        .saturating_add(levels.saturating_mul(LEVEL))
+        .saturating_add(4)
+}
+
+/// Where a row ends, with this many lanes of waits below its band.
+fn row_end(top: usize, lanes: usize) -> usize
+    ensures { result ≡ counted top (band_height + (lanes * lane_height + row_gap)) }
+{
+    top.saturating_add(BAND)
+        .saturating_add(lanes.saturating_mul(LANE))
+        .saturating_add(GAP)
+}
+
+/// Where the legend begins, below rows that end there.
+fn legend_top(bottom: usize) -> usize
+    ensures { result ≡ legend_top bottom }
+{
+    bottom.saturating_add(AXIS).saturating_add(GAP)
+}
+
 /// How many wakes stand one above another.
-fn levels(alloc: Global, wakes: &[Stretch], frame: &Frame<'_>) -> Result<usize, AllocError> {
+fn levels(alloc: Global, wakes: &[Stretch], frame: &Frame<'_>) -> Result<usize, AllocError>
+    ensures { IfOk result (λ levels. levels ≡ length (lanes_after (arrow_of frame.now.scale.extent) [] wakes.now)) }
+{
     let mut levels = Lanes::new(alloc);
     for wake in wakes {
         let _ = levels.take(&drawn_wake(wake, frame))?;
@@ -438,7 +502,9 @@ fn draw_waits(
     top: usize,
     frame: &Frame<'_>,
 ) -> Result<Shapes, AllocError>
-    ensures { IfOk result (λ drawn. string_bytes drawn.text ≡ waits_text (setting_of frame.now) top waits.now) }
+    ensures text { IfOk result (λ drawn. string_bytes drawn.text ≡ waits_text (setting_of frame.now) top waits.now) }
+    ensures lanes { IfOk result (λ drawn. drawn.lanes ≡ length (lanes_after (λ wait. wait) [] waits.now)) }
+    ensures left_out { IfOk result (λ drawn. drawn.left_out ≡ counted 0 (left_out (λ wait. wait) [] waits.now)) }
 {
     let mut lanes = Lanes::new(alloc);
     let mut text = String::new(alloc);
@@ -446,9 +512,7 @@ fn draw_waits(
     for wait in waits {
         let lane = lanes.take(wait)?;
         write_wait_in(lane, wait, top, frame, &mut text)?;
-        if lane.is_none() {
-            left_out = left_out.saturating_add(1);
-        }
+        left_out = left_out.saturating_add(without_lane(lane));
     }
     let lanes = lanes.count();
     Ok(Shapes {
@@ -465,7 +529,8 @@ fn draw_wakes(
     top: usize,
     frame: &Frame<'_>,
 ) -> Result<Shapes, AllocError>
-    ensures { IfOk result (λ drawn. string_bytes drawn.text ≡ wakes_text (setting_of frame.now) top wakes.now) }
+    ensures text { IfOk result (λ drawn. string_bytes drawn.text ≡ wakes_text (setting_of frame.now) top wakes.now) }
+    ensures left_out { IfOk result (λ drawn. drawn.left_out ≡ counted 0 (left_out (arrow_of frame.now.scale.extent) [] wakes.now)) }
 {
     let mut lanes = Lanes::new(alloc);
     let mut text = String::new(alloc);
@@ -473,9 +538,7 @@ fn draw_wakes(
     for wake in wakes {
         let level = lanes.take(&drawn_wake(wake, frame))?;
         write_wake_in(level, wake, top, frame, &mut text)?;
-        if level.is_none() {
-            left_out = left_out.saturating_add(1);
-        }
+        left_out = left_out.saturating_add(without_lane(level));
     }
     let lanes = lanes.count();
     Ok(Shapes {
@@ -483,6 +546,16 @@ fn draw_wakes(
         lanes,
         left_out,
     })
+}
+
+/// One for what finds no lane.
+fn without_lane(lane: Option<usize>) -> usize
+    ensures { result ≡ without_lane lane }
+{
+    match lane {
+        Some(_) => 0,
+        None => 1,
+    }
 }
 
 /// Draws a wait in its lane, if it has one.

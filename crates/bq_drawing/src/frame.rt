@@ -1,6 +1,6 @@
 //! What the shapes of a picture share.
-ghost use Rattle.std.specs.Prelude.{◌≡◌, ◌++◌, OnOk, string_bytes};
-ghost use Rattle.bq_drawing.specs.Shapes.{colour_of};
+ghost use Rattle.std.specs.Prelude.{◌≡◌, ◌++◌, OnOk, chars, length, string_bytes};
+ghost use Rattle.bq_drawing.specs.Shapes.{colour_of, label_width, name_length};
 ghost use Rattle.bq_drawing.specs.Titles.{shown_name};
 
 use crate::colours::COLOURS;
@@ -45,11 +45,29 @@ impl Frame<'_> {
         }
     }
 
+    /// How many hundredths the name of a task needs where it stands upon a run.
+    pub fn label_width(&self, task: u16) -> u64
+        ensures { result ≡ label_width self.now.names.now task }
+    {
+        self.name_length(task)
+            .saturating_mul(1000)
+            .saturating_add(1000)
+    }
+
     /// How many characters the name has.
-    pub fn name_length(&self, task: u16) -> u64 {
+    fn name_length(&self, task: u16) -> u64
+        ensures { result ≡ name_length self.now.names.now task }
+    {
         match self.names.of(task) {
-            Some(name) => name.chars().count() as u64,
+            Some(name) => letters(name),
             None => 9,
         }
     }
+}
+
+/// How many characters a text has.
+fn letters(text: &str) -> u64
+    ensures { result ≡ length (chars text.now) }
+{
+    text.chars().count() as u64
 }

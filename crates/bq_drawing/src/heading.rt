@@ -1,4 +1,7 @@
 //! What stands above a picture: its title, the discipline, and the time that it is drawn over.
+ghost use Rattle.std.specs.Prelude.{◌≡◌, ◌++◌, OnOk, string_bytes};
+ghost use Rattle.bq_drawing.specs.Headings.{discipline, heading_text, rule_text, span_text, times_text, title_text};
+ghost use Rattle.bq_drawing.specs.Shapes.{setting_of};
 
 use crate::escaped::write_escaped;
 use crate::frame::Frame;
@@ -20,24 +23,57 @@ pub struct Heading<'a> {
 
 impl Heading<'_> {
     /// The title, and below it the discipline and the time that the picture is drawn over.
-    pub fn write(&self, frame: &Frame<'_>, text: &mut String) -> Result<(), AllocError> {
-        write!(text, "<text class=\"title\" x=\"{LEFT}\" y=\"34\">")?;
-        write_escaped(self.title, MOST, text)?;
-        text.push_str("</text>\n")?;
-        write!(text, "<text class=\"small\" x=\"{LEFT}\" y=\"58\">")?;
-        if let Some(rule) = self.rule {
-            let discipline = discipline(rule);
-            write!(text, "{discipline}, ")?;
-        }
-        let from = frame.amount(frame.scale.extent.from);
-        let to = frame.amount(frame.scale.extent.to);
-        let unit = frame.unit.name();
-        write!(text, "{from} to {to} {unit}</text>\n")
+    pub fn write(&self, frame: &Frame<'_>, text: &mut String) -> Result<(), AllocError>
+        ensures { OnOk result (string_bytes text.new ≡ string_bytes text.old ++ heading_text (setting_of frame.now) self.now.title.now self.now.rule) }
+    {
+        write_title(self.title, text)?;
+        write_span(self.rule, frame, text)
     }
 }
 
+/// The title, cut.
+fn write_title(title: &str, text: &mut String) -> Result<(), AllocError>
+    ensures { OnOk result (string_bytes text.new ≡ string_bytes text.old ++ title_text title.now) }
+{
+    write!(text, "<text class=\"title\" x=\"{LEFT}\" y=\"34\">")?;
+    write_escaped(title, MOST, text)?;
+    text.push_str("</text>\n")
+}
+
+/// The line below it: the discipline and the time.
+fn write_span(rule: Option<Rule>, frame: &Frame<'_>, text: &mut String) -> Result<(), AllocError>
+    ensures { OnOk result (string_bytes text.new ≡ string_bytes text.old ++ span_text (setting_of frame.now) rule) }
+{
+    write!(text, "<text class=\"small\" x=\"{LEFT}\" y=\"58\">")?;
+    write_rule(rule, text)?;
+    write_times(frame, text)
+}
+
+/// The discipline, once it is known.
+fn write_rule(rule: Option<Rule>, text: &mut String) -> Result<(), AllocError>
+    ensures { OnOk result (string_bytes text.new ≡ string_bytes text.old ++ rule_text rule) }
+{
+    let Some(rule) = rule else {
+        return Ok(());
+    };
+    let discipline = discipline(rule);
+    write!(text, "{discipline}, ")
+}
+
+/// The time that the picture is drawn over.
+fn write_times(frame: &Frame<'_>, text: &mut String) -> Result<(), AllocError>
+    ensures { OnOk result (string_bytes text.new ≡ string_bytes text.old ++ times_text (setting_of frame.now)) }
+{
+    let from = frame.amount(frame.scale.extent.from);
+    let to = frame.amount(frame.scale.extent.to);
+    let unit = frame.unit.name();
+    write!(text, "{from} to {to} {unit}</text>\n")
+}
+
 /// The name of a discipline.
-fn discipline(rule: Rule) -> &'static str {
+fn discipline(rule: Rule) -> &'static str
+    ensures { result.now ≡ discipline rule }
+{
     match rule {
         Rule::Cfs => "CFS",
         Rule::Eevdf => "EEVDF",

@@ -1,4 +1,7 @@
 //! The legend: the tasks with their colours, what the shapes are, and what found no room.
+ghost use Rattle.std.specs.Prelude.{◌≡◌, ◌++◌, OnOk, string_bytes};
+ghost use Rattle.bq_drawing.specs.Legends.{entry_text, key_text, key_top, leaves_out, left_out_text, legend_height, legend_text, migration_key, number_text, pull_key, short_name, swatch_text, text_if, wait_key, wake_key};
+ghost use Rattle.bq_drawing.specs.Shapes.{setting_of};
 
 use crate::colours::GREY;
 use crate::frame::Frame;
@@ -33,13 +36,17 @@ pub struct Key {
 
 impl Key {
     /// Whether something found no room.
-    fn leaves_out(&self) -> bool {
+    fn leaves_out(&self) -> bool
+        ensures { result ≡ leaves_out self.now }
+    {
         self.waits_left_out > 0 || self.wakes_left_out > 0
     }
 }
 
 /// How high the legend of this many tasks is.
-pub fn legend_height(tasks: usize, key: &Key) -> usize {
+pub fn legend_height(tasks: usize, key: &Key) -> usize
+    ensures { result ≡ legend_height tasks key.now }
+{
     let rest = if key.leaves_out() { 2 } else { 1 };
     tasks
         .div_ceil(ABREAST)
@@ -54,26 +61,47 @@ pub fn write_legend(
     first: usize,
     frame: &Frame<'_>,
     text: &mut String,
-) -> Result<(), AllocError> {
+) -> Result<(), AllocError>
+    ensures { OnOk result (string_bytes text.new ≡ string_bytes text.old ++ legend_text (setting_of frame.now) tasks.now key.now first) }
+{
     for (place, task) in tasks.iter().enumerate() {
-        let left = (place % ABREAST).saturating_mul(COLUMN).saturating_add(72);
-        let top = (place / ABREAST).saturating_mul(LINE).saturating_add(first);
-        write_swatch(frame.colour(*task), left, top, text)?;
-        write_short_name(*task, frame, text)?;
+        write_entry(place, *task, first, frame, text)?;
     }
-    let lines = tasks.len().div_ceil(ABREAST);
-    let top = lines.saturating_mul(LINE).saturating_add(first);
+    let top = key_top(tasks.len(), first);
     write_key(key, top, text)?;
     write_left_out(key, top.saturating_add(LINE).saturating_add(14), text)
 }
 
-/// A colour of the legend, and where the name beside it begins.
-fn write_swatch(
-    colour: usize,
-    left: usize,
-    top: usize,
+/// Where the key stands, below this many tasks.
+fn key_top(tasks: usize, first: usize) -> usize
+    ensures { result ≡ key_top tasks first }
+{
+    tasks
+        .div_ceil(ABREAST)
+        .saturating_mul(LINE)
+        .saturating_add(first)
+}
+
+/// A task at its place among those of the legend.
+fn write_entry(
+    place: usize,
+    task: u16,
+    first: usize,
+    frame: &Frame<'_>,
     text: &mut String,
-) -> Result<(), AllocError> {
+) -> Result<(), AllocError>
+    ensures { OnOk result (string_bytes text.new ≡ string_bytes text.old ++ entry_text (setting_of frame.now) first place task) }
+{
+    let left = (place % ABREAST).saturating_mul(COLUMN).saturating_add(72);
+    let top = (place / ABREAST).saturating_mul(LINE).saturating_add(first);
+    write_swatch(frame.colour(task), left, top, text)?;
+    write_short_name(task, frame, text)
+}
+
+/// A colour of the legend, and where the name beside it begins.
+fn write_swatch(colour: usize, left: usize, top: usize, text: &mut String) -> Result<(), AllocError>
+    ensures { OnOk result (string_bytes text.new ≡ string_bytes text.old ++ swatch_text colour left top) }
+{
     let right = left.saturating_add(26);
     let line = top.saturating_add(15);
     write!(
@@ -84,30 +112,41 @@ fn write_swatch(
 }
 
 /// The name of a task in the legend, and its number.
-fn write_short_name(task: u16, frame: &Frame<'_>, text: &mut String) -> Result<(), AllocError> {
+fn write_short_name(task: u16, frame: &Frame<'_>, text: &mut String) -> Result<(), AllocError>
+    ensures { OnOk result (string_bytes text.new ≡ string_bytes text.old ++ short_name (setting_of frame.now) task) }
+{
     frame.write_name(task, SHORT, text)?;
-    if frame.names.of(task).is_some() {
-        write!(text, " ({task})")?;
-    }
+    write_number(frame.names.of(task).is_some(), task, text)?;
     text.push_str("</text>\n")
 }
 
+/// The number of a task behind its name, if it has one.
+fn write_number(is_named: bool, task: u16, text: &mut String) -> Result<(), AllocError>
+    ensures { OnOk result (string_bytes text.new ≡ string_bytes text.old ++ number_text is_named task) }
+{
+    if !is_named {
+        return Ok(());
+    }
+    write!(text, " ({task})")
+}
+
 /// What the shapes are.
-fn write_key(key: &Key, top: usize, text: &mut String) -> Result<(), AllocError> {
+fn write_key(key: &Key, top: usize, text: &mut String) -> Result<(), AllocError>
+    ensures { OnOk result (string_bytes text.new ≡ string_bytes text.old ++ key_text key.now top) }
+{
     let line = top.saturating_add(14);
+    let height = top.saturating_add(9);
     write_wait_key(top.saturating_add(5), line, text)?;
     write_wake_key(top.saturating_add(3), line, text)?;
-    if key.has_pulls {
-        write_pull_key(top.saturating_add(9), line, text)?;
-    }
-    if key.has_migrations {
-        write_migration_key(top.saturating_add(9), line, text)?;
-    }
-    text.push_str("\n")
+    write_pull_key(key.has_pulls, height, line, text)?;
+    write_migration_key(key.has_migrations, height, line, text)?;
+    write!(text, "\n")
 }
 
 /// What hatches are.
-fn write_wait_key(bar: usize, line: usize, text: &mut String) -> Result<(), AllocError> {
+fn write_wait_key(bar: usize, line: usize, text: &mut String) -> Result<(), AllocError>
+    ensures { OnOk result (string_bytes text.new ≡ string_bytes text.old ++ wait_key bar line) }
+{
     write!(
         text,
         "<rect class=\"wait w{GREY}\" x=\"{LEFT}\" y=\"{bar}\" width=\"30\" height=\"8\"/>"
@@ -119,7 +158,9 @@ fn write_wait_key(bar: usize, line: usize, text: &mut String) -> Result<(), Allo
 }
 
 /// What arrows above a row are.
-fn write_wake_key(begin: usize, line: usize, text: &mut String) -> Result<(), AllocError> {
+fn write_wake_key(begin: usize, line: usize, text: &mut String) -> Result<(), AllocError>
+    ensures { OnOk result (string_bytes text.new ≡ string_bytes text.old ++ wake_key begin line) }
+{
     write!(
         text,
         "<path class=\"arrow c{GREY}\" d=\"M198 {begin}v11l-4 -6h8l-4 6\"/>"
@@ -130,8 +171,18 @@ fn write_wake_key(begin: usize, line: usize, text: &mut String) -> Result<(), Al
     )
 }
 
-/// What arrows between rows are.
-fn write_pull_key(height: usize, line: usize, text: &mut String) -> Result<(), AllocError> {
+/// What arrows between rows are, if there are any.
+fn write_pull_key(
+    has_pulls: bool,
+    height: usize,
+    line: usize,
+    text: &mut String,
+) -> Result<(), AllocError>
+    ensures { OnOk result (string_bytes text.new ≡ string_bytes text.old ++ text_if has_pulls (pull_key height line)) }
+{
+    if !has_pulls {
+        return Ok(());
+    }
     write!(
         text,
         "<path class=\"c{GREY} link\" d=\"M324 {height}h30\"/><path class=\"c{GREY} run\" d=\"M356 {height}l-10 -5v10z\"/>"
@@ -142,8 +193,18 @@ fn write_pull_key(height: usize, line: usize, text: &mut String) -> Result<(), A
     )
 }
 
-/// What dashed lines between rows are.
-fn write_migration_key(height: usize, line: usize, text: &mut String) -> Result<(), AllocError> {
+/// What dashed lines between rows are, if there are any.
+fn write_migration_key(
+    has_migrations: bool,
+    height: usize,
+    line: usize,
+    text: &mut String,
+) -> Result<(), AllocError>
+    ensures { OnOk result (string_bytes text.new ≡ string_bytes text.old ++ text_if has_migrations (migration_key height line)) }
+{
+    if !has_migrations {
+        return Ok(());
+    }
     write!(
         text,
         "<path class=\"c{GREY} link dashed\" d=\"M478 {height}h30\"/><circle class=\"c{GREY} run\" cx=\"508\" cy=\"{height}\" r=\"4.5\"/>"
@@ -155,7 +216,9 @@ fn write_migration_key(height: usize, line: usize, text: &mut String) -> Result<
 }
 
 /// What found no room, if anything did.
-fn write_left_out(key: &Key, line: usize, text: &mut String) -> Result<(), AllocError> {
+fn write_left_out(key: &Key, line: usize, text: &mut String) -> Result<(), AllocError>
+    ensures { OnOk result (string_bytes text.new ≡ string_bytes text.old ++ text_if (leaves_out key.now) (left_out_text key.now line)) }
+{
     if !key.leaves_out() {
         return Ok(());
     }

@@ -1,4 +1,8 @@
 //! What leads from one row to another: pulls, and migrations.
+ghost use Rattle.std.specs.Prelude.{◌≡◌, ◌++◌, OnOk, string_bytes};
+ghost use Rattle.bq_drawing.specs.declared.links.LinkKind.TheVariants.{Migration, Pull};
+ghost use Rattle.bq_drawing.specs.Links.{act_text, dot_text, ends_at, enters_at, halo_text, head_text, height_left, leaves_at, line_text, link_between, link_title, name_head, same_kind};
+ghost use Rattle.bq_drawing.specs.Shapes.{setting_of};
 
 use crate::frame::Frame;
 use crate::scale::Hundredths;
@@ -40,6 +44,19 @@ struct Line {
     is_down: bool,
 }
 
+impl LinkKind {
+    /// Whether it is the same as another.
+    pub fn is(self, other: LinkKind) -> bool
+        ensures { result ≡ same_kind self other }
+    {
+        match (self, other) {
+            (LinkKind::Pull, LinkKind::Pull) => true,
+            (LinkKind::Migration, LinkKind::Migration) => true,
+            _ => false,
+        }
+    }
+}
+
 impl Link {
     /// Draws the line between bands that begin at these heights.
     pub fn write(
@@ -48,63 +65,140 @@ impl Link {
         top_to: usize,
         frame: &Frame<'_>,
         text: &mut String,
-    ) -> Result<(), AllocError> {
-        let is_down = top_from < top_to;
-        let (begin, end) = if is_down {
-            (top_from.saturating_add(BAND), top_to)
-        } else {
-            (top_from, top_to.saturating_add(BAND))
-        };
+    ) -> Result<(), AllocError>
+        ensures { OnOk result (string_bytes text.new ≡ string_bytes text.old ++ link_between (setting_of frame.now) self.now top_from top_to) }
+    {
+        let begin = leaves_at(top_from, top_to);
+        let end = ends_at(top_from, top_to);
         let line = Line {
             left: frame.scale.place(self.from.at),
-            begin: self.cut(begin, end, frame.scale.extent.from),
+            begin: self.enters_at(begin, end, frame.scale.extent.from),
             right: frame.scale.place(self.to.at),
             end,
-            is_down,
+            is_down: top_from < top_to,
         };
         let colour = frame.colour(self.task);
+        write_halo(&line, text)?;
         write_line(self.kind, colour, &line, text)?;
         self.write_title(frame, text)
     }
 
     /// The height at which a line from one height to another enters a picture that begins at a moment.
-    fn cut(&self, begin: usize, end: usize, first: u64) -> usize {
+    fn enters_at(&self, begin: usize, end: usize, first: u64) -> usize
+        ensures { result ≡ enters_at self.now begin end first }
+    {
         if first <= self.from.at {
             return begin;
         }
-        let whole = self.to.at.saturating_sub(self.from.at);
-        let shown = self.to.at.saturating_sub(first);
-        let height = (begin.abs_diff(end) as u64).saturating_mul(shown) / whole.max(1);
+        let height = self.height_left(begin, end, first);
         if begin < end {
-            end.saturating_sub(height as usize)
+            end.saturating_sub(height)
         } else {
-            end.saturating_add(height as usize)
+            end.saturating_add(height)
         }
     }
 
+    /// How much of the height between its ends is left from a moment on.
+    fn height_left(&self, begin: usize, end: usize, first: u64) -> usize
+        ensures { result ≡ height_left self.now begin end first }
+    {
+        let whole = self.to.at.saturating_sub(self.from.at);
+        let shown = self.to.at.saturating_sub(first);
+        let height = (begin.abs_diff(end) as u64).saturating_mul(shown) / whole.max(1);
+        height as usize
+    }
+
     /// The tooltip.
-    fn write_title(&self, frame: &Frame<'_>, text: &mut String) -> Result<(), AllocError> {
-        text.push_str("<title>")?;
-        frame.write_name(self.task, usize::MAX, text)?;
-        let from = self.from.processor;
-        let to = self.to.processor;
+    fn write_title(&self, frame: &Frame<'_>, text: &mut String) -> Result<(), AllocError>
+        ensures { OnOk result (string_bytes text.new ≡ string_bytes text.old ++ link_title (setting_of frame.now) self.now) }
+    {
+        write_name_head(self.task, frame, text)?;
+        write_act(self.kind, self.from.processor, self.to.processor, text)?;
         let at = frame.amount(self.to.at);
         let unit = frame.unit.name();
-        match self.kind {
-            LinkKind::Pull => write!(text, " is pulled from cpu {from} by cpu {to}")?,
-            LinkKind::Migration => write!(text, " migrates from cpu {from} to cpu {to}")?,
-        }
         write!(text, " at {at} {unit}</title></g>\n")
     }
 }
 
-/// A line in a colour, above a wider one in the colour of the page, and its end.
+/// The height at which a line leaves its band.
+fn leaves_at(top_from: usize, top_to: usize) -> usize
+    ensures { result ≡ leaves_at top_from top_to }
+{
+    if top_from < top_to {
+        top_from.saturating_add(BAND)
+    } else {
+        top_from
+    }
+}
+
+/// The height at which it ends.
+fn ends_at(top_from: usize, top_to: usize) -> usize
+    ensures { result ≡ ends_at top_from top_to }
+{
+    if top_from < top_to {
+        top_to
+    } else {
+        top_to.saturating_add(BAND)
+    }
+}
+
+/// The beginning of a tooltip, with the name of its task.
+fn write_name_head(task: u16, frame: &Frame<'_>, text: &mut String) -> Result<(), AllocError>
+    ensures { OnOk result (string_bytes text.new ≡ string_bytes text.old ++ name_head (setting_of frame.now) task) }
+{
+    text.push_str("<title>")?;
+    frame.write_name(task, usize::MAX, text)
+}
+
+/// What a line tells.
+fn write_act(kind: LinkKind, from: u8, to: u8, text: &mut String) -> Result<(), AllocError>
+    ensures { OnOk result (string_bytes text.new ≡ string_bytes text.old ++ act_text kind from to) }
+{
+    match kind {
+        LinkKind::Pull => write!(text, " is pulled from cpu {from} by cpu {to}"),
+        LinkKind::Migration => write!(text, " migrates from cpu {from} to cpu {to}"),
+    }
+}
+
+/// A wider line in the colour of the page.
+fn write_halo(line: &Line, text: &mut String) -> Result<(), AllocError>
+    ensures { OnOk result (string_bytes text.new
+        ≡ string_bytes text.old ++ halo_text line.now.left.0 line.now.begin line.now.right.0 line.now.end) }
+{
+    let Line {
+        left,
+        begin,
+        right,
+        end,
+        ..
+    } = *line;
+    write!(
+        text,
+        "<g><path class=\"halo\" stroke-width=\"5\" d=\"M{left} {begin}L{right} {end}\"/>"
+    )
+}
+
+/// A line in a colour, and its end.
 fn write_line(
     kind: LinkKind,
     colour: usize,
     line: &Line,
     text: &mut String,
-) -> Result<(), AllocError> {
+) -> Result<(), AllocError>
+    ensures { OnOk result (string_bytes text.new
+        ≡ string_bytes text.old ++ line_text kind colour line.now.left.0 line.now.begin line.now.right.0 line.now.end line.now.is_down) }
+{
+    match kind {
+        LinkKind::Pull => write_arrow_line(colour, line, text),
+        LinkKind::Migration => write_dashed_line(colour, line, text),
+    }
+}
+
+/// An arrow.
+fn write_arrow_line(colour: usize, line: &Line, text: &mut String) -> Result<(), AllocError>
+    ensures { OnOk result (string_bytes text.new
+        ≡ string_bytes text.old ++ line_text Pull colour line.now.left.0 line.now.begin line.now.right.0 line.now.end line.now.is_down) }
+{
     let Line {
         left,
         begin,
@@ -114,24 +208,28 @@ fn write_line(
     } = *line;
     write!(
         text,
-        "<g><path class=\"halo\" stroke-width=\"5\" d=\"M{left} {begin}L{right} {end}\"/>"
+        "<path class=\"c{colour} link\" d=\"M{left} {begin}L{right} {end}\"/>"
     )?;
-    match kind {
-        LinkKind::Pull => {
-            write!(
-                text,
-                "<path class=\"c{colour} link\" d=\"M{left} {begin}L{right} {end}\"/>"
-            )?;
-            write_head(colour, right, end, is_down, text)
-        }
-        LinkKind::Migration => {
-            write!(
-                text,
-                "<path class=\"c{colour} link dashed\" d=\"M{left} {begin}L{right} {end}\"/>"
-            )?;
-            write_dot(colour, right, end, text)
-        }
-    }
+    write_head(colour, right, end, is_down, text)
+}
+
+/// A dashed line to a dot.
+fn write_dashed_line(colour: usize, line: &Line, text: &mut String) -> Result<(), AllocError>
+    ensures { OnOk result (string_bytes text.new
+        ≡ string_bytes text.old ++ line_text Migration colour line.now.left.0 line.now.begin line.now.right.0 line.now.end line.now.is_down) }
+{
+    let Line {
+        left,
+        begin,
+        right,
+        end,
+        ..
+    } = *line;
+    write!(
+        text,
+        "<path class=\"c{colour} link dashed\" d=\"M{left} {begin}L{right} {end}\"/>"
+    )?;
+    write_dot(colour, right, end, text)
 }
 
 /// The head of an arrow that ends there.
@@ -141,12 +239,20 @@ fn write_head(
     end: usize,
     is_down: bool,
     text: &mut String,
-) -> Result<(), AllocError> {
-    let sides = if is_down { "l-5 -10h10z" } else { "l-5 10h10z" };
-    write!(
-        text,
-        "<path class=\"c{colour} run\" d=\"M{place} {end}{sides}\"/>"
-    )
+) -> Result<(), AllocError>
+    ensures { OnOk result (string_bytes text.new ≡ string_bytes text.old ++ head_text colour place.0 end is_down) }
+{
+    if is_down {
+        write!(
+            text,
+            "<path class=\"c{colour} run\" d=\"M{place} {end}l-5 -10h10z\"/>"
+        )
+    } else {
+        write!(
+            text,
+            "<path class=\"c{colour} run\" d=\"M{place} {end}l-5 10h10z\"/>"
+        )
+    }
 }
 
 /// A dot.
@@ -155,7 +261,9 @@ fn write_dot(
     place: Hundredths,
     height: usize,
     text: &mut String,
-) -> Result<(), AllocError> {
+) -> Result<(), AllocError>
+    ensures { OnOk result (string_bytes text.new ≡ string_bytes text.old ++ dot_text colour place.0 height) }
+{
     write!(
         text,
         "<circle class=\"c{colour} run\" cx=\"{place}\" cy=\"{height}\" r=\"4.5\"/>"

@@ -1,4 +1,6 @@
 //! How a picture looks, and what stands above it.
+ghost use Rattle.std.specs.Prelude.{◌≡◌};
+ghost use Rattle.bq_drawing.specs.Headings.{title_of};
 
 use crate::theme::Theme;
 
@@ -15,7 +17,9 @@ const UNTITLED: &str = "Schedule";
 
 impl Look {
     /// What the picture is called.
-    pub fn title(&self) -> &str {
+    pub fn title(&self) -> &str
+        ensures { result.now ≡ title_of self.now }
+    {
         match &self.title {
             Some(title) => title.as_str(),
             None => UNTITLED,

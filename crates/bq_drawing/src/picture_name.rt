@@ -1,4 +1,6 @@
 //! The name of a picture, by which its styles are its own.
+ghost use Rattle.std.specs.Prelude.{◌≡◌, Some};
+ghost use Rattle.bq_drawing.specs.Frames.{hash_of, mixed, name_text, theme_letter};
 
 use crate::theme::Theme;
 use std::fmt;
@@ -13,26 +15,39 @@ pub struct PictureName(u32);
 
 impl PictureName {
     /// The name for what is drawn in a theme: by the hash of Fowler, Noll and Vo (FNV-1a) of 32 bits.
-    pub fn of(theme: Theme, drawn: &str) -> PictureName {
-        let theme = match theme {
-            Theme::Light => b'l',
-            Theme::Dark => b'd',
-            Theme::Auto => b'a',
-        };
-        let mut hash = mixed(BASIS, theme);
-        for byte in drawn.as_bytes() {
+    pub fn of(theme: Theme, drawn: &str) -> PictureName
+        ensures { result.0 ≡ hash_of theme drawn.now }
+    {
+        let mut hash = mixed(BASIS, theme_letter(theme));
+        let bytes = drawn.as_bytes();
+        for byte in bytes {
             hash = mixed(hash, *byte);
         }
         PictureName(hash)
     }
 }
 
+/// The letter of a theme.
+fn theme_letter(theme: Theme) -> u8
+    ensures { result ≡ theme_letter theme }
+{
+    match theme {
+        Theme::Light => b'l',
+        Theme::Dark => b'd',
+        Theme::Auto => b'a',
+    }
+}
+
 /// The hash with a byte more.
-fn mixed(hash: u32, byte: u8) -> u32 {
+fn mixed(hash: u32, byte: u8) -> u32
+    ensures { result ≡ mixed hash byte }
+{
     (hash ^ u32::from(byte)).wrapping_mul(0x0100_0193)
 }
 
 impl fmt::Display for PictureName {
+    ghost output = { λ n. Some (name_text n.0) };
+
     fn fmt<W: fmt::Write>(&self, f: &mut fmt::Formatter<W>) -> fmt::Result {
         let hash = self.0;
         write!(f, "bqsim-{hash:08x}")

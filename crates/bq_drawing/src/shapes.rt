@@ -1,6 +1,6 @@
 //! The shapes of a row: its name, its runs, the waits below them, and the wakes above.
 ghost use Rattle.std.specs.Prelude.{◌≡◌, ◌++◌, IfOk, OnOk, codes, string_bytes};
-ghost use Rattle.bq_drawing.specs.Shapes.{arrow_text, band_text, hatched_text, latency_text, rectangle_text, row_name, run_text, run_times, run_title, run_waits, setting_of, wait_height, wait_text, wait_times, wake_height, wake_text, wake_time};
+ghost use Rattle.bq_drawing.specs.Shapes.{arrow_text, band_text, hatched_text, label_text, latency_text, name_upon, rectangle_text, row_name, run_text, run_times, run_title, run_waits, setting_of, wait_height, wait_text, wait_times, wake_height, wake_text, wake_time};
 
 use crate::frame::Frame;
 use crate::lanes::Stretch;
@@ -28,7 +28,7 @@ pub struct DrawnRun {
 }
 
 impl DrawnRun {
-    ghost use Rattle.bq_drawing.specs.Pictures.{drawn_run};
+    ghost use Rattle.bq_drawing.specs.Holdings.{drawn_run};
 
     /// This part of a run that began so.
     pub fn of(start: &Start, part: &Slice) -> DrawnRun
@@ -105,14 +105,12 @@ pub fn write_label(
     top: usize,
     frame: &Frame<'_>,
     labels: &mut String,
-) -> Result<(), AllocError> {
+) -> Result<(), AllocError>
+    ensures { OnOk result (string_bytes labels.new ≡ string_bytes labels.old ++ label_text (setting_of frame.now) top run.now) }
+{
     let place = frame.scale.place(run.from);
     let width = frame.scale.width(run.from, run.to);
-    let least = frame
-        .name_length(run.task)
-        .saturating_mul(1000)
-        .saturating_add(1000);
-    if width.0 < least {
+    if width.0 < frame.label_width(run.task) {
         return Ok(());
     }
     let middle = Hundredths(place.0.saturating_add(width.0 / 2));
@@ -126,7 +124,9 @@ fn write_run_name(
     top: usize,
     frame: &Frame<'_>,
     text: &mut String,
-) -> Result<(), AllocError> {
+) -> Result<(), AllocError>
+    ensures { OnOk result (string_bytes text.new ≡ string_bytes text.old ++ name_upon (setting_of frame.now) task middle.0 top) }
+{
     let line = top.saturating_add(24);
     let colour = frame.colour(task);
     write!(

@@ -1,10 +1,12 @@
 //! The picture of a schedule.
-ghost use Rattle.std.specs.Prelude.{◌≡◌, ◌++◌, [], length, replicate, OnOk, Some, codes, option_map, string_bytes};
+ghost use Rattle.std.specs.Prelude.{◌≡◌, ◌++◌, [], length, IfOk, OnOk, Some, codes, option_map, string_bytes};
 ghost use Rattle.bq_schedule.specs.Figures.{task_of};
 ghost use Rattle.bq_schedule.specs.Slices.{is_this};
 ghost use Rattle.bq_report.specs.Reports.{Adds};
 ghost use Rattle.bq_report.specs.Rosters.{enlisted};
-ghost use Rattle.bq_drawing.specs.Pictures.{HoldsChange, HoldsRun, HoldsRunners, HoldsWait, HoldsWaiting, HoldsWake, IsDrawnOver, IsPicture, IsPictureOf, empty_row, wait_at, wait_before, wait_ended};
+ghost use Rattle.bq_drawing.specs.Frames.{name_text, root_text, root_title};
+ghost use Rattle.bq_drawing.specs.Holdings.{HoldsChange, HoldsLink, HoldsPull, HoldsRun, HoldsRunners, HoldsStart, HoldsWait, HoldsWaiting, HoldsWake, left_at, migration_link, nothing_of, pulled_link, wait_at, wait_before, wait_ended, with_stop};
+ghost use Rattle.bq_drawing.specs.Pictures.{IsDrawnOver, IsHead, IsPicture, IsPictureOf};
 ghost use Rattle.bq_drawing.specs.Runs.{ended_run};
 ghost use Rattle.bq_drawing.specs.Shapes.{drawn_in};
 
@@ -45,7 +47,7 @@ impl Svg {
     /// The picture of what is in the window.
     pub fn new(alloc: Global, window: Window, look: Look) -> Svg
         ensures window { result.window ≡ window }
-        ensures none { (result.drawing ≡ []) × (result.roster ≡ []) }
+        ensures none { (result.drawing ≡ nothing_of 0) × (result.roster ≡ []) }
     {
         Svg {
             alloc,
@@ -98,43 +100,49 @@ impl Svg {
     /// Holds a run that is over, as far as it is shown, and when it ended.
     fn hold_stop(&mut self, stop: Option<Stop>) -> Result<(), AllocError>
         ensures run { OnOk result (HoldsRun self.old.window (option_map (λ s. s.start) stop) (ended_run stop) self.old.drawing self.new.drawing) }
+        ensures stops { OnOk result (self.new.stops.entries ≡ with_stop stop self.old.stops.entries) }
         ensures same { self.new ≡ record self.old { drawing = self.new.drawing; stops = self.new.stops } }
+    {
+        self.note_stop(stop)?;
+        self.hold_run(start_of(stop), ended_run(stop))
+    }
+
+    /// Notes when a run ended, if one did.
+    fn note_stop(&mut self, stop: Option<Stop>) -> Result<(), AllocError>
+        ensures stops { OnOk result (self.new.stops.entries ≡ with_stop stop self.old.stops.entries) }
+        ensures same { self.new ≡ record self.old { stops = self.new.stops } }
     {
         if let Some(stop) = stop {
             self.stops.insert(stop.start.task, stop.at)?;
         }
-        self.hold_run(start_of(stop), ended_run(stop))
+        Ok(())
     }
 
     /// Holds the wait before a run that began, and that its task has migrated, if it has.
     fn hold_start(&mut self, start: Option<Start>) -> Result<(), AllocError>
-        ensures wait { OnOk result (HoldsWait self.old.window (option_map wait_before start) self.old.drawing self.new.drawing) }
+        ensures start { OnOk result (HoldsStart self.old.window self.old.stops.entries start self.old.drawing self.new.drawing) }
         ensures same { self.new ≡ record self.old { drawing = self.new.drawing } }
     {
         self.hold_wait(wait_before(start))?;
-        match start {
-            Some(start) => self.hold_migration(&start),
-            None => Ok(()),
-        }
+        let line = self.migration_link(start);
+        self.hold_link(line)
     }
 
-    /// Holds that the task of a run has migrated, if it has.
-    fn hold_migration(&mut self, start: &Start) -> Result<(), AllocError>
-        ensures { self.new ≡ self.old }
+    /// The line of a run, if its task ran on another processor before.
+    fn migration_link(&self, start: Option<Start>) -> Option<Link>
+        ensures { result ≡ migration_link self.now.stops.entries start }
     {
-        let Some(before) = start.before else {
-            return Ok(());
-        };
+        let start = start?;
         if !start.has_migrated() {
-            return Ok(());
+            return None;
         }
-        let stopped = self.stops.get(&start.task).copied().unwrap_or(start.at);
-        self.hold_link(Link {
+        let before = start.before?;
+        Some(Link {
             kind: LinkKind::Migration,
             task: start.task,
             from: Spot {
                 processor: before,
-                at: stopped,
+                at: self.left_at(&start),
             },
             to: Spot {
                 processor: start.processor,
@@ -143,39 +151,37 @@ impl Svg {
         })
     }
 
+    /// When the task of a run last ceased to run.
+    fn left_at(&self, start: &Start) -> u64
+        ensures { result ≡ left_at self.now.stops.entries start.now }
+    {
+        self.stops.get(&start.task).copied().unwrap_or(start.at)
+    }
+
     /// Holds the wait that a pull ended, and the pull.
     fn hold_pull(&mut self, pull: Option<PulledTask>) -> Result<(), AllocError>
-        ensures wait { OnOk result (HoldsWait self.old.window (option_map wait_ended pull) self.old.drawing self.new.drawing) }
+        ensures pull { OnOk result (HoldsPull self.old.window pull self.old.drawing self.new.drawing) }
         ensures same { self.new ≡ record self.old { drawing = self.new.drawing } }
     {
         self.hold_wait(wait_ended(pull))?;
-        let Some(pull) = pull else {
-            return Ok(());
-        };
-        self.hold_link(Link {
-            kind: LinkKind::Pull,
-            task: pull.task,
-            from: Spot {
-                processor: pull.from,
-                at: pull.at,
-            },
-            to: Spot {
-                processor: pull.to,
-                at: pull.at,
-            },
-        })
+        self.hold_link(pulled_link(pull))
     }
 
     /// Holds a pull or a migration that is shown: it ends in the window, and both of its processors are shown.
-    fn hold_link(&mut self, link: Link) -> Result<(), AllocError>
-        ensures { self.new ≡ self.old }
+    fn hold_link(&mut self, link: Option<Link>) -> Result<(), AllocError>
+        ensures link { OnOk result (HoldsLink self.old.window link self.old.drawing self.new.drawing) }
+        ensures same { self.new ≡ record self.old { drawing = self.new.drawing } }
     {
-        let is_shown = self.window.shows(link.to.processor, link.task, link.to.at)
-            && self.window.shows_processor(link.from.processor);
-        if is_shown {
-            self.drawing.push_link(link)?;
+        let Some(link) = link else {
+            return Ok(());
+        };
+        if !self.window.shows(link.to.processor, link.task, link.to.at) {
+            return Ok(());
         }
-        Ok(())
+        if !self.window.shows_processor(link.from.processor) {
+            return Ok(());
+        }
+        self.drawing.push_link(link)
     }
 
     /// Holds a wake, if there is one that is shown.
@@ -217,7 +223,7 @@ impl Svg {
 
     /// Writes the picture of what is held.
     fn write(&self, extent: Extent, names: &Names, text: &mut String) -> Result<(), AllocError>
-        ensures { OnOk result (Adds (IsPicture self.now.window (drawn_in extent self.now.roster names.now) self.now.drawing)
+        ensures { OnOk result (Adds (IsPicture self.now.window self.now.look (drawn_in extent self.now.roster names.now) self.now.rule self.now.drawing)
             (string_bytes text.old) (string_bytes text.new)) }
     {
         let heading = Heading {
@@ -251,19 +257,31 @@ fn drawn_over(schedule: &Schedule, window: &Window) -> Extent
     }
 }
 
-/// What stands before all that is drawn: the root with its name, its styles and its hatches.
-fn head_of(alloc: Global, look: &Look, drawn: &Written) -> Result<String, AllocError> {
+/// What stands before all that is drawn: the root with its name, its title, its styles and its hatches.
+fn head_of(alloc: Global, look: &Look, drawn: &Written) -> Result<String, AllocError>
+    ensures { IfOk result (λ head. IsHead look.now (string_bytes drawn.now.text) drawn.now.height (string_bytes head)) }
+{
     let name = PictureName::of(look.theme, drawn.text.as_str());
     let mut text = String::new(alloc);
     write_root(name, drawn.height, &mut text)?;
     write_root_title(look.title(), &mut text)?;
-    write_styles(name, look.theme, &mut text)?;
+    let styles = styles_of(alloc, name, look.theme)?;
+    text.push_str(styles.as_str())?;
+    Ok(text)
+}
+
+/// The styles and the hatches of a picture.
+fn styles_of(alloc: Global, name: PictureName, theme: Theme) -> Result<String, AllocError> {
+    let mut text = String::new(alloc);
+    write_styles(name, theme, &mut text)?;
     write_hatches(name, &mut text)?;
     Ok(text)
 }
 
 /// The beginning of the root.
-fn write_root(name: PictureName, height: usize, text: &mut String) -> Result<(), AllocError> {
+fn write_root(name: PictureName, height: usize, text: &mut String) -> Result<(), AllocError>
+    ensures { OnOk result (string_bytes text.new ≡ string_bytes text.old ++ root_text (name_text name.0) height) }
+{
     write!(
         text,
         "<svg xmlns=\"http://www.w3.org/2000/svg\" class=\"{name}\" width=\"{PAGE}\" height=\"{height}\""
@@ -272,7 +290,9 @@ fn write_root(name: PictureName, height: usize, text: &mut String) -> Result<(),
 }
 
 /// The name of the picture for a reader that does not see it.
-fn write_root_title(title: &str, text: &mut String) -> Result<(), AllocError> {
+fn write_root_title(title: &str, text: &mut String) -> Result<(), AllocError>
+    ensures { OnOk result (string_bytes text.new ≡ string_bytes text.old ++ root_title title.now) }
+{
     text.push_str("<title>")?;
     write_escaped(title, usize::MAX, text)?;
     text.push_str("</title>\n")
@@ -312,6 +332,25 @@ fn wait_ended(pull: Option<PulledTask>) -> Option<Slice>
     })
 }
 
+/// The line of a pull.
+fn pulled_link(pull: Option<PulledTask>) -> Option<Link>
+    ensures { result ≡ option_map pulled_link pull }
+{
+    let pull = pull?;
+    Some(Link {
+        kind: LinkKind::Pull,
+        task: pull.task,
+        from: Spot {
+            processor: pull.from,
+            at: pull.at,
+        },
+        to: Spot {
+            processor: pull.to,
+            at: pull.at,
+        },
+    })
+}
+
 /// The wait of a task that is not over, if it waits.
 fn wait_of(schedule: &Schedule, id: u16) -> Option<Slice>
     ensures { result ≡ wait_at schedule.now id (task_of schedule.now id).place }
@@ -347,7 +386,7 @@ impl ScheduleForm for Svg {
         _names: &Names,
         text: &mut String,
     ) -> Result<(), AllocError>
-        ensures rows { OnOk result (self.new ≡ record self.old { drawing = replicate (length schedule.now.processors) empty_row }) }
+        ensures rows { OnOk result (self.new ≡ record self.old { drawing = nothing_of (length schedule.now.processors) }) }
         ensures none { text.new ≡ text.old }
     {
         self.drawing = Drawing::of(self.alloc, schedule.processors())?;
@@ -367,7 +406,8 @@ impl ScheduleForm for Svg {
         _names: &Names,
         text: &mut String,
     ) -> Result<(), AllocError>
-        ensures held { OnOk result (HoldsChange self.old.window change.now self.old.drawing self.new.drawing) }
+        ensures held { OnOk result (HoldsChange self.old.window change.now self.old.stops.entries self.new.stops.entries
+            self.old.drawing self.new.drawing) }
         ensures same { self.new ≡ record self.old { drawing = self.new.drawing; stops = self.new.stops } }
         ensures none { text.new ≡ text.old }
     {
@@ -383,7 +423,7 @@ impl ScheduleForm for Svg {
         names: &Names,
         text: &mut String,
     ) -> Result<(), AllocError>
-        ensures picture { OnOk result (Adds (IsPictureOf self.old.window schedule.now names.now self.old.roster self.old.drawing)
+        ensures picture { OnOk result (Adds (IsPictureOf self.old.window self.old.look self.old.rule schedule.now names.now self.old.roster self.old.drawing)
             (string_bytes text.old) (string_bytes text.new)) }
     {
         self.hold_runners(schedule)?;

@@ -1,6 +1,6 @@
 //! The unit of the times in a picture.
-ghost use Rattle.std.specs.Prelude.{◌≡◌, Some};
-ghost use Rattle.bq_drawing.specs.Titles.{amount_text, unit_name, unit_of_step};
+ghost use Rattle.std.specs.Prelude.{◌≡◌, ◌<◌, Some};
+ghost use Rattle.bq_drawing.specs.Titles.{amount_text, unit_length, unit_name, unit_of_step};
 
 use std::fmt;
 
@@ -30,7 +30,10 @@ impl TimeUnit {
     }
 
     /// How many nanoseconds it has.
-    pub fn length(self) -> u64 {
+    pub fn length(self) -> u64
+        ensures value { result ≡ unit_length self }
+        ensures some { 0 < result }
+    {
         match self {
             TimeUnit::Nanoseconds => 1,
             TimeUnit::Microseconds => 1000,

@@ -1,11 +1,17 @@
-use Rattle.std.proofs.Common.{◌≡◌, ◌++◌, drop}
+use Rattle.std.proofs.Common.{◌≡◌, ◌<◌, ◌^◌, [], ◌++◌, drop}
 use Rattle.std.specs.Prelude.{string_bytes}
+use Rattle.bq_parts.specs.Counts.{counted}
 use Rattle.bq_drawing.specs.declared.lanes.Stretch.{Stretch}
+use Rattle.bq_drawing.specs.Lanes.{lanes_after, left_out}
 use Rattle.bq_drawing.specs.Shapes.{in_lanes, setting_of, wait_in, waits_text}
 use Rattle.bq_drawing.proofs.drawing.draw_waits.Given as goal
 
--- the waits that are left complete the text
+-- the waits that are left complete the text, their lanes, and how many find none
 abbrev pub invariant-loop-wait : goal.invariant-loop-wait
-invariant-loop-wait l =
-    string_bytes l.text ++ in_lanes (λ (wait : Stretch). wait) (wait_in (setting_of l.frame) l.top) l.lanes (drop l.wait-index l.waits)
-    ≡ waits_text (setting_of l.frame) l.top l.waits
+invariant-loop-wait l = record {
+  text : string_bytes l.text ++ in_lanes (λ (wait : Stretch). wait) (wait_in (setting_of l.frame) l.top) l.lanes (drop l.wait-index l.waits)
+      ≡ waits_text (setting_of l.frame) l.top l.waits;
+  lanes : lanes_after (λ (wait : Stretch). wait) l.lanes (drop l.wait-index l.waits) ≡ lanes_after (λ (wait : Stretch). wait) [] l.waits;
+  fits : l.left_out < 2 ^ 64;
+  left_out : counted l.left_out (left_out (λ (wait : Stretch). wait) l.lanes (drop l.wait-index l.waits)) ≡ counted 0 (left_out (λ (wait : Stretch). wait) [] l.waits);
+}

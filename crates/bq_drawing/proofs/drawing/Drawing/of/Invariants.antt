@@ -1,5 +1,5 @@
 use Rattle.std.proofs.Common.{◌≡◌, replicate}
-use Rattle.bq_drawing.specs.Pictures.{empty_row}
+use Rattle.bq_drawing.specs.Rows.{empty_row}
 use Rattle.bq_drawing.proofs.drawing.Drawing.of.Given as goal
 
 abbrev pub invariant-processors : goal.invariant-processors

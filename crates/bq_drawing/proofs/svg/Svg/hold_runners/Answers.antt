@@ -1,6 +1,6 @@
 use Rattle.std.proofs.Common.{◌≡◌, ◌∙◌, refl, ap, subst, arith}
 use Rattle.bq_drawing.specs.declared.svg.Svg.{Svg}
-use Rattle.bq_drawing.specs.Pictures.{HoldsRun}
+use Rattle.bq_drawing.specs.Holdings.{HoldsRun}
 use Rattle.bq_drawing.specs.Runs.{run_on}
 use Rattle.bq_drawing.proofs.PictureLemmas.{runner_held, runners_all, runners_none}
 use Rattle.bq_drawing.proofs.svg.Svg.hold_runners.Goals as goal

@@ -1,5 +1,5 @@
 use Rattle.std.proofs.Common.{◌≡◌, ◌≤◌}
-use Rattle.bq_drawing.specs.Pictures.{HoldsRunners}
+use Rattle.bq_drawing.specs.Holdings.{HoldsRunners}
 use Rattle.bq_drawing.proofs.svg.Svg.hold_runners.Given as goal
 
 -- the runs that go on at the processors before this one

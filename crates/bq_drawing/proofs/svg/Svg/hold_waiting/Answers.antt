@@ -1,6 +1,6 @@
 use Rattle.std.proofs.Common.{◌≡◌, ◌∙◌, refl, ap, subst, arith}
 use Rattle.bq_drawing.specs.declared.svg.Svg.{Svg}
-use Rattle.bq_drawing.specs.Pictures.{HoldsWait}
+use Rattle.bq_drawing.specs.Holdings.{HoldsWait}
 use Rattle.bq_drawing.proofs.PictureLemmas.{waiting_all, waiting_held, waiting_none}
 use Rattle.bq_drawing.proofs.svg.Svg.hold_waiting.Goals as goal
 

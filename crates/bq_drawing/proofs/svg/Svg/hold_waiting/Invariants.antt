@@ -1,5 +1,5 @@
 use Rattle.std.proofs.Common.{◌≡◌, ◌≤◌}
-use Rattle.bq_drawing.specs.Pictures.{HoldsWaiting}
+use Rattle.bq_drawing.specs.Holdings.{HoldsWaiting}
 use Rattle.bq_drawing.proofs.svg.Svg.hold_waiting.Given as goal
 
 -- the waits that go on of the tasks before this one

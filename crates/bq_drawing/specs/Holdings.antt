@@ -1,0 +1,199 @@
+-- What a picture holds of a schedule.
+use Rattle.std.specs.Prelude.{◌≡◌, ℕ, zero, suc, ◌-◌, ◌⊎◌, List, [], ◌∷◌, ◌++◌, replicate, slice_set, Option, Some, None, if◌then◌else◌, unwrap_or}
+use Rattle.std.specs.BTreeMap.{insert_entry, is_at}
+use Rattle.std.specs.BTreeSet.{insert_key}
+use Rattle.std.specs.Map.{lookup}
+use Rattle.std.specs.Option.{SomeIff, option_map}
+use Rattle.std.specs.Ordering.{nat_cmp}
+use Rattle.bq_schedule.specs.declared.change.Change.{Change}
+use Rattle.bq_schedule.specs.declared.change.PulledTask.{PulledTask}
+use Rattle.bq_schedule.specs.declared.change.Start.{Start}
+use Rattle.bq_schedule.specs.declared.change.Stop.{Stop}
+use Rattle.bq_schedule.specs.declared.change.Wake.{Wake}
+use Rattle.bq_schedule.specs.declared.slice.Slice.{Slice}
+use Rattle.bq_schedule.specs.Figures.{Figures, processor_of, task_of}
+use Rattle.bq_schedule.specs.Running.{has_migrated, running_task}
+use Rattle.bq_schedule.specs.Slices.{is_this}
+use Rattle.bq_report.specs.declared.window.Window.{Window}
+use Rattle.bq_report.specs.Windows.{IsShownPart, Shows, ShowsProcessor}
+use Rattle.bq_drawing.specs.declared.lanes.Stretch.{Stretch}
+use Rattle.bq_drawing.specs.declared.links.Link.{Link}
+use Rattle.bq_drawing.specs.declared.links.LinkKind.TheVariants.{Migration, Pull}
+use Rattle.bq_drawing.specs.declared.shapes.DrawnRun.{DrawnRun}
+use Rattle.bq_drawing.specs.Rows.{Row, Rows, empty_row, row_of}
+use Rattle.bq_drawing.specs.Runs.{ended_run, run_on}
+
+-- what is held: a row for each processor, the lines between rows, and the tasks of which anything is drawn
+pub record Held : Type 0 where
+  pub rows : Rows
+  pub links : List Link
+  pub tasks : List ℕ
+
+-- nothing, of so many processors
+abbrev pub nothing_of : ℕ → Held
+nothing_of processors = record { rows = replicate processors empty_row; links = []; tasks = [] }
+
+-- the part of a run that is shown, and how the run began
+abbrev pub drawn_run : Start → Slice → DrawnRun
+drawn_run start part = record { task = part.task; from = part.from; to = part.to; waited = start.waited; latency = start.latency }
+
+abbrev pub row_with_run : DrawnRun → Row → Row
+row_with_run run row = record row { runs = row.runs ++ run ∷ [] }
+
+abbrev pub row_with_wait : Stretch → Row → Row
+row_with_wait wait row = record row { waits = row.waits ++ wait ∷ [] }
+
+abbrev pub row_with_wake : Stretch → Row → Row
+row_with_wake wake row = record row { wakes = row.wakes ++ wake ∷ [] }
+
+-- tasks in order, with this one among them
+abbrev pub with_task : ℕ → List ℕ → List ℕ
+with_task task tasks = insert_key nat_cmp tasks task
+
+-- what is held, with something of a task added to the row of a processor
+abbrev pub with_more : ℕ → ℕ → (Row → Row) → Held → Held
+with_more processor task more held =
+    record held { rows = slice_set held.rows processor (more (row_of held.rows processor)); tasks = with_task task held.tasks }
+
+-- what is held, with a run added at the end of its processor's row, if any of it is shown
+abbrev pub with_run : Option Start → Option Slice → Held → Held
+with_run None part held = held
+with_run (Some start) None held = held
+with_run (Some start) (Some part) held = with_more part.processor part.task (row_with_run (drawn_run start part)) held
+
+abbrev pub with_stretch : ℕ → Stretch → Held → Held
+with_stretch processor wait held = with_more processor wait.task (row_with_wait wait) held
+
+-- the same of the part of a wait
+abbrev pub with_wait : Option Slice → Held → Held
+with_wait None held = held
+with_wait (Some part) held = with_stretch part.processor (record { from = part.from; to = part.to; task = part.task }) held
+
+-- the moment of a wake
+abbrev pub waking : Wake → Stretch
+waking k = record { from = k.at; to = k.at; task = k.task }
+
+-- the same of a wake, at the processor where its task was placed
+abbrev pub with_wake : Option Wake → Held → Held
+with_wake None held = held
+with_wake (Some k) held = with_more k.to k.task (row_with_wake (waking k)) held
+
+-- the same of a line between two rows
+abbrev pub with_link : Link → Held → Held
+with_link link held = record held { links = held.links ++ link ∷ []; tasks = with_task link.task held.tasks }
+
+-- the shown part of a run is added, if there is one
+abbrev pub HoldsRun : Window → Option Start → Option Slice → Held → Held → Type 0
+HoldsRun w start run old new = (part : Option Slice) × IsShownPart w run part × (new ≡ with_run start part old)
+
+-- the same of a wait
+abbrev pub HoldsWait : Window → Option Slice → Held → Held → Type 0
+HoldsWait w wait old new = (part : Option Slice) × IsShownPart w wait part × (new ≡ with_wait part old)
+
+-- a wake is shown where its task was placed
+abbrev pub IsShownThere : Window → Option Wake → Option Wake → Type 0
+IsShownThere w None part = part ≡ None
+IsShownThere w (Some k) part = SomeIff part (Shows w k.to k.task k.at) k
+
+-- a wake is put there if it is shown
+abbrev pub HoldsWake : Window → Option Wake → Held → Held → Type 0
+HoldsWake w wake old new = (part : Option Wake) × IsShownThere w wake part × (new ≡ with_wake part old)
+
+-- the wait before a run that began so
+abbrev pub wait_before : Start → Slice
+wait_before start = record { processor = start.processor; task = start.task; from = start.at - start.waited; to = start.at }
+
+-- the wait that a pull ended, where the task was taken from
+abbrev pub wait_ended : PulledTask → Slice
+wait_ended pull = record { processor = pull.from; task = pull.task; from = pull.at - pull.waited; to = pull.at }
+
+-- a line is shown if it ends in the window, and both of its processors are shown
+pub record ShowsLink (w : Window) (link : Link) : Type 0 where
+  pub ends : Shows w link.to.processor link.task link.to.at
+  pub begins : ShowsProcessor w link.from.processor
+
+-- a line between two rows is added, if there is one and it is shown
+abbrev pub HoldsLink : Window → Option Link → Held → Held → Type 0
+HoldsLink w None old new = new ≡ old
+HoldsLink w (Some link) old new = (ShowsLink w link × (new ≡ with_link link old)) ⊎ (¬ (ShowsLink w link) × (new ≡ old))
+
+-- the line of a pull
+abbrev pub pulled_link : PulledTask → Link
+pulled_link pull = record {
+  kind = Pull;
+  task = pull.task;
+  from = record { processor = pull.from; at = pull.at };
+  to = record { processor = pull.to; at = pull.at };
+}
+
+-- when each task last ceased to run
+abbrev pub Stops : Type 0
+Stops = List (ℕ × ℕ)
+
+abbrev pub with_stop : Option Stop → Stops → Stops
+with_stop None stops = stops
+with_stop (Some stop) stops = insert_entry nat_cmp stops stop.start.task stop.at
+
+-- where the line of a migration begins: when its task last ceased to run, or where the run begins if that is not known
+abbrev pub left_at : Stops → Start → ℕ
+left_at stops start = unwrap_or (lookup (is_at (nat_cmp start.task)) stops) start.at
+
+-- the line of a run that began so, from another processor
+abbrev pub link_from : Stops → Start → ℕ → Link
+link_from stops start before = record {
+  kind = Migration;
+  task = start.task;
+  from = record { processor = before; at = left_at stops start };
+  to = record { processor = start.processor; at = start.at };
+}
+
+-- that line, if the task ran elsewhere before
+abbrev pub migration_of : Stops → Start → Option Link
+migration_of stops start = if has_migrated start then option_map (link_from stops start) start.before else None
+
+abbrev pub migration_link : Stops → Option Start → Option Link
+migration_link stops None = None
+migration_link stops (Some start) = migration_of stops start
+
+-- the wait that a pull ended is added, and its line
+pub record HoldsPull (w : Window) (pull : Option PulledTask) (old new : Held) : Type 0 where
+  pub waited : Held
+  pub wait : HoldsWait w (option_map wait_ended pull) old waited
+  pub line : HoldsLink w (option_map pulled_link pull) waited new
+
+-- the wait before a run that began is added, and the line of its migration
+pub record HoldsStart (w : Window) (stops : Stops) (start : Option Start) (old new : Held) : Type 0 where
+  pub waited : Held
+  pub wait : HoldsWait w (option_map wait_before start) old waited
+  pub line : HoldsLink w (migration_link stops start) waited new
+
+-- what is held of a change: its wake, its pull, the run that is over, and what the run that began waited for and came from
+pub record HoldsChange (w : Window) (change : Change) (before after : Stops) (old new : Held) : Type 0 where
+  pub woken : Held
+  pub pulled : Held
+  pub stopped : Held
+  pub wake : HoldsWake w change.wake old woken
+  pub pull : HoldsPull w change.pull woken pulled
+  pub stop : HoldsRun w (option_map (λ (s : Stop). s.start) change.stop) (ended_run change.stop) pulled stopped
+  pub stops : after ≡ with_stop change.stop before
+  pub start : HoldsStart w after change.start stopped new
+
+-- the shown parts of the runs that still go on are added, at the processors below a number
+unfoldable pub HoldsRunners : Window → Figures → ℕ → Held → Held → Type 0
+HoldsRunners w s zero old new = new ≡ old
+HoldsRunners w s (suc processor) old new =
+    (before : Held) × HoldsRunners w s processor old before
+    × HoldsRun w (processor_of s processor).running (run_on (processor_of s processor)) before new
+
+-- the wait of a task that goes on at a place, unless it runs there: till the last reading of the clock there
+abbrev pub wait_at : Figures → ℕ → Option ℕ → Option Slice
+wait_at s id None = None
+wait_at s id (Some p) =
+    if is_this id (running_task (processor_of s p)) then None
+    else Some (record { processor = p; task = id; from = (task_of s id).since; to = (processor_of s p).last })
+
+-- the shown parts of the waits that still go on are added, of the tasks below a number
+unfoldable pub HoldsWaiting : Window → Figures → ℕ → Held → Held → Type 0
+HoldsWaiting w s zero old new = new ≡ old
+HoldsWaiting w s (suc id) old new =
+    (before : Held) × HoldsWaiting w s id old before × HoldsWait w (wait_at s id (task_of s id).place) before new
