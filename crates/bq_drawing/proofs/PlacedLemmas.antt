@@ -1,5 +1,5 @@
 -- The rows of a picture, placed one below another, and the lanes of their waits and wakes.
-use Rattle.std.proofs.Common.{◌≡◌, ◌≢◌, ℕ, zero, suc, ◌+◌, ◌<◌, ◌≤◌, ◌^◌, ◌-◌, Bool, true, false, cond, List, [], ◌∷◌, ◌++◌, Option, Some, None, drop, get_or, length, refl, sym, ap, ◌∙◌, subst, append-nil, add-one, arith, inl, inr, ⊎_elim, BTreeMap, string_bytes}
+use Rattle.std.proofs.Common.{◌≡◌, ◌≢◌, ℕ, zero, suc, ◌+◌, ◌<◌, ◌≤◌, ◌^◌, Bool, true, false, cond, List, [], ◌∷◌, ◌++◌, Option, Some, None, drop, get_or, length, refl, sym, ap, ◌∙◌, subst, append-nil, add-one, arith, inl, inr, ⊎_elim, BTreeMap, string_bytes}
 use Rattle.std.proofs.lemmas.Bool.{cases_eq}
 use Rattle.std.proofs.lemmas.Bool.Decides.{nat_tests}
 use Rattle.std.proofs.lemmas.List.{at_drop_more}
@@ -11,7 +11,7 @@ use Rattle.std.specs.List.{sum_by}
 use Rattle.std.specs.Map.{lookup}
 use Rattle.std.specs.Option.{option_map, option_or}
 use Rattle.std.specs.Ordering.{nat_cmp}
-use Rattle.std.specs.Prelude.{◌⊎◌, ◌==◌, find, flat_map}
+use Rattle.std.specs.Prelude.{◌==◌, find, flat_map}
 use Rattle.bq_parts.specs.Counts.{counted}
 use Rattle.bq_report.specs.declared.window.Window.{Window}
 use Rattle.bq_drawing.specs.declared.drawing.WrittenRows.{WrittenRows}
@@ -23,7 +23,7 @@ use Rattle.bq_drawing.specs.Holdings.{Held}
 use Rattle.bq_drawing.specs.Links.{line_of, link_if, same_kind}
 use Rattle.bq_drawing.specs.Lanes.{lane_of, lanes_after, left_out, taken, without_lane}
 use Rattle.bq_drawing.specs.Places.{rows_edge}
-use Rattle.bq_drawing.specs.Rows.{ArePlaced, HasRow, IsNextRow, IsNoRow, PlacedRow, Rows, labels_text, row_of, row_text, top_at, waits_left_out, wakes_left_out}
+use Rattle.bq_drawing.specs.Rows.{ArePlaced, HasRow, IsNextRow, IsNoRow, PlacedRow, Rows, labels_text, row_of, row_text, top_at}
 use Rattle.bq_drawing.specs.Shapes.{Setting, arrow_of}
 use Rattle.bq_drawing.specs.Writing.{AreDrawn, AreWritten, IsRowWritten, IsRowWrittenIf}
 
