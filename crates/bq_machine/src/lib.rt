@@ -1,6 +1,6 @@
 //! A scheduler that many threads call at once. Processors, inboxes and the lobby lie under locks of their own; what all
 //! calls did is one history, and each call gets a receipt for its place in it.
-//! Promises that each call records the event asked for, at a reading that the clock gave, and that the history is one of
+//! Promises that each call records the event asked for, at a reading that the clock may give, and that the history is one of
 //! the world of bq_parts. Stands on bq_recording for the start and the end, and on bq_shared for what lies under the locks.
 #![tactic(auto)]
 

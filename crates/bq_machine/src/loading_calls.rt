@@ -1,4 +1,4 @@
-//! A load: an image is verified once, a number is drawn, and what it stands for is installed at each processor.
+//! A load: an image is verified once, a generation is drawn, and the image's policy is installed at each processor.
 ghost use Rattle.std.specs.Prelude.{◌≡◌, ◌∷◌, ◌++◌, ◌<◌, ◌≤◌, ◌+◌, ℕ, [], true, None, Ok, Option, IfOk, IfErr, OnErr, All, vec_len, vec_capacity};
 ghost use Rattle.std.specs.Option.{option_map};
 ghost use Rattle.bq_verify.specs.Accepted.{Accepted};
@@ -31,12 +31,12 @@ pub enum LoadRefused {
     /// The bytes are no image of a program that is accepted.
     #[error("{0}")]
     Fault(LoadFault),
-    /// The image is for another hook, or a growth was refused.
+    /// The image is for another hook, or memory ran out.
     #[error("{0}")]
     Refusal(Refusal),
 }
 
-/// What a load recorded: that a number was drawn, and what was answered at each processor, by rising number.
+/// What a load recorded: that a generation was drawn, and what was answered at each processor, by rising number.
 #[derive(Drop)]
 pub struct LoadReceipts {
     pub draw: Receipt<Record>,
@@ -48,13 +48,13 @@ pub struct LoadReceipts {
 struct Loading<'a> {
     /// The hook at which it is installed.
     hook: Hook,
-    /// The number that was drawn for it.
+    /// The generation that was drawn for it.
     generation: u64,
     /// What is installed: a policy, or none.
     policy: &'a Option<Policy>,
 }
 
-/// The policy of an image that is for the hook; none of no image.
+/// The policy of an image, which must be for this hook. Without an image there is none.
 fn policy_of(alloc: Global, hook: Hook, image: Option<&[u8]>) -> Result<Option<Policy>, LoadRefused>
     ensures policy { IfOk result (λ p. IsPolicyOf (option_map (λ b. b.now) image.entry) p) }
     ensures hook { IfOk result (λ p. is_for hook p ≡ true) }
@@ -76,7 +76,7 @@ fn policy_of(alloc: Global, hook: Hook, image: Option<&[u8]>) -> Result<Option<P
     }
 }
 
-/// That a policy, or none, is installed.
+/// The event that installs a policy, or removes it.
 fn install_event(processor: u8, hook: Hook, generation: u64, policy: Option<Policy>) -> Event
     ensures { result ≡ Event.Install processor hook generation policy }
 {
@@ -88,7 +88,7 @@ fn install_event(processor: u8, hook: Hook, generation: u64, policy: Option<Poli
     }
 }
 
-/// One receipt more in a list that has room for it.
+/// Adds a receipt to a list with room for it.
 fn keep(installs: &mut Vec<Receipt<Record>>, receipt: Receipt<Record>)
     requires room { vec_len installs.old < vec_capacity installs.old }
     ensures items { installs.new.items ≡ installs.old.items ++ receipt ∷ [] }
@@ -106,9 +106,9 @@ impl<Q: RunQueue + Drop, K: Clock + Drop, N: Naming + Counting, const P: usize> 
     N,
     P,
 > {
-    /// Loads an image, and installs its policy at this hook of each processor, as one number that is drawn for it; no image
-    /// takes the policies away. A processor at which a newer one stands answers that, and the load goes on. It takes memory
-    /// for the policy, its maps and all records.
+    /// Loads an image, and installs its policy at this hook of each processor, under one generation, drawn for it. Without an
+    /// image, the policies there are removed. Where a newer generation is installed, that is the recorded answer, and the load
+    /// goes on. It takes memory for the policy, its maps and all records.
     ///
     /// If the image does not load, is for another hook, or memory runs out, nothing is recorded; the fault of the image comes
     /// first.
@@ -145,7 +145,7 @@ impl<Q: RunQueue + Drop, K: Clock + Drop, N: Naming + Counting, const P: usize> 
         Ok(LoadReceipts { draw, installs })
     }
 
-    /// Draws a number.
+    /// Draws a generation.
     fn draw<R: Wait>(
         &self,
         rt: &R,

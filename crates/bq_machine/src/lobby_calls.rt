@@ -79,8 +79,8 @@ impl<Q: RunQueue + Drop, K: Clock + Drop, N: Naming + Counting, const P: usize> 
     /// Puts a new task into the lobby: its nice value is -20 to 19, its mask names the processors that it may use, and its
     /// slice is 100,000 to 100,000,000 nanoseconds. Allocates the task and the record.
     ///
-    /// Records nothing if an argument is out of range or memory runs out. That the task exists already is a recorded
-    /// answer.
+    /// Records nothing if an argument is out of range or memory runs out. If the task exists already, that is answered, and
+    /// recorded.
     pub fn admit<R: Wait>(
         &self,
         rt: &R,
@@ -118,8 +118,8 @@ impl<Q: RunQueue + Drop, K: Clock + Drop, N: Naming + Counting, const P: usize> 
 
     /// Removes a task of the lobby from the machine for good. Allocates the record.
     ///
-    /// Records nothing if the id is over 1023 or memory runs out. That the task does not exist, or does not sleep, is a
-    /// recorded answer.
+    /// Records nothing if the id is over 1023 or memory runs out. If the task does not exist, or does not sleep, that is
+    /// answered, and recorded.
     pub fn retire<R: Wait>(
         &self,
         rt: &R,

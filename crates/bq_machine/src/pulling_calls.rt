@@ -41,6 +41,7 @@ impl<Q: RunQueue + Drop, K: Clock + Drop, N: Naming + Counting, const P: usize> 
     {
         self.need_both(processor, from)?;
         rooms_of_event(alloc, &mut seat.first, &mut seat.rooms)?;
+        // Before any lock, since two may be waited for. A reading that falls behind counts as the last.
         let now = self.clock.now(processor);
         let (mut guard, mut source_guard) = self.lock_both(rt, processor, from);
         let cpu = &mut *guard;

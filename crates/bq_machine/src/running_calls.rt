@@ -130,7 +130,8 @@ impl<Q: RunQueue + Drop, K: Clock + Drop, N: Naming + Counting, const P: usize> 
 
     /// Puts the running task of a processor to sleep, and runs the queue's choice. Allocates the record.
     ///
-    /// Records nothing if there is no such processor or memory runs out. That nothing runs there is a recorded answer.
+    /// Records nothing if there is no such processor or memory runs out. If nothing runs there, that is answered, and
+    /// recorded.
     pub fn block<R: Wait>(
         &self,
         rt: &R,

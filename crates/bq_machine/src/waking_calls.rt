@@ -65,8 +65,8 @@ impl<Q: RunQueue + Drop, K: Clock + Drop, N: Naming + Counting, const P: usize> 
     /// Wakes a task of the lobby at a processor, whose lock is held throughout. There are two events, or only the first if it is
     /// refused. Allocates both records.
     ///
-    /// Records nothing if there is no such processor, the id is over 1023, or memory runs out. That the task does not exist, or
-    /// does not sleep, is a recorded answer.
+    /// Records nothing if there is no such processor, the id is over 1023, or memory runs out. If the task does not exist, or
+    /// does not sleep, that is answered, and recorded.
     pub fn wake<R: Wait>(
         &self,
         rt: &R,
