@@ -1,11 +1,15 @@
 -- What a load of an image is answered.
-use Rattle.std.specs.Prelude.{◌≡◌, ◌⊎◌, ℕ, true, false, List, Option, None, Some}
+use Rattle.std.specs.Prelude.{◌≡◌, ◌⊎◌, ℕ, true, false, List, Option, None, Some, Ok}
 use Rattle.bq_hooks.specs.declared.hook.Hook.{Hook}
 use Rattle.bq_verify.specs.Accepted.{Accepted}
 use Rattle.bq_load.specs.declared.fault.LoadFault.{LoadFault}
 use Rattle.bq_load.specs.Answers.{Loads, IsUnloaded}
+use Rattle.bq_parts.specs.declared.event.Event.TheVariants.{Draw}
+use Rattle.bq_parts.specs.declared.reply.Reply.TheVariants.{Drawn}
 use Rattle.bq_parts.specs.declared.refusal.Refusal.TheVariants as no
 use Rattle.bq_parts.specs.Refusals.{is_for}
+use Rattle.bq_machine.specs.Calls.{AreInstalls}
+use Rattle.bq_machine.specs.declared.loading_calls.LoadReceipts.{LoadReceipts}
 use Rattle.bq_machine.specs.declared.loading_calls.LoadRefused.{LoadRefused}
 use Rattle.bq_machine.specs.declared.loading_calls.LoadRefused.TheVariants as why
 
@@ -14,6 +18,17 @@ abbrev pub IsPolicyOf : Option (List ℕ) → Option Accepted → Type 0
 IsPolicyOf None None = Unit {0}
 IsPolicyOf (Some bytes) (Some v) = Loads bytes v
 IsPolicyOf image policy = ⊥
+
+-- what a load recorded of an image, or of none, for this hook of all the processors: it drew a generation, and installed the
+-- image's policy, or none, under it at each of them
+pub record IsLoad (count : ℕ) (hook : Hook) (image : Option (List ℕ)) (loaded : LoadReceipts) : Type 0 where
+  pub draw : loaded.draw.entry.event ≡ Draw
+  pub generation : ℕ
+  pub drawn : loaded.draw.entry.reply ≡ Ok (Drawn generation)
+  pub policy : Option Accepted
+  pub of_image : IsPolicyOf image policy
+  pub fits : is_for hook policy ≡ true
+  pub installs : AreInstalls 0 count hook generation policy loaded.installs.items
 
 -- the fault that loading the image gives
 abbrev pub IsFaultOf : Option (List ℕ) → LoadFault → Type 0

@@ -12,10 +12,10 @@ pub mod locks;
 mod needs;
 mod opened;
 mod pulling_calls;
+mod records;
 mod rooms;
 mod running_calls;
 mod spare;
-mod told;
 pub mod waking_calls;
 
 pub use clock::Clock;

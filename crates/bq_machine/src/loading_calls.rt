@@ -1,20 +1,19 @@
 //! A load: an image is verified once, a generation is drawn, and the image's policy is installed at each processor.
-ghost use Rattle.std.specs.Prelude.{◌≡◌, ◌∷◌, ◌++◌, ◌<◌, ◌≤◌, ◌+◌, ℕ, [], true, None, Ok, Option, IfOk, IfErr, OnErr, All, vec_len, vec_capacity};
+ghost use Rattle.std.specs.Prelude.{◌≡◌, ◌∷◌, ◌++◌, ◌<◌, ◌≤◌, ◌+◌, [], true, None, Ok, IfOk, IfErr, OnErr, All, vec_len, vec_capacity};
 ghost use Rattle.std.specs.Option.{option_map};
-ghost use Rattle.bq_verify.specs.Accepted.{Accepted};
 ghost use Rattle.bq_shared.specs.Calls.{account_of};
 ghost use Rattle.bq_parts.specs.Refusals.{is_for};
 ghost use Rattle.bq_parts.specs.declared.reply.Reply.TheVariants.{Drawn};
 ghost use Rattle.bq_shared.specs.Parts.{told_calls};
 ghost use Rattle.bq_machine.specs.Calls.{AreInstalls};
-ghost use Rattle.bq_machine.specs.Loading.{IsPolicyOf, IsLoadRefused};
+ghost use Rattle.bq_machine.specs.Loading.{IsPolicyOf, IsLoad, IsLoadRefused};
 
 use crate::clock::Clock;
 use crate::locks::Machine;
+use crate::records::{Records, answer_twice, no_calls};
 use crate::spare::{Spare, spares};
-use crate::told::{answer_twice, both_records, no_calls, quiet_twice};
 use bq_disc::RunQueue;
-use bq_history::{CommitDraft, Naming, Receipt, Room};
+use bq_history::{Naming, Receipt, Room};
 use bq_hooks::Hook;
 use bq_installed::Policy;
 use bq_load::{LoadFault, load};
@@ -121,8 +120,7 @@ impl<Q: RunQueue + Drop, K: Clock + Drop, N: Naming + Counting, const P: usize> 
         image: Option<&[u8]>,
     ) -> Result<LoadReceipts, LoadRefused>
         ensures receipts { IfOk result (λ l. seat.new ≡ (seat.old.0, (seat.old.1 ++ l.draw ∷ []) ++ l.installs.items)) }
-        ensures draw { IfOk result (λ l. l.draw.entry.event ≡ Event.Draw) }
-        ensures installs { IfOk result (λ l. (generation : ℕ) × (policy : Option Accepted) × (l.draw.entry.reply ≡ Ok (Drawn generation)) × IsPolicyOf (option_map (λ b. b.now) image.entry) policy × (is_for hook policy ≡ true) × AreInstalls 0 P hook generation policy l.installs.items) }
+        ensures load { IfOk result (IsLoad P hook (option_map (λ b. b.now) image.entry)) }
         ensures refused { IfErr result (IsLoadRefused hook (option_map (λ b. b.now) image.entry)) }
         ensures err { OnErr result (seat.new ≡ seat.old) }
     {
@@ -165,17 +163,8 @@ impl<Q: RunQueue + Drop, K: Clock + Drop, N: Naming + Counting, const P: usize> 
         let generation = kept.drawn.saturating_add(1);
         kept.drawn = generation;
         let reply = Ok(Reply::Drawn { generation });
-        let (logged, told) = quiet_twice(Event::Draw, &reply);
-        let receipt = working.commit(
-            &self.recorder.history,
-            journal,
-            CommitDraft {
-                room,
-                logged,
-                told,
-                kept: Some(kept),
-            },
-        );
+        let draft = Records::quiet(Event::Draw, &reply).draft(room, Some(kept));
+        let receipt = working.commit(&self.recorder.history, journal, draft);
         (receipt, generation)
     }
 
@@ -248,17 +237,7 @@ impl<Q: RunQueue + Drop, K: Clock + Drop, N: Naming + Counting, const P: usize> 
             install_event(processor, hook, generation, for_record),
             install_event(processor, hook, generation, for_receipt),
         );
-        let (logged, told) = both_records(events, answer_twice(&reply), no_calls());
-        working.commit_one(
-            &self.recorder.history,
-            journal,
-            &mut cpu.cell,
-            CommitDraft {
-                room: &mut room,
-                logged,
-                told,
-                kept: None,
-            },
-        )
+        let draft = Records::new(events, answer_twice(&reply), no_calls()).draft(&mut room, None);
+        working.commit_one(&self.recorder.history, journal, &mut cpu.cell, draft)
     }
 }

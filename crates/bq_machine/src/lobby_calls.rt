@@ -2,16 +2,18 @@
 ghost use Rattle.std.specs.Prelude.{◌≡◌, ◌≤◌, ◌∷◌, ◌++◌, [], None, IfOk, IfErr, OnErr, true};
 ghost use Rattle.bq_parts.specs.Refusals.{argument_refusal};
 ghost use Rattle.bq_parts.specs.Moves.{admitted};
+ghost use Rattle.bq_shared.specs.Calls.{account_of};
+ghost use Rattle.bq_shared.specs.Parts.{told_calls};
 ghost use Rattle.bq_machine.specs.Calls.{IsCallRefused};
 
 use crate::clock::Clock;
 use crate::locks::Machine;
-use crate::told::quiet_twice;
+use crate::records::Records;
 use bq_disc::RunQueue;
 use bq_disc::limits::PROCESSORS;
-use bq_history::{CommitDraft, Naming, Receipt, Room};
+use bq_history::{Naming, Receipt, Room};
 use bq_parts::{Event, Refusal, Unlinked, argument_refusal, new_task};
-use bq_recording::Seat;
+use bq_recording::{Seat, WorkingSeat};
 use bq_shared::{Counting, Record, record_room};
 use std::alloc::Global;
 use std::sync::Wait;
@@ -96,24 +98,37 @@ impl<Q: RunQueue + Drop, K: Clock + Drop, N: Naming + Counting, const P: usize> 
     {
         let count = self.cpus.len();
         let new = new_task_with_room(alloc, &mut seat.first, count, admission)?;
+        Ok(self.admit_to_lobby(rt, &mut seat.working, &mut seat.first, admission, new))
+    }
+
+    /// An admission under the lock of the lobby, from the lock to the record.
+    fn admit_to_lobby<R: Wait>(
+        &self,
+        rt: &R,
+        working: &mut WorkingSeat<N>,
+        room: &mut Room<Record>,
+        admission: Admission,
+        new: Unlinked,
+    ) -> Receipt<Record>
+        requires passed { argument_refusal P (Event.Admit admission.task admission.nice admission.mask admission.slice) ≡ None }
+        requires new { new ≡ admitted P admission.task admission.nice admission.mask admission.slice }
+        requires ready { room.old ≡ true }
+        requires tally { working.old.tally ≡ account_of told_calls working.old.caller.1 }
+        ensures caller { working.new.caller ≡ (working.old.caller.0, working.old.caller.1 ++ result ∷ []) }
+        ensures tally { working.new.tally ≡ account_of told_calls working.new.caller.1 }
+        ensures event { result.entry.event ≡ Event.Admit admission.task admission.nice admission.mask admission.slice }
+    {
         let mut guard = self.lobby.lock(rt);
         let lobby = &mut *guard;
         let reply = lobby.cell.content.state.admit(admission.task, new);
-        let (logged, told) = quiet_twice(admission.event(), &reply);
-        let mut journal_guard = self.recorder.lock_journal(rt);
-        let journal = &mut *journal_guard;
-        let receipt = seat.working.commit_one(
+        let draft = Records::quiet(admission.event(), &reply).draft(room, None);
+        let mut journal = self.recorder.lock_journal(rt);
+        working.commit_one(
             &self.recorder.history,
-            journal,
+            &mut *journal,
             &mut lobby.cell,
-            CommitDraft {
-                room: &mut seat.first,
-                logged,
-                told,
-                kept: None,
-            },
-        );
-        Ok(receipt)
+            draft,
+        )
     }
 
     /// Removes a task of the lobby from the machine for good. Allocates the record.
@@ -138,23 +153,34 @@ impl<Q: RunQueue + Drop, K: Clock + Drop, N: Naming + Counting, const P: usize> 
             return Err(refusal);
         }
         record_room(alloc, &mut seat.first)?;
+        Ok(self.retire_from_lobby(rt, &mut seat.working, &mut seat.first, task))
+    }
+
+    /// A retirement under the lock of the lobby, from the lock to the record.
+    fn retire_from_lobby<R: Wait>(
+        &self,
+        rt: &R,
+        working: &mut WorkingSeat<N>,
+        room: &mut Room<Record>,
+        task: u16,
+    ) -> Receipt<Record>
+        requires passed { argument_refusal P (Event.Retire task) ≡ None }
+        requires ready { room.old ≡ true }
+        requires tally { working.old.tally ≡ account_of told_calls working.old.caller.1 }
+        ensures caller { working.new.caller ≡ (working.old.caller.0, working.old.caller.1 ++ result ∷ []) }
+        ensures tally { working.new.tally ≡ account_of told_calls working.new.caller.1 }
+        ensures event { result.entry.event ≡ Event.Retire task }
+    {
         let mut guard = self.lobby.lock(rt);
         let lobby = &mut *guard;
         let reply = lobby.cell.content.state.retire(task);
-        let (logged, told) = quiet_twice(event, &reply);
-        let mut journal_guard = self.recorder.lock_journal(rt);
-        let journal = &mut *journal_guard;
-        let receipt = seat.working.commit_one(
+        let draft = Records::quiet(Event::Retire { task }, &reply).draft(room, None);
+        let mut journal = self.recorder.lock_journal(rt);
+        working.commit_one(
             &self.recorder.history,
-            journal,
+            &mut *journal,
             &mut lobby.cell,
-            CommitDraft {
-                room: &mut seat.first,
-                logged,
-                told,
-                kept: None,
-            },
-        );
-        Ok(receipt)
+            draft,
+        )
     }
 }

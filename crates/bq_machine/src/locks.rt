@@ -1,4 +1,6 @@
 //! The locks. Their order is: processors by rising number, the lobby, inboxes, the journal.
+//! A call whose share needs a fact of the whole world, such as that no task is at two processors, looks at the history first
+//! (`look`, `look_at_both`): that brings the fact to the proof, and changes nothing.
 ghost use Rattle.std.specs.Prelude.{◌≡◌, ◌≤◌, ◌<◌, vec_len};
 ghost use Rattle.std.specs.Sync.Mutex.{mutex_guard_value};
 

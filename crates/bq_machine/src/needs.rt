@@ -45,7 +45,7 @@ impl<Q: RunQueue + Drop, K: Clock + Drop, N: Naming + Counting, const P: usize> 
         Ok(())
     }
 
-    /// What an event at a processor takes before the processor is locked.
+    /// What an event at a processor takes before the processor is locked. The clause names a tick; a drain is refused alike.
     #[inline(always)]
     pub(crate) fn begin_call(
         &self,

@@ -1,18 +1,20 @@
 //! A pull: a processor takes a task from the queue of another. Both are locked, by rising number.
-ghost use Rattle.std.specs.Prelude.{◌≡◌, ◌≢◌, ◌<◌, ◌∷◌, ◌++◌, ℕ, [], None, Some, IfOk, IfErr, OnOk, OnErr};
+ghost use Rattle.std.specs.Prelude.{◌≡◌, ◌≢◌, ◌<◌, ◌∷◌, ◌++◌, ℕ, [], None, Some, IfOk, IfErr, OnOk, OnErr, is_some, true};
 ghost use Rattle.std.specs.Sync.Mutex.{mutex_guard_value};
 ghost use Rattle.bq_parts.specs.Refusals.{argument_refusal};
+ghost use Rattle.bq_shared.specs.Calls.{account_of};
+ghost use Rattle.bq_shared.specs.Parts.{told_calls};
 ghost use Rattle.bq_machine.specs.Calls.{IsCallRefused};
 
 use crate::clock::Clock;
 use crate::locks::{LockedProcessor, Machine};
 use crate::needs::rooms_of_event;
-use crate::told::told_twice;
+use crate::records::Records;
 use bq_disc::RunQueue;
-use bq_history::{CommitDraft, Naming, Receipt, look_at_both};
+use bq_history::{Naming, Receipt, Room, look_at_both};
 use bq_parts::{Event, Refusal};
-use bq_recording::Seat;
-use bq_shared::{Counting, Record, hold_calls};
+use bq_recording::{Seat, WorkingSeat};
+use bq_shared::{CallRooms, Counting, Record, hold_calls};
 use std::alloc::Global;
 use std::sync::Wait;
 
@@ -41,45 +43,69 @@ impl<Q: RunQueue + Drop, K: Clock + Drop, N: Naming + Counting, const P: usize> 
     {
         self.need_both(processor, from)?;
         rooms_of_event(alloc, &mut seat.first, &mut seat.rooms)?;
-        // Before any lock, since two may be waited for. A reading that falls behind counts as the last.
+        Ok(self.pull_at(
+            rt,
+            &mut seat.working,
+            &mut seat.first,
+            &mut seat.rooms,
+            processor,
+            from,
+        ))
+    }
+
+    /// A pull under the locks of both processors, from the locks to the record.
+    fn pull_at<R: Wait>(
+        &self,
+        rt: &R,
+        working: &mut WorkingSeat<N>,
+        room: &mut Room<Record>,
+        calls: &mut Option<CallRooms>,
+        processor: u8,
+        from: u8,
+    ) -> Receipt<Record>
+        requires inside { (processor < P) × (from < P) }
+        requires apart { processor ≢ from }
+        requires ready { room.old ≡ true }
+        requires calls { is_some calls.old ≡ true }
+        requires tally { working.old.tally ≡ account_of told_calls working.old.caller.1 }
+        ensures caller { working.new.caller ≡ (working.old.caller.0, working.old.caller.1 ++ result ∷ []) }
+        ensures tally { working.new.tally ≡ account_of told_calls working.new.caller.1 }
+        ensures event { (now : ℕ) × K.gives processor now × (result.entry.event ≡ Event.Pull processor from now) }
+    {
+        // Before any lock, since two may be waited for. A reading below the processor's last counts as the last.
         let now = self.clock.now(processor);
         let (mut guard, mut source_guard) = self.lock_both(rt, processor, from);
         let cpu = &mut *guard;
         let source = &mut *source_guard;
         look_at_both(&self.recorder.history, cpu, source);
         let content = &mut cpu.cell.content;
-        let scratch = &mut content.scratch;
-        scratch.clear();
-        let mut counter_board = seat.working.open_board(&self.recorder.counters);
-        let other = &mut source.cell.content.state;
-        let reply = content
-            .state
-            .pull(other, processor, from, now, scratch, &mut counter_board);
-        seat.working.close_board(counter_board);
-        let mut journal_guard = self.recorder.lock_journal(rt);
-        let journal = &mut *journal_guard;
+        content.scratch.clear();
+        let mut counter_board = working.open_board(&self.recorder.counters);
+        let reply = content.state.pull(
+            &mut source.cell.content.state,
+            processor,
+            from,
+            now,
+            &mut content.scratch,
+            &mut counter_board,
+        );
+        working.close_board(counter_board);
+        let calls = hold_calls(calls, content.scratch.calls());
+        let mut journal = self.recorder.lock_journal(rt);
         let kept = journal.kept().after_pull(processor, from, &reply);
-        let reply = Ok(reply);
-        let calls = hold_calls(&mut seat.rooms, scratch.calls());
         let event = Event::Pull {
             processor,
             from,
             now,
         };
-        let (logged, told) = told_twice(event, &reply, calls);
-        let receipt = seat.working.commit_two(
+        let draft = Records::of(event, &Ok(reply), calls).draft(room, kept);
+        working.commit_two(
             &self.recorder.history,
-            journal,
+            &mut *journal,
             &mut cpu.cell,
             &mut source.cell,
-            CommitDraft {
-                room: &mut seat.first,
-                logged,
-                told,
-                kept,
-            },
-        );
-        Ok(receipt)
+            draft,
+        )
     }
 
     /// Refuses numbers that name no processor, and two equal ones.

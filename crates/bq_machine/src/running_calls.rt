@@ -1,15 +1,17 @@
 //! The calls of one processor: its clock ticks, its inbox's tasks enter, and its running task goes to sleep.
-ghost use Rattle.std.specs.Prelude.{◌≡◌, ◌∷◌, ◌++◌, ◌<◌, ℕ, [], IfOk, IfErr, OnErr};
+ghost use Rattle.std.specs.Prelude.{◌≡◌, ◌∷◌, ◌++◌, ◌<◌, ℕ, [], IfOk, IfErr, OnErr, is_some, true};
+ghost use Rattle.bq_shared.specs.Calls.{account_of};
+ghost use Rattle.bq_shared.specs.Parts.{told_calls};
 ghost use Rattle.bq_machine.specs.Calls.{IsCallRefused};
 
 use crate::clock::Clock;
 use crate::locks::Machine;
-use crate::told::{both_records, event_twice, quiet_twice, told_twice};
+use crate::records::Records;
 use bq_disc::RunQueue;
-use bq_history::{CommitDraft, Naming, Receipt, look_at_both};
-use bq_parts::{Event, Refusal, Reply};
-use bq_recording::Seat;
-use bq_shared::{Counting, PackedAnswer, Record, hold_calls, record_room};
+use bq_history::{Naming, Receipt, Room, look_at_both};
+use bq_parts::{Event, Refusal};
+use bq_recording::{Seat, WorkingSeat};
+use bq_shared::{CallRooms, Counting, Record, hold_calls, record_room};
 use std::alloc::Global;
 use std::sync::Wait;
 
@@ -37,41 +39,48 @@ impl<Q: RunQueue + Drop, K: Clock + Drop, N: Naming + Counting, const P: usize> 
         ensures err { OnErr result (seat.new ≡ seat.old) }
     {
         self.begin_call(alloc, &mut seat.first, &mut seat.rooms, processor)?;
+        Ok(self.tick_at(
+            rt,
+            &mut seat.working,
+            &mut seat.first,
+            &mut seat.rooms,
+            processor,
+        ))
+    }
+
+    /// A tick under the lock of its processor, from the lock to the record.
+    #[inline(always)]
+    fn tick_at<R: Wait>(
+        &self,
+        rt: &R,
+        working: &mut WorkingSeat<N>,
+        room: &mut Room<Record>,
+        calls: &mut Option<CallRooms>,
+        processor: u8,
+    ) -> Receipt<Record>
+        requires inside { processor < P }
+        requires ready { room.old ≡ true }
+        requires calls { is_some calls.old ≡ true }
+        requires tally { working.old.tally ≡ account_of told_calls working.old.caller.1 }
+        ensures caller { working.new.caller ≡ (working.old.caller.0, working.old.caller.1 ++ result ∷ []) }
+        ensures tally { working.new.tally ≡ account_of told_calls working.new.caller.1 }
+        ensures event { (now : ℕ) × K.gives processor now × (result.entry.event ≡ Event.Tick processor now) }
+    {
         let mut guard = self.lock_processor(rt, processor);
         let cpu = &mut *guard;
         let now = self.clock.now(processor);
         cpu.look(&self.recorder.history);
         let content = &mut cpu.cell.content;
         content.scratch.clear();
-        let mut counter_board = seat.working.open_board(&self.recorder.counters);
+        let mut counter_board = working.open_board(&self.recorder.counters);
         let reply = content
             .state
             .tick(processor, now, &mut content.scratch, &mut counter_board);
-        seat.working.close_board(counter_board);
-        let Reply::Ticked { run, by, steps } = reply else {
-            unreachable!()
-        };
-        let events = event_twice(Event::Tick { processor, now });
-        let answers = (
-            PackedAnswer::ticked(run, by, steps),
-            PackedAnswer::ticked(run, by, steps),
-        );
-        let calls = hold_calls(&mut seat.rooms, content.scratch.calls());
-        let (logged, told) = both_records(events, answers, calls);
-        let mut journal_guard = self.recorder.lock_journal(rt);
-        let journal = &mut *journal_guard;
-        let receipt = seat.working.commit_one(
-            &self.recorder.history,
-            journal,
-            &mut cpu.cell,
-            CommitDraft {
-                room: &mut seat.first,
-                logged,
-                told,
-                kept: None,
-            },
-        );
-        Ok(receipt)
+        working.close_board(counter_board);
+        let calls = hold_calls(calls, content.scratch.calls());
+        let draft = Records::of_tick(processor, now, reply, calls).draft(room, None);
+        let mut journal = self.recorder.lock_journal(rt);
+        working.commit_one(&self.recorder.history, &mut *journal, &mut cpu.cell, draft)
     }
 
     /// Moves all tasks of a processor's inbox to its queue, and decides who runs. Allocates the record.
@@ -91,6 +100,32 @@ impl<Q: RunQueue + Drop, K: Clock + Drop, N: Naming + Counting, const P: usize> 
         ensures err { OnErr result (seat.new ≡ seat.old) }
     {
         self.begin_call(alloc, &mut seat.first, &mut seat.rooms, processor)?;
+        Ok(self.drain_at(
+            rt,
+            &mut seat.working,
+            &mut seat.first,
+            &mut seat.rooms,
+            processor,
+        ))
+    }
+
+    /// A drain under the locks of the processor and its inbox, from the locks to the record.
+    fn drain_at<R: Wait>(
+        &self,
+        rt: &R,
+        working: &mut WorkingSeat<N>,
+        room: &mut Room<Record>,
+        calls: &mut Option<CallRooms>,
+        processor: u8,
+    ) -> Receipt<Record>
+        requires inside { processor < P }
+        requires ready { room.old ≡ true }
+        requires calls { is_some calls.old ≡ true }
+        requires tally { working.old.tally ≡ account_of told_calls working.old.caller.1 }
+        ensures caller { working.new.caller ≡ (working.old.caller.0, working.old.caller.1 ++ result ∷ []) }
+        ensures tally { working.new.tally ≡ account_of told_calls working.new.caller.1 }
+        ensures event { (now : ℕ) × K.gives processor now × (result.entry.event ≡ Event.Drain processor now) }
+    {
         let mut guard = self.lock_processor(rt, processor);
         let cpu = &mut *guard;
         let now = self.clock.now(processor);
@@ -99,7 +134,7 @@ impl<Q: RunQueue + Drop, K: Clock + Drop, N: Naming + Counting, const P: usize> 
         look_at_both(&self.recorder.history, cpu, inbox);
         let content = &mut cpu.cell.content;
         content.scratch.clear();
-        let mut counter_board = seat.working.open_board(&self.recorder.counters);
+        let mut counter_board = working.open_board(&self.recorder.counters);
         let reply = content.state.drain(
             &mut inbox.cell.content.state,
             processor,
@@ -107,25 +142,18 @@ impl<Q: RunQueue + Drop, K: Clock + Drop, N: Naming + Counting, const P: usize> 
             &mut content.scratch,
             &mut counter_board,
         );
-        seat.working.close_board(counter_board);
-        let reply = Ok(reply);
-        let calls = hold_calls(&mut seat.rooms, content.scratch.calls());
-        let (logged, told) = told_twice(Event::Drain { processor, now }, &reply, calls);
-        let mut journal_guard = self.recorder.lock_journal(rt);
-        let journal = &mut *journal_guard;
-        let receipt = seat.working.commit_two(
+        working.close_board(counter_board);
+        let calls = hold_calls(calls, content.scratch.calls());
+        let event = Event::Drain { processor, now };
+        let draft = Records::of(event, &Ok(reply), calls).draft(room, None);
+        let mut journal = self.recorder.lock_journal(rt);
+        working.commit_two(
             &self.recorder.history,
-            journal,
+            &mut *journal,
             &mut cpu.cell,
             &mut inbox.cell,
-            CommitDraft {
-                room: &mut seat.first,
-                logged,
-                told,
-                kept: None,
-            },
-        );
-        Ok(receipt)
+            draft,
+        )
     }
 
     /// Puts the running task of a processor to sleep, and runs the queue's choice. Allocates the record.
@@ -147,6 +175,24 @@ impl<Q: RunQueue + Drop, K: Clock + Drop, N: Naming + Counting, const P: usize> 
     {
         self.need_processor(processor)?;
         record_room(alloc, &mut seat.first)?;
+        Ok(self.block_at(rt, &mut seat.working, &mut seat.first, processor))
+    }
+
+    /// A block under the locks of the processor and the lobby, from the locks to the record.
+    fn block_at<R: Wait>(
+        &self,
+        rt: &R,
+        working: &mut WorkingSeat<N>,
+        room: &mut Room<Record>,
+        processor: u8,
+    ) -> Receipt<Record>
+        requires inside { processor < P }
+        requires ready { room.old ≡ true }
+        requires tally { working.old.tally ≡ account_of told_calls working.old.caller.1 }
+        ensures caller { working.new.caller ≡ (working.old.caller.0, working.old.caller.1 ++ result ∷ []) }
+        ensures tally { working.new.tally ≡ account_of told_calls working.new.caller.1 }
+        ensures event { (now : ℕ) × K.gives processor now × (result.entry.event ≡ Event.Block processor now) }
+    {
         let mut guard = self.lock_processor(rt, processor);
         let cpu = &mut *guard;
         let now = self.clock.now(processor);
@@ -158,22 +204,15 @@ impl<Q: RunQueue + Drop, K: Clock + Drop, N: Naming + Counting, const P: usize> 
             .content
             .state
             .block(&mut lobby.cell.content.state, processor, now);
-        let (logged, told) = quiet_twice(Event::Block { processor, now }, &reply);
-        let mut journal_guard = self.recorder.lock_journal(rt);
-        let journal = &mut *journal_guard;
+        let records = Records::quiet(Event::Block { processor, now }, &reply);
+        let mut journal = self.recorder.lock_journal(rt);
         let kept = journal.kept().after_block(processor, &reply);
-        let receipt = seat.working.commit_two(
+        working.commit_two(
             &self.recorder.history,
-            journal,
+            &mut *journal,
             &mut cpu.cell,
             &mut lobby.cell,
-            CommitDraft {
-                room: &mut seat.first,
-                logged,
-                told,
-                kept,
-            },
-        );
-        Ok(receipt)
+            records.draft(room, kept),
+        )
     }
 }

@@ -1,5 +1,5 @@
 //! A wake: a task of the lobby comes into a processor's hand, and is placed. The processor's lock is held throughout.
-ghost use Rattle.std.specs.Prelude.{◌≡◌, ◌∷◌, ◌++◌, ◌<◌, ◌≤◌, ◌⊎◌, ℕ, [], None, Some, IfOk, IfErr, IfSome, IsOk, IsSome, OnOk, OnErr, ◌↔◌, is_some, true};
+ghost use Rattle.std.specs.Prelude.{◌≡◌, ◌∷◌, ◌++◌, ◌<◌, ◌≤◌, ◌⊎◌, [], None, Some, IfOk, IfErr, IfSome, OnOk, OnErr, is_some, true};
 ghost use Rattle.std.specs.Option.{option_to_list, option_map};
 ghost use Rattle.bq_history.specs.Items.{part_item};
 ghost use Rattle.bq_hooks.specs.OwnPlace.{HasPlace};
@@ -16,11 +16,11 @@ ghost use Rattle.bq_machine.specs.Waking.{IsWake};
 use crate::clock::Clock;
 use crate::locks::Machine;
 use crate::needs::rooms_of_event;
+use crate::records::{Records, event_twice, no_calls};
 use crate::rooms::{BeginRooms, EventRooms, LoadRooms};
-use crate::told::{both_records, event_twice, no_calls, told_twice};
 use bq_disc::RunQueue;
 use bq_disc::limits::{PROCESSORS, TASKS};
-use bq_history::{CommitDraft, Naming, Receipt, Room};
+use bq_history::{Naming, Receipt, Room};
 use bq_parts::{Event, Placement, Refusal, Reply, argument_refusal};
 use bq_recording::{CpuCell, Seat, WorkingSeat};
 use bq_shared::{
@@ -76,11 +76,7 @@ impl<Q: RunQueue + Drop, K: Clock + Drop, N: Naming + Counting, const P: usize> 
         task: u16,
     ) -> Result<WakeReceipts, Refusal>
         ensures receipts { IfOk result (λ w. seat.new ≡ (seat.old.0, (seat.old.1 ++ w.begin ∷ []) ++ option_to_list w.end)) }
-        ensures begin { IfOk result (λ w. w.begin.entry.event ≡ Event.BeginWake processor task) }
-        ensures begun { IfOk result (λ w. IfErr w.begin.entry.reply (λ e. (e ≡ no.NoTask) ⊎ (e ≡ no.NotBlocked))) }
-        ensures end { IfOk result (λ w. IfSome w.end (λ r. (now : ℕ) × K.gives processor now × (r.entry.event ≡ Event.EndWake processor now))) }
-        ensures placed { IfOk result (λ w. IfSome w.end (λ r. IsPlaced task r.entry.reply)) }
-        ensures ended { IfOk result (λ w. IsSome w.end ↔ IsOk w.begin.entry.reply) }
+        ensures wake { IfOk result (IsWake (K.gives processor) processor task) }
         ensures passed { IfOk result (λ _. argument_refusal P (Event.BeginWake processor task) ≡ None) }
         ensures refused { IfErr result (IsCallRefused P (Event.BeginWake processor task)) }
         ensures err { OnErr result (seat.new ≡ seat.old) }
@@ -171,19 +167,8 @@ impl<Q: RunQueue + Drop, K: Clock + Drop, N: Naming + Counting, const P: usize> 
             PackedAnswer::with_room(&reply, rooms.loads.for_record),
             PackedAnswer::with_room(&reply, rooms.loads.for_receipt),
         );
-        let (logged, told) = both_records(events, answers, no_calls());
-        working.commit_two(
-            &self.recorder.history,
-            journal,
-            cpu,
-            &mut lobby.cell,
-            CommitDraft {
-                room: rooms.record,
-                logged,
-                told,
-                kept: None,
-            },
-        )
+        let draft = Records::new(events, answers, no_calls()).draft(rooms.record, None);
+        working.commit_two(&self.recorder.history, journal, cpu, &mut lobby.cell, draft)
     }
 
     /// The second half of a wake: the task in the hand is placed. It locks the inbox that is chosen, and unlocks it.
@@ -227,23 +212,13 @@ impl<Q: RunQueue + Drop, K: Clock + Drop, N: Naming + Counting, const P: usize> 
             steps,
         });
         let calls = hold_calls(rooms.calls, cpu.content.scratch.calls());
-        let (logged, told) = told_twice(Event::EndWake { processor, now }, &reply, calls);
+        let records = Records::of(Event::EndWake { processor, now }, &reply, calls);
         let mut journal_guard = self.recorder.lock_journal(rt);
         let journal = &mut *journal_guard;
         let mut kept = journal.kept().again();
         kept.one_more(to);
-        working.commit_two(
-            &self.recorder.history,
-            journal,
-            cpu,
-            &mut inbox.cell,
-            CommitDraft {
-                room: rooms.record,
-                logged,
-                told,
-                kept: Some(kept),
-            },
-        )
+        let draft = records.draft(rooms.record, Some(kept));
+        working.commit_two(&self.recorder.history, journal, cpu, &mut inbox.cell, draft)
     }
 
     /// Takes the task out of the hand, and chooses where it goes.

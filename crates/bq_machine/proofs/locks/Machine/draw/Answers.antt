@@ -3,8 +3,8 @@ use Rattle.bq_machine.proofs.locks.Machine.draw.Goals as goal
 
 pub commit-receipt-requires-clause-may : goal.commit-receipt-requires-clause-may
 commit-receipt-requires-clause-may g c =
-    rw (c.quiet_twice-logged.ensures.entry, c.saturating_add-generation.ensures, c.again-kept.ensures, c.kept.ensures)
+    rw (c.draft-draft.ensures, c.quiet.ensures, c.saturating_add-generation.ensures, c.again-kept.ensures, c.kept.ensures)
     (draw_moves g.Q.R.Discipline.discipline c.args.self.now.recorder.history.about c.deref_mut-journal.result.now.1)
 
 pub commit-receipt-requires-clause-told : goal.commit-receipt-requires-clause-told
-commit-receipt-requires-clause-told g c = rw c.quiet_twice-logged.ensures.entry c.requires.tally
+commit-receipt-requires-clause-told g c = rw (c.draft-draft.ensures, c.quiet.ensures) c.requires.tally

@@ -45,10 +45,10 @@ commit_two-requires-clause-may g c =
       inbox_part box.number box.state,
       rw c.look.ensures.same c.requires.says,
       c.inbox.invariant.0,
-      rw (c.told_twice-logged.ensures.entry, c.hold_calls-calls.ensures.receipt, c.calls.ensures.value, c.one_more.ensures, c.again-kept.ensures, c.kept.ensures, c.push.ensures, p.ensures.number, same)
+      rw (c.draft-draft.ensures, c.of-records.ensures, c.hold_calls-calls.ensures.record, c.calls.ensures.value, c.one_more.ensures, c.again-kept.ensures, c.kept.ensures, c.push.ensures, p.ensures.number, same)
           (place_moves d n own.number c.args.now c.args.task own.state p.new.content.state box.state p.new.content.scratch k x asked share),
     )
 
 pub commit_two-requires-clause-told : goal.commit_two-requires-clause-told
 commit_two-requires-clause-told g c =
-    rw (c.told_twice-logged.ensures.entry, c.hold_calls-calls.ensures.receipt, c.calls.ensures.value) c.place_task-woken.ensures.tally
+    rw (c.draft-draft.ensures, c.of-records.ensures, c.hold_calls-calls.ensures.record, c.calls.ensures.value) c.place_task-woken.ensures.tally

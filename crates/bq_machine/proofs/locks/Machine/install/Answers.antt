@@ -41,12 +41,12 @@ commit_one-requires-clause-may g c =
     let share = subst (λ (x : Attached). Installs h k.drawn own.state x r q) whole had in (
       cpu_part own.number own.state,
       c.cpu.invariant.0,
-      rw (c.both_records-logged.ensures.entry, c.install_event-2.ensures, c.answer_twice.ensures.entry, c.no_calls.ensures.entry, c.args.spare.receipt_is, same)
+      rw (c.draft-draft.ensures, c.new.ensures, c.install_event.ensures, c.answer_twice.ensures.logged, c.no_calls.ensures.logged, c.args.spare.record_is, same)
           (install_moves d n c.args.processor generation h i.policy own.state q k r fits share),
     )
 
 pub commit_one-requires-clause-told : goal.commit_one-requires-clause-told
-commit_one-requires-clause-told g c = rw (c.both_records-logged.ensures.entry, c.no_calls.ensures.entry) c.requires.tally
+commit_one-requires-clause-told g c = rw (c.draft-draft.ensures, c.new.ensures, c.no_calls.ensures.logged) c.requires.tally
 
 pub answer_twice-requires : goal.answer_twice-requires
 answer_twice-requires g c = installs_brief c.args.hook _ _ _ c.replace-reply.result c.replace-reply.new.self c.replace-reply.ensures.share

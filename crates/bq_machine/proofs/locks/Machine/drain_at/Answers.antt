@@ -4,7 +4,7 @@ use Rattle.bq_shared.proofs.LookLemmas.{SeenBoth, both_once, both_ids}
 use Rattle.bq_shared.proofs.CallStepLemmas.{drain_moves}
 use Rattle.bq_machine.proofs.AheadLemmas.{ahead_of}
 use Rattle.bq_shared.specs.Brief.{has_loads}
-use Rattle.bq_machine.proofs.locks.Machine.drain.Goals as goal
+use Rattle.bq_machine.proofs.locks.Machine.drain_at.Goals as goal
 
 pub drain-reply-requires-clause-once : goal.drain-reply-requires-clause-once
 drain-reply-requires-clause-once g c =
@@ -40,8 +40,8 @@ drain-reply-requires-clause-ids g c =
     let seen : SeenBoth d n own.number own.state box.state = rw (here, there) both in
     both_ids d n own.number own.state box.state seen
 
-pub commit_two-receipt-requires-clause-may : goal.commit_two-receipt-requires-clause-may
-commit_two-receipt-requires-clause-may g c =
+pub commit_two-requires-clause-may : goal.commit_two-requires-clause-may
+commit_two-requires-clause-may g c =
     let d = g.Q.R.Discipline.discipline in
     let n = c.args.self.now.recorder.history.about in
     let own = c.cpu.inside.cell.content in
@@ -50,23 +50,23 @@ commit_two-receipt-requires-clause-may g c =
     let there = c.inbox.view_is ∙ c.look_at_both.ensures.b in
     let at : own.number ≡ c.args.processor = ap (λ x. x.number) (here ∙ c.deref_mut-cpu.ensures.value) ∙ c.lock_processor-guard.ensures.own in
     let box_at : box.number ≡ c.args.processor = ap (λ x. x.number) (there ∙ c.deref_mut-inbox.ensures.value) ∙ c.lock_inbox-inbox_guard.ensures.own in
-    let k = c.deref_mut-journal.result.now.1 in
+    let k = c.deref_mut.result.now.1 in
     let t = c.drain-reply in (
       cpu_part own.number own.state,
       inbox_part box.number box.state,
       c.cpu.invariant.0,
       c.inbox.invariant.0,
-      rw (c.told_twice-logged.ensures.entry, c.hold_calls-calls.ensures.receipt, c.calls.ensures.value, t.ensures.emptied, box_at, at)
+      rw (c.draft-draft.ensures, c.of.ensures, c.hold_calls-calls.ensures.record, c.calls.ensures.value, t.ensures.emptied, box_at, at)
           (drain_moves d n c.args.processor c.now-now.result own.state t.new.self box.state t.new.scratch k t.result t.ensures.share),
     )
 
-pub commit_two-receipt-requires-clause-told : goal.commit_two-receipt-requires-clause-told
-commit_two-receipt-requires-clause-told g c =
+pub commit_two-requires-clause-told : goal.commit_two-requires-clause-told
+commit_two-requires-clause-told g c =
     let t = c.drain-reply in
-    rw (c.told_twice-logged.ensures.entry, c.hold_calls-calls.ensures.receipt, c.calls.ensures.value)
-    (ahead_of (λ x. x.tally) c.open_board-counter_board.result t.new.board c.seat.inside.working.caller.1 c.close_board.new.self.caller.1 t.new.scratch c.close_board.new.self.tally
-    (c.open_board-counter_board.ensures.counter_board ∙ c.seat.invariant) t.ensures.board c.close_board.ensures.tally
+    rw (c.draft-draft.ensures, c.of.ensures, c.hold_calls-calls.ensures.record, c.calls.ensures.value)
+    (ahead_of (λ x. x.tally) c.open_board-counter_board.result t.new.board c.args.working.now.caller.1 c.close_board.new.self.caller.1 t.new.scratch c.close_board.new.self.tally
+    (c.open_board-counter_board.ensures.counter_board ∙ c.requires.tally) t.ensures.board c.close_board.ensures.tally
     (ap (λ x. x.1) (c.close_board.ensures.caller ∙ c.open_board-counter_board.ensures.caller)))
 
-pub told_twice-logged-requires-clause-answer : goal.told_twice-logged-requires-clause-answer
-told_twice-logged-requires-clause-answer g c = ap (λ r. has_loads (Ok r)) c.drain-reply.ensures.share.3
+pub of-requires-clause-answer : goal.of-requires-clause-answer
+of-requires-clause-answer g c = ap (λ r. has_loads (Ok r)) c.drain-reply.ensures.share.3

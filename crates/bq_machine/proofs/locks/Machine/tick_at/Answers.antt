@@ -1,9 +1,9 @@
-use Rattle.std.proofs.Common.{◌≡◌, ◌∙◌, sym, ap}
+use Rattle.std.proofs.Common.{◌≡◌, ◌∙◌, ap}
 use Rattle.bq_shared.specs.Parts.{cpu_part}
 use Rattle.bq_shared.proofs.LookLemmas.{Seen, seen_once, seen_ids}
 use Rattle.bq_shared.proofs.CallStepLemmas.{tick_moves}
 use Rattle.bq_machine.proofs.AheadLemmas.{ahead_of}
-use Rattle.bq_machine.proofs.locks.Machine.tick.Goals as goal
+use Rattle.bq_machine.proofs.locks.Machine.tick_at.Goals as goal
 
 pub tick-reply-requires-clause-once : goal.tick-reply-requires-clause-once
 tick-reply-requires-clause-once g c =
@@ -23,23 +23,23 @@ tick-reply-requires-clause-ids g c =
     let seen : Seen d n own.number own.state = rw here c.look.ensures.world in
     seen_ids d n own.number own.state seen
 
-pub commit_one-receipt-requires-clause-may : goal.commit_one-receipt-requires-clause-may
-commit_one-receipt-requires-clause-may g c =
+pub commit_one-requires-clause-may : goal.commit_one-requires-clause-may
+commit_one-requires-clause-may g c =
     let n = c.args.self.now.recorder.history.about in
     let own = c.cpu.inside.cell.content in
     let same : own.number ≡ c.args.processor = ap (λ x. x.number) (c.cpu.view_is ∙ c.look.ensures.same ∙ c.deref_mut-cpu.ensures.value) ∙ c.lock_processor-guard.ensures.own in
-    let k = c.deref_mut-journal.result.now.1 in
+    let k = c.deref_mut.result.now.1 in
     let t = c.tick-reply in (
       cpu_part own.number own.state,
       c.cpu.invariant.0,
-      rw (c.both_records-logged.ensures.entry, c.event_twice-events.ensures.entry, c.ticked-2.ensures, sym c.in-Ticked.is, c.hold_calls-calls.ensures.receipt, c.calls.ensures.value, same)
+      rw (c.draft-draft.ensures, c.of_tick.ensures, c.hold_calls-calls.ensures.record, c.calls.ensures.value, same)
           (tick_moves g.Q.R.Discipline.discipline n c.args.processor c.now-now.result own.state t.new.self t.new.scratch k t.result t.ensures.share),
     )
 
-pub commit_one-receipt-requires-clause-told : goal.commit_one-receipt-requires-clause-told
-commit_one-receipt-requires-clause-told g c =
+pub commit_one-requires-clause-told : goal.commit_one-requires-clause-told
+commit_one-requires-clause-told g c =
     let t = c.tick-reply in
-    rw (c.both_records-logged.ensures.entry, c.hold_calls-calls.ensures.receipt, c.calls.ensures.value)
-    (ahead_of (λ x. x.tally) c.open_board-counter_board.result t.new.board c.seat.inside.working.caller.1 c.close_board.new.self.caller.1 t.new.scratch c.close_board.new.self.tally
-    (c.open_board-counter_board.ensures.counter_board ∙ c.seat.invariant) t.ensures.board c.close_board.ensures.tally
+    rw (c.draft-draft.ensures, c.of_tick.ensures, c.hold_calls-calls.ensures.record, c.calls.ensures.value)
+    (ahead_of (λ x. x.tally) c.open_board-counter_board.result t.new.board c.args.working.now.caller.1 c.close_board.new.self.caller.1 t.new.scratch c.close_board.new.self.tally
+    (c.open_board-counter_board.ensures.counter_board ∙ c.requires.tally) t.ensures.board c.close_board.ensures.tally
     (ap (λ x. x.1) (c.close_board.ensures.caller ∙ c.open_board-counter_board.ensures.caller)))

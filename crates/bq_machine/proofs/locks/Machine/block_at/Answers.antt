@@ -4,7 +4,7 @@ use Rattle.bq_shared.specs.Parts.{cpu_part, lobby_part, kept_by_block}
 use Rattle.bq_shared.proofs.LookLemmas.{Seen, seen_ids}
 use Rattle.bq_shared.proofs.CallStepLemmas.{block_moves}
 use Rattle.bq_machine.proofs.BriefLemmas.{blocks_brief}
-use Rattle.bq_machine.proofs.locks.Machine.block.Goals as goal
+use Rattle.bq_machine.proofs.locks.Machine.block_at.Goals as goal
 
 pub block-reply-requires : goal.block-reply-requires
 block-reply-requires g c =
@@ -15,26 +15,26 @@ block-reply-requires g c =
     let seen : Seen d n own.number own.state = rw here c.look.ensures.world in
     seen_ids d n own.number own.state seen
 
-pub commit_two-receipt-requires-clause-may : goal.commit_two-receipt-requires-clause-may
-commit_two-receipt-requires-clause-may g c =
+pub commit_two-requires-clause-may : goal.commit_two-requires-clause-may
+commit_two-requires-clause-may g c =
     let d = g.Q.R.Discipline.discipline in
     let n = c.args.self.now.recorder.history.about in
     let own = c.cpu.inside.cell.content in
     let hall = c.lobby.inside.cell.content.state in
     let b = c.block-reply in
-    let k = c.deref_mut-journal.result.now.1 in
+    let k = c.deref_mut.result.now.1 in
     let same : own.number ≡ c.args.processor = ap (λ x. x.number) (c.cpu.view_is ∙ c.look.ensures.same ∙ c.deref_mut-cpu.ensures.value) ∙ c.lock_processor-guard.ensures.own in
-    let after : kept_after k c.after_block-kept.result ≡ kept_by_block c.args.processor b.result k = rw c.kept.ensures at c.after_block-kept.ensures in (
+    let after : kept_after k c.after_block-kept.result ≡ kept_by_block c.args.processor b.result k = rw (c.kept.ensures, c.deref.ensures, ← c.deref_mut.ensures.value) at c.after_block-kept.ensures in (
       cpu_part own.number own.state,
       lobby_part hall,
       c.cpu.invariant.0,
       c.lobby.invariant.0,
-      rw (c.quiet_twice-logged.ensures.entry, after, same)
+      rw (c.draft.ensures, c.quiet-records.ensures, after, same)
           (block_moves d n c.args.processor c.now-now.result own.state b.new.self hall b.new.lobby k b.result b.ensures.share),
     )
 
-pub commit_two-receipt-requires-clause-told : goal.commit_two-receipt-requires-clause-told
-commit_two-receipt-requires-clause-told g c = rw c.quiet_twice-logged.ensures.entry c.seat.invariant
+pub commit_two-requires-clause-told : goal.commit_two-requires-clause-told
+commit_two-requires-clause-told g c = rw (c.draft.ensures, c.quiet-records.ensures) c.requires.tally
 
-pub quiet_twice-logged-requires-clause-answer : goal.quiet_twice-logged-requires-clause-answer
-quiet_twice-logged-requires-clause-answer g c = blocks_brief g.Q.R.Discipline.discipline c.args.processor c.now-now.result c.cpu.inside.cell.content.state c.lobby.inside.cell.content.state c.block-reply.result c.block-reply.new.self c.block-reply.new.lobby c.block-reply.ensures.share
+pub quiet-records-requires-clause-answer : goal.quiet-records-requires-clause-answer
+quiet-records-requires-clause-answer g c = blocks_brief g.Q.R.Discipline.discipline c.args.processor c.now-now.result c.cpu.inside.cell.content.state c.lobby.inside.cell.content.state c.block-reply.result c.block-reply.new.self c.block-reply.new.lobby c.block-reply.ensures.share
