@@ -107,11 +107,11 @@ Lived-silent takes kinds A x s t silent drawn had firsts =
     record { deeds = h.deeds; after = h.after; periods = h.periods; seed = h.seed; streams = h.streams; firsts = h.firsts; begun = h.begun; agrees = h.agrees; tells = record { told = []; taken = refl; holds = h.lives }; are = h.are }
 
 -- streams that have not changed
-streams-stay : (s t : Simulation) (drawn : List ℕ) → Stays s t → HasDrawn s drawn → HasDrawn t drawn
+pub streams-stay : (s t : Simulation) (drawn : List ℕ) → Stays s t → HasDrawn s drawn → HasDrawn t drawn
 streams-stay s t drawn stays had = ap (λ v. v.items) stays.streams ∙ had ∙ ap (λ n. streams_after n 0 drawn) (sym stays.seed)
 
 -- the first tasks of kinds have not changed
-firsts-stay : (kinds : List TaskKind) (s t : Simulation) → Stays s t → HasFirsts kinds s → HasFirsts kinds t
+pub firsts-stay : (kinds : List TaskKind) (s t : Simulation) → Stays s t → HasFirsts kinds s → HasFirsts kinds t
 firsts-stay kinds s t stays had number first there = had number first (ap (λ v. slice_get v.items number) (sym stays.firsts) ∙ there)
 
 -- nor are they fewer

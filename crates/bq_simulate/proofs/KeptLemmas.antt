@@ -1,11 +1,17 @@
 -- All that is kept from the opening of a simulation on.
 use Rattle.std.proofs.Common.{◌≡◌, ℕ, ◌≤◌, inl, inr, List, [], ◌∷◌, length, Option, Some, None, refl, sym, subst, ap, ◌∙◌, arith}
+use Rattle.std.specs.Prelude.{Ok}
 use Rattle.std.proofs.lemmas.Option.{none-some}
+use Rattle.bq_core.proofs.SizeLemmas.{step_count}
+use Rattle.bq_parts.specs.Choices.{policies}
+use Rattle.bq_parts.specs.World.{count_in}
+use Rattle.bq_trace.specs.Machines.{discipline_of}
 use Rattle.bq_parts.specs.declared.event.Event.{Event}
 use Rattle.bq_parts.specs.declared.event.Event.TheVariants.{Block, Pull, Tick}
 use Rattle.bq_trace.specs.TraceEvents.{Told}
 use Rattle.bq_verify.specs.Accepted.{Accepted}
 use Rattle.bq_words.specs.Sizes.{processors_in}
+use Rattle.bq_words.proofs.SizeLemmas.{processors_in-few}
 use Rattle.bq_workload.specs.declared.action.Action.{Action}
 use Rattle.bq_workload.specs.declared.action.Action.TheVariants.{Run, Sleep, Wait, Wake}
 use Rattle.bq_workload.specs.declared.due.Due.{Due}
@@ -25,7 +31,7 @@ use Rattle.bq_simulate.specs.KeptLaws.{AllIsKept, BeginningsAreKept, Leads}
 use Rattle.bq_simulate.specs.Simulations.{opening_book, periods_of}
 use Rattle.bq_simulate.specs.Steps.{AreInOrder, AreJust, AreWake, Follow, Meet, Opens, Step, Wakes, deeds_of, pulls_of}
 use Rattle.bq_simulate.proofs.AccountLemmas.{changed_at-length}
-use Rattle.bq_simulate.proofs.MeetAgreeLemmas.{meetings_agree}
+use Rattle.bq_simulate.proofs.MeetAgreeLemmas.{meetings_agree, step_of, world_of}
 use Rattle.bq_simulate.proofs.MeetTimeLemmas.{meetings_are_on_time}
 use Rattle.bq_simulate.proofs.OrderLemmas.{kept-by}
 use Rattle.bq_simulate.proofs.SimulationAgreeLemmas.{none_kept, opened_open, part}
@@ -93,16 +99,20 @@ act_count : (kinds : List TaskKind) (seed processor task now : ℕ) (c : TaskPro
 act_count kinds seed processor task now c b =
     changed_at-length _ (charged processor now b.accounts).by_task task ∙ charged_keeps (λ (x : Accounts). length x.by_task ≡ length b.accounts.by_task) (count_of_places (length b.accounts.by_task)) processor now b.accounts refl
 
--- no clock was given a later reading, and there are as many tasks
-by_kept : (kinds : List TaskKind) (seed : ℕ) (periods : Periods) (d e : Driver) (b c : Book) (now : ℕ) (deeds : List Deed) (told : Told) → AreBy now deeds → Lives kinds seed periods d b deeds told e c → d.now ≤ now → (e.now ≤ now) × (length c.accounts.by_task ≡ length b.accounts.by_task)
-by_kept kinds seed periods d e b c now [] told are (none, same, kept) low = (subst (λ (x : Driver). x.now ≤ now) (sym same) low, ap (λ (x : Book). length x.accounts.by_task) kept)
+-- no clock was given a later reading, and there are as many tasks and processors
+pub by_kept : (kinds : List TaskKind) (seed : ℕ) (periods : Periods) (d e : Driver) (b c : Book) (now : ℕ) (deeds : List Deed) (told : Told) → AreBy now deeds → Lives kinds seed periods d b deeds told e c → d.now ≤ now → (e.now ≤ now) × (length c.accounts.by_task ≡ length b.accounts.by_task) × (count_in (world_of e) ≡ count_in (world_of d))
+by_kept kinds seed periods d e b c now [] told are (none, same, kept) low = (subst (λ (x : Driver). x.now ≤ now) (sym same) low, ap (λ (x : Book). length x.accounts.by_task) kept, ap (λ (x : Driver). count_in (world_of x)) same)
 by_kept kinds seed periods d e b c now (Happens event reply ∷ deeds) told are (due, mid, first, rest, does, lives, whole) low =
     let later = by_kept kinds seed periods mid e (after_answer periods event reply b) c now deeds rest are.1 lives (rises_by now d.now mid.now (reading_of event) are.0 does.rises low) in
-    (later.0, later.1 ∙ event_keeps (λ (x : Accounts). length x.by_task ≡ length b.accounts.by_task) (count_of_places (length b.accounts.by_task)) periods event reply b.accounts refl)
+    let step = step_of d event reply first mid does in (
+      later.0,
+      later.1 ∙ event_keeps (λ (x : Accounts). length x.by_task ≡ length b.accounts.by_task) (count_of_places (length b.accounts.by_task)) periods event reply b.accounts refl,
+      later.2 ∙ step_count (policies (discipline_of d.machine.rule)) (world_of d) event does.happens.moves.step.calls (Ok reply) (world_of mid) step,
+    )
 by_kept kinds seed periods d e b c now (Joins kind home ∷ deeds) told are lives low = absurd are
 by_kept kinds seed periods d e b c now (Acts at task then action aim ∷ deeds) told are (k, done, is, to, lives) low =
     let later = by_kept kinds seed periods d e (after_act kinds seed at task then k b) c now deeds told are lives low in
-    (later.0, later.1 ∙ act_count kinds seed at task then k b)
+    (later.0, later.1 ∙ act_count kinds seed at task then k b, later.2)
 by_kept kinds seed periods d e b c now (Rings task then ∷ deeds) told are (k, there, asleep, timer, lives) low = by_kept kinds seed periods d e b c now deeds told are lives low
 by_kept kinds seed periods d e b c now (Reaches task ∷ deeds) told are (k, there, waits, lives) low = by_kept kinds seed periods d e b c now deeds told are lives low
 by_kept kinds seed periods d e b c now (Misses task ∷ deeds) told are (k, there, waits, lives) low = by_kept kinds seed periods d e b c now deeds told are lives low
@@ -111,7 +121,8 @@ by_kept kinds seed periods d e b c now (Looks at then source ∷ deeds) told are
 
 -- From one thing to the next
 
-none_stands : (w : Workload) → StandAtActions w.tasks.items (opening_book w.machine)
+-- no task stands anywhere yet
+pub none_stands : (w : Workload) → StandAtActions w.tasks.items (opening_book w.machine)
 none_stands w = record { tasks = λ task c at. absurd (none-some c at); streams = refl }
 
 opened : (policies : List Accepted) (w : Workload) (d e : Driver) (b : Book) (deeds : List Deed) (first told : Told) → first_flaw w ≡ None → Starts w.machine.rule w.machine.size first d → Opens policies (processors_in w.machine.size) w.tasks.items deeds
@@ -124,12 +135,13 @@ opened policies w d e b deeds first told sound starts opens leads =
       read = omega (arith, o.read);
       standing = standing_is_kept w d e (opening_book w.machine) b deeds told sound leads (none_stands w);
       all = o.tasks_there;
+      few = omega (arith, o.processors_there, processors_in-few w.machine.size);
     }
 
 comes : (w : Workload) (d : Driver) (b : Book) (due : Due) (now time : ℕ) → first_flaw w ≡ None → IsKept w.tasks.items now d b → IsNext w.machine.duration b.accounts due time → (now ≤ time) × (time ≤ w.machine.duration) × IsKept w.tasks.items time d b
 comes w d b due now time sound h next =
     let m = nothing_is_missed w.machine.duration now time b.accounts due (sound_times w sound).duration h.on_time next in
-    (m.0, m.1, record { agrees = h.agrees; on_time = m.2; read = omega (arith, h.read, m.0); standing = h.standing; all = h.all })
+    (m.0, m.1, record { agrees = h.agrees; on_time = m.2; read = omega (arith, h.read, m.0); standing = h.standing; all = h.all; few = h.few })
 
 met : (w : Workload) (d e : Driver) (b c : Book) (due : Due) (now : ℕ) (deeds : List Deed) (told : Told) → first_flaw w ≡ None → now ≤ w.machine.duration → Meet due now deeds → Leads w d b deeds told e c → IsKept w.tasks.items now d b → IsKept w.tasks.items now e c
 met w d e b c due now deeds told sound until meet leads h =
@@ -144,6 +156,7 @@ met w d e b c due now deeds told sound until meet leads h =
       read = by.0;
       standing = standing_is_kept w d e b c deeds told sound leads h.standing;
       all = by.1 ∙ h.all;
+      few = omega (arith, by.2, h.few);
     }
 
 -- so all is kept from one thing to the next

@@ -1,10 +1,11 @@
 -- Which tasks are of which kind.
-use Rattle.std.proofs.Common.{◌≡◌, ℕ, zero, suc, ◌+◌, ◌<◌, ◌⊎◌, inl, inr, List, [], ◌∷◌, ◌++◌, Some, ap, sym, refl, ◌∙◌, arith, get_or, length, take}
+use Rattle.std.proofs.Common.{◌≡◌, ℕ, zero, suc, ◌+◌, ◌<◌, ◌≤◌, ◌⊎◌, inl, inr, List, [], ◌∷◌, ◌++◌, Some, ap, sym, refl, ◌∙◌, arith, get_or, length, take}
 use Rattle.std.specs.Prelude.{slice_get, sum_by}
 use Rattle.std.proofs.lemmas.List.{take_more}
-use Rattle.std.proofs.lemmas.List.Sums.{sum_by-append}
+use Rattle.std.proofs.lemmas.List.Sums.{sum_by-append, sum_by-take-drop}
 use Rattle.std.proofs.lemmas.Option.{get_or_from_slice_get, slice_get_within, none-some, same_Some}
 use Rattle.bq_workload.specs.declared.workload.TaskKind.{TaskKind}
+use Rattle.bq_workload.specs.Kinds.{tasks_in}
 use Rattle.bq_simulate.specs.Actions.{IsOfKind, first_of}
 
 -- the tasks of the next kind follow those of this one
@@ -17,6 +18,10 @@ first-more kinds number kind there =
     let is : first + sum_by count (get_or kinds number kind ∷ []) ≡ first + sum_by count (kind ∷ []) = ap (λ (k : TaskKind). first + sum_by count (k ∷ [])) (get_or_from_slice_get kinds number kind kind there) in
     let one : sum_by count (kind ∷ []) ≡ kind.count = omega arith in
     last ∙ is ∙ ap (λ n. first + n) one
+
+-- and are among all
+pub kind-within : (kinds : List TaskKind) (number : ℕ) (kind : TaskKind) → slice_get kinds number ≡ Some kind → first_of kinds number + kind.count ≤ tasks_in kinds
+kind-within kinds number kind there = omega (arith, first-more kinds number kind there, sum_by-take-drop (λ (k : TaskKind). k.count) kinds (number + 1))
 
 -- the tasks of a kind, one after another
 pub nth-of-kind : (kinds : List TaskKind) (kind : TaskKind) (task number before : ℕ) → slice_get kinds number ≡ Some kind → task ≡ first_of kinds number + before → before < kind.count → IsOfKind kinds task number

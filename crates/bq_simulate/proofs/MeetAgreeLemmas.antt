@@ -141,7 +141,7 @@ agrees_further w a task c new at state home h =
     }
 
 -- a task that runs goes to sleep: the accounts say so already
-agrees_but_it : (w : World) (a : Accounts) (task processor : ℕ) (c new : TaskProgress) → slice_get a.by_task task ≡ Some c → can_run new.task_state ≡ false → new.home ≡ c.home → run_at a.by_processor processor ≡ Some task → AgreesWith w a → AgreesBut task w (of_task (λ _. new) task a)
+pub agrees_but_it : (w : World) (a : Accounts) (task processor : ℕ) (c new : TaskProgress) → slice_get a.by_task task ≡ Some c → can_run new.task_state ≡ false → new.home ≡ c.home → run_at a.by_processor processor ≡ Some task → AgreesWith w a → AgreesBut task w (of_task (λ _. new) task a)
 agrees_but_it w a task processor c new at sleeps home runs h =
     let b : Accounts = of_task (λ _. new) task a in
     let m = h.mirrors.processors in
@@ -178,14 +178,14 @@ tick_agrees periods d e b processor now reply told does h =
     let low = (not_refused_is_there (count_in w) processor None (accepted w (Tick processor now) step.0).0).0 in
     (ticks_are_taken (discipline_of d.machine.rule) periods w b.accounts processor now h low).leaves does.happens.moves.step.calls reply (world_of e) step
 
-block_agrees : (periods : Periods) (d e : Driver) (b : Book) (processor task now : ℕ) (reply : Reply) (told : Told) → Does d (Block processor now) reply told e → AgreesBut task (world_of d) b.accounts → run_at b.accounts.by_processor processor ≡ Some task → Agree e (after_answer periods (Block processor now) reply b)
+pub block_agrees : (periods : Periods) (d e : Driver) (b : Book) (processor task now : ℕ) (reply : Reply) (told : Told) → Does d (Block processor now) reply told e → AgreesBut task (world_of d) b.accounts → run_at b.accounts.by_processor processor ≡ Some task → Agree e (after_answer periods (Block processor now) reply b)
 block_agrees periods d e b processor task now reply told does h runs =
     let w : World = world_of d in
     let step = step_of d (Block processor now) reply told e does in
     let low = (not_refused_is_there (count_in w) processor None (accepted w (Block processor now) step.0).0).0 in
     (blocks_are_taken (discipline_of d.machine.rule) periods w b.accounts processor task now h low runs).leaves does.happens.moves.step.calls reply (world_of e) step
 
-pull_agrees : (periods : Periods) (d e : Driver) (b : Book) (processor from now : ℕ) (reply : Reply) (told : Told) → Does d (Pull processor from now) reply told e → Agree d b → Agree e (after_answer periods (Pull processor from now) reply b)
+pub pull_agrees : (periods : Periods) (d e : Driver) (b : Book) (processor from now : ℕ) (reply : Reply) (told : Told) → Does d (Pull processor from now) reply told e → Agree d b → Agree e (after_answer periods (Pull processor from now) reply b)
 pull_agrees periods d e b processor from now reply told does h =
     let w : World = world_of d in
     let step = step_of d (Pull processor from now) reply told e does in

@@ -15,7 +15,7 @@ use Rattle.bq_workload.specs.declared.progress.TaskState.TheVariants.{Asleep}
 use Rattle.bq_workload.specs.declared.processor_state.ProcessorState.{ProcessorState}
 use Rattle.bq_workload.specs.declared.roster.Periods.{Periods}
 use Rattle.bq_workload.specs.declared.workload.TaskKind.{TaskKind}
-use Rattle.bq_workload.specs.Accounts.{Accounts, changed_at, charged, charged_by, grown, is_same, of_processor, of_task, passed, shrunk, switched, taken_over}
+use Rattle.bq_workload.specs.Accounts.{Accounts, IsDone, changed_at, charged, charged_by, grown, is_same, of_processor, of_task, passed, shrunk, switched, taken_over}
 use Rattle.bq_workload.specs.Dues.{next_multiple}
 use Rattle.bq_workload.specs.TaskProgress.{woken}
 use Rattle.bq_workload.proofs.AgreeLemmas.{changed_at-here, changed_at-others, some_or_none}
@@ -44,7 +44,7 @@ switched_any periods now processor run v a some alone agrees h =
     ]
 
 -- how many tasks a processor has changes no time
-sized_on_time : (now processor : ℕ) (g : ℕ → ℕ) (a : Accounts) → IsOnTime now a → IsOnTime now (of_processor (λ l. record l { size = g l.size }) processor a)
+pub sized_on_time : (now processor : ℕ) (g : ℕ → ℕ) (a : Accounts) → IsOnTime now a → IsOnTime now (of_processor (λ l. record l { size = g l.size }) processor a)
 sized_on_time now processor g a h =
     let f : ProcessorState → ProcessorState = λ l. record l { size = g l.size } in
     record {
@@ -60,7 +60,7 @@ sized_on_time now processor g a h =
     }
 
 -- nor who runs
-sized_alone : (at processor : ℕ) (g : ℕ → ℕ) (a : Accounts) → RunsAlone a processor → RunsAlone (of_processor (λ l. record l { size = g l.size }) at a) processor
+pub sized_alone : (at processor : ℕ) (g : ℕ → ℕ) (a : Accounts) → RunsAlone a processor → RunsAlone (of_processor (λ l. record l { size = g l.size }) at a) processor
 sized_alone at processor g a alone other task here there =
     let f : ProcessorState → ProcessorState = λ l. record l { size = g l.size } in
     let kept : (k : ℕ) → run_at (of_processor f at a).by_processor k ≡ run_at a.by_processor k = λ k. read_kept f (λ (l : ProcessorState). l.run) None (λ l. refl) a.by_processor at k in
@@ -77,11 +77,11 @@ tick_time kinds seed periods d e b c processor now deeds told some (reply, more,
     let its : c.accounts ≡ switched processor (runs_now reply) now periods a = ap (λ (x : Book). x.accounts) kept in
     same_accounts now (switched processor (runs_now reply) now periods a) c.accounts its (switched_any periods now processor (runs_now reply) (world_of e) a some (tasks_run_alone (world_of d) a processor h) (subst (λ (x : Accounts). AgreesWith (world_of e) x) its after) (time busy))
 
-passed_on_time : (now processor from : ℕ) (task : Option ℕ) (a : Accounts) → IsOnTime now a → IsOnTime now (option_map_or (λ _. passed from processor a) task a)
+pub passed_on_time : (now processor from : ℕ) (task : Option ℕ) (a : Accounts) → IsOnTime now a → IsOnTime now (option_map_or (λ _. passed from processor a) task a)
 passed_on_time now processor from None a h = h
 passed_on_time now processor from (Some id) a h = sized_on_time now processor (λ n. n + 1) (shrunk from a) (sized_on_time now from (λ n. n - 1) a h)
 
-passed_alone : (processor from : ℕ) (task : Option ℕ) (a : Accounts) → RunsAlone a processor → RunsAlone (option_map_or (λ _. passed from processor a) task a) processor
+pub passed_alone : (processor from : ℕ) (task : Option ℕ) (a : Accounts) → RunsAlone a processor → RunsAlone (option_map_or (λ _. passed from processor a) task a) processor
 passed_alone processor from None a alone = alone
 passed_alone processor from (Some id) a alone = sized_alone processor processor (λ n. n + 1) (shrunk from a) (sized_alone from processor (λ n. n - 1) a alone)
 
@@ -104,12 +104,12 @@ look_time (Some from) kinds seed periods d e b c processor now deeds told some (
 -- Wakes
 
 -- a task that sleeps runs nowhere
-sleeper_rests : (w : World) (a : Accounts) (task : ℕ) (c : TaskProgress) → AgreesWith w a → slice_get a.by_task task ≡ Some c → can_run c.task_state ≡ false → (k : ℕ) → run_at a.by_processor k ≢ Some task
+pub sleeper_rests : (w : World) (a : Accounts) (task : ℕ) (c : TaskProgress) → AgreesWith w a → slice_get a.by_task task ≡ Some c → can_run c.task_state ≡ false → (k : ℕ) → run_at a.by_processor k ≢ Some task
 sleeper_rests w a task c h at sleeps k runs =
     let stands : StandsAs (Some c.task_state) (entry w task) = subst (λ o. StandsAs o (entry w task)) (ap (λ (o : Option TaskProgress). option_map_or (λ (x : TaskProgress). Some x.task_state) o None) at) (h.mirrors.tasks task) in
     true≢false (sym (runs_away w k task h.orderly (sym (h.mirrors.processors.runs k) ∙ runs)) ∙ stands.1 ∙ sleeps)
 
-woken_on_time : (now task : ℕ) (a : Accounts) → ((k : ℕ) → run_at a.by_processor k ≢ Some task) → IsOnTime now a → IsOnTime now (of_task woken task a)
+pub woken_on_time : (now task : ℕ) (a : Accounts) → ((k : ℕ) → run_at a.by_processor k ≢ Some task) → IsOnTime now a → IsOnTime now (of_task woken task a)
 woken_on_time now task a rests h = record {
   tasks = tasks_changed now woken a.by_task task (λ c at. record { phase = omega arith; timer = λ asleep. cc }) h.tasks;
   processors = λ k l at. carried now a.by_task (changed_at woken a.by_task task) l
@@ -139,7 +139,7 @@ wakes_time kinds seed periods d e b c processor task now deeds told some (inr (m
 
 -- Ends of phases
 
-acted_got : (action : Option Action) (kinds : List TaskKind) (length now : ℕ) (c : TaskProgress) → (acted kinds action length now c).got ≡ 0
+pub acted_got : (action : Option Action) (kinds : List TaskKind) (length now : ℕ) (c : TaskProgress) → (acted kinds action length now c).got ≡ 0
 acted_got None kinds length now c = refl
 acted_got (Some (Run asked)) kinds length now c = refl
 acted_got (Some (Sleep asked)) kinds length now c = refl
@@ -211,27 +211,33 @@ follow_time (Some (Wake kind)) (Some other) kinds seed periods d e a b f process
     wakes_time kinds seed periods d e b f processor other now deeds told some follow lives
     (subst (λ x. AgreesWith (world_of d) x) (sym is) (agrees_further (world_of d) a task c new at (woken_one_state kinds kind c) (woken_one_home kinds kind c) h)) after time
 
-end_time : (kinds : List TaskKind) (seed : ℕ) (periods : Periods) (d e : Driver) (b c : Book) (processor now : ℕ) (deeds : List Deed) (told : Told) → 1 ≤ periods.tick → now < 2 ^ 48 → Meet (due.End processor) now deeds → Lives kinds seed periods d b deeds told e c → Agree d b → Agree e c
-    → IsOnTime now b.accounts → IsOnTime now c.accounts
-end_time kinds seed periods d e b c processor now deeds told some early (task, action, aim, more, is, follow) lives h after time =
-    let (k, done, its, to, rest) = subst (λ l. Lives kinds seed periods d b l told e c) is lives in
-    let was : Accounts = b.accounts in
+-- a task whose phase has ended takes up what it does next
+pub taken_up_on_time : (action : Option Action) (kinds : List TaskKind) (w : World) (was : Accounts) (processor task length now : ℕ) (c : TaskProgress) → now < 2 ^ 48 → AgreesWith w was → IsDone (charged processor now was) processor task c → IsOnTime now was
+    → IsOnTime now (of_task (λ _. acted kinds action length now c) task (charged processor now was))
+taken_up_on_time action kinds w was processor task length now c early h done time =
     let a : Accounts = charged processor now was in
-    let next : Option Action = next_action kinds k in
-    let long : ℕ = length_taken seed task b.drawn (asked_by next) in
-    let agrees : AgreesWith (world_of d) a = agrees_charged (world_of d) was processor now h in
+    let agrees : AgreesWith w a = agrees_charged w was processor now h in
     let runs : run_at a.by_processor processor ≡ Some task = run_of a processor done.processor_state done.at ∙ done.runs in
-    let awake : k.task_state ≡ Asleep → ⊥ = λ asleep. sleeper_rests (world_of d) a task k agrees done.there (ap can_run asleep) processor runs in
+    let awake : c.task_state ≡ Asleep → ⊥ = λ asleep. sleeper_rests w a task c agrees done.there (ap can_run asleep) processor runs in
     elim (some_or_none (slice_get was.by_processor processor)) [
       | inl none ↦
           let same : a ≡ was = ap (λ (o : Option ProcessorState). option_map_or (λ (l : ProcessorState). of_processor (λ x. record x { since = now }) processor (charged_by l now was)) o was) none in
           absurd (none-some done.processor_state (sym none ∙ ap (λ (x : Accounts). slice_get x.by_processor processor) (sym same) ∙ done.at))
       | inr (l, at) ↦
-          let counted : IsOnTime now a = charged_on_time now processor was l at (tasks_run_alone (world_of d) was processor h) time in
+          let counted : IsOnTime now a = charged_on_time now processor was l at (tasks_run_alone w was processor h) time in
           let since : done.processor_state.since ≡ now = ap (λ (x : ProcessorState). x.since) (same_Some done.processor_state (record l { since = now }) (sym done.at ∙ charged_there processor now was l at)) in
-          let given = given_on_time now processor task a k (acted kinds next long now k) done.processor_state done.at done.runs since done.there (acted_got next kinds long now k) (acted_timer next kinds long now k early awake) (tasks_run_alone (world_of d) a processor agrees) counted in
-          follow_time next aim kinds seed periods d e a (after_act kinds seed processor task now k b) c processor task long now k more told some (subst (λ o. Follow o aim processor now more) its follow) refl done.there agrees rest after given
+          given_on_time now processor task a c (acted kinds action length now c) done.processor_state done.at done.runs since done.there (acted_got action kinds length now c) (acted_timer action kinds length now c early awake) (tasks_run_alone w a processor agrees) counted
     ]
+
+end_time : (kinds : List TaskKind) (seed : ℕ) (periods : Periods) (d e : Driver) (b c : Book) (processor now : ℕ) (deeds : List Deed) (told : Told) → 1 ≤ periods.tick → now < 2 ^ 48 → Meet (due.End processor) now deeds → Lives kinds seed periods d b deeds told e c → Agree d b → Agree e c
+    → IsOnTime now b.accounts → IsOnTime now c.accounts
+end_time kinds seed periods d e b c processor now deeds told some early (task, action, aim, more, is, follow) lives h after time =
+    let (k, done, its, to, rest) = subst (λ l. Lives kinds seed periods d b l told e c) is lives in
+    let a : Accounts = charged processor now b.accounts in
+    let next : Option Action = next_action kinds k in
+    let long : ℕ = length_taken seed task b.drawn (asked_by next) in
+    let given = taken_up_on_time next kinds (world_of d) b.accounts processor task long now k early h done time in
+    follow_time next aim kinds seed periods d e a (after_act kinds seed processor task now k b) c processor task long now k more told some (subst (λ o. Follow o aim processor now more) its follow) refl done.there (agrees_charged (world_of d) b.accounts processor now h) rest after given
 
 -- so nothing is past after a thing that is met
 pub meetings_are_on_time : MeetingsAreOnTime

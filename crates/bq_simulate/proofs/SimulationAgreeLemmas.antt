@@ -39,6 +39,7 @@ use Rattle.bq_simulate.specs.Agreement.{AgreesWith, IsOnTime, ProcessorIsOnTime,
 use Rattle.bq_simulate.specs.AgreementLaws.{Agree, SimulationsAgree, with_task}
 use Rattle.bq_simulate.specs.Chronicles.{Acts, Beats, Book, Deed, Happens, Joins, Lives, Looks, Misses, Reaches, Rings, after_act, after_answer, after_beat, after_look, joined}
 use Rattle.bq_simulate.specs.Drives.{Does, Starts}
+use Rattle.bq_simulate.specs.Order.{IsOpening}
 use Rattle.bq_simulate.specs.Simulations.{IsSimulation, Proceeds, opening_book, periods_of}
 use Rattle.bq_simulate.specs.Steps.{AreAdmitted, AreAllAdmitted, AreInstalled, AreJust, Opens, Step, all_processors, deeds_of}
 use Rattle.bq_simulate.proofs.AccountLemmas.{read}
@@ -95,21 +96,14 @@ none_kept P kinds seed periods d e b c deeds told none lives h =
     subst (λ x. P e x) (sym kept) (subst (λ x. P x b) (sym same) h)
 
 -- and so do events that each keep it
-just_kept : (P : Driver → Book → Type 0) (f : ℕ → Event) → ((n : ℕ) → Keeps P (f n)) → (kinds : List TaskKind) (seed : ℕ) (periods : Periods) (d e : Driver) (b c : Book) (numbers : List ℕ) (deeds : List Deed) (told : Told) → AreJust (map f numbers) deeds → Lives kinds seed periods d b deeds told e c → P d b → P e c
+pub just_kept : (P : Driver → Book → Type 0) (f : ℕ → Event) → ((n : ℕ) → Keeps P (f n)) → (kinds : List TaskKind) (seed : ℕ) (periods : Periods) (d e : Driver) (b c : Book) (numbers : List ℕ) (deeds : List Deed) (told : Told) → AreJust (map f numbers) deeds → Lives kinds seed periods d b deeds told e c → P d b → P e c
 just_kept P f keeps kinds seed periods d e b c [] deeds told none lives h = none_kept P kinds seed periods d e b c deeds told none lives h
 just_kept P f keeps kinds seed periods d e b c (n ∷ numbers) deeds told (reply, more, is, just) lives h =
     let (due, mid, first, rest, does, later, whole) = subst (λ l. Lives kinds seed periods d b l told e c) is lives in
     just_kept P f keeps kinds seed periods mid e (after_answer periods (f n) reply b) c numbers more rest just later (keeps n periods d mid b reply first does h)
 
--- a simulation that opens, with this many processors and so many tasks so far, at instant 0
-pub record IsOpening (processors tasks : ℕ) (d : Driver) (b : Book) : Type 0 where
-  pub agree : Agree d b
-  pub on_time : IsOnTime 0 b.accounts
-  pub read : d.now ≡ 0
-  pub processors_there : count_in (world_of d) ≡ processors
-  pub tasks_there : length b.accounts.by_task ≡ tasks
-
-draw_opens : (processors tasks : ℕ) → Keeps (IsOpening processors tasks) Draw
+-- the opening is kept by a draw
+pub draw_opens : (processors tasks : ℕ) → Keeps (IsOpening processors tasks) Draw
 draw_opens processors tasks periods d e b reply told does h =
     let step = step_of d Draw reply told e does in
     let r = discipline_of d.machine.rule in
@@ -121,7 +115,8 @@ draw_opens processors tasks periods d e b reply told does h =
       tasks_there = h.tasks_there;
     }
 
-install_opens : (processors tasks generation : ℕ) (policy : Accepted) (processor : ℕ) → Keeps (IsOpening processors tasks) (Install processor policy.hook generation (Some policy))
+-- and by an install
+pub install_opens : (processors tasks generation : ℕ) (policy : Accepted) (processor : ℕ) → Keeps (IsOpening processors tasks) (Install processor policy.hook generation (Some policy))
 install_opens processors tasks generation policy processor periods d e b reply told does h =
     let event : Event = Install processor policy.hook generation (Some policy) in
     let w : World = world_of d in
@@ -137,7 +132,7 @@ install_opens processors tasks generation policy processor periods d e b reply t
     }
 
 -- policies are installed
-installed_opens : (kinds : List TaskKind) (seed : ℕ) (periods : Periods) (d e : Driver) (b c : Book) (processors tasks : ℕ) (policies : List Accepted) (deeds : List Deed) (told : Told) → AreInstalled processors policies deeds → Lives kinds seed periods d b deeds told e c
+pub installed_opens : (kinds : List TaskKind) (seed : ℕ) (periods : Periods) (d e : Driver) (b c : Book) (processors tasks : ℕ) (policies : List Accepted) (deeds : List Deed) (told : Told) → AreInstalled processors policies deeds → Lives kinds seed periods d b deeds told e c
     → IsOpening processors tasks d b → IsOpening processors tasks e c
 installed_opens kinds seed periods d e b c processors tasks [] deeds told none lives h = none_kept (IsOpening processors tasks) kinds seed periods d e b c deeds told none lives h
 installed_opens kinds seed periods d e b c processors tasks (policy ∷ policies) deeds told (some, more, whole, (generation, rest, is, just), others) lives h =
@@ -188,7 +183,7 @@ admission_opens kinds seed periods d e b c processors number task home kind repl
     subst (λ x. IsOpening processors (task + 1) e x) (sym kept) (subst (λ x. IsOpening processors (task + 1) x after) (sym same) done)
 
 -- the tasks of a kind
-admitted_open : (kinds : List TaskKind) (seed : ℕ) (periods : Periods) (d e : Driver) (b c : Book) (processors number : ℕ) (kind : TaskKind) (task count : ℕ) (deeds : List Deed) (told : Told) → AreAdmitted processors number kind task count deeds → Lives kinds seed periods d b deeds told e c
+pub admitted_open : (kinds : List TaskKind) (seed : ℕ) (periods : Periods) (d e : Driver) (b c : Book) (processors number : ℕ) (kind : TaskKind) (task count : ℕ) (deeds : List Deed) (told : Told) → AreAdmitted processors number kind task count deeds → Lives kinds seed periods d b deeds told e c
     → IsOpening processors task d b → IsOpening processors (task + count) e c
 admitted_open kinds seed periods d e b c processors number kind task zero deeds told none lives h =
     let all : task ≡ task + 0 = omega arith in
@@ -200,7 +195,7 @@ admitted_open kinds seed periods d e b c processors number kind task (suc count)
     subst (λ n. IsOpening processors n e c) all (admitted_open kinds seed periods s.mid e s.book c processors number kind (task + 1) count more s.more rest s.two one)
 
 -- all tasks
-all_admitted_open : (all : List TaskKind) (seed : ℕ) (periods : Periods) (d e : Driver) (b c : Book) (processors number task : ℕ) (kinds : List TaskKind) (deeds : List Deed) (told : Told) → AreAllAdmitted processors number task kinds deeds → Lives all seed periods d b deeds told e c
+pub all_admitted_open : (all : List TaskKind) (seed : ℕ) (periods : Periods) (d e : Driver) (b c : Book) (processors number task : ℕ) (kinds : List TaskKind) (deeds : List Deed) (told : Told) → AreAllAdmitted processors number task kinds deeds → Lives all seed periods d b deeds told e c
     → IsOpening processors task d b → IsOpening processors (task + tasks_in kinds) e c
 all_admitted_open all seed periods d e b c processors number task [] deeds told none lives h =
     let same : task ≡ task + tasks_in [] = omega arith in
@@ -266,6 +261,20 @@ opening_on_time n balance =
       processors = λ k l at. subst (λ (y : ProcessorState). ProcessorIsOnTime 0 [] y) (replicated n k x l at) rests;
     }
 
+-- of the opening machine nothing was done
+pub opening_opens : (w : Workload) (d : Driver) (first : Told) → Starts w.machine.rule w.machine.size first d → IsOpening (processors_in w.machine.size) 0 d (opening_book w.machine)
+opening_opens w d first starts =
+    let n = processors_in w.machine.size in
+    let start = opening_book w.machine in
+    let world : world_of d ≡ opening_world n = ap (λ m. m.world) starts.machine in
+    record {
+      agree = subst (λ x. AgreesWith x start.accounts) (sym world) (opening_agrees n w.machine.balance);
+      on_time = opening_on_time n w.machine.balance;
+      read = starts.now;
+      processors_there = ap count_in world ∙ length-replicate n opening_processor;
+      tasks_there = refl;
+    }
+
 -- once a simulation has opened all of its tasks are there
 pub opened_open : (policies : List Accepted) (w : Workload) (d e : Driver) (b : Book) (deeds : List Deed) (first told : Told) → Starts w.machine.rule w.machine.size first d → Opens policies (processors_in w.machine.size) w.tasks.items deeds
     → Lives w.tasks.items w.machine.seed (periods_of w.machine) d (opening_book w.machine) deeds told e b → IsOpening (processors_in w.machine.size) (tasks_in w.tasks.items) e b
@@ -275,14 +284,7 @@ opened_open policies w d e b deeds first told starts o lives =
     let periods = periods_of w.machine in
     let n = processors_in w.machine.size in
     let start = opening_book w.machine in
-    let world : world_of d ≡ opening_world n = ap (λ m. m.world) starts.machine in
-    let opens : IsOpening n 0 d start = record {
-      agree = subst (λ x. AgreesWith x start.accounts) (sym world) (opening_agrees n w.machine.balance);
-      on_time = opening_on_time n w.machine.balance;
-      read = starts.now;
-      processors_there = ap count_in world ∙ length-replicate n opening_processor;
-      tasks_there = refl;
-    } in
+    let opens : IsOpening n 0 d start = opening_opens w d first starts in
     let t = part kinds seed periods d e start b o.installs o.admissions told (subst (λ l. Lives kinds seed periods d start l told e b) o.whole lives) in
     let installed = installed_opens kinds seed periods d t.mid start t.book n 0 policies o.installs t.first o.installed t.one opens in
     let all : 0 + tasks_in kinds ≡ tasks_in kinds = omega arith in

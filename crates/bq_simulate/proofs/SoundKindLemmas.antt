@@ -13,7 +13,7 @@ use Rattle.bq_workload.specs.declared.sound.Unsound.{Unsound}
 use Rattle.bq_workload.specs.declared.sound.Unsound.TheVariants as flaw
 use Rattle.bq_workload.specs.declared.workload.TaskKind.{TaskKind}
 use Rattle.bq_workload.specs.declared.workload.Workload.{Workload}
-use Rattle.bq_workload.specs.Kinds.{count_of}
+use Rattle.bq_workload.specs.Kinds.{count_of, tasks_in}
 use Rattle.bq_workload.specs.Lengths.{is_long, longest, takes_time}
 use Rattle.bq_workload.specs.Soundness.{allows_one, first_flaw, flaws_of_actions, flaws_of_count, flaws_of_doing, flaws_of_kind, flaws_of_kinds, flaws_of_machine, has_name, has_numbers, has_times, is_action, unless}
 use Rattle.bq_simulate.proofs.AdmissionTakenLemmas.{numbers_of}
@@ -28,11 +28,12 @@ holds : (b : Bool) (flaw : Unsound) → slice_get (unless b flaw) 0 ≡ None →
 holds true flaw h = refl
 holds false flaw h = absurd (none-some flaw (sym h))
 
--- a kind has tasks, and actions, and each of them that wakes others wakes one of so many kinds
+-- a kind has tasks, and actions, each of which has a length in its range or wakes one of so many kinds
 pub record IsSoundKind (kinds : ℕ) (kind : TaskKind) : Type 0 where
   pub tasks : 1 ≤ kind.count
   pub actions : 1 ≤ length kind.actions.items
   pub wakes : (place number : ℕ) → slice_get kind.actions.items place ≡ Some (Wake number) → number < kinds
+  pub each : (place : ℕ) (action : Action) → slice_get kind.actions.items place ≡ Some action → is_action kinds action ≡ true
 
 some_action : (actions : List Action) → list_any takes_time actions ≡ true → 1 ≤ length actions
 some_action [] h = absurd (false≢true h)
@@ -57,23 +58,44 @@ kind_sound processors kinds number kind h =
       tasks = (numbers_of kind (holds (has_numbers kind) (flaw.Kind number) numbers.1)).some;
       actions = some_action kind.actions.items (holds (list_any takes_time kind.actions.items) (flaw.NoTime number) doing.1);
       wakes = λ place other at. ltb-true other kinds (action_sound kinds number 0 kind.actions.items place (Wake other) doing.0 at);
+      each = λ place action at. action_sound kinds number 0 kind.actions.items place action doing.0 at;
     }
 
-kinds_sound : (processors kinds from : ℕ) (all : List TaskKind) (number : ℕ) (kind : TaskKind) → slice_get (flaws_of_kinds processors kinds from all) 0 ≡ None → slice_get all number ≡ Some kind → IsSoundKind kinds kind
-kinds_sound processors kinds from [] number kind h at = absurd (none-some kind at)
-kinds_sound processors kinds from (x ∷ xs) zero kind h at =
+-- its numbers are in their ranges, and its mask allows one of so many processors
+pub record IsAdmissible (processors : ℕ) (kind : TaskKind) : Type 0 where
+  pub numbers : has_numbers kind ≡ true
+  pub mask : allows_one processors kind.mask ≡ true
+
+kind_admissible : (processors kinds number : ℕ) (kind : TaskKind) → slice_get (flaws_of_kind processors kinds number kind) 0 ≡ None → IsAdmissible processors kind
+kind_admissible processors kinds number kind h =
+    let all = parts_sound (unless (has_name kind) (flaw.Name number) ++ unless (has_numbers kind) (flaw.Kind number) ++ unless (allows_one processors kind.mask) (flaw.Mask number)) (flaws_of_doing kinds number kind.actions.items) h in
+    let mask = parts_sound (unless (has_name kind) (flaw.Name number) ++ unless (has_numbers kind) (flaw.Kind number)) (unless (allows_one processors kind.mask) (flaw.Mask number)) all.0 in
+    let numbers = parts_sound (unless (has_name kind) (flaw.Name number)) (unless (has_numbers kind) (flaw.Kind number)) mask.0 in
+    record { numbers = holds (has_numbers kind) (flaw.Kind number) numbers.1; mask = holds (allows_one processors kind.mask) (flaw.Mask number) mask.1 }
+
+-- what each kind without a flaw is, each of these kinds is
+each_kind : (P : TaskKind → Type 0) (processors kinds from : ℕ) → ((number : ℕ) (kind : TaskKind) → slice_get (flaws_of_kind processors kinds number kind) 0 ≡ None → P kind) → (all : List TaskKind) (number : ℕ) (kind : TaskKind) → slice_get (flaws_of_kinds processors kinds from all) 0 ≡ None → slice_get all number ≡ Some kind → P kind
+each_kind P processors kinds from is [] number kind h at = absurd (none-some kind at)
+each_kind P processors kinds from is (x ∷ xs) zero kind h at =
     let first = parts_sound (flaws_of_kind processors kinds from x) (flaws_of_kinds processors kinds (from + 1) xs) h in
-    subst (λ (k : TaskKind). IsSoundKind kinds k) (same_Some x kind at) (kind_sound processors kinds from x first.0)
-kinds_sound processors kinds from (x ∷ xs) (suc number) kind h at =
+    subst P (same_Some x kind at) (is from x first.0)
+each_kind P processors kinds from is (x ∷ xs) (suc number) kind h at =
     let first = parts_sound (flaws_of_kind processors kinds from x) (flaws_of_kinds processors kinds (from + 1) xs) h in
-    kinds_sound processors kinds (from + 1) xs number kind first.1 at
+    each_kind P processors kinds (from + 1) is xs number kind first.1 at
 
 -- each kind of a workload that can be followed is sound
 pub sound_kind : (w : Workload) (number : ℕ) (kind : TaskKind) → first_flaw w ≡ None → slice_get w.tasks.items number ≡ Some kind → IsSoundKind (length w.tasks.items) kind
 sound_kind w number kind sound at =
     let kinds = flaws_of_kinds (processors_in w.machine.size) (length w.tasks.items) 0 w.tasks.items in
     let all = parts_sound (flaws_of_machine w.machine ++ kinds) (flaws_of_count w.tasks.items) sound in
-    kinds_sound (processors_in w.machine.size) (length w.tasks.items) 0 w.tasks.items number kind (parts_sound (flaws_of_machine w.machine) kinds all.0).1 at
+    each_kind (IsSoundKind (length w.tasks.items)) (processors_in w.machine.size) (length w.tasks.items) 0 (kind_sound (processors_in w.machine.size) (length w.tasks.items)) w.tasks.items number kind (parts_sound (flaws_of_machine w.machine) kinds all.0).1 at
+
+-- and can be admitted
+pub admissible_kind : (w : Workload) (number : ℕ) (kind : TaskKind) → first_flaw w ≡ None → slice_get w.tasks.items number ≡ Some kind → IsAdmissible (processors_in w.machine.size) kind
+admissible_kind w number kind sound at =
+    let kinds = flaws_of_kinds (processors_in w.machine.size) (length w.tasks.items) 0 w.tasks.items in
+    let all = parts_sound (flaws_of_machine w.machine ++ kinds) (flaws_of_count w.tasks.items) sound in
+    each_kind (IsAdmissible (processors_in w.machine.size)) (processors_in w.machine.size) (length w.tasks.items) 0 (kind_admissible (processors_in w.machine.size) (length w.tasks.items)) w.tasks.items number kind (parts_sound (flaws_of_machine w.machine) kinds all.0).1 at
 
 -- and has tasks
 pub sound_count : (w : Workload) (number : ℕ) → first_flaw w ≡ None → number < length w.tasks.items → 1 ≤ count_of w.tasks.items number
@@ -91,6 +113,8 @@ pub record HasTimes (machine : Setup) : Type 0 where
   pub tick : 1 ≤ machine.tick
   pub balance : 1 ≤ machine.balance
   pub duration : machine.duration < 2 ^ 48
+  pub tick_counted : machine.tick < 2 ^ 48
+  pub balance_counted : machine.balance < 2 ^ 48
 
 times_of : (machine : Setup) → has_times machine ≡ true → HasTimes machine
 times_of machine h =
@@ -102,6 +126,8 @@ times_of machine h =
       tick = leb-true 1 machine.tick (and_parts (nat_le 1 machine.tick) (nat_le machine.tick longest) two.1).0;
       balance = leb-true 1 machine.balance (and_parts (nat_le 1 machine.balance) (nat_le machine.balance longest) three.1).0;
       duration = omega (arith, long);
+      tick_counted = omega (arith, leb-true machine.tick longest (and_parts (nat_le 1 machine.tick) (nat_le machine.tick longest) two.1).1);
+      balance_counted = omega (arith, leb-true machine.balance longest (and_parts (nat_le 1 machine.balance) (nat_le machine.balance longest) three.1).1);
     }
 
 -- the machine of a workload that can be followed has them
@@ -110,3 +136,10 @@ sound_times w sound =
     let kinds = flaws_of_kinds (processors_in w.machine.size) (length w.tasks.items) 0 w.tasks.items in
     let all = parts_sound (flaws_of_machine w.machine ++ kinds) (flaws_of_count w.tasks.items) sound in
     times_of w.machine (holds (has_times w.machine) flaw.Machine (parts_sound (flaws_of_machine w.machine) kinds all.0).0)
+
+-- and no more tasks than there may be
+pub sound_tasks : (w : Workload) → first_flaw w ≡ None → tasks_in w.tasks.items ≤ 1024
+sound_tasks w sound =
+    let kinds = flaws_of_kinds (processors_in w.machine.size) (length w.tasks.items) 0 w.tasks.items in
+    let all = parts_sound (flaws_of_machine w.machine ++ kinds) (flaws_of_count w.tasks.items) sound in
+    leb-true (tasks_in w.tasks.items) 1024 (holds (nat_le (tasks_in w.tasks.items) 1024) flaw.Tasks all.1)

@@ -152,7 +152,7 @@ count_of_places count = record {
 
 -- What an action leaves
 
-else_of : (b : Bool) (o : Option Action) (action : Action) → (if b then None else o) ≡ Some action → o ≡ Some action
+pub else_of : (b : Bool) (o : Option Action) (action : Action) → (if b then None else o) ≡ Some action → o ≡ Some action
 else_of true o action h = absurd (none-some action h)
 else_of false o action h = h
 

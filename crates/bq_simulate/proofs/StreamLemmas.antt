@@ -90,6 +90,11 @@ gives_if_asked task None s length t h drawn had = record {
 }
 gives_if_asked task (Some asked) s length t h drawn had = drew task asked s length t h drawn had
 
+-- a draw leaves the roster as it is
+pub kept_roster : (task : ℕ) (asked : Option Length) (s : Simulation) (length : ℕ) (t : Simulation) → DrawsFor task asked s length t → t.roster ≡ s.roster
+kept_roster task None s length t h = ap (λ (x : Simulation). x.roster) h.1
+kept_roster task (Some asked) s length t h = h.roster
+
 -- the stream of the next task is there
 pub opened-streams : (s t : Simulation) (drawn : List ℕ) → t.seed ≡ s.seed → t.streams.items ≡ s.streams.items ++ stream_of_task s.seed (length s.streams.items) ∷ [] → HasDrawn s drawn → HasDrawn t (drawn ++ 0 ∷ [])
 opened-streams s t drawn seed streams had =

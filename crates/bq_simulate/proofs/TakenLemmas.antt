@@ -28,6 +28,7 @@ use Rattle.bq_parts.specs.Choices.{Decision, decided_by, own_pull, policies}
 use Rattle.bq_parts.specs.Moves.{after_leaving, as_it_leaves, taken_from, without_task}
 use Rattle.bq_parts.specs.Refusals.{either, install_refusal, is_away, same_hook}
 use Rattle.bq_parts.specs.Shares.{after_time, remarked}
+use Rattle.bq_parts.specs.StandsOnce.{IsOrderly}
 use Rattle.bq_parts.specs.Steps.{WorldStep}
 use Rattle.bq_parts.proofs.CountLemmas.{each_once_queue}
 use Rattle.bq_parts.proofs.OnceLemmas.{each_once_running}
@@ -201,6 +202,32 @@ homes_passed : (count processor from : ℕ) (task : Option ℕ) (a : Accounts) �
 homes_passed count processor from None a h = h
 homes_passed count processor from (Some id) a h = h
 
+-- a pull takes one task from a queue, or none, as its answer says
+pull_takes : (d : Discipline) (w v : World) (processor from now : ℕ) (calls : List Asked) (r : Reply) → IsOrderly w → (step : WorldStep (policies d) w (Pull processor from now) calls (Ok r) v)
+    → (let taken : List Task = option_to_list (taken_from (remarked d (processor_at w from)).running (task_numbered step.1.2.settled.choice)) in (length taken ≡ option_map_or (λ _. 1) (task_pulled r) 0) × (size_of step.1.1 + length taken ≡ size_of (processor_at w from)))
+pull_takes d w v processor from now calls r orderly step =
+    let k = step.1 in
+    let p : Processor = after_time d now (processor_at w processor) in
+    let source : Processor = remarked d (processor_at w from) in
+    let x = k.2 in
+    let settled : Decision = x.settled in
+    let n : ℕ = settled.choice in
+    let once : HasEachOnce source.running.queue = each_once_queue (processor_at w from).running (each_once_running w from orderly) in
+    let may = settled_permitted (policies d) _ p.hooks.pull p.running.last processor (may_pull processor source.running.queue) (or_nobody (own_pull processor p source)) settled (own_pull_permitted processor p source once) x.settles in
+    let task : Option ℕ = task_numbered n in
+    let said : task_pulled r ≡ task = ap task_pulled x.replies in
+    let rest : Running = without_task source.running task in (
+      moved_by_case processor n source.running task may refl ∙ ap (λ (o : Option ℕ). option_map_or (λ _. 1) o 0) (sym said),
+      omega (arith, ap size_of x.there, tally-without_task each source.running task, tally_length (present_at rest), tally_length (option_to_list (taken_from source.running task)), tally_length (present_at source.running)),
+    )
+
+-- so a processor from which a task was pulled had one
+pub pulled_from_some : (d : Discipline) (w v : World) (processor from now : ℕ) (calls : List Asked) (r : Reply) → IsOrderly w → task_pulled r ≢ None → WorldStep (policies d) w (Pull processor from now) calls (Ok r) v → 1 ≤ size_of (processor_at w from)
+pulled_from_some d w v processor from now calls r orderly some step =
+    let t = pull_takes d w v processor from now calls r orderly step in
+    let one : (o : Option ℕ) → o ≢ None → 1 ≤ option_map_or (λ _. 1) o 0 = λ o there. elim o as (λ (x : Option ℕ). x ≢ None → 1 ≤ option_map_or (λ _. 1) x 0) [ None ↦ λ no. absurd (no refl) | Some id ↦ λ no. omega arith ] there in
+    omega (arith, t.0, t.1, one (task_pulled r) some)
+
 pull_kept : (d : Discipline) (periods : Periods) (w v : World) (a : Accounts) (processor from now : ℕ) (calls : List Asked) (r : Reply) → AgreesWith w a → processor < count_in w → from < count_in w → processor ≢ from → WorldStep (policies d) w (Pull processor from now) calls (Ok r) v
     → AgreesWith v (switched processor (runs_now r) now periods (option_map_or (λ task. passed from processor a) (task_pulled r) a))
 pull_kept d periods w v a processor from now calls r h low low' apart step =
@@ -212,22 +239,17 @@ pull_kept d periods w v a processor from now calls r h low low' apart step =
     let x = k.2 in
     let settled : Decision = x.settled in
     let n : ℕ = settled.choice in
-    let once : HasEachOnce source.running.queue = each_once_queue (processor_at w from).running (each_once_running w from h.orderly) in
-    let may = settled_permitted (policies d) _ p.hooks.pull p.running.last processor (may_pull processor source.running.queue) (or_nobody (own_pull processor p source)) settled (own_pull_permitted processor p source once) x.settles in
     let task : Option ℕ = task_numbered n in
-    let said : task_pulled r ≡ task = ap task_pulled x.replies in
     let taken : List Task = option_to_list (taken_from source.running task) in
     let moved : ℕ = length taken in
-    let counts : moved ≡ option_map_or (λ _. 1) (task_pulled r) 0 = moved_by_case processor n source.running task may refl ∙ ap (λ (o : Option ℕ). option_map_or (λ _. 1) o 0) (sym said) in
-    let rest : Running = without_task source.running task in
-    let gone : size_of other + moved ≡ size_of (processor_at w from) = omega (arith, ap size_of x.there, tally-without_task each source.running task, tally_length (present_at rest), tally_length taken, tally_length (present_at source.running)) in
+    let t = pull_takes d w v processor from now calls r h.orderly step in
     let come : size_of q ≡ size_of (processor_at w processor) + moved =
     omega (arith, ap size_of x.here, tally-pulled each d p.running (taken_from source.running task), tally-charge each d (processor_at w processor).running now, tally_length (present_at q.running), tally_length taken, tally_length (present_at (processor_at w processor).running), ap (λ (y : Processor). tally each (present_at y.running)) x.here) in
     let stays : id_of other.running.current ≡ id_of (processor_at w from).running.current = ap (λ (y : Processor). id_of y.running.current) x.there ∙ ap id_of (current_stays source.running task) in
     let form : World = with_processor (with_processor w from other) processor q in
     let is : v ≡ form = k.3 ∙ ap (λ ps. record w { processors = ps }) (set_comm w.processors processor from q other apart) in
     let b : Accounts = switched processor (runs_now r) now periods (option_map_or (λ _. passed from processor a) (task_pulled r) a) in
-    let pulled : Pulled form a b = pulled_by_case (task_pulled r) periods w a processor from now moved (runs_now r) q other h.mirrors.processors low low' apart counts gone come stays (ap runs_now x.replies) in
+    let pulled : Pulled form a b = pulled_by_case (task_pulled r) periods w a processor from now moved (runs_now r) q other h.mirrors.processors low low' apart t.0 t.1 come stays (ap runs_now x.replies) in
     let first = settled_written w from other h.settled (ap (λ (y : Processor). y.hand) x.there ∙ h.settled.hands from) in
     let second = settled_written (with_processor w from other) processor q first (ap (λ (y : Processor). y.hand) x.here ∙ h.settled.hands processor) in
     agree_after (policies d) w form v (Pull processor from now) calls r b h.orderly step is h.entries second

@@ -54,7 +54,7 @@ away_is_task None Away h away = cc
 away_is_task (Some x) s h away = refl
 
 -- a task that runs is one of the accounts
-runner_low : (w : World) (a : Accounts) (processor task : ℕ) → AgreesWith w a → run_at a.by_processor processor ≡ Some task → task < length a.by_task
+pub runner_low : (w : World) (a : Accounts) (processor task : ℕ) → AgreesWith w a → run_at a.by_processor processor ≡ Some task → task < length a.by_task
 runner_low w a processor task h runs =
     let away = runs_away w processor task h.orderly (sym (h.mirrors.processors.runs processor) ∙ runs) in
     let some = away_is_task (state_at a.by_task task) (entry w task) (h.mirrors.tasks task) away in
@@ -64,7 +64,7 @@ runner_low w a processor task h runs =
     ]
 
 -- one of some tasks, or none
-task_there : (cs : List TaskProgress) (task : ℕ) → task < length cs → (c : TaskProgress) × (slice_get cs task ≡ Some c)
+pub task_there : (cs : List TaskProgress) (task : ℕ) → task < length cs → (c : TaskProgress) × (slice_get cs task ≡ Some c)
 task_there cs task low = let none : TaskProgress = fresh 0 0 0 in (get_or cs task none, slice_get-get_or cs task none low)
 
 -- the next multiple is not past
@@ -220,12 +220,12 @@ taken_over_on_time periods now processor (Some task) a some low apart h =
           h.processors;
     }
 
-charged_tasks : (processor now : ℕ) (a : Accounts) → length (charged processor now a).by_task ≡ length a.by_task
+pub charged_tasks : (processor now : ℕ) (a : Accounts) → length (charged processor now a).by_task ≡ length a.by_task
 charged_tasks processor now a =
     let by : (l : ProcessorState) → length (charged_by l now a).by_task ≡ length a.by_task = λ l. elim l.run as (λ (o : Option ℕ). length (charged_by (record l { run = o }) now a).by_task ≡ length a.by_task) [ None ↦ refl | Some task ↦ changed_at-length (run_for (now - l.since)) a.by_task task ] in
     elim (slice_get a.by_processor processor) as (λ (o : Option ProcessorState). length (option_map_or (λ (l : ProcessorState). of_processor (λ x. record x { since = now }) processor (charged_by l now a)) o a).by_task ≡ length a.by_task) [ None ↦ refl | Some l ↦ by l ]
 
-taken_over_tasks : (processor : ℕ) (run : Option ℕ) (now : ℕ) (periods : Periods) (a : Accounts) → length (taken_over processor run now periods a).by_task ≡ length a.by_task
+pub taken_over_tasks : (processor : ℕ) (run : Option ℕ) (now : ℕ) (periods : Periods) (a : Accounts) → length (taken_over processor run now periods a).by_task ≡ length a.by_task
 taken_over_tasks processor None now periods a = refl
 taken_over_tasks processor (Some task) now periods a = changed_at-length (moved_to processor periods.migration_cost) a.by_task task
 

@@ -11,7 +11,7 @@ use Rattle.bq_workload.specs.declared.progress.TaskState.TheVariants.{Asleep, Wa
 use Rattle.bq_workload.specs.declared.processor_state.ProcessorState.{ProcessorState}
 use Rattle.bq_workload.specs.Accounts.{Accounts}
 use Rattle.bq_workload.specs.Dues.{end_of, until}
-use Rattle.bq_workload.specs.Next.{IsNext, comes_at, ends_at, rings_at}
+use Rattle.bq_workload.specs.Next.{IsNext, NothingComes, comes_at, ends_at, rings_at}
 use Rattle.bq_workload.proofs.AgreeLemmas.{some_or_none}
 use Rattle.bq_workload.proofs.AgreedLemmas.{end-of, look-of, look_at, tick-of, tick_at}
 use Rattle.bq_simulate.specs.Agreement.{IsOnTime, ProcessorIsOnTime, RunsOnTime}
@@ -24,7 +24,7 @@ until_by_test true end x time test h =
     (same, subst (λ n. n ≤ end) same (leb-true x end (and_parts (nat_le x end) (nat_lt x (2 ^ 48)) test).0))
 until_by_test false end x time test h = cc
 
-until_is : (end x time : ℕ) → until end x ≡ Some time → (x ≡ time) × (time ≤ end)
+pub until_is : (end x time : ℕ) → until end x ≡ Some time → (x ≡ time) × (time ≤ end)
 until_is end x time h = until_by_test (nat_le x end && nat_lt x (2 ^ 48)) end x time refl h
 
 -- and what is to come until the end comes
@@ -39,13 +39,13 @@ next_first end time x a due other next low early is = elim (cases_lt x time) [
 ]
 
 -- when a timer rings
-ring-of : (end task : ℕ) (a : Accounts) (c : TaskProgress) → slice_get a.by_task task ≡ Some c → comes_at end a (Wake task) ≡ rings_at end c.task_state c.timer
+pub ring-of : (end task : ℕ) (a : Accounts) (c : TaskProgress) → slice_get a.by_task task ≡ Some c → comes_at end a (Wake task) ≡ rings_at end c.task_state c.timer
 ring-of end task a c at = ap (λ (o : Option TaskProgress). option_and_then (λ (x : TaskProgress). rings_at end x.task_state x.timer) o) at
 
 ring-asleep : (end timer : ℕ) (s : TaskState) → s ≡ Asleep → rings_at end s timer ≡ until end timer
 ring-asleep end timer s is = ap (λ x. rings_at end x timer) is
 
-rings_asleep : (end timer time : ℕ) (s : TaskState) → rings_at end s timer ≡ Some time → (s ≡ Asleep) × (timer ≡ time) × (time ≤ end)
+pub rings_asleep : (end timer time : ℕ) (s : TaskState) → rings_at end s timer ≡ Some time → (s ≡ Asleep) × (timer ≡ time) × (time ≤ end)
 rings_asleep end timer time Asleep h = let u = until_is end timer time h in (refl, u.0, u.1)
 rings_asleep end timer time Waiting h = cc
 rings_asleep end timer time Runnable h = cc
@@ -115,35 +115,48 @@ comes_later end now time a (Wake task) early h comes = wake_comes end now time t
 comes_later end now time a (Tick processor) early h comes = tick_comes end now time processor a h comes
 comes_later end now time a (Pull processor) early h comes = look_comes end now time processor a h comes
 
+-- what is on time at an instant is so at a later one, before which nothing comes
+on_time_later : (end now time : ℕ) (a : Accounts) → now ≤ time → ((other : Due) (x : ℕ) → comes_at end a other ≡ until end x → time ≤ x) → IsOnTime now a → IsOnTime time a
+on_time_later end now time a later first h =
+    record {
+      tasks = λ task k at. record {
+        phase = (h.tasks task k at).phase;
+        timer = λ asleep. first (Wake task) k.timer (ring-of end task a k at ∙ ring-asleep end k.timer k.task_state asleep);
+      };
+      processors = λ processor l at.
+          let p : ProcessorIsOnTime now a.by_task l = h.processors processor l at in
+          record {
+            since = omega (arith, p.since, later);
+            looks = λ x is. first (Pull processor) x (look-of end processor a l at ∙ ap (λ (o : Option ℕ). option_and_then (until end) o) is);
+            runs = λ task runs.
+                let r : RunsOnTime now a.by_task l task = p.runs task runs in
+                let ends : time ≤ end_of l.since r.progress = first (End processor) (end_of l.since r.progress) (end-of end processor task a l r.progress at runs r.there) in
+                record {
+                  progress = r.progress;
+                  there = r.there;
+                  phase = omega (arith, ends, r.phase, p.since, later);
+                  next = r.next;
+                  tick = r.tick;
+                  later = first (Tick processor) r.next (tick-of end processor a l at ∙ ap (λ (o : Option ℕ). option_and_then (until end) o) r.tick);
+                };
+            rests = p.rests;
+          };
+    }
+
 -- so nothing is missed
 pub nothing_is_missed : NothingIsMissed
 nothing_is_missed end now time a due early h next =
     let c : Comes now time end = comes_later end now time a due early h next.comes in
-    let first : (other : Due) (x : ℕ) → comes_at end a other ≡ until end x → time ≤ x = λ other x is. next_first end time x a due other next c.until early is in (
-      c.later,
-      c.until,
-      record {
-        tasks = λ task k at. record {
-          phase = (h.tasks task k at).phase;
-          timer = λ asleep. first (Wake task) k.timer (ring-of end task a k at ∙ ring-asleep end k.timer k.task_state asleep);
-        };
-        processors = λ processor l at.
-            let p : ProcessorIsOnTime now a.by_task l = h.processors processor l at in
-            record {
-              since = omega (arith, p.since, c.later);
-              looks = λ x is. first (Pull processor) x (look-of end processor a l at ∙ ap (λ (o : Option ℕ). option_and_then (until end) o) is);
-              runs = λ task runs.
-                  let r : RunsOnTime now a.by_task l task = p.runs task runs in
-                  let ends : time ≤ end_of l.since r.progress = first (End processor) (end_of l.since r.progress) (end-of end processor task a l r.progress at runs r.there) in
-                  record {
-                    progress = r.progress;
-                    there = r.there;
-                    phase = omega (arith, ends, r.phase, p.since, c.later);
-                    next = r.next;
-                    tick = r.tick;
-                    later = first (Tick processor) r.next (tick-of end processor a l at ∙ ap (λ (o : Option ℕ). option_and_then (until end) o) r.tick);
-                  };
-              rests = p.rests;
-            };
-      },
-    )
+    let first : (other : Due) (x : ℕ) → comes_at end a other ≡ until end x → time ≤ x = λ other x is. next_first end time x a due other next c.until early is in
+    (c.later, c.until, on_time_later end now time a c.later first h)
+
+-- what does not come until the end comes no earlier than the end
+not_until : (end x : ℕ) → end < 2 ^ 48 → until end x ≡ None → end ≤ x
+not_until end x early none = elim (cases_lt x end) [
+  | inl before ↦ absurd (none-some x (sym none ∙ until_some end x (omega (arith, before)) (omega (arith, before, early))))
+  | inr later ↦ later
+]
+
+-- nor is anything past at the end where nothing comes any more
+pub on_time_to_end : (end now : ℕ) (a : Accounts) → end < 2 ^ 48 → now ≤ end → NothingComes end a → IsOnTime now a → IsOnTime end a
+on_time_to_end end now a early later none h = on_time_later end now end a later (λ other x is. not_until end x early (sym is ∙ none other)) h

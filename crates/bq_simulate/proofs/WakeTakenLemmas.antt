@@ -67,11 +67,11 @@ pub record IsPlacedAt (to : ℕ) (w : World) (a : Accounts) : Type 0 where
   pub homes : HaveProcessors (count_in w) a
 
 -- a task that is not absent has an entry
-present_there : (w : World) (task : ℕ) → is_absent (entry w task) ≡ false → task < length w.lobby
+pub present_there : (w : World) (task : ℕ) → is_absent (entry w task) ≡ false → task < length w.lobby
 present_there w task h = elim (cases_lt task (length w.lobby)) [ inl l ↦ l | inr g ↦ absurd (true≢false (sym (ap is_absent (get_or_past w.lobby task Absent g)) ∙ h)) ]
 
 -- a task that sleeps is in the lobby
-sleeper_stands : (w : World) (a : Accounts) (task : ℕ) (c : TaskProgress) → AgreesWith w a → slice_get a.by_task task ≡ Some c → StandsAs (Some c.task_state) (entry w task)
+pub sleeper_stands : (w : World) (a : Accounts) (task : ℕ) (c : TaskProgress) → AgreesWith w a → slice_get a.by_task task ≡ Some c → StandsAs (Some c.task_state) (entry w task)
 sleeper_stands w a task c h at = subst (λ o. StandsAs o (entry w task)) (ap (λ (o : Option TaskProgress). option_map_or (λ (x : TaskProgress). Some x.task_state) o None) at) (h.mirrors.tasks task)
 
 begin_kept : (d : Discipline) (w v : World) (a : Accounts) (from task : ℕ) (c : TaskProgress) (calls : List Asked) (r : Reply) → AgreesWith w a → from < count_in w → slice_get a.by_task task ≡ Some c → task < length w.lobby → WorldStep (policies d) w (BeginWake from task) calls (Ok r) v

@@ -47,7 +47,7 @@ LivedFrom-within takes kinds seed periods count most last end x y s t few low li
     (λ xs met. AreMet-within kinds seed periods count most last end (book_of s drawn) xs few low met) _ _ _ drawn _ (lived drawn had firsts agreed)
 
 -- where none is kept, each is that of its kind
-firsts-none : (kinds : List TaskKind) (s : Simulation) → s.firsts.items ≡ [] → HasFirsts kinds s
+pub firsts-none : (kinds : List TaskKind) (s : Simulation) → s.firsts.items ≡ [] → HasFirsts kinds s
 firsts-none kinds s none number first there = absurd (true≢false (sym (ap is_some (sym (ap (λ (l : List ℕ). slice_get l number) none) ∙ there))))
 
 -- a simulation by whose machine nothing was done yet

@@ -2,7 +2,7 @@
 use Rattle.std.specs.Prelude.{◌≡◌, ℕ, ◌<◌, ◌≤◌, List, Some, length, slice_get}
 use Rattle.bq_hooks.specs.declared.hook.Hook.{Hook}
 use Rattle.bq_installed.specs.Attachments.{at_hook}
-use Rattle.bq_parts.specs.World.{World, processor_at}
+use Rattle.bq_parts.specs.World.{World, count_in, processor_at}
 use Rattle.bq_workload.specs.declared.action.Action.TheVariants.{Wake}
 use Rattle.bq_workload.specs.declared.progress.TaskProgress.{TaskProgress}
 use Rattle.bq_workload.specs.declared.workload.TaskKind.{TaskKind}
@@ -25,13 +25,14 @@ pub record StandAtActions (kinds : List TaskKind) (b : Book) : Type 0 where
   pub streams : length b.drawn ≡ length b.accounts.by_task
 
 -- All that is kept at an instant, once all tasks of these kinds are there: the accounts agree with the machine's world, nothing of them
--- is past, no clock was given a later reading, and each task stands at an action.
+-- is past, no clock was given a later reading, each task stands at an action, and there are 64 processors at most.
 pub record IsKept (kinds : List TaskKind) (now : ℕ) (d : Driver) (b : Book) : Type 0 where
   pub agrees : AgreesWith d.machine.world b.accounts
   pub on_time : IsOnTime now b.accounts
   pub read : d.now ≤ now
   pub standing : StandAtActions kinds b
   pub all : length b.accounts.by_task ≡ tasks_in kinds
+  pub few : count_in d.machine.world ≤ 64
 
 -- of each kind the first task is kept
 abbrev pub HasAllFirsts : List TaskKind → Simulation → Type 0

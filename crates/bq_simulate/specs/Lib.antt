@@ -9,6 +9,7 @@ pub mod Faults
 pub mod Kept
 pub mod KeptLaws
 pub mod Laws
+pub mod Order
 pub mod Spelling
 pub mod Retelling
 pub mod Texts

@@ -1,10 +1,16 @@
 //! What a task does next, once it has run long enough.
-ghost use Rattle.std.specs.Prelude.{◌≡◌, ◌+◌, [], ◌∷◌, IfOk, List, OnOk, Some, slice_get};
+ghost use Rattle.std.specs.Prelude.{◌≡◌, ◌⊎◌, ◌+◌, ◌<◌, ◌≤◌, true, false, [], ◌∷◌, IfErr, IfOk, List, None, OnOk, Some, length, slice_get};
 ghost use Rattle.bq_parts.specs.declared.event.Event.TheVariants.{Block};
 ghost use Rattle.bq_workload.specs.TaskProgress.{begun};
 ghost use Rattle.bq_workload.specs.Kinds.{count_of};
+ghost use Rattle.bq_workload.specs.Lengths.{is_length};
 ghost use Rattle.bq_workload.specs.declared.workload.TaskKind.{TaskKind};
-ghost use Rattle.bq_simulate.specs.Actions.{acted, action_at, asleep_for, advanced_in, aim_of, asked_by, first_of, next_action, resting, woken_one_in};
+ghost use Rattle.bq_workload.specs.declared.workload.Workload.{Workload};
+ghost use Rattle.bq_simulate.specs.Actions.{acted, action_at, actions_of, asleep_for, advanced_in, aim_of, asked_by, first_of, next_action, resting, woken_one_in};
+ghost use Rattle.bq_workload.specs.Accounts.{accounts_of};
+ghost use Rattle.bq_workload.specs.Next.{IsNext};
+ghost use Rattle.bq_simulate.specs.Chronicles.{is_busy};
+ghost use Rattle.bq_simulate.specs.Order.{CanFollow, FallsAsleep, GoesWell, IsStrayAction, WantsMemory};
 ghost use Rattle.bq_simulate.specs.Simulations.{Befell, DrawsFor, Lived, Same, Silent};
 ghost use Rattle.bq_simulate.specs.Steps.{AreJust, Follow, IsAct, Meet, Wakes};
 
@@ -28,7 +34,8 @@ struct Doing {
 
 /// What a task does next; nothing where it has done all as often as it is to.
 fn next_of(workload: &Workload, progress: &TaskProgress) -> Result<Option<Action>, BrokenInvariant>
-    ensures { IfOk result (λ action. action ≡ next_action workload.now.tasks.items progress.now) }
+    ensures action { IfOk result (λ action. action ≡ next_action workload.now.tasks.items progress.now) }
+    ensures stray { IfErr result (λ _. actions_of workload.now.tasks.items progress.now ≤ progress.now.action) }
 {
     match workload.tasks.get(progress.kind) {
         Some(kind) => action_at(kind, progress),
@@ -38,7 +45,8 @@ fn next_of(workload: &Workload, progress: &TaskProgress) -> Result<Option<Action
 
 /// What a task of a kind does next; nothing where it has done all as often as it is to.
 fn action_at(kind: &TaskKind, progress: &TaskProgress) -> Result<Option<Action>, BrokenInvariant>
-    ensures { IfOk result (λ action. action ≡ action_at kind.now progress.now) }
+    ensures action { IfOk result (λ action. action ≡ action_at kind.now progress.now) }
+    ensures stray { IfErr result (λ _. length kind.now.actions.items ≤ progress.now.action) }
 {
     if kind.loops == Some(progress.loops) {
         return Ok(None);
@@ -62,7 +70,8 @@ fn asked_by(action: Option<Action>) -> Option<Length>
 
 /// How far a task has come once it has done an action.
 fn advanced(workload: &Workload, progress: TaskProgress) -> Result<TaskProgress, BrokenInvariant>
-    ensures { IfOk result (λ next. next ≡ advanced_in workload.now.tasks.items progress) }
+    ensures next { IfOk result (λ next. next ≡ advanced_in workload.now.tasks.items progress) }
+    ensures missing { IfErr result (λ _. slice_get workload.now.tasks.items progress.kind ≡ None) }
 {
     let kind = workload.tasks.get(progress.kind).ok_or(BrokenInvariant)?;
     let mut progress = progress;
@@ -72,7 +81,8 @@ fn advanced(workload: &Workload, progress: TaskProgress) -> Result<TaskProgress,
 
 /// How many tasks a kind has.
 fn count_of(workload: &Workload, kind: usize) -> Result<u16, BrokenInvariant>
-    ensures { IfOk result (λ count. count ≡ count_of workload.now.tasks.items kind) }
+    ensures count { IfOk result (λ count. count ≡ count_of workload.now.tasks.items kind) }
+    ensures missing { IfErr result (λ _. slice_get workload.now.tasks.items kind ≡ None) }
 {
     let kind = workload.tasks.get(kind).ok_or(BrokenInvariant)?;
     Ok(kind.count)
@@ -84,7 +94,8 @@ fn woken_one(
     progress: TaskProgress,
     kind: usize,
 ) -> Result<TaskProgress, BrokenInvariant>
-    ensures { IfOk result (λ next. next ≡ woken_one_in workload.now.tasks.items kind progress) }
+    ensures next { IfOk result (λ next. next ≡ woken_one_in workload.now.tasks.items kind progress) }
+    ensures stray { IfErr result (λ _. IsStrayAction workload.now.tasks.items progress (Some (Action.Wake kind))) }
 {
     let count = count_of(workload, kind)?;
     match progress.woken.checked_add(1) {
@@ -129,7 +140,8 @@ fn acted(
     length: u64,
     now: u64,
 ) -> Result<TaskProgress, BrokenInvariant>
-    ensures { IfOk result (λ next. next ≡ acted workload.now.tasks.items action length now progress) }
+    ensures next { IfOk result (λ next. next ≡ acted workload.now.tasks.items action length now progress) }
+    ensures stray { IfErr result (λ _. IsStrayAction workload.now.tasks.items progress action) }
 {
     match action {
         None => Ok(resting(progress, TaskState::Over)),
@@ -150,7 +162,8 @@ impl Simulation {
         now: u64,
         sink: &mut S,
     ) -> Result<(), SimulateFault>
-        ensures { OnOk result (Lived S.takes workload.now.tasks.items (Meet (Due.End processor) now) sink.old self.old sink.new self.new) }
+        ensures lived { OnOk result (Lived S.takes workload.now.tasks.items (Meet (Due.End processor) now) sink.old self.old sink.new self.new) }
+        ensures ends { GoesWell workload.now now self.old → IsNext workload.now.machine.duration (accounts_of self.old.roster) (Due.End processor) now → IfErr result WantsMemory }
     {
         let doing = self.take_action(workload, processor, now)?;
         self.count_phase(&doing.before);
@@ -165,7 +178,8 @@ impl Simulation {
         processor: u8,
         now: u64,
     ) -> Result<Doing, BrokenInvariant>
-        ensures { IfOk result (λ doing. Silent workload.now.tasks.items (IsAct processor doing.task now doing.action (aim_of workload.now.tasks.items doing.before doing.action)) self.old self.new) }
+        ensures acts { IfOk result (λ doing. Silent workload.now.tasks.items (IsAct processor doing.task now doing.action (aim_of workload.now.tasks.items doing.before doing.action)) self.old self.new) }
+        ensures ends { GoesWell workload.now now self.old → IsNext workload.now.machine.duration (accounts_of self.old.roster) (Due.End processor) now → IfErr result (λ _. ⊥) }
     {
         let (task, before) = self.roster.end_phase(processor, now)?;
         let action = next_of(workload, &before)?;
@@ -181,7 +195,8 @@ impl Simulation {
 
     /// The next length of a task, where one is asked for.
     fn length_for(&mut self, task: u16, asked: Option<Length>) -> Result<u64, BrokenInvariant>
-        ensures { IfOk result (λ length. DrawsFor task asked self.old length self.new) }
+        ensures drawn { IfOk result (λ length. DrawsFor task asked self.old length self.new) }
+        ensures stray { IfErr result (λ _. (length : Length) × (asked ≡ Some length) × ((is_length length ≡ false) ⊎ (slice_get self.old.streams.items task ≡ None))) }
     {
         match asked {
             Some(asked) => self.draw(task, asked),
@@ -206,7 +221,8 @@ impl Simulation {
         now: u64,
         sink: &mut S,
     ) -> Result<(), SimulateFault>
-        ensures { OnOk result ((kinds : List TaskKind) → Lived S.takes kinds (Follow doing.now.action (aim_of kinds doing.now.before doing.now.action) processor now) sink.old self.old sink.new self.new) }
+        ensures lived { OnOk result ((kinds : List TaskKind) → Lived S.takes kinds (Follow doing.now.action (aim_of kinds doing.now.before doing.now.action) processor now) sink.old self.old sink.new self.new) }
+        ensures ends { (w : Workload) → CanFollow w doing.now.action doing.now.before processor now self.old → IfErr result WantsMemory }
     {
         match doing.action {
             Some(Action::Run(_)) => Ok(()),
@@ -227,7 +243,8 @@ impl Simulation {
         now: u64,
         sink: &mut S,
     ) -> Result<(), SimulateFault>
-        ensures { OnOk result (Befell S.takes (AreJust (Block processor now ∷ [])) sink.old self.old sink.new self.new) }
+        ensures befell { OnOk result (Befell S.takes (AreJust (Block processor now ∷ [])) sink.old self.old sink.new self.new) }
+        ensures ends { (w : Workload) → FallsAsleep w now processor self.old → IfErr result WantsMemory }
     {
         let run = self.driver.block(alloc, processor, now, sink)?;
         self.roster.leave(processor, run, now)?;
@@ -245,7 +262,8 @@ impl Simulation {
         now: u64,
         sink: &mut S,
     ) -> Result<(), SimulateFault>
-        ensures { OnOk result ((kinds : List TaskKind) → Lived S.takes kinds (Wakes (first_of kinds kind + woken) processor now) sink.old self.old sink.new self.new) }
+        ensures lived { OnOk result ((kinds : List TaskKind) → Lived S.takes kinds (Wakes (first_of kinds kind + woken) processor now) sink.old self.old sink.new self.new) }
+        ensures ends { (w : Workload) → GoesWell w now self.old → is_busy (accounts_of self.old.roster) processor ≡ true → woken < count_of w.tasks.items kind → IfErr result WantsMemory }
     {
         let first = self.first_of(kind)?;
         let target = first
@@ -267,7 +285,8 @@ impl Simulation {
 
     /// The first task of a kind.
     fn first_of(&self, kind: usize) -> Result<u16, BrokenInvariant>
-        ensures { IfOk result (λ first. slice_get self.now.firsts.items kind ≡ Some first) }
+        ensures there { IfOk result (λ first. slice_get self.now.firsts.items kind ≡ Some first) }
+        ensures missing { IfErr result (λ _. slice_get self.now.firsts.items kind ≡ None) }
     {
         self.firsts.get(kind).copied().ok_or(BrokenInvariant)
     }

@@ -1,7 +1,7 @@
 //! A machine, and how far it was driven.
 ghost use Rattle.std.specs.Prelude.{◌≡◌, IfErr, IfOk, OnErr, OnOk};
 ghost use Rattle.bq_simulate.specs.Drives.{reading_of, Falls, IsDriveFault, IsUntouched, Rises, Does, Starts};
-ghost use Rattle.bq_simulate.specs.declared.drive_fault.DriveFault.TheVariants.{Reading};
+ghost use Rattle.bq_simulate.specs.declared.drive_fault.DriveFault.TheVariants.{OutOfMemory, Reading};
 ghost use Rattle.bq_trace.specs.TraceEvents.{Gets};
 
 use crate::drive_fault::DriveFault;
@@ -28,7 +28,8 @@ impl Driver {
         size: ProcessorCount,
         sink: &mut S,
     ) -> Result<Driver, DriveFault>
-        ensures { IfOk result (λ driver. Gets S.takes sink.old sink.new (λ told. Starts rule size told driver)) }
+        ensures starts { IfOk result (λ driver. Gets S.takes sink.old sink.new (λ told. Starts rule size told driver)) }
+        ensures fault { IfErr result (λ fault. fault ≡ OutOfMemory) }
     {
         let machine = AnyCore::new(alloc, rule, size)?;
         sink.take(1, &TraceEvent::Opened { rule, size })?;

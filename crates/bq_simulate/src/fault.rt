@@ -1,7 +1,9 @@
 //! Why a simulation does not come to its end.
 ghost use Rattle.std.specs.Prelude.{◌≡◌, ◌≢◌, None};
 ghost use Rattle.bq_simulate.specs.Faults.{flaw_told};
-ghost use Rattle.bq_simulate.specs.declared.fault.SimulateFault.TheVariants.{Enough, OutOfMemory};
+ghost use Rattle.bq_simulate.specs.Order.{EndsEarly, IsCutOff};
+ghost use Rattle.bq_simulate.specs.declared.drive_fault.DriveFault.TheVariants as drive;
+ghost use Rattle.bq_simulate.specs.declared.fault.SimulateFault.TheVariants.{BrokenInvariant, Enough, OutOfMemory};
 
 use crate::DriveFault;
 use bq_workload::{BrokenInvariant, Unsound};
@@ -34,10 +36,11 @@ pub enum SimulateFault {
 
 impl SimulateFault {
     /// The fault as one that came of the loop, once the workload was found sound, while the sink had not enough: any other would be
-    /// a fault of this program.
+    /// a fault of this program. That memory ran out stays so, and so does that there was no end.
     pub(crate) fn of_loop(self) -> SimulateFault
         ensures sound { flaw_told result ≡ None }
         ensures other { result ≢ Enough }
+        ensures early { EndsEarly self → IsCutOff result }
     {
         match self {
             SimulateFault::Unsound(_) | SimulateFault::Enough => SimulateFault::BrokenInvariant,
@@ -55,6 +58,8 @@ impl From<AllocError> for SimulateFault {
 }
 
 impl From<DriveFault> for SimulateFault {
+    ghost from_gives = { λ error fault. error ≡ drive.OutOfMemory → fault ≡ OutOfMemory };
+
     fn from(error: DriveFault) -> SimulateFault {
         match error {
             DriveFault::OutOfMemory => SimulateFault::OutOfMemory,
@@ -64,6 +69,8 @@ impl From<DriveFault> for SimulateFault {
 }
 
 impl From<BrokenInvariant> for SimulateFault {
+    ghost from_gives = { λ _ e. e ≡ BrokenInvariant };
+
     fn from(_error: BrokenInvariant) -> SimulateFault {
         SimulateFault::BrokenInvariant
     }

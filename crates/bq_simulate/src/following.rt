@@ -1,12 +1,14 @@
 //! A simulation from its beginning to its end.
-ghost use Rattle.std.specs.Prelude.{◌≡◌, ◌≢◌, None, false, true, [], ◌∷◌, OnOk, IfOk, IfErr, length};
+ghost use Rattle.std.specs.Prelude.{◌≡◌, ◌≢◌, ◌≤◌, None, false, true, [], ◌∷◌, OnOk, IfOk, IfErr, length, slice_get};
 ghost use Rattle.bq_workload.specs.Accounts.{accounts_of};
 ghost use Rattle.bq_words.specs.Sizes.{processors_in};
 ghost use Rattle.bq_workload.specs.Bounds.{most_steps};
 ghost use Rattle.bq_workload.specs.Kinds.{tasks_in};
 ghost use Rattle.bq_workload.specs.Next.{IsAgreed, NothingComes};
 ghost use Rattle.bq_workload.specs.Soundness.{first_flaw};
+ghost use Rattle.bq_workload.specs.declared.workload.Workload.{Workload};
 ghost use Rattle.bq_simulate.specs.Faults.{flaw_told};
+ghost use Rattle.bq_simulate.specs.Order.{EndsEarly, GoesWell, HasGoneWell, IsCutOff, StartsWell, WantsMemory};
 ghost use Rattle.bq_simulate.specs.Simulations.{Befell, HasEnough, IsFollowed, IsSimulation, LivedFrom, Proceeds, RunsOn, opening_book, periods_of, with_seed};
 ghost use Rattle.bq_simulate.specs.Steps.{AreJust, AreMet, KeepsOthers, all_processors, last_ticks};
 ghost use Rattle.bq_simulate.specs.declared.fault.SimulateFault.TheVariants as why;
@@ -28,8 +30,9 @@ use std::alloc::Global;
 /// phase, no tick and no look that comes until the end is left out. Where the sink has enough before, that is the fault: it got all
 /// that came until then.
 ///
-/// A workload with a flaw is refused for the first of its flaws, as `Unsound`, and nothing is reported. One without is never
-/// `Unsound`: after any other fault what was reported is to be the beginning of a trace, which is only tested.
+/// A workload with a flaw is refused for the first of its flaws, as `Unsound`, and nothing is reported. One without is followed to
+/// its end, unless memory runs out, the sink has enough, or as many things came due as are counted; that this last does not come is
+/// only tested. What was reported by then is to be the beginning of a trace, which is only tested too.
 pub fn simulate<S: Sink + Enough>(
     alloc: Global,
     workload: &Workload,
@@ -43,6 +46,7 @@ pub fn simulate<S: Sink + Enough>(
     ensures sound { IfOk result (λ _. first_flaw workload.now ≡ None) }
     ensures flaw { IfErr result (λ fault. flaw_told fault ≡ first_flaw workload.now) }
     ensures untold { first_flaw workload.now ≢ None → sink.new ≡ sink.old }
+    ensures ends { first_flaw workload.now ≡ None → IfErr result IsCutOff }
 {
     simulate_seed(alloc, workload, workload.machine.seed, policies, sink)
 }
@@ -62,6 +66,7 @@ pub fn simulate_seed<S: Sink + Enough>(
     ensures sound { IfOk result (λ _. first_flaw workload.now ≡ None) }
     ensures flaw { IfErr result (λ fault. flaw_told fault ≡ first_flaw workload.now) }
     ensures untold { first_flaw workload.now ≢ None → sink.new ≡ sink.old }
+    ensures ends { first_flaw workload.now ≡ None → IfErr result IsCutOff }
 {
     soundness(workload).map_err(SimulateFault::Unsound)?;
     let counts = match follow(alloc, workload, seed, policies, sink) {
@@ -84,6 +89,7 @@ fn follow<S: Sink + Enough>(
 ) -> Result<Counts, SimulateFault>
     ensures told { OnOk result (Gets S.takes sink.old sink.new (IsFollowed (S.sated sink.new) policies.now (with_seed workload.now seed))) }
     ensures tasks { IfOk result (λ counts. counts.tasks ≡ tasks_in workload.now.tasks.items) }
+    ensures ends { first_flaw workload.now ≡ None → IfErr result EndsEarly }
 {
     let machine = &workload.machine;
     let driver = Driver::new(alloc, machine.rule, machine.size, sink)?;
@@ -107,6 +113,8 @@ impl Simulation {
         ensures tasks { IfOk result (λ simulation. simulation.roster.by_task.items ≡ []) }
         ensures periods { IfOk result (λ simulation. simulation.roster.periods ≡ periods_of machine.now) }
         ensures agrees { IfOk result (λ simulation. IsAgreed simulation.roster) }
+        ensures counts { IfOk result (λ simulation. simulation.counts.tasks ≡ 0) }
+        ensures ends { IfErr result WantsMemory }
     {
         let periods = Periods {
             end: machine.duration,
@@ -141,6 +149,7 @@ impl Simulation {
         requires streams { length self.old.streams.items ≡ 0 }
         ensures tasks { IfOk result (λ counts. counts.tasks ≡ tasks_in workload.now.tasks.items) }
         ensures runs { OnOk result (RunsOn S.takes S.sated policies.now workload.now.tasks.items (most_steps workload.now) workload.now.machine.duration (processors_in workload.now.machine.size) sink.old self.old sink.new self.new) }
+        ensures ends { StartsWell workload.now self.old → IfErr result EndsEarly }
     {
         let tasks = self.proceed(alloc, workload, policies, sink)?;
         if sink.has_enough() {
@@ -167,6 +176,8 @@ impl Simulation {
         ensures tasks { IfOk result (λ tasks. tasks ≡ tasks_in workload.now.tasks.items) }
         ensures none { OnOk result (S.sated sink.new ≡ false → IsAgreed self.new.roster → NothingComes self.new.roster.periods.end (accounts_of self.new.roster)) }
         ensures lived { OnOk result (LivedFrom S.takes workload.now.tasks.items (Proceeds policies.now (processors_in workload.now.machine.size) workload.now.tasks.items self.old.seed self.old.roster.periods (most_steps workload.now) workload.now.machine.duration) sink.old self.old sink.new self.new) }
+        ensures well { OnOk result (StartsWell workload.now self.old → HasGoneWell workload.now self.new) }
+        ensures ends { StartsWell workload.now self.old → IfErr result EndsEarly }
     {
         let processors = workload.machine.size.processors();
         self.install(alloc, processors, policies, sink)?;
@@ -197,6 +208,8 @@ impl Simulation {
     ) -> Result<(), SimulateFault>
         ensures none { OnOk result (S.sated sink.new ≡ false → IsAgreed self.new.roster → NothingComes self.new.roster.periods.end (accounts_of self.new.roster)) }
         ensures lived { OnOk result (LivedFrom S.takes workload.now.tasks.items (AreMet workload.now.tasks.items self.old.seed self.old.roster.periods most workload.now.machine.duration) sink.old self.old sink.new self.new) }
+        ensures well { OnOk result (GoesWell workload.now 0 self.old → HasGoneWell workload.now self.new) }
+        ensures ends { GoesWell workload.now 0 self.old → IfErr result EndsEarly }
     {
         let end = workload.machine.duration;
         let mut last: u64 = 0;
@@ -224,7 +237,8 @@ impl Simulation {
         end: u64,
         sink: &mut S,
     ) -> Result<(), SimulateFault>
-        ensures { OnOk result (Befell S.takes (AreJust (last_ticks end (all_processors processors) (accounts_of self.old.roster))) sink.old self.old sink.new self.new) }
+        ensures befell { OnOk result (Befell S.takes (AreJust (last_ticks end (all_processors processors) (accounts_of self.old.roster))) sink.old self.old sink.new self.new) }
+        ensures ends { (w : Workload) → GoesWell w end self.old → processors ≤ length self.old.roster.by_processor.items → IfErr result WantsMemory }
     {
         'processors: for processor in 0..processors {
             self.tick_at_end(alloc, processor, end, sink)?;
@@ -242,6 +256,7 @@ impl Simulation {
     ) -> Result<(), SimulateFault>
         ensures befell { OnOk result (Befell S.takes (AreJust (last_ticks end (processor ∷ []) (accounts_of self.old.roster))) sink.old self.old sink.new self.new) }
         ensures others { OnOk result (KeepsOthers processor (accounts_of self.old.roster) (accounts_of self.new.roster)) }
+        ensures ends { (w : Workload) → GoesWell w end self.old → slice_get self.old.roster.by_processor.items processor ≢ None → IfErr result WantsMemory }
     {
         let processor_state = self.roster.processor_state(processor)?;
         match processor_state.run {

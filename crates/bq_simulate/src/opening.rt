@@ -1,10 +1,13 @@
 //! How a simulation begins: policies are installed, and tasks are admitted.
-ghost use Rattle.std.specs.Prelude.{◌≡◌, ◌+◌, [], ◌∷◌, IfOk, OnOk, Some, List, length, slice_get};
+ghost use Rattle.std.specs.Prelude.{◌≡◌, ◌≢◌, ◌+◌, ◌<◌, ℕ, true, [], ◌∷◌, IfErr, IfOk, OnOk, Some, List, length, slice_get};
 ghost use Rattle.bq_parts.specs.declared.event.Event.TheVariants.{Admit};
 ghost use Rattle.bq_workload.specs.Kinds.{tasks_in};
+ghost use Rattle.bq_workload.specs.Soundness.{IsFirstAllowed, has_numbers};
 ghost use Rattle.bq_workload.specs.declared.workload.TaskKind.{TaskKind};
+ghost use Rattle.bq_workload.specs.declared.workload.Workload.{Workload};
 ghost use Rattle.bq_simulate.specs.Actions.{IsOfKind, first_of, start_of};
-ghost use Rattle.bq_simulate.specs.Kept.{HasAllFirsts};
+ghost use Rattle.bq_simulate.specs.Kept.{HasAllFirsts, IsNewerFrom, WereDrawn};
+ghost use Rattle.bq_simulate.specs.Order.{HasGenerations, OpensWell, StartsWell, WantsMemory};
 ghost use Rattle.bq_simulate.specs.Simulations.{Befell, Lived, Same, Silent};
 ghost use Rattle.bq_simulate.specs.Steps.{AreAdmitted, AreAllAdmitted, AreInstalled, AreJust, IsJoin, installs_of};
 ghost use Rattle.bq_words.specs.Sizes.{processors_in};
@@ -29,6 +32,8 @@ impl Simulation {
         ensures roster { self.new.roster ≡ self.old.roster }
         ensures streams { self.new.streams ≡ self.old.streams }
         ensures firsts { self.new.firsts ≡ self.old.firsts }
+        ensures counts { self.new.counts ≡ self.old.counts }
+        ensures ends { (w : Workload) → StartsWell w self.old → processors ≡ processors_in w.machine.size → IfErr result WantsMemory }
     {
         'policies: for policy in policies {
             let generation = self.driver.draw(alloc, sink)?;
@@ -49,6 +54,9 @@ impl Simulation {
         ensures roster { self.new.roster ≡ self.old.roster }
         ensures streams { self.new.streams ≡ self.old.streams }
         ensures firsts { self.new.firsts ≡ self.old.firsts }
+        ensures counts { self.new.counts ≡ self.old.counts }
+        ensures generations { OnOk result ((count : ℕ) → HasGenerations count self.old.driver.machine.world → IsNewerFrom 0 generation self.old.driver.machine.world → HasGenerations count self.new.driver.machine.world) }
+        ensures ends { (w : Workload) → OpensWell w 0 self.old → WereDrawn self.old.driver.machine.world → IsNewerFrom 0 generation self.old.driver.machine.world → processors ≡ processors_in w.machine.size → IfErr result WantsMemory }
     {
         'processors: for processor in 0..processors {
             let copy = policy.clone()?;
@@ -70,6 +78,8 @@ impl Simulation {
         ensures lived { OnOk result (Lived S.takes workload.now.tasks.items (AreAllAdmitted (processors_in workload.now.machine.size) 0 0 workload.now.tasks.items) sink.old self.old sink.new self.new) }
         ensures streams { OnOk result (length self.new.streams.items ≡ tasks_in workload.now.tasks.items) }
         ensures firsts { OnOk result (length self.old.firsts.items ≡ 0 → HasAllFirsts workload.now.tasks.items self.new) }
+        ensures well { OnOk result (OpensWell workload.now 0 self.old → OpensWell workload.now (tasks_in workload.now.tasks.items) self.new) }
+        ensures ends { OpensWell workload.now 0 self.old → length self.old.firsts.items ≡ 0 → IfErr result WantsMemory }
     {
         'kinds: for (number, kind) in workload.tasks.iter().enumerate() {
             self.begin_kind(number)?;
@@ -94,6 +104,8 @@ impl Simulation {
         ensures tasks { OnOk result (length self.new.roster.by_task.items ≡ length self.old.roster.by_task.items + kind.now.count) }
         ensures streams { OnOk result (length self.new.streams.items ≡ length self.old.streams.items + kind.now.count) }
         ensures firsts { OnOk result (self.new.firsts ≡ self.old.firsts) }
+        ensures well { OnOk result (OpensWell workload.now (first_of workload.now.tasks.items number) self.old → OpensWell workload.now (first_of workload.now.tasks.items number + kind.now.count) self.new) }
+        ensures ends { OpensWell workload.now (first_of workload.now.tasks.items number) self.old → IfErr result WantsMemory }
     {
         let processors = workload.machine.size.processors();
         let home = first_of_mask(kind.mask, processors).ok_or(SimulateFault::BrokenInvariant)?;
@@ -112,6 +124,8 @@ impl Simulation {
         ensures by_task { self.new.roster ≡ self.old.roster }
         ensures streams { self.new.streams ≡ self.old.streams }
         ensures firsts { OnOk result (length self.new.firsts.items ≡ length self.old.firsts.items + 1) }
+        ensures counts { self.new.counts ≡ self.old.counts }
+        ensures ends { self.old.counts.tasks ≡ length self.old.streams.items → length self.old.firsts.items ≡ number → IfErr result WantsMemory }
     {
         let first = self.tasks()?;
         if self.firsts.len() != number {
@@ -125,7 +139,8 @@ impl Simulation {
 
     /// How many tasks there are, each with a stream of its own.
     pub(crate) fn tasks(&self) -> Result<u16, SimulateFault>
-        ensures { IfOk result (λ tasks. tasks ≡ length self.now.streams.items) }
+        ensures tasks { IfOk result (λ tasks. tasks ≡ length self.now.streams.items) }
+        ensures stray { IfErr result (λ _. self.now.counts.tasks ≢ length self.now.streams.items) }
     {
         let tasks = self.counts.tasks;
         if self.streams.len() != usize::from(tasks) {
@@ -138,6 +153,7 @@ impl Simulation {
     fn count_task(&mut self, task: u16)
         ensures same { Same self.old self.new }
         ensures by_task { self.new.roster.by_task ≡ self.old.roster.by_task }
+        ensures counted { task < 1024 → self.new.counts.tasks ≡ task + 1 }
     {
         self.counts.tasks = task.saturating_add(1);
     }
@@ -150,6 +166,7 @@ impl Simulation {
         ensures streams { OnOk result (length self.new.streams.items ≡ length self.old.streams.items + 1) }
         ensures tasks { OnOk result (length self.new.roster.by_task.items ≡ length self.old.roster.by_task.items + 1) }
         ensures firsts { self.new.firsts ≡ self.old.firsts }
+        ensures ends { task ≡ length self.old.streams.items → task < 1024 → IfErr result WantsMemory }
     {
         if self.streams.len() != usize::from(task) {
             return Err(SimulateFault::BrokenInvariant);
@@ -173,6 +190,8 @@ impl Simulation {
         ensures by_task { self.new.roster ≡ self.old.roster }
         ensures streams { self.new.streams ≡ self.old.streams }
         ensures firsts { self.new.firsts ≡ self.old.firsts }
+        ensures counts { self.new.counts ≡ self.old.counts }
+        ensures ends { (w : Workload) (home : ℕ) → OpensWell w task self.old → task < 1024 → has_numbers kind.now ≡ true → IsFirstAllowed (processors_in w.machine.size) kind.now.mask home → IfErr result WantsMemory }
     {
         self.driver
             .admit(alloc, task, kind.nice, kind.mask, kind.slice, sink)?;

@@ -1,11 +1,15 @@
 //! A simulation on its way.
-ghost use Rattle.std.specs.Prelude.{◌≡◌, ℕ, true, [], ◌∷◌, IfOk, OnOk};
+ghost use Rattle.std.specs.Prelude.{◌≡◌, ◌≢◌, ◌<◌, ◌⊎◌, ℕ, true, false, [], ◌∷◌, IfOk, IfErr, None, OnOk, length, slice_get};
 ghost use Rattle.bq_parts.specs.declared.event.Event.TheVariants.{BeginWake, EndWake, Drain, Pull, Tick};
 ghost use Rattle.bq_simulate.specs.Drives.{Drove};
 ghost use Rattle.std.specs.Option.{option_map_or};
 ghost use Rattle.bq_workload.specs.Accounts.{accounts_of, passed, switched};
-ghost use Rattle.bq_workload.specs.Next.{StaysAgreed};
+ghost use Rattle.bq_workload.specs.Next.{IsNext, StaysAgreed};
+ghost use Rattle.bq_workload.specs.Strays.{IsStrayPass, IsStraySwitch};
 ghost use Rattle.bq_simulate.specs.Chronicles.{IsWoken, is_busy};
+ghost use Rattle.bq_workload.specs.Lengths.{is_length};
+ghost use Rattle.bq_workload.specs.declared.workload.Workload.{Workload};
+ghost use Rattle.bq_simulate.specs.Order.{GoesWell, WantsMemory};
 ghost use Rattle.bq_simulate.specs.Simulations.{Befell, Draws, Lived};
 ghost use Rattle.bq_simulate.specs.Steps.{AreJust, AreWake, KeepsOthers, Meet};
 
@@ -39,7 +43,8 @@ impl Simulation {
         now: u64,
         sink: &mut S,
     ) -> Result<(), SimulateFault>
-        ensures { OnOk result (Lived S.takes workload.now.tasks.items (Meet due now) sink.old self.old sink.new self.new) }
+        ensures lived { OnOk result (Lived S.takes workload.now.tasks.items (Meet due now) sink.old self.old sink.new self.new) }
+        ensures ends { GoesWell workload.now now self.old → IsNext workload.now.machine.duration (accounts_of self.old.roster) due now → IfErr result WantsMemory }
     {
         match due {
             Due::End(processor) => self.act(alloc, workload, processor, now, sink),
@@ -57,7 +62,8 @@ impl Simulation {
         now: u64,
         sink: &mut S,
     ) -> Result<(), SimulateFault>
-        ensures { OnOk result (Befell S.takes (Meet (Due.Wake task) now) sink.old self.old sink.new self.new) }
+        ensures befell { OnOk result (Befell S.takes (Meet (Due.Wake task) now) sink.old self.old sink.new self.new) }
+        ensures ends { (w : Workload) → GoesWell w now self.old → IsNext w.machine.duration (accounts_of self.old.roster) (Due.Wake task) now → IfErr result WantsMemory }
     {
         let progress = self.roster.progress(task)?;
         if progress.timer != now {
@@ -81,6 +87,7 @@ impl Simulation {
         requires { IsWoken (accounts_of self.old.roster) from task }
         ensures events { OnOk result ((to : ℕ) × Drove S.takes sink.old self.old.driver (BeginWake from task ∷ EndWake from now ∷ Drain to now ∷ []) sink.new self.new.driver) }
         ensures lived { OnOk result (Befell S.takes (AreWake from task now) sink.old self.old sink.new self.new) }
+        ensures ends { (w : Workload) → GoesWell w now self.old → IfErr result WantsMemory }
     {
         self.roster.wake(task)?;
         let to = self.driver.wake(alloc, from, task, now, sink)?;
@@ -97,7 +104,8 @@ impl Simulation {
         now: u64,
         sink: &mut S,
     ) -> Result<(), SimulateFault>
-        ensures { OnOk result (Befell S.takes (Meet (Due.Tick processor) now) sink.old self.old sink.new self.new) }
+        ensures befell { OnOk result (Befell S.takes (Meet (Due.Tick processor) now) sink.old self.old sink.new self.new) }
+        ensures ends { (w : Workload) → GoesWell w now self.old → IsNext w.machine.duration (accounts_of self.old.roster) (Due.Tick processor) now → IfErr result WantsMemory }
     {
         self.roster.beat(processor, now)?;
         let processor_state = self.roster.processor_state(processor)?;
@@ -118,6 +126,7 @@ impl Simulation {
         requires { is_busy (accounts_of self.old.roster) processor ≡ true }
         ensures befell { OnOk result (Befell S.takes (AreJust (Tick processor now ∷ [])) sink.old self.old sink.new self.new) }
         ensures others { OnOk result (KeepsOthers processor (accounts_of self.old.roster) (accounts_of self.new.roster)) }
+        ensures ends { (w : Workload) → GoesWell w now self.old → IfErr result WantsMemory }
     {
         let run = self.driver.tick(alloc, processor, now, sink)?;
         self.roster.switch(processor, run, now)?;
@@ -132,7 +141,8 @@ impl Simulation {
         now: u64,
         sink: &mut S,
     ) -> Result<(), SimulateFault>
-        ensures { OnOk result (Befell S.takes (Meet (Due.Pull processor) now) sink.old self.old sink.new self.new) }
+        ensures befell { OnOk result (Befell S.takes (Meet (Due.Pull processor) now) sink.old self.old sink.new self.new) }
+        ensures ends { (w : Workload) → GoesWell w now self.old → IsNext w.machine.duration (accounts_of self.old.roster) (Due.Pull processor) now → IfErr result WantsMemory }
     {
         let source = self.roster.look(processor, now)?;
         match source {
@@ -149,7 +159,8 @@ impl Simulation {
         now: u64,
         sink: &mut S,
     ) -> Result<(), SimulateFault>
-        ensures { OnOk result (Befell S.takes (AreJust (Pull processor from now ∷ [])) sink.old self.old sink.new self.new) }
+        ensures befell { OnOk result (Befell S.takes (AreJust (Pull processor from now ∷ [])) sink.old self.old sink.new self.new) }
+        ensures ends { (w : Workload) → GoesWell w now self.old → processor < length self.old.roster.by_processor.items → from < length self.old.roster.by_processor.items → processor ≢ from → IfErr result WantsMemory }
     {
         let moved = self.driver.pull(alloc, processor, from, now, sink)?;
         keep_pull(&mut self.roster, processor, from, moved, now)?;
@@ -158,7 +169,8 @@ impl Simulation {
 
     /// The next length of a task.
     pub(crate) fn draw(&mut self, task: u16, length: Length) -> Result<u64, BrokenInvariant>
-        ensures { IfOk result (λ drawn. Draws task length self.old drawn self.new) }
+        ensures drawn { IfOk result (λ drawn. Draws task length self.old drawn self.new) }
+        ensures stray { IfErr result (λ _. (is_length length ≡ false) ⊎ (slice_get self.old.streams.items task ≡ None)) }
     {
         if !length.is_sound() {
             return Err(BrokenInvariant);
@@ -181,6 +193,7 @@ fn keep_pull(
     ensures accounts { OnOk result (accounts_of roster.new ≡ switched processor moved.run now roster.old.periods (option_map_or (λ task. passed from processor (accounts_of roster.old)) moved.task (accounts_of roster.old))) }
     ensures agrees { OnOk result (StaysAgreed roster.old roster.new) }
     ensures periods { roster.new.periods ≡ roster.old.periods }
+    ensures stray { IfErr result (λ _. ((moved.task ≢ None) × IsStrayPass from processor (accounts_of roster.old)) ⊎ IsStraySwitch roster.old.periods processor moved.run now (option_map_or (λ task. passed from processor (accounts_of roster.old)) moved.task (accounts_of roster.old))) }
 {
     pass_where_taken(roster, moved.task, from, processor)?;
     roster.switch(processor, moved.run, now)
@@ -196,6 +209,7 @@ fn pass_where_taken(
     ensures accounts { OnOk result (accounts_of roster.new ≡ option_map_or (λ task. passed from to (accounts_of roster.old)) taken (accounts_of roster.old)) }
     ensures agrees { OnOk result (StaysAgreed roster.old roster.new) }
     ensures periods { roster.new.periods ≡ roster.old.periods }
+    ensures stray { IfErr result (λ _. (taken ≢ None) × IsStrayPass from to (accounts_of roster.old)) }
 {
     match taken {
         Some(_) => roster.pass(from, to),

@@ -1,6 +1,9 @@
+use Rattle.std.proofs.Common.{inl, ◌∙◌}
 use Rattle.std.proofs.lemmas.Result.{on_ok_weaker}
 use Rattle.bq_simulate.specs.Simulations.{with_seed}
 use Rattle.bq_simulate.proofs.WholeLemmas.{IsNew, followed-of}
+use Rattle.bq_simulate.proofs.OpenWellLemmas.{starts-well}
+use Rattle.bq_simulate.proofs.WellLemmas.{err-by}
 use Rattle.bq_simulate.proofs.following.follow.Goals as goal
 
 pub returns-clause-told : goal.returns-clause-told
@@ -8,4 +11,19 @@ returns-clause-told g c =
     let s = c.in_ok-simulation.ensures in
     let w = with_seed c.args.workload.now c.args.seed in
     let new : IsNew w _ _ = record { driver = s.driver; accounts = s.accounts; periods = s.periods; agreed = s.agrees; seed = s.seed; streams = s.streams; firsts = s.firsts } in
-    on_ok_weaker c.run.result (λ h. followed-of g.S.Sink.takes g.S.Enough.sated _ _ _ c.args.policies.now w _ _ _ c.in_ok-driver.ensures new h) c.run.ensures.runs
+    on_ok_weaker c.run.result (λ h. followed-of g.S.Sink.takes g.S.Enough.sated _ _ _ c.args.policies.now w _ _ _ c.in_ok-driver.ensures.starts new h) c.run.ensures.runs
+
+pub returns-in_err-driver-clause-ends : goal.returns-in_err-driver-clause-ends
+returns-in_err-driver-clause-ends g c = λ sound. err-by c.from_residual.result c.from_residual.ensures.1 (λ e is. inl (is c.in_err-driver.ensures.fault))
+
+pub returns-in_err-simulation-clause-ends : goal.returns-in_err-simulation-clause-ends
+returns-in_err-simulation-clause-ends g c = λ sound. err-by c.from_residual-in_err-simulation.result c.from_residual-in_err-simulation.ensures.1 (λ e is. inl (is ∙ c.in_err-simulation.ensures.ends))
+
+-- nothing of it was done yet
+pub returns-clause-ends : goal.returns-clause-ends
+returns-clause-ends g c = λ sound.
+    let s = c.in_ok-simulation.ensures in
+    let w = c.args.workload.now in
+    let made = c.in_ok-driver.ensures.starts in
+    let new : IsNew (with_seed w c.args.seed) _ _ = record { driver = s.driver; accounts = s.accounts; periods = s.periods; agreed = s.agrees; seed = s.seed; streams = s.streams; firsts = s.firsts } in
+    c.run.ensures.ends (starts-well w c.args.seed _ _ made.told sound made.holds new s.counts)

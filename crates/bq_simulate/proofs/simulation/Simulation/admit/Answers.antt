@@ -1,4 +1,4 @@
-use Rattle.std.proofs.Common.{◌≤◌, ◌+◌, List, [], ◌++◌, get_or, length, take, take_all, refl, sym, ap, ◌∙◌, subst, arith}
+use Rattle.std.proofs.Common.{ℕ, ◌≤◌, ◌+◌, List, [], ◌++◌, get_or, length, take, take_all, refl, sym, ap, ◌∙◌, subst, arith}
 use Rattle.std.proofs.lemmas.Option.{slice_get_read}
 use Rattle.bq_workload.specs.declared.roster.Roster.{Roster}
 use Rattle.bq_workload.specs.declared.workload.TaskKind.{TaskKind}
@@ -6,10 +6,13 @@ use Rattle.bq_workload.specs.Kinds.{tasks_in}
 use Rattle.bq_words.specs.Sizes.{processors_in}
 use Rattle.bq_simulate.specs.Actions.{first_of}
 use Rattle.bq_simulate.specs.Chronicles.{Deed}
+use Rattle.bq_simulate.specs.Order.{OpensWell}
 use Rattle.bq_simulate.specs.Steps.{AreAdmitted, AreAllAdmitted, AreJust}
 use Rattle.bq_simulate.proofs.AdmissionLemmas.{AreAllAdmitted-next}
 use Rattle.bq_simulate.proofs.DeedLemmas.{Lived-join, Lived-same, Lived-silent, Lived-weaker, Same-here}
 use Rattle.bq_simulate.proofs.KindLemmas.{first-more}
+use Rattle.bq_simulate.proofs.OpenWellLemmas.{begun-well, streams-there}
+use Rattle.bq_simulate.proofs.WellLemmas.{err-by}
 use Rattle.bq_simulate.proofs.simulation.Simulation.admit.Goals as goal
 
 pub kinds-init : goal.kinds-init
@@ -19,6 +22,7 @@ kinds-init g c =
       lived = Lived-same g.S.Sink.takes (AreAllAdmitted (processors_in w.machine.size) 0 0 []) refl _ _ _ (Same-here _) w.tasks.items;
       tasks = c.requires.tasks;
       streams = c.requires.streams;
+      well = λ opens. opens;
       firsts = omega arith;
     }
 
@@ -55,6 +59,9 @@ kinds-preserved g c =
       lived = Lived-join takes kinds before these after more _ _ _ _ _ _ c.kinds.invariant.lived (Lived-join takes kinds (AreJust []) these these (λ xs ys none are. subst (λ (l : List Deed). these (l ++ ys)) (sym none) are) _ _ _ _ _ _ (Lived-silent takes kinds (AreJust []) _ _ _ (c.in_ok-begin_kind.ensures.silent kinds c.kinds.invariant.streams)) c.in_ok-admit_kind.ensures.lived);
       tasks = c.in_ok-admit_kind.ensures.tasks ∙ ap (λ n. n + kind.count) tasks ∙ next;
       streams = c.in_ok-admit_kind.ensures.streams ∙ ap (λ n. n + kind.count) streams ∙ next;
+      well = λ opens.
+          let begun = begun-well takes w first c.kinds.sink _ c.begin_kind.new.self (c.in_ok-begin_kind.ensures.silent kinds c.kinds.invariant.streams) c.begin_kind.ensures.counts (c.kinds.invariant.well opens) in
+          subst (λ (n : ℕ). OpensWell w n c.admit_kind.new.self) next (c.in_ok-admit_kind.ensures.well begun);
       firsts = omega (arith, ap (λ v. length v.items) c.in_ok-admit_kind.ensures.firsts, c.in_ok-begin_kind.ensures.firsts, c.kinds.invariant.firsts);
     }
 
@@ -78,3 +85,25 @@ returns-clause-firsts g c =
     let kinds = c.args.workload.now.tasks.items in
     let late : length kinds ≤ c.kinds.number = omega (arith, ap length c.deref-kind-items.ensures.value, c.kinds-test.false) in
     λ none. omega (arith, late, c.kinds.invariant.firsts, none)
+
+pub returns-in_err-begin_kind-clause-ends : goal.returns-in_err-begin_kind-clause-ends
+returns-in_err-begin_kind-clause-ends g c = λ opens none.
+    let w = c.args.workload.now in
+    let well = c.kinds.invariant.well opens in
+    let wants = c.in_err-begin_kind.ensures.ends (well.counted ∙ sym (streams-there w _ _ well)) (omega (arith, c.kinds.invariant.firsts, none)) in
+    err-by c.from_residual.result c.from_residual.ensures.1 (λ e is. is ∙ wants)
+
+pub returns-in_err-admit_kind-clause-ends : goal.returns-in_err-admit_kind-clause-ends
+returns-in_err-admit_kind-clause-ends g c = λ opens none.
+    let w = c.args.workload.now in
+    let kinds = w.tasks.items in
+    let begun = begun-well g.S.Sink.takes w (first_of kinds c.kinds.number) c.kinds.sink _ c.begin_kind.new.self (c.in_ok-begin_kind.ensures.silent kinds c.kinds.invariant.streams) c.begin_kind.ensures.counts (c.kinds.invariant.well opens) in
+    let wants = c.in_err-admit_kind.ensures.ends begun in
+    err-by c.from_residual-in_err-admit_kind.result c.from_residual-in_err-admit_kind.ensures.1 (λ e is. is ∙ wants)
+
+pub returns-clause-well : goal.returns-clause-well
+returns-clause-well g c = λ opens.
+    let w = c.args.workload.now in
+    let kinds = w.tasks.items in
+    let late : length kinds ≤ c.kinds.number = omega (arith, ap length c.deref-kind-items.ensures.value, c.kinds-test.false) in
+    subst (λ (n : ℕ). OpensWell w n c.kinds.self) (ap tasks_in (take_all c.kinds.number kinds late)) (c.kinds.invariant.well opens)

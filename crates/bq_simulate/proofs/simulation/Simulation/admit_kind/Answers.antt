@@ -1,17 +1,21 @@
-use Rattle.std.proofs.Common.{◌≡◌, ◌+◌, ℕ, suc, List, Option, ◌∷◌, [], ◌++◌, length, sym, ap, ◌∙◌, subst, arith, refl}
+use Rattle.std.proofs.Common.{◌≡◌, ◌+◌, ◌<◌, false, true≢false, ℕ, suc, List, Option, ◌∷◌, [], ◌++◌, length, sym, ap, ◌∙◌, subst, arith, refl}
 use Rattle.std.specs.Option.{option_map_or}
-use Rattle.std.specs.Prelude.{IfSome}
+use Rattle.std.specs.Prelude.{IfNone, IfSome}
 use Rattle.bq_workload.specs.declared.workload.TaskKind.{TaskKind}
 use Rattle.bq_workload.specs.declared.roster.Roster.{Roster}
-use Rattle.bq_workload.specs.Soundness.{IsFirstAllowed}
+use Rattle.bq_workload.specs.Soundness.{IsFirstAllowed, allows_one}
 use Rattle.bq_parts.specs.declared.event.Event.TheVariants.{Admit}
 use Rattle.bq_words.specs.Sizes.{processors_in}
 use Rattle.bq_simulate.specs.Actions.{first_of, start_of}
 use Rattle.bq_simulate.specs.Chronicles.{Deed}
+use Rattle.bq_simulate.specs.Order.{OpensWell}
 use Rattle.bq_simulate.specs.Steps.{AreAdmitted, AreJust, IsAdmission, IsJoin}
 use Rattle.bq_simulate.proofs.AdmissionLemmas.{AreAdmitted-more, admission-of}
 use Rattle.bq_simulate.proofs.DeedLemmas.{Lived-join, Lived-same, Lived-silent, Lived-then, Same-here}
 use Rattle.bq_simulate.proofs.KindLemmas.{nth-of-kind}
+use Rattle.bq_simulate.proofs.OpenWellLemmas.{few_before, opens-well, tasks-open}
+use Rattle.bq_simulate.proofs.SoundKindLemmas.{admissible_kind}
+use Rattle.bq_simulate.proofs.WellLemmas.{err-by}
 use Rattle.bq_simulate.proofs.simulation.Simulation.admit_kind.Goals as goal
 
 pub tasks-init : goal.tasks-init
@@ -22,6 +26,7 @@ tasks-init g c =
       tasks = omega arith;
       streams = omega arith;
       firsts = refl;
+      counted = λ opens. omega (arith, opens.counted);
     }
 
 pub tasks-preserved : goal.tasks-preserved
@@ -57,4 +62,58 @@ tasks-preserved g c =
       tasks = ap (λ v. length v.items) c.count_task.ensures.by_task ∙ c.in_ok-join.ensures.tasks ∙ omega (arith, here, c.requires.first);
       streams = ap (λ v. length v.items) c.count_task.ensures.same.stays.streams ∙ c.in_ok-join.ensures.streams ∙ omega (arith, streams, c.requires.streams);
       firsts = c.count_task.ensures.same.stays.firsts ∙ c.in_ok-join.ensures.firsts ∙ c.in_ok-admit_one.ensures.firsts ∙ c.tasks.invariant.firsts;
+      counted = λ opens.
+          let here : task ≡ first + count = c.tasks.invariant.counted opens in
+          let few : task < 1024 = few_before w number kind task count opens.sound c.requires.kind here c.tasks-test.true in
+          omega (arith, here, c.count_task.ensures.counted few);
     }
+
+pub returns-clause-well : goal.returns-clause-well
+returns-clause-well g c = λ opens.
+    let w = c.args.workload.now in
+    let kind = c.args.kind.now in
+    let number = c.args.number in
+    let first = first_of w.tasks.items number in
+    let count = c.tasks.counter in
+    let all : count ≡ kind.count = omega (arith, c.tasks-test.false, c.tasks.auto.counter-end) in
+    subst (λ (n : ℕ). OpensWell w (first + n) c.tasks.self) all (opens-well g.S.Sink.takes _ _ _ w first (first + count) _ _ (tasks-open w c.args.self.now.seed number kind first count) (c.tasks.invariant.counted opens) c.tasks.invariant.lived opens)
+
+-- a kind without a flaw may use a processor
+pub returns-in_err-home-clause-ends : goal.returns-in_err-home-clause-ends
+returns-in_err-home-clause-ends g c = λ opens.
+    let w = c.args.workload.now in
+    let mask = (admissible_kind w c.args.number c.args.kind.now opens.sound c.requires.kind).mask in
+    let none = subst (λ (o : Option ℕ). IfNone o (allows_one c.processors-processors.result c.args.kind.now.mask ≡ false)) c.in_err-home.ensures.ok_part c.first_of_mask.ensures.none in
+    absurd (true≢false (sym mask ∙ sym (ap (λ (n : ℕ). allows_one n c.args.kind.now.mask) c.processors-processors.ensures) ∙ none))
+
+pub returns-in_err-admit_one-clause-ends : goal.returns-in_err-admit_one-clause-ends
+returns-in_err-admit_one-clause-ends g c = λ opens.
+    let w = c.args.workload.now in
+    let kind = c.args.kind.now in
+    let number = c.args.number in
+    let first = first_of w.tasks.items number in
+    let count = c.tasks.counter in
+    let task = c.tasks.self.counts.tasks in
+    let home = c.in_ok-home.home in
+    let least : IsFirstAllowed c.processors-processors.result kind.mask home = subst (λ (o : Option ℕ). IfSome o (IsFirstAllowed c.processors-processors.result kind.mask)) c.in_ok-home.ensures.ok_part c.first_of_mask.ensures.some in
+    let mine : IsFirstAllowed (processors_in w.machine.size) kind.mask home = subst (λ (n : ℕ). IsFirstAllowed n kind.mask home) c.processors-processors.ensures least in
+    let here : task ≡ first + count = c.tasks.invariant.counted opens in
+    let few : task < 1024 = few_before w number kind task count opens.sound c.requires.kind here c.tasks-test.true in
+    let numbers = (admissible_kind w number kind opens.sound c.requires.kind).numbers in
+    let well = opens-well g.S.Sink.takes _ _ _ w first (first + count) _ _ (tasks-open w c.args.self.now.seed number kind first count) here c.tasks.invariant.lived opens in
+    let wants = c.in_err-admit_one.ensures.ends w home (subst (λ (n : ℕ). OpensWell w n c.tasks.self) (sym here) well) few numbers mine in
+    err-by c.from_residual-in_err-admit_one.result c.from_residual-in_err-admit_one.ensures.1 (λ e is. is ∙ wants)
+
+pub returns-in_err-join-clause-ends : goal.returns-in_err-join-clause-ends
+returns-in_err-join-clause-ends g c = λ opens.
+    let w = c.args.workload.now in
+    let kind = c.args.kind.now in
+    let number = c.args.number in
+    let first = first_of w.tasks.items number in
+    let count = c.tasks.counter in
+    let task = c.tasks.self.counts.tasks in
+    let here : task ≡ first + count = c.tasks.invariant.counted opens in
+    let few : task < 1024 = few_before w number kind task count opens.sound c.requires.kind here c.tasks-test.true in
+    let streams : length c.admit_one.new.self.streams.items ≡ first + count = ap (λ v. length v.items) c.in_ok-admit_one.ensures.streams ∙ c.tasks.invariant.streams ∙ ap (λ n. n + count) c.requires.streams in
+    let wants = c.in_err-join.ensures.ends (here ∙ sym streams) few in
+    err-by c.from_residual-in_err-join.result c.from_residual-in_err-join.ensures.1 (λ e is. is ∙ wants)

@@ -1,6 +1,7 @@
 use Rattle.std.proofs.Common.{◌≡◌, ◌+◌, length}
 use Rattle.bq_words.specs.Sizes.{processors_in}
 use Rattle.bq_simulate.specs.Actions.{first_of}
+use Rattle.bq_simulate.specs.Order.{OpensWell}
 use Rattle.bq_simulate.specs.Simulations.{Lived}
 use Rattle.bq_simulate.specs.Steps.{AreAdmitted}
 use Rattle.bq_simulate.proofs.simulation.Simulation.admit_kind.Given as goal
@@ -11,4 +12,5 @@ invariant-tasks g l = record {
   tasks : length l.self.roster.by_task.items ≡ length l.initial.self.roster.by_task.items + l.counter;
   streams : length l.self.streams.items ≡ length l.initial.self.streams.items + l.counter;
   firsts : l.self.firsts ≡ l.initial.self.firsts;
+  counted : OpensWell l.workload (first_of l.workload.tasks.items l.number) l.initial.self → l.self.counts.tasks ≡ first_of l.workload.tasks.items l.number + l.counter;
 }

@@ -1,10 +1,16 @@
-use Rattle.std.proofs.Common.{[], ◌∷◌, ℤ, w8, refl, subst, rules}
+use Rattle.std.proofs.Common.{[], ◌∷◌, ℕ, ℤ, length, sym, arith, w8, refl, subst, rules}
 use Rattle.std.specs.Prelude.{FitsSigned}
 use Rattle.std.proofs.lemmas.Int.{to_z-of_z}
 use Rattle.bq_parts.specs.declared.event.Event.TheVariants.{Admit}
-use Rattle.bq_simulate.specs.Drives.{Did}
+use Rattle.bq_parts.specs.World.{count_in}
+use Rattle.bq_workload.specs.Accounts.{accounts_of}
+use Rattle.bq_workload.specs.Soundness.{IsFirstAllowed}
+use Rattle.bq_simulate.specs.AgreementLaws.{FailsForMemory}
+use Rattle.bq_simulate.specs.Drives.{Did, IsDriveFault}
 use Rattle.bq_simulate.specs.Steps.{AreJust}
+use Rattle.bq_simulate.proofs.CallLemmas.{calls_fail_for_memory}
 use Rattle.bq_simulate.proofs.DeedLemmas.{Lived-event}
+use Rattle.bq_simulate.proofs.WellLemmas.{err-by}
 use Rattle.bq_simulate.proofs.simulation.Simulation.admit_one.Goals as goal
 
 pub returns-clause-befell : goal.returns-clause-befell
@@ -16,3 +22,16 @@ returns-clause-befell g c =
     let fits : FitsSigned w8 kind.nice = search rules in
     let did = subst (λ (nice : ℤ). Did takes c.args.sink.now c.args.self.now.driver (Admit c.args.task nice kind.mask kind.slice) reply c.admit.new.sink c.admit.new.self) (to_z-of_z w8 kind.nice fits) c.in_ok-admit.ensures.does.1 in
     Lived-event takes (AreJust (event ∷ [])) _ _ _ _ event reply (reply, [], refl, refl) tt (record { agrees = λ h. h; periods = refl; seed = refl; streams = refl; firsts = refl }) did refl
+
+pub returns-in_err-admit-clause-ends : goal.returns-in_err-admit-clause-ends
+returns-in_err-admit-clause-ends g c = λ w home opens few numbers first.
+    let kind = c.args.kind.now in
+    let d = c.args.self.now.driver in
+    let a = accounts_of c.args.self.now.roster in
+    let o = opens.opening in
+    let fits : FitsSigned w8 kind.nice = search rules in
+    let allowed : IsFirstAllowed (count_in d.machine.world) kind.mask home = subst (λ (n : ℕ). IsFirstAllowed n kind.mask home) (sym o.processors_there) first in
+    let fails : FailsForMemory d (Admit (length a.by_task) kind.nice kind.mask kind.slice) = calls_fail_for_memory.admissions d a home kind o.agree (omega (arith, o.tasks_there, few)) numbers allowed in
+    let told = subst (λ (nice : ℤ). IsDriveFault d (Admit c.args.task nice kind.mask kind.slice) c.in_err-admit.field-0.0) (to_z-of_z w8 kind.nice fits) c.in_err-admit.ensures.fault in
+    let why = subst (λ (n : ℕ). IsDriveFault d (Admit n kind.nice kind.mask kind.slice) c.in_err-admit.field-0.0) (sym o.tasks_there) told in
+    err-by c.from_residual.result c.from_residual.ensures.1 (λ e is. is (fails _ why))

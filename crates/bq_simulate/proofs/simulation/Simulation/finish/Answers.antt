@@ -1,11 +1,14 @@
-use Rattle.std.proofs.Common.{◌≡◌, ◌+◌, ℕ, List, ◌∷◌, [], ◌++◌, arith, ◌∙◌, sym, ap, subst, refl}
+use Rattle.std.proofs.Common.{◌≡◌, ◌≢◌, ◌+◌, ◌<◌, ℕ, None, length, List, ◌∷◌, [], ◌++◌, arith, ◌∙◌, sym, ap, subst, refl}
+use Rattle.std.specs.Prelude.{slice_get}
 use Rattle.bq_parts.specs.declared.event.Event.{Event}
 use Rattle.bq_workload.specs.Accounts.{accounts_of}
 use Rattle.bq_simulate.specs.Chronicles.{Deed}
 use Rattle.bq_simulate.specs.Steps.{AreJust, all_processors, last_ticks}
 use Rattle.bq_simulate.proofs.DeedLemmas.{Lived-join, Lived-same, Lived-weaker, Same-here}
+use Rattle.bq_simulate.proofs.EndWellLemmas.{ticked-well, within_there}
 use Rattle.bq_simulate.proofs.ProcessorStateLemmas.{same_tick, ticks_more}
 use Rattle.bq_simulate.proofs.StepLemmas.{AreJust-join}
+use Rattle.bq_simulate.proofs.WellLemmas.{err-by}
 use Rattle.bq_simulate.proofs.simulation.Simulation.finish.Goals as goal
 
 pub processors-preserved : goal.processors-preserved
@@ -27,10 +30,20 @@ processors-preserved g c =
 pub processors-init : goal.processors-init
 processors-init g c = record { befell = Lived-same g.S.Sink.takes (AreJust []) refl _ _ _ (Same-here _); others = λ other later. refl }
 
-pub returns : goal.returns
-returns g c =
+pub returns-clause-befell : goal.returns-clause-befell
+returns-clause-befell g c =
     let end = c.args.end in
     let first = accounts_of c.args.self.now.roster in
     let all : c.processors.processor ≡ c.args.processors = omega (arith, c.processors-test.false, c.processors.auto.processor-end) in
     let ticks : ℕ → List Deed → Type 0 = λ n. AreJust (last_ticks end (all_processors n) first) in
     λ kinds. Lived-weaker g.S.Sink.takes kinds (ticks c.processors.processor) (ticks c.args.processors) (λ xs are. subst (λ (n : ℕ). ticks n xs) all are) _ _ _ _ (c.processors.invariant.befell kinds)
+
+pub returns-in_err-tick_at_end-clause-ends : goal.returns-in_err-tick_at_end-clause-ends
+returns-in_err-tick_at_end-clause-ends g c = λ w well few.
+    let a = accounts_of c.args.self.now.roster in
+    let processor = c.processors.processor in
+    let here = ticked-well g.S.Sink.takes _ _ w c.args.end (all_processors processor) a _ _ (c.processors.invariant.befell w.tasks.items) well in
+    let low : processor < length a.by_processor = omega (arith, c.processors-test.true, few) in
+    let there : slice_get c.processors.self.roster.by_processor.items processor ≢ None = λ none. within_there processor a.by_processor low (sym (c.processors.invariant.others processor (omega arith)) ∙ none) in
+    let wants = c.in_err-tick_at_end.ensures.ends w here there in
+    err-by c.from_residual.result c.from_residual.ensures.1 (λ e is. is ∙ wants)

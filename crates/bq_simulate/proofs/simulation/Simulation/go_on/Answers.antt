@@ -1,5 +1,6 @@
-use Rattle.std.proofs.Common.{◌≤◌, arith}
+use Rattle.std.proofs.Common.{◌≤◌, inl, subst, ◌∙◌, arith}
 use Rattle.std.proofs.lemmas.Option.{MatchOption-at_none, MatchOption-at_some}
+use Rattle.bq_workload.specs.declared.roster.Periods.{Periods}
 use Rattle.bq_workload.specs.Accounts.{accounts_of}
 use Rattle.bq_workload.specs.Next.{IsAgreed, IsNext, NothingComes}
 use Rattle.bq_simulate.specs.Simulations.{book_of}
@@ -7,8 +8,10 @@ use Rattle.bq_simulate.specs.Steps.{AreMet}
 use Rattle.bq_simulate.proofs.DeedLemmas.{Lived-same, Same-here}
 use Rattle.bq_simulate.proofs.OrderLemmas.{met-more}
 use Rattle.bq_simulate.proofs.StepLemmas.{AreMet-none}
+use Rattle.bq_simulate.proofs.WellLemmas.{comes-well, err-by, met-well}
 use Rattle.bq_simulate.proofs.WholeLemmas.{LivedFrom-within}
 use Rattle.bq_simulate.proofs.simulation.Simulation.go_on.Goals as goal
+use Rattle.bq_simulate.proofs.simulation.Simulation.go_on.Goals.{then-now-last-via-then-now-last, then-now-last-via-else-now-last+then-now-end}
 
 pub steps-preserved : goal.steps-preserved
 steps-preserved g c =
@@ -21,8 +24,13 @@ steps-preserved g c =
     let next : IsAgreed here → IsNext here.periods.end (accounts_of here) due now =
     λ agreed. MatchOption-at_some (NothingComes here.periods.end (accounts_of here)) (λ d. IsNext here.periods.end (accounts_of here) d.1 d.0) (now, due) c.in-Some.is (c.first.ensures.next agreed) in
     record {
-      lived = met-more g.S.Sink.takes c.args.workload.now.tasks.items count last now due _ _ _ _ _ _ later next c.steps.invariant.lived c.in_ok-meet.ensures;
+      lived = met-more g.S.Sink.takes c.args.workload.now.tasks.items count last now due _ _ _ _ _ _ later next c.steps.invariant.lived c.in_ok-meet.ensures.lived;
       within = omega (arith, c.if-now-end.false);
+      well = λ begins.
+          let w = c.args.workload.now in
+          let well = c.steps.invariant.well begins in
+          let comes = comes-well w last now due c.steps.self well (next well.agreed) in
+          met-well g.S.Sink.takes _ _ w due now _ _ c.in_ok-meet.ensures.lived comes.2;
     }
 
 pub steps-init : goal.steps-init
@@ -32,6 +40,7 @@ steps-init g c =
     record {
       lived = λ drawn had firsts agreed. Lived-same g.S.Sink.takes (AreMet kinds was.seed was.roster.periods 0 0 (book_of was drawn)) (AreMet-none kinds was.seed was.roster.periods (book_of was drawn)) _ _ _ (Same-here _) kinds drawn had firsts;
       within = omega arith;
+      well = λ begins. begins;
     }
 
 pub returns-in_default-clause-none : goal.returns-in_default-clause-none
@@ -50,3 +59,29 @@ returns-then-has_enough-clause-lived g c =
     let was = c.args.self.now in
     let few : c.steps.counter ≤ c.args.most = omega (arith, c.steps-test.true) in
     LivedFrom-within g.S.Sink.takes c.args.workload.now.tasks.items was.seed was.roster.periods c.steps.counter c.args.most c.steps.last c.args.workload.now.machine.duration _ _ _ _ few c.steps.invariant.within c.steps.invariant.lived
+
+-- what comes next is neither past nor beyond the end
+pub returns-in_err-meet-clause-ends : goal.returns-in_err-meet-clause-ends
+returns-in_err-meet-clause-ends g c = λ begins.
+    let w = c.args.workload.now in
+    let here = c.steps.self.roster in
+    let due = c.in-Some.due in
+    let now = c.in-Some.now in
+    let well = c.steps.invariant.well begins in
+    let next = MatchOption-at_some (NothingComes here.periods.end (accounts_of here)) (λ d. IsNext here.periods.end (accounts_of here) d.1 d.0) (now, due) c.in-Some.is (c.first.ensures.next well.agreed) in
+    let wants = c.in_err-meet.ensures.ends (comes-well w c.steps.last now due c.steps.self well next).2 (subst (λ (p : Periods). IsNext p.end (accounts_of here) due now) well.periods next) in
+    err-by c.from_residual.result c.from_residual.ensures.1 (λ e is. inl (is ∙ wants))
+
+pub returns-then-now-last-clause-ends : goal.returns-then-now-last-clause-ends
+returns-then-now-last-clause-ends g c = λ begins.
+    let w = c.args.workload.now in
+    let here = c.steps.self.roster in
+    let due = c.in-Some.due in
+    let now = c.in-Some.now in
+    let well = c.steps.invariant.well begins in
+    let next = MatchOption-at_some (NothingComes here.periods.end (accounts_of here)) (λ d. IsNext here.periods.end (accounts_of here) d.1 d.0) (now, due) c.in-Some.is (c.first.ensures.next well.agreed) in
+    let comes = comes-well w c.steps.last now due c.steps.self well next in
+    absurd (elim c.then-now-last.branch [
+      | then-now-last-via-then-now-last v ↦ omega (arith, v.if-now-last.true, comes.0)
+      | then-now-last-via-else-now-last+then-now-end v ↦ omega (arith, v.if-now-end.true, comes.1)
+    ])

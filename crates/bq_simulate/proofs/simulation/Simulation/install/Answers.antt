@@ -1,18 +1,19 @@
-use Rattle.std.proofs.Common.{◌≡◌, ◌≤◌, ◌+◌, ℕ, List, [], ◌∷◌, ◌++◌, Some, ap, length, refl, ◌∙◌, subst, take, take_all}
+use Rattle.std.proofs.Common.{◌≡◌, ◌≤◌, ◌<◌, ◌+◌, ◌-◌, ◌^◌, ℕ, arith, List, [], ◌∷◌, ◌++◌, Some, ap, length, refl, ◌∙◌, subst, take, take_all}
 use Rattle.std.specs.Prelude.{slice_get}
 use Rattle.std.proofs.lemmas.Option.{slice_get_read}
 use Rattle.bq_parts.specs.declared.event.Event.TheVariants.{Draw}
 use Rattle.bq_parts.specs.declared.reply.Reply.TheVariants.{Drawn}
 use Rattle.bq_verify.specs.Accepted.{Accepted}
+use Rattle.bq_simulate.specs.AgreementLaws.{FailsForMemory}
 use Rattle.bq_simulate.specs.Chronicles.{Deed, Happens}
 use Rattle.bq_simulate.specs.Steps.{AreInstalled, AreJust, IsInstalled, installs_of}
+use Rattle.bq_simulate.proofs.CallLemmas.{calls_fail_for_memory}
 use Rattle.bq_simulate.proofs.DeedLemmas.{Lived-event, Lived-join, Lived-same, Lived-weaker, Same-here}
 use Rattle.bq_simulate.proofs.InstallLemmas.{AreInstalled-next}
+use Rattle.bq_simulate.proofs.NewerLemmas.{drawn-newer}
+use Rattle.bq_simulate.proofs.OpenWellLemmas.{IsDrawn, draw-opens, installed-well, opens-well}
+use Rattle.bq_simulate.proofs.WellLemmas.{err-by}
 use Rattle.bq_simulate.proofs.simulation.Simulation.install.Goals as goal
-
--- the answer to the draw is the generation that it gave
-abbrev IsDrawn : ℕ → List Deed → Type 0
-IsDrawn generation deeds = deeds ≡ Happens Draw (Drawn generation) ∷ []
 
 pub policies-preserved : goal.policies-preserved
 policies-preserved g c =
@@ -22,6 +23,7 @@ policies-preserved g c =
     let generation = c.in_ok-generation.generation in
     let number = c.policies.policy-index in
     let policy : Accepted = c.policy-item.result in
+    let early : number < 2 ^ 64 - 1 = omega (arith, c.policies-test.true) in
     let there : slice_get policies number ≡ Some policy = slice_get_read policies _ number policy refl c.policies-test.true c.policy-item.is in
     let drawn = Lived-event takes (IsDrawn generation) _ _ _ _ Draw (Drawn generation) refl tt (record { agrees = λ h. h; periods = refl; seed = refl; streams = refl; firsts = refl }) c.in_ok-generation.ensures.does refl in
     let installs = AreJust (installs_of all generation policy) in
@@ -35,10 +37,14 @@ policies-preserved g c =
       roster = c.in_ok-install_one.ensures.roster ∙ c.policies.invariant.roster;
       streams = c.in_ok-install_one.ensures.streams ∙ c.policies.invariant.streams;
       firsts = c.in_ok-install_one.ensures.firsts ∙ c.policies.invariant.firsts;
+      counts = c.in_ok-install_one.ensures.counts ∙ c.policies.invariant.counts;
+      generations = λ none.
+          let newer = drawn-newer number generation _ _ _ early (c.policies.invariant.generations none) c.in_ok-generation.ensures.does.holds in
+          c.in_ok-install_one.ensures.generations (number + 1) newer.0 newer.1;
     }
 
 pub policies-init : goal.policies-init
-policies-init g c = record { befell = Lived-same g.S.Sink.takes (AreInstalled c.args.processors []) refl _ _ _ (Same-here _); roster = refl; streams = refl; firsts = refl }
+policies-init g c = record { befell = Lived-same g.S.Sink.takes (AreInstalled c.args.processors []) refl _ _ _ (Same-here _); roster = refl; streams = refl; firsts = refl; counts = refl; generations = λ none. none }
 
 pub returns-clause-befell : goal.returns-clause-befell
 returns-clause-befell g c =
@@ -47,3 +53,22 @@ returns-clause-befell g c =
     let number = c.policies.policy-index in
     let late : length policies ≤ number = c.policies-test.false in
     λ kinds. Lived-weaker g.S.Sink.takes kinds (AreInstalled all (take number policies)) (AreInstalled all policies) (λ xs are. subst (λ (l : List Accepted). AreInstalled all l xs) (take_all number policies late) are) _ _ _ _ (c.policies.invariant.befell kinds)
+
+pub returns-in_err-generation-clause-ends : goal.returns-in_err-generation-clause-ends
+returns-in_err-generation-clause-ends g c = λ w starts all.
+    let fails : FailsForMemory c.policies.self.driver Draw = calls_fail_for_memory.draws c.policies.self.driver in
+    err-by c.from_residual.result c.from_residual.ensures.1 (λ e is. is (fails _ c.in_err-generation.ensures.fault))
+
+pub returns-in_err-install_one-clause-ends : goal.returns-in_err-install_one-clause-ends
+returns-in_err-install_one-clause-ends g c = λ w starts all.
+    let takes = g.S.Sink.takes in
+    let policies : List Accepted = c.args.policies.now in
+    let generation = c.in_ok-generation.generation in
+    let number = c.policies.policy-index in
+    let early : number < 2 ^ 64 - 1 = omega (arith, c.policies-test.true) in
+    let before = installed-well takes _ _ w (take number policies) c.args.processors _ c.policies.self all c.policies.invariant.befell c.policies.invariant.counts starts.opens in
+    let drawn = Lived-event takes (IsDrawn generation) _ _ _ _ Draw (Drawn generation) refl tt (record { agrees = λ h. h; periods = refl; seed = refl; streams = refl; firsts = refl }) c.in_ok-generation.ensures.does refl in
+    let well = opens-well takes (IsDrawn generation) _ _ w 0 0 _ _ (draw-opens w c.policies.self.seed 0 generation) before.counted (drawn w.tasks.items) before in
+    let newer = drawn-newer number generation _ _ _ early (c.policies.invariant.generations starts.generations) c.in_ok-generation.ensures.does.holds in
+    let wants = c.in_err-install_one.ensures.ends w well newer.0.were newer.1 all in
+    err-by c.from_residual-in_err-install_one.result c.from_residual-in_err-install_one.ensures.1 (λ e is. is ∙ wants)

@@ -1,4 +1,5 @@
 use Rattle.std.proofs.Common.{◌≡◌, take}
+use Rattle.bq_simulate.specs.Order.{HasGenerations}
 use Rattle.bq_simulate.specs.Simulations.{Befell}
 use Rattle.bq_simulate.specs.Steps.{AreInstalled}
 use Rattle.bq_simulate.proofs.simulation.Simulation.install.Given as goal
@@ -9,4 +10,6 @@ invariant-policies g l = record {
   roster : l.self.roster ≡ l.initial.self.roster;
   streams : l.self.streams ≡ l.initial.self.streams;
   firsts : l.self.firsts ≡ l.initial.self.firsts;
+  counts : l.self.counts ≡ l.initial.self.counts;
+  generations : HasGenerations 0 l.initial.self.driver.machine.world → HasGenerations l.policy-index l.self.driver.machine.world;
 }

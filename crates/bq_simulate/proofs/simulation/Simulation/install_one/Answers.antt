@@ -1,13 +1,21 @@
-use Rattle.std.proofs.Common.{◌≡◌, ◌+◌, ℕ, List, [], ◌∷◌, ◌++◌, Some, refl, sym, ap, ◌∙◌, subst, arith}
+use Rattle.std.proofs.Common.{◌≡◌, ◌+◌, ◌<◌, ℕ, List, [], ◌∷◌, ◌++◌, Some, refl, sym, ap, ◌∙◌, subst, arith}
 use Rattle.bq_hooks.specs.declared.hook.Hook.{Hook}
 use Rattle.bq_parts.specs.declared.event.Event.{Event}
 use Rattle.bq_parts.specs.declared.event.Event.TheVariants.{Install}
 use Rattle.bq_verify.specs.Accepted.{Accepted}
+use Rattle.bq_parts.specs.World.{count_in}
+use Rattle.bq_workload.specs.Accounts.{accounts_of}
+use Rattle.bq_simulate.specs.AgreementLaws.{FailsForMemory}
 use Rattle.bq_simulate.specs.Chronicles.{Deed}
+use Rattle.bq_simulate.specs.Drives.{IsDriveFault}
 use Rattle.bq_simulate.specs.Steps.{AreJust, installs_of}
 use Rattle.bq_simulate.proofs.DeedLemmas.{Lived-drove, Lived-join, Lived-same, Lived-weaker, Same-here}
 use Rattle.bq_simulate.proofs.InstallLemmas.{installs_more}
+use Rattle.bq_simulate.proofs.NewerLemmas.{installed-newer}
+use Rattle.bq_simulate.proofs.CallLemmas.{calls_fail_for_memory}
+use Rattle.bq_simulate.proofs.OpenWellLemmas.{installs-open, opens-well}
 use Rattle.bq_simulate.proofs.StepLemmas.{AreJust-join}
+use Rattle.bq_simulate.proofs.WellLemmas.{err-by}
 use Rattle.bq_simulate.proofs.simulation.Simulation.install_one.Goals as goal
 
 pub processors-preserved : goal.processors-preserved
@@ -29,13 +37,37 @@ processors-preserved g c =
       roster = c.processors.invariant.roster;
       streams = c.processors.invariant.streams;
       firsts = c.processors.invariant.firsts;
+      counts = c.processors.invariant.counts;
+      generations = λ all drawn newer.
+          let before = c.processors.invariant.generations all drawn newer in
+          installed-newer all count generation c.hook.result (Some c.in_ok-copy.copy) _ _ _ before.0 before.1 c.in_ok-install.ensures.does.holds;
     }
 
 pub processors-init : goal.processors-init
-processors-init g c = record { befell = Lived-same g.S.Sink.takes (AreJust []) refl _ _ _ (Same-here _); roster = refl; streams = refl; firsts = refl }
+processors-init g c = record { befell = Lived-same g.S.Sink.takes (AreJust []) refl _ _ _ (Same-here _); roster = refl; streams = refl; firsts = refl; counts = refl; generations = λ all drawn newer. (drawn, newer) }
 
 pub returns-clause-befell : goal.returns-clause-befell
 returns-clause-befell g c =
     let all : c.processors.processor ≡ c.args.processors = omega (arith, c.processors-test.false, c.processors.auto.processor-end) in
     let installs : ℕ → List Deed → Type 0 = λ n. AreJust (installs_of n c.args.generation c.args.policy.now) in
     λ kinds. Lived-weaker g.S.Sink.takes kinds (installs c.processors.processor) (installs c.args.processors) (λ xs are. subst (λ (n : ℕ). installs n xs) all are) _ _ _ _ (c.processors.invariant.befell kinds)
+
+pub returns-clause-generations : goal.returns-clause-generations
+returns-clause-generations g c = λ count drawn newer. (c.processors.invariant.generations count drawn newer).0
+
+pub returns-in_err-install-clause-ends : goal.returns-in_err-install-clause-ends
+returns-in_err-install-clause-ends g c = λ w opens were newer all.
+    let policy = c.args.policy.now in
+    let count = c.processors.processor in
+    let generation = c.args.generation in
+    let here = c.processors.self in
+    let world = c.args.self.now.driver.machine.world in
+    let left = (c.processors.invariant.generations world.drawn (record { many = refl; were = were }) newer).1 in
+    let well = opens-well g.S.Sink.takes _ _ _ w 0 0 _ _ (installs-open w c.args.self.now.seed 0 count generation policy) (ap (λ k. k.tasks) c.processors.invariant.counts ∙ opens.counted) (c.processors.invariant.befell w.tasks.items) opens in
+    let low : count < count_in here.driver.machine.world = omega (arith, c.processors-test.true, all, well.opening.processors_there) in
+    let fails : FailsForMemory here.driver (Install count policy.hook generation (Some policy)) = calls_fail_for_memory.installs here.driver (accounts_of here.roster) count generation policy well.opening.agree low (left.newer count policy.hook (omega arith)) left.drawn in
+    let event = Install count c.hook.result generation (Some c.in_ok-copy.copy) in
+    let same : event ≡ Install count policy.hook generation (Some policy) =
+    ap (λ (h : Hook). Install count h generation (Some c.in_ok-copy.copy)) c.hook.ensures ∙ ap (λ (p : Accepted). Install count policy.hook generation (Some p)) c.in_ok-copy.ensures.cases in
+    let why = subst (λ (e : Event). IsDriveFault here.driver e c.in_err-install.field-0.0) same c.in_err-install.ensures.fault in
+    err-by c.from_residual-in_err-install.result c.from_residual-in_err-install.ensures.1 (λ e is. is (fails _ why))

@@ -1,4 +1,6 @@
-use Rattle.std.proofs.Common.{◌≡◌}
+use Rattle.std.proofs.Common.{◌≡◌, ℕ}
+use Rattle.bq_simulate.specs.Kept.{IsNewerFrom}
+use Rattle.bq_simulate.specs.Order.{HasGenerations}
 use Rattle.bq_simulate.specs.Simulations.{Befell}
 use Rattle.bq_simulate.specs.Steps.{AreJust, installs_of}
 use Rattle.bq_simulate.proofs.simulation.Simulation.install_one.Given as goal
@@ -9,4 +11,6 @@ invariant-processors g l = record {
   roster : l.self.roster ≡ l.initial.self.roster;
   streams : l.self.streams ≡ l.initial.self.streams;
   firsts : l.self.firsts ≡ l.initial.self.firsts;
+  counts : l.self.counts ≡ l.initial.self.counts;
+  generations : (count : ℕ) → HasGenerations count l.initial.self.driver.machine.world → IsNewerFrom 0 l.generation l.initial.self.driver.machine.world → HasGenerations count l.self.driver.machine.world × IsNewerFrom l.processor l.generation l.self.driver.machine.world;
 }

@@ -1,10 +1,13 @@
 -- Policies are installed, tasks are admitted, and then what comes due is met.
-use Rattle.std.proofs.Common.{ℕ, subst}
+use Rattle.std.proofs.Common.{ℕ, inl, length, ap, subst, sym, ◌∙◌}
 use Rattle.bq_words.specs.Sizes.{processors_in}
 use Rattle.bq_workload.specs.Bounds.{most_steps}
+use Rattle.bq_simulate.specs.Order.{EndsEarly}
 use Rattle.bq_simulate.specs.Simulations.{LivedFrom}
 use Rattle.bq_simulate.specs.Steps.{AreAllAdmitted, AreInstalled, AreMet, Opens}
 use Rattle.bq_simulate.proofs.DeedLemmas.{Lived-join, Lived-weaker}
+use Rattle.bq_simulate.proofs.OpenWellLemmas.{installed-well, opened-well, streams-there}
+use Rattle.bq_simulate.proofs.WellLemmas.{err-by}
 use Rattle.bq_simulate.proofs.WholeLemmas.{Opens-join, Proceeds-join}
 use Rattle.bq_simulate.proofs.simulation.Simulation.proceed.Goals as goal
 
@@ -26,3 +29,38 @@ returns-clause-lived g c =
     let mid = c.admit.new.self in
     let met = subst (λ (n : ℕ). LivedFrom takes kinds (AreMet kinds mid.seed mid.roster.periods n end) c.admit.new.sink mid c.go_on.new.sink ended) c.most_steps.ensures c.in_ok-go_on.ensures.lived in
     Proceeds-join takes policies all kinds (most_steps w) end _ _ _ was mid ended opened met
+
+pub returns-in_err-install-clause-ends : goal.returns-in_err-install-clause-ends
+returns-in_err-install-clause-ends g c = λ starts.
+    let wants = c.in_err-install.ensures.ends c.args.workload.now starts c.processors-processors.ensures in
+    err-by c.from_residual.result c.from_residual.ensures.1 (λ e is. inl (is ∙ wants))
+
+pub returns-in_err-admit-clause-ends : goal.returns-in_err-admit-clause-ends
+returns-in_err-admit-clause-ends g c = λ starts.
+    let w = c.args.workload.now in
+    let one = installed-well g.S.Sink.takes _ _ w c.args.policies.now _ _ _ c.processors-processors.ensures c.in_ok-install.ensures.befell c.in_ok-install.ensures.counts starts.opens in
+    let none = ap (λ v. length v.items) c.in_ok-install.ensures.firsts ∙ starts.none in
+    let wants = c.in_err-admit.ensures.ends one none in
+    err-by c.from_residual-in_err-admit.result c.from_residual-in_err-admit.ensures.1 (λ e is. inl (is ∙ wants))
+
+pub returns-in_err-tasks-clause-ends : goal.returns-in_err-tasks-clause-ends
+returns-in_err-tasks-clause-ends g c = λ starts.
+    let w = c.args.workload.now in
+    let one = installed-well g.S.Sink.takes _ _ w c.args.policies.now _ _ _ c.processors-processors.ensures c.in_ok-install.ensures.befell c.in_ok-install.ensures.counts starts.opens in
+    let all = c.in_ok-admit.ensures.well one in
+    absurd (c.in_err-tasks.ensures.stray (all.counted ∙ sym (streams-there w _ _ all)))
+
+pub returns-in_err-go_on-clause-ends : goal.returns-in_err-go_on-clause-ends
+returns-in_err-go_on-clause-ends g c = λ starts.
+    let w = c.args.workload.now in
+    let one = installed-well g.S.Sink.takes _ _ w c.args.policies.now _ _ _ c.processors-processors.ensures c.in_ok-install.ensures.befell c.in_ok-install.ensures.counts starts.opens in
+    let none = ap (λ v. length v.items) c.in_ok-install.ensures.firsts ∙ starts.none in
+    let early = c.in_err-go_on.ensures.ends (opened-well w _ (c.in_ok-admit.ensures.firsts none) (c.in_ok-admit.ensures.well one)) in
+    err-by c.from_residual-in_err-go_on.result c.from_residual-in_err-go_on.ensures.1 (λ e is. subst EndsEarly (sym is) early)
+
+pub returns-clause-well : goal.returns-clause-well
+returns-clause-well g c = λ starts.
+    let w = c.args.workload.now in
+    let one = installed-well g.S.Sink.takes _ _ w c.args.policies.now _ _ _ c.processors-processors.ensures c.in_ok-install.ensures.befell c.in_ok-install.ensures.counts starts.opens in
+    let none = ap (λ v. length v.items) c.in_ok-install.ensures.firsts ∙ starts.none in
+    c.in_ok-go_on.ensures.well (opened-well w _ (c.in_ok-admit.ensures.firsts none) (c.in_ok-admit.ensures.well one))

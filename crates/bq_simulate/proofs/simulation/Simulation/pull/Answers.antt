@@ -1,4 +1,7 @@
-use Rattle.std.proofs.Common.{[], ◌∷◌, ℕ, Option, None, Some, refl, subst}
+use Rattle.std.proofs.Common.{[], ◌∷◌, ℕ, Option, None, Some, refl, subst, ap, ◌∙◌, arith, length}
+use Rattle.std.proofs.lemmas.Option.{slice_get_within}
+use Rattle.bq_workload.specs.Accounts.{Accounts, accounts_of}
+use Rattle.bq_simulate.proofs.AccountLemmas.{changed_at-length}
 use Rattle.std.proofs.lemmas.Result.{on_ok_weaker}
 use Rattle.bq_workload.specs.declared.due.Due.TheVariants as due
 use Rattle.bq_workload.specs.Dues.{IsSource}
@@ -6,10 +9,12 @@ use Rattle.bq_parts.specs.declared.event.Event.TheVariants.{Pull}
 use Rattle.bq_simulate.specs.declared.simulation.Simulation.{Simulation}
 use Rattle.bq_simulate.specs.Steps.{AreJust, Meet}
 use Rattle.bq_simulate.proofs.DeedLemmas.{Befell-looks, Lived-same, Same-here}
+use Rattle.bq_simulate.proofs.ComingLemmas.{looks_now, pulls_from}
+use Rattle.bq_simulate.proofs.WellMeetLemmas.{looks, well_looked}
 use Rattle.bq_simulate.proofs.simulation.Simulation.pull.Goals as goal
 
-pub returns-in-Some : goal.returns-in-Some
-returns-in-Some g c =
+pub returns-in-Some-clause-befell : goal.returns-in-Some-clause-befell
+returns-in-Some-clause-befell g c =
     let looks = c.in_ok-source.ensures in
     let was = c.args.self.now in
     let here : Simulation = record was { roster = c.look.new.self } in
@@ -19,10 +24,10 @@ returns-in-Some g c =
     let source = subst (λ (o : Option ℕ). IsSource was.roster.by_processor.items processor o) c.in-Some.is looks.source in
     on_ok_weaker c.pull_from.result
     (λ h. Befell-looks g.S.Sink.takes (AreJust (Pull processor from now ∷ [])) (Meet (due.Pull processor) now) _ _ was here _ processor now (Some from) looks.due source (record { agrees = looks.agrees; periods = looks.periods; seed = refl; streams = refl; firsts = refl }) refl looks.accounts (λ deeds are. (Some from, deeds, refl, are)) h)
-    c.pull_from.ensures
+    c.pull_from.ensures.befell
 
-pub returns-in-None : goal.returns-in-None
-returns-in-None g c =
+pub returns-in-None-clause-befell : goal.returns-in-None-clause-befell
+returns-in-None-clause-befell g c =
     let looks = c.in_ok-source.ensures in
     let was = c.args.self.now in
     let here : Simulation = record was { roster = c.look.new.self } in
@@ -30,3 +35,21 @@ returns-in-None g c =
     let now = c.args.now in
     let source = subst (λ (o : Option ℕ). IsSource was.roster.by_processor.items processor o) c.in-None.is looks.source in
     Befell-looks g.S.Sink.takes (AreJust []) (Meet (due.Pull processor) now) _ _ was here _ processor now None looks.due source (record { agrees = looks.agrees; periods = looks.periods; seed = refl; streams = refl; firsts = refl }) refl looks.accounts (λ deeds are. (None, deeds, refl, are)) (Lived-same g.S.Sink.takes (AreJust []) refl _ here here (Same-here here))
+
+-- a look goes well
+pub returns-in_err-source-clause-ends : goal.returns-in_err-source-clause-ends
+returns-in_err-source-clause-ends g c =
+    λ w well next. absurd (looks w c.args.now c.args.self.now c.args.processor well (looks_now w.machine.duration c.args.processor c.args.now (accounts_of c.args.self.now.roster) next.comes) c.in_err-source.ensures.stray)
+
+-- and what it finds is another processor
+pub returns-in-Some-clause-ends : goal.returns-in-Some-clause-ends
+returns-in-Some-clause-ends g c =
+    let looks = c.in_ok-source.ensures in
+    let was = c.args.self.now in
+    let here = c.look.new.self in
+    let processor = c.args.processor in
+    let source = subst (λ (o : Option ℕ). IsSource was.roster.by_processor.items processor o) c.in-Some.is looks.source in
+    let other = pulls_from was.roster.by_processor.items processor c.in-Some.from source in
+    let many = ap (λ (a : Accounts). length a.by_processor) looks.accounts ∙ changed_at-length _ was.roster.by_processor.items processor in
+    let there = slice_get_within was.roster.by_processor.items processor looks.due.processor_state looks.due.at in
+    λ w well next. c.pull_from.ensures.ends w (well_looked w c.args.now was here processor well looks.periods looks.accounts looks.agrees) (omega (arith, there, many)) (omega (arith, other.0, many)) other.1

@@ -1,8 +1,18 @@
-use Rattle.std.proofs.Common.{ℕ, List, inl, inr, subst, sym, ◌∙◌}
+use Rattle.std.proofs.Common.{ℕ, List, inl, inr, subst, sym, ◌∙◌, true≢false, arith}
+use Rattle.bq_workload.specs.declared.roster.Periods.{Periods}
 use Rattle.bq_workload.specs.Accounts.{accounts_of}
+use Rattle.bq_workload.specs.Bounds.{most_steps}
+use Rattle.bq_workload.specs.Next.{NothingComes}
+use Rattle.bq_words.specs.Sizes.{processors_in}
 use Rattle.bq_simulate.specs.Chronicles.{Deed}
+use Rattle.bq_simulate.specs.Order.{EndsEarly}
+use Rattle.bq_simulate.specs.Simulations.{Proceeds}
 use Rattle.bq_simulate.specs.Steps.{AreJust, all_processors, last_ticks}
 use Rattle.bq_simulate.proofs.DeedLemmas.{Lived-weaker}
+use Rattle.bq_simulate.proofs.EndWellLemmas.{ended-well, keep_phases}
+use Rattle.bq_simulate.proofs.OpenWellLemmas.{processors-there}
+use Rattle.bq_simulate.proofs.SoundKindLemmas.{sound_times}
+use Rattle.bq_simulate.proofs.WellLemmas.{err-by}
 use Rattle.bq_simulate.proofs.simulation.Simulation.run.Goals as goal
 
 -- where the sink has enough the rest is left
@@ -21,5 +31,31 @@ returns-clause-runs g c =
       proceeds = c.in_ok-tasks.ensures.lived;
       none = c.in_ok-tasks.ensures.none (sym c.has_enough.ensures ∙ c.if-has_enough.false);
       over = sym c.is_over.ensures.over ∙ c.if-not-is_over.false;
-      ticks = Lived-weaker g.S.Sink.takes kinds _ _ (λ xs are. subst (λ (n : ℕ). ticks n xs) c.processors-processors.ensures are) _ _ _ _ (c.in_ok-finish.ensures kinds);
+      ticks = Lived-weaker g.S.Sink.takes kinds _ _ (λ xs are. subst (λ (n : ℕ). ticks n xs) c.processors-processors.ensures are) _ _ _ _ (c.in_ok-finish.ensures.befell kinds);
     })
+
+pub returns-in_err-tasks-clause-ends : goal.returns-in_err-tasks-clause-ends
+returns-in_err-tasks-clause-ends g c = λ starts. err-by c.from_residual.result c.from_residual.ensures.1 (λ e is. subst EndsEarly (sym is) (c.in_err-tasks.ensures.ends starts))
+
+-- where nothing comes any more all is over
+pub returns-then-not-is_over-clause-ends : goal.returns-then-not-is_over-clause-ends
+returns-then-not-is_over-clause-ends g c = λ starts.
+    let w = c.args.workload.now in
+    let ended = c.proceed.new.self in
+    let gone = c.in_ok-tasks.ensures.well starts in
+    let none = c.in_ok-tasks.ensures.none (sym c.has_enough.ensures ∙ c.if-has_enough.false) gone.well.agreed in
+    let left = subst (λ (p : Periods). NothingComes p.end (accounts_of ended.roster)) gone.well.periods none in
+    let over = c.is_over.ensures.none (sound_times w gone.well.sound).duration gone.well.agreed.homes left ∙ keep_phases gone.now (accounts_of ended.roster) gone.well.kept.on_time in
+    absurd (true≢false (sym over ∙ c.if-not-is_over.true))
+
+pub returns-in_err-finish-clause-ends : goal.returns-in_err-finish-clause-ends
+returns-in_err-finish-clause-ends g c = λ starts.
+    let w = c.args.workload.now in
+    let ended = c.proceed.new.self in
+    let gone = c.in_ok-tasks.ensures.well starts in
+    let none = c.in_ok-tasks.ensures.none (sym c.has_enough.ensures ∙ c.if-has_enough.false) gone.well.agreed in
+    let was = c.args.self.now in
+    let there = processors-there g.S.Sink.takes (Proceeds c.args.policies.now (processors_in w.machine.size) w.tasks.items was.seed was.roster.periods (most_steps w) w.machine.duration) _ _ w 0 _ _ c.in_ok-tasks.ensures.lived starts.opens in
+    let many = gone.well.kept.agrees.mirrors.processors.many in
+    let wants = c.in_err-finish.ensures.ends w (ended-well w ended none gone) (omega (arith, c.processors-processors.ensures, there, many)) in
+    err-by c.from_residual-in_err-finish.result c.from_residual-in_err-finish.ensures.1 (λ e is. inl (is ∙ wants))

@@ -1,10 +1,12 @@
 use Rattle.std.proofs.Common.{[], ◌∷◌, ℕ, Option, refl, ap, sym, ◌∙◌}
+use Rattle.std.proofs.lemmas.Result.{err_from_is_err_and}
 use Rattle.std.specs.Prelude.{slice_get}
 use Rattle.bq_parts.specs.declared.event.Event.TheVariants.{Tick}
 use Rattle.bq_workload.specs.Accounts.{Accounts, accounts_of, switched}
 use Rattle.bq_simulate.specs.Steps.{AreJust}
 use Rattle.bq_simulate.proofs.DeedLemmas.{Lived-event}
 use Rattle.bq_simulate.proofs.ProcessorStateLemmas.{switched-others}
+use Rattle.bq_simulate.proofs.WellStepLemmas.{tick_fails, tick_switches}
 use Rattle.bq_simulate.proofs.simulation.Simulation.tick.Goals as goal
 
 pub returns-clause-befell : goal.returns-clause-befell
@@ -21,3 +23,15 @@ returns-clause-others g c =
     let was = c.args.self.now.roster in
     let accounts = c.in_ok-switch.ensures.accounts in
     λ other apart. ap (λ (a : Accounts). slice_get a.by_processor other) accounts ∙ switched-others c.args.processor _ c.args.now was.periods other (accounts_of was) apart
+
+-- a tick fails only for memory
+pub returns-in_err-run-clause-ends : goal.returns-in_err-run-clause-ends
+returns-in_err-run-clause-ends g c =
+    let p = err_from_is_err_and c.from_residual.result c.from_residual.ensures.1 in
+    λ w well. rw p.1 (p.2 (tick_fails w c.args.now c.args.self.now c.args.processor well c.requires c.in_err-run.field-0.0 c.in_err-run.ensures.fault))
+
+-- and no switch goes astray
+pub returns-in_err-switch-clause-ends : goal.returns-in_err-switch-clause-ends
+returns-in_err-switch-clause-ends g c =
+    let said = c.in_ok-run.ensures.does in
+    λ w well. absurd (tick_switches w c.args.now c.args.self.now c.tick.new.self c.args.processor c.in_ok-run.run' said.0 said.2.told well c.requires said.1 said.2.holds c.in_err-switch.ensures.stray)

@@ -26,3 +26,6 @@ returns-in-None-clause-befell g c =
     let idle : is_busy a processor ≡ false = busy_at processor a c.in_ok-processor_state.processor_state c.in_ok-processor_state.ensures.there ∙ ap (λ (o : Option ℕ). is_some o) c.in-None.is in
     let events : last_ticks end (processor ∷ []) a ≡ [] = idle_tick end processor a idle in
     Lived-same g.S.Sink.takes (AreJust (last_ticks end (processor ∷ []) a)) (subst (λ (l : List Event). AreJust l []) (sym events) refl) _ _ _ (Same-here _)
+
+pub returns-in-Some-clause-ends : goal.returns-in-Some-clause-ends
+returns-in-Some-clause-ends g c = λ w well there. c.tick.ensures.ends w well

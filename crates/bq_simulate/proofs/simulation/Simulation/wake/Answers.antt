@@ -1,4 +1,5 @@
 use Rattle.std.proofs.Common.{ℕ, [], ◌∷◌, Option, refl, ap, sym, ◌∙◌}
+use Rattle.std.proofs.lemmas.Result.{err_from_is_err_and}
 use Rattle.bq_parts.specs.declared.event.Event.TheVariants.{BeginWake, EndWake, Drain}
 use Rattle.bq_simulate.specs.Drives.{runs_now}
 use Rattle.bq_simulate.proofs.DriveLemmas.{Drove-join, Drove-one, Drove-places}
@@ -6,6 +7,7 @@ use Rattle.bq_workload.specs.declared.roster.Periods.{Periods}
 use Rattle.bq_workload.specs.Accounts.{Accounts, accounts_of, entered_by, of_task}
 use Rattle.bq_workload.specs.TaskProgress.{woken}
 use Rattle.bq_simulate.proofs.DeedLemmas.{Lived-wakes}
+use Rattle.bq_simulate.proofs.WellStepLemmas.{drain_fails, wake_enters, wake_fails, wake_rests}
 use Rattle.bq_simulate.proofs.simulation.Simulation.wake.Goals as goal
 
 pub returns-clause-events : goal.returns-clause-events
@@ -28,3 +30,29 @@ returns-clause-lived g c =
     let runs = ap (λ (r : Option ℕ). entered_by to entered.count r now was.periods rest) (sym said.1) in
     let counts = ap (λ (n : ℕ). entered_by to n (runs_now said.0) now was.periods rest) (sym said.2) in
     Lived-wakes g.S.Sink.takes _ _ _ _ _ c.wake-2.new.self c.args.from c.args.task to now said.0 c.requires (record { agrees = λ h. c.in_ok-enter.ensures.agrees (c.in_ok-wake.ensures.agrees h); periods = c.in_ok-enter.ensures.periods ∙ c.in_ok-wake.ensures.periods; seed = refl; streams = refl; firsts = refl }) c.in_ok-to.ensures.does said.3 (c.in_ok-enter.ensures.accounts ∙ costs ∙ rises ∙ runs ∙ counts)
+
+-- the task rests
+pub returns-in_err-wake-clause-ends : goal.returns-in_err-wake-clause-ends
+returns-in_err-wake-clause-ends g c = λ w well. absurd (wake_rests w c.args.now c.args.self.now c.args.from c.args.task well c.requires c.in_err-wake.ensures.stray)
+
+-- its wake fails only for memory
+pub returns-in_err-to-clause-ends : goal.returns-in_err-to-clause-ends
+returns-in_err-to-clause-ends g c =
+    let p = err_from_is_err_and c.from_residual-in_err-to.result c.from_residual-in_err-to.ensures.1 in
+    λ w well. rw p.1 (p.2 (wake_fails w c.args.now c.args.self.now c.args.from c.args.task c.in_err-to.field-0.0 well c.requires c.in_err-to.ensures.fault))
+
+-- so does its entry where it was placed
+pub returns-in_err-entered-clause-ends : goal.returns-in_err-entered-clause-ends
+returns-in_err-entered-clause-ends g c =
+    let p = err_from_is_err_and c.from_residual-in_err-entered.result c.from_residual-in_err-entered.ensures.1 in
+    let placed = c.in_ok-to.ensures.does in
+    λ w well. rw p.1 (p.2 (drain_fails w c.args.now c.args.self.now c.wake-2.new.self c.args.from c.args.task c.in_ok-to.to placed.told well c.requires placed.holds c.in_err-entered.field-0.0 c.in_err-entered.ensures.fault))
+
+-- and what came of it can be kept
+pub returns-in_err-enter-clause-ends : goal.returns-in_err-enter-clause-ends
+returns-in_err-enter-clause-ends g c =
+    let placed = c.in_ok-to.ensures.does in
+    let said = c.in_ok-entered.ensures.does in
+    let entered = c.in_ok-entered.entered in
+    let woke = c.in_ok-wake.ensures in
+    λ w well. absurd (wake_enters w c.args.now c.args.self.now c.wake-2.new.self c.drain.new.self c.args.from c.args.task c.in_ok-to.to entered.count entered.run placed.told said.3.told said.0 c.wake.new.self.periods (accounts_of c.wake.new.self) well c.requires placed.holds said.3.holds said.1 said.2 woke.periods woke.accounts c.in_err-enter.ensures.stray)

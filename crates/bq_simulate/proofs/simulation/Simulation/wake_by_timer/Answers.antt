@@ -5,10 +5,11 @@ use Rattle.bq_simulate.specs.declared.simulation.Simulation.{Simulation}
 use Rattle.bq_simulate.specs.Chronicles.{Rings}
 use Rattle.bq_simulate.specs.Steps.{AreWake, Meet}
 use Rattle.bq_simulate.proofs.DeedLemmas.{Befell-first, Stays-here}
+use Rattle.bq_simulate.proofs.ComingLemmas.{rings_now}
 use Rattle.bq_simulate.proofs.simulation.Simulation.wake_by_timer.Goals as goal
 
-pub returns-in-Asleep : goal.returns-in-Asleep
-returns-in-Asleep g c =
+pub returns-in-Asleep-clause-befell : goal.returns-in-Asleep-clause-befell
+returns-in-Asleep-clause-befell g c =
     let takes = g.S.Sink.takes in
     let here : Simulation = c.args.self.now in
     let home = c.in_ok-progress.progress.home in
@@ -19,3 +20,7 @@ returns-in-Asleep g c =
     (λ h. Befell-first takes (AreWake home task now) met _ _ here here _ (Rings task now) (Stays-here here)
     (λ kinds drawn. (c.in_ok-progress.progress, c.in_ok-progress.ensures.there, c.in-Asleep.is, c.if-progress-now.false, (refl, refl, refl))) (λ deeds are. (home, deeds, refl, are)) h)
     c.wake.ensures.lived
+
+-- it wakes a task that sleeps
+pub returns-in-Asleep-clause-ends : goal.returns-in-Asleep-clause-ends
+returns-in-Asleep-clause-ends g c = λ w well next. c.wake.ensures.ends w well

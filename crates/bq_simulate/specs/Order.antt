@@ -1,0 +1,108 @@
+-- A simulation that goes well: what its calls stand on, so that they fail only for want of memory.
+use Rattle.std.specs.Prelude.{◌≡◌, ◌⊎◌, ◌<◌, ◌≤◌, ℕ, true, List, Option, None, Some, length, slice_get}
+use Rattle.bq_parts.specs.World.{World, count_in}
+use Rattle.bq_words.specs.Sizes.{processors_in}
+use Rattle.bq_workload.specs.declared.action.Action.{Action}
+use Rattle.bq_workload.specs.declared.action.Action.TheVariants.{Run, Wake}
+use Rattle.bq_workload.specs.declared.progress.TaskProgress.{TaskProgress}
+use Rattle.bq_workload.specs.declared.workload.TaskKind.{TaskKind}
+use Rattle.bq_workload.specs.declared.workload.Workload.{Workload}
+use Rattle.bq_workload.specs.Accounts.{accounts_of}
+use Rattle.bq_workload.specs.Kinds.{count_of}
+use Rattle.bq_workload.specs.Next.{IsAgreed}
+use Rattle.bq_workload.specs.Soundness.{first_flaw}
+use Rattle.bq_simulate.specs.declared.driver.Driver.{Driver}
+use Rattle.bq_simulate.specs.declared.fault.SimulateFault.{SimulateFault}
+use Rattle.bq_simulate.specs.declared.fault.SimulateFault.TheVariants.{Endless, Enough, OutOfMemory}
+use Rattle.bq_simulate.specs.declared.simulation.Simulation.{Simulation}
+use Rattle.bq_simulate.specs.Agreement.{AgreesBut, AgreesWith, IsOnTime, run_at}
+use Rattle.bq_simulate.specs.Chronicles.{Book, is_busy}
+use Rattle.bq_simulate.specs.Kept.{HasAllFirsts, IsKept, StandAtActions, WereDrawn}
+use Rattle.bq_simulate.specs.Simulations.{HasDrawn, HasFirsts, book_of, periods_of}
+
+-- The simulation of a workload that can be followed has come to an instant until its end, and all is kept: by its machine, its accounts,
+-- its event queue, the streams of its tasks and the first task of each kind.
+pub record GoesWell (w : Workload) (now : ℕ) (s : Simulation) : Type 0 where
+  pub sound : first_flaw w ≡ None
+  pub until : now ≤ w.machine.duration
+  pub periods : s.roster.periods ≡ periods_of w.machine
+  pub drawn : List ℕ
+  pub streams : HasDrawn s drawn
+  pub firsts : HasFirsts w.tasks.items s
+  pub all_firsts : HasAllFirsts w.tasks.items s
+  pub kept : IsKept w.tasks.items now s.driver (book_of s drawn)
+  pub agreed : IsAgreed s.roster
+
+-- The task that runs at a processor goes to sleep just now: its accounts say so already, and the machine's world not yet. All else is as
+-- in a simulation that goes well.
+pub record FallsAsleep (w : Workload) (now processor : ℕ) (s : Simulation) : Type 0 where
+  pub sound : first_flaw w ≡ None
+  pub until : now ≤ w.machine.duration
+  pub periods : s.roster.periods ≡ periods_of w.machine
+  pub few : count_in s.driver.machine.world ≤ 64
+  pub read : s.driver.now ≤ now
+  pub on_time : IsOnTime now (accounts_of s.roster)
+  pub task : ℕ
+  pub runs : run_at s.roster.by_processor.items processor ≡ Some task
+  pub agrees : AgreesBut task s.driver.machine.world (accounts_of s.roster)
+  pub agreed : IsAgreed s.roster
+
+-- What a task has taken up can follow: where it wakes others all goes well, it runs, and there is one to which its wake comes next; where
+-- it sleeps, waits or is over it falls asleep.
+abbrev pub CanFollow : Workload → Option Action → TaskProgress → ℕ → ℕ → Simulation → Type 0
+CanFollow w (Some (Run asked)) c processor now s = Unit {0}
+CanFollow w (Some (Wake kind)) c processor now s = GoesWell w now s × (is_busy (accounts_of s.roster) processor ≡ true) × (c.woken < count_of w.tasks.items kind)
+CanFollow w action c processor now s = FallsAsleep w now processor s
+
+-- a task is of no kind, or its action wakes the tasks of none
+abbrev pub IsStrayAction : List TaskKind → TaskProgress → Option Action → Type 0
+IsStrayAction kinds c action = (slice_get kinds c.kind ≡ None) ⊎ ((number : ℕ) × (action ≡ Some (Wake number)) × (slice_get kinds number ≡ None))
+
+-- it has come to some instant so
+pub record HasGoneWell (w : Workload) (s : Simulation) : Type 0 where
+  pub now : ℕ
+  pub well : GoesWell w now s
+
+-- A simulation that opens, at instant 0, with this many processors and so many tasks so far: the accounts agree with the machine's world,
+-- and nothing of them is past.
+pub record IsOpening (processors tasks : ℕ) (d : Driver) (b : Book) : Type 0 where
+  pub agree : AgreesWith d.machine.world b.accounts
+  pub on_time : IsOnTime 0 b.accounts
+  pub read : d.now ≡ 0
+  pub processors_there : count_in d.machine.world ≡ processors
+  pub tasks_there : length b.accounts.by_task ≡ tasks
+
+-- The simulation of a workload that can be followed opens, with so many tasks so far, each of which is counted.
+pub record OpensWell (w : Workload) (tasks : ℕ) (s : Simulation) : Type 0 where
+  pub sound : first_flaw w ≡ None
+  pub periods : s.roster.periods ≡ periods_of w.machine
+  pub drawn : List ℕ
+  pub streams : HasDrawn s drawn
+  pub firsts : HasFirsts w.tasks.items s
+  pub opening : IsOpening (processors_in w.machine.size) tasks s.driver (book_of s drawn)
+  pub standing : StandAtActions w.tasks.items (book_of s drawn)
+  pub counted : s.counts.tasks ≡ tasks
+  pub agreed : IsAgreed s.roster
+
+-- so many generations were drawn, and each that stands at a hook was
+pub record HasGenerations (count : ℕ) (w : World) : Type 0 where
+  pub many : w.drawn ≡ count
+  pub were : WereDrawn w
+
+-- nothing of it was done yet: there are no tasks and no kinds, and no generation was drawn
+pub record StartsWell (w : Workload) (s : Simulation) : Type 0 where
+  pub opens : OpensWell w 0 s
+  pub none : length s.firsts.items ≡ 0
+  pub generations : HasGenerations 0 s.driver.machine.world
+
+-- a fault is that memory ran out, which says nothing of the workload
+abbrev pub WantsMemory : SimulateFault → Type 0
+WantsMemory why = why ≡ OutOfMemory
+
+-- or that more things came due than are counted: 2 ^ 64 - 1 at most
+abbrev pub EndsEarly : SimulateFault → Type 0
+EndsEarly why = (why ≡ OutOfMemory) ⊎ (why ≡ Endless)
+
+-- or that the sink has enough
+abbrev pub IsCutOff : SimulateFault → Type 0
+IsCutOff why = (why ≡ OutOfMemory) ⊎ ((why ≡ Enough) ⊎ (why ≡ Endless))
