@@ -1,12 +1,12 @@
 -- A task that falls asleep while a simulation goes well blocks, unless memory runs out, and no switch goes astray then.
-use Rattle.std.proofs.Common.{◌≡◌, ℕ, ◌-◌, ◌<◌, ◌≤◌, ◌^◌, inl, inr, List, [], length, Option, Some, None, refl, sym, subst, ap, ◌∙◌, arith}
+use Rattle.std.proofs.Common.{◌≡◌, ℕ, ◌-◌, ◌<◌, ◌≤◌, ◌^◌, inl, inr, List, [], length, Option, Some, None, sym, subst, ap, ◌∙◌, arith}
 use Rattle.std.specs.Prelude.{slice_get}
 use Rattle.std.specs.Option.{option_map_or}
 use Rattle.std.proofs.lemmas.Option.{none-some, same_Some, slice_get_within}
 use Rattle.bq_disc.specs.Tasks.{Task, id_of, present}
 use Rattle.bq_parts.specs.declared.event.Event.TheVariants.{Block}
 use Rattle.bq_parts.specs.declared.reply.Reply.{Reply}
-use Rattle.bq_parts.specs.World.{World, count_in, processor_at}
+use Rattle.bq_parts.specs.World.{count_in, processor_at}
 use Rattle.bq_trace.specs.TraceEvents.{Told}
 use Rattle.bq_workload.specs.declared.processor_state.ProcessorState.{ProcessorState}
 use Rattle.bq_workload.specs.declared.roster.Periods.{Periods}
@@ -54,6 +54,7 @@ asleep_there w now processor s h =
     let l = runs_at_one s.roster.by_processor.items processor h.task h.runs in
     omega (arith, slice_get_within s.roster.by_processor.items processor l.0 l.1, h.agrees.mirrors.processors.many)
 
+-- the block of a task that falls asleep fails only for memory
 pub block_fails : (w : Workload) (now processor : ℕ) (s : Simulation) → FallsAsleep w now processor s → FailsForMemory s.driver (Block processor now)
 block_fails w now processor s h =
     calls_fail_for_memory.blocks s.driver (accounts_of s.roster) processor h.task now h.agrees (h.read, asleep_early w now processor s h) (asleep_there w now processor s h) h.runs

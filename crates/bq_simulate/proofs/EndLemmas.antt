@@ -1,11 +1,10 @@
 -- A phase that ends next while a simulation goes well has got just what it takes, and its task finds all that its next action takes.
-use Rattle.std.proofs.Common.{◌≡◌, ℕ, ◌+◌, ◌-◌, ◌<◌, ◌≤◌, ◌^◌, inl, inr, true, false, List, [], ◌∷◌, length, Option, Some, None, refl, sym, subst, ap, ◌∙◌, arith}
+use Rattle.std.proofs.Common.{◌≡◌, ℕ, ◌+◌, ◌-◌, ◌<◌, ◌^◌, inl, inr, true, false, List, [], ◌∷◌, length, Option, Some, None, refl, sym, subst, ap, ◌∙◌, arith}
 use Rattle.std.specs.Prelude.{◌⊎◌, option_and_then, slice_get}
 use Rattle.std.specs.Option.{option_map_or}
 use Rattle.std.proofs.lemmas.Bool.{eq-eqb, ltb-true, true≢false}
 use Rattle.std.proofs.lemmas.Option.{none-some, same_Some, slice_get-get_or, slice_get_within}
 use Rattle.rand_pcg.specs.Lcg.{Lcg}
-use Rattle.bq_parts.specs.World.{World, count_in}
 use Rattle.bq_workload.specs.declared.action.Action.{Action}
 use Rattle.bq_workload.specs.declared.action.Action.TheVariants.{Run, Sleep, Wait, Wake}
 use Rattle.bq_workload.specs.declared.action.Length.{Length}
@@ -107,6 +106,7 @@ pub record HasEnded (w : Workload) (processor task : ℕ) (c : TaskProgress) (s 
   pub tasks : task < 1024
   pub stream : task < length s.streams.items
 
+-- where a phase has ended by the counted time, it has ended in a simulation that goes well
 pub has_ended : (w : Workload) (now processor task : ℕ) (c : TaskProgress) (s : Simulation) (r : Roster) → GoesWell w now s → StaysAgreed s.roster r → accounts_of r ≡ charged processor now (accounts_of s.roster) → IsDone (accounts_of r) processor task c → HasEnded w processor task c s
 has_ended w now processor task c s r h agrees counted done =
     let kinds : List TaskKind = w.tasks.items in

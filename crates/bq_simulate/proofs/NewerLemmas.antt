@@ -1,5 +1,5 @@
 -- The generations of a driver's world.
-use Rattle.std.proofs.Common.{◌≡◌, ℕ, ◌+◌, ◌-◌, ◌<◌, ◌^◌, [], ◌∷◌, Option, subst, ◌∙◌, ap, sym, arith}
+use Rattle.std.proofs.Common.{ℕ, ◌+◌, ◌-◌, ◌<◌, ◌^◌, [], ◌∷◌, Option, subst, ◌∙◌, sym, arith}
 use Rattle.bq_hooks.specs.declared.hook.Hook.{Hook}
 use Rattle.bq_parts.specs.declared.event.Event.TheVariants.{Draw, Install}
 use Rattle.bq_parts.specs.declared.reply.Reply.TheVariants.{Drawn}

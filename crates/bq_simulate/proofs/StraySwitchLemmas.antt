@@ -19,7 +19,7 @@ use Rattle.bq_simulate.specs.AgreementLaws.{RunsAlone}
 use Rattle.bq_simulate.proofs.AccountLemmas.{Reads, charged_there, reads_charged, reads_switched, same_run}
 use Rattle.bq_simulate.proofs.MeetTimeLemmas.{sized_alone, sized_on_time}
 use Rattle.bq_simulate.proofs.MirrorLemmas.{state_there}
-use Rattle.bq_simulate.proofs.TimeKeptLemmas.{charged_on_time, charged_tasks, run_of, runner_low, taken_over_tasks, task_there, tasks_run_alone}
+use Rattle.bq_simulate.proofs.TimeKeptLemmas.{charged_on_time, runner_low, taken_over_tasks, task_there, tasks_run_alone}
 
 -- a time between two things that has a next multiple: 64 bits count it
 pub next_counted : (between now : ℕ) → 1 ≤ between → between < 2 ^ 48 → now < 2 ^ 48 → HasNoNext between now → ⊥

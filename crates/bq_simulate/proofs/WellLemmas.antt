@@ -1,5 +1,5 @@
 -- A simulation that goes well, from one thing to the next.
-use Rattle.std.proofs.Common.{◌≡◌, ℕ, ◌≤◌, ◌<◌, List, [], ◌∷◌, Option, inl, inr, refl, sym, subst, ap, ◌∙◌, arith}
+use Rattle.std.proofs.Common.{◌≡◌, ℕ, ◌≤◌, List, [], ◌∷◌, inl, sym, subst, ap, ◌∙◌, arith}
 use Rattle.std.specs.Prelude.{IfErr, Ok, Result}
 use Rattle.std.specs.Result.{IsErrAnd}
 use Rattle.std.proofs.lemmas.Result.{err_from_is_err_and}
@@ -23,7 +23,7 @@ use Rattle.bq_simulate.specs.Drives.{Drives}
 use Rattle.bq_simulate.specs.Kept.{IsKept}
 use Rattle.bq_simulate.specs.KeptLaws.{Leads}
 use Rattle.bq_simulate.specs.Order.{EndsEarly, GoesWell, WantsMemory}
-use Rattle.bq_simulate.specs.Simulations.{Lived, book_of, periods_of, with_seed}
+use Rattle.bq_simulate.specs.Simulations.{Lived, book_of, with_seed}
 use Rattle.bq_simulate.specs.Steps.{Meet}
 use Rattle.bq_simulate.proofs.DeedLemmas.{drives-of-lives}
 use Rattle.bq_simulate.proofs.KeptLemmas.{all_is_kept}

@@ -1,8 +1,7 @@
 -- While a simulation goes well what comes due is met: a timer rings, a clock beats and a processor looks as they are to.
 use Rattle.std.proofs.Common.{◌≡◌, ◌≢◌, ℕ, ◌<◌, ◌≤◌, inl, inr, true, Option, Some, None, refl, sym, subst, ap, ◌∙◌, arith}
 use Rattle.std.specs.Prelude.{is_some, slice_get}
-use Rattle.std.specs.Option.{option_map_or}
-use Rattle.std.proofs.lemmas.Option.{none-some, same_Some, slice_get_within}
+use Rattle.std.proofs.lemmas.Option.{none-some, slice_get_within}
 use Rattle.bq_workload.specs.declared.processor_state.ProcessorState.{ProcessorState}
 use Rattle.bq_workload.specs.declared.roster.Roster.{Roster}
 use Rattle.bq_workload.specs.declared.workload.Workload.{Workload}
@@ -12,11 +11,10 @@ use Rattle.bq_workload.specs.Next.{StaysAgreed}
 use Rattle.bq_workload.specs.Strays.{IsStrayBeat, IsStrayLook}
 use Rattle.bq_workload.proofs.AgreeLemmas.{changed_at-here, some_or_none}
 use Rattle.bq_simulate.specs.declared.simulation.Simulation.{Simulation}
-use Rattle.bq_simulate.specs.Agreement.{AgreesWith, IsOnTime, ProcessorIsOnTime}
-use Rattle.bq_simulate.specs.Chronicles.{Book, is_busy}
+use Rattle.bq_simulate.specs.Agreement.{IsOnTime, ProcessorIsOnTime}
+use Rattle.bq_simulate.specs.Chronicles.{is_busy}
 use Rattle.bq_simulate.specs.Kept.{IsKept}
 use Rattle.bq_simulate.specs.Order.{GoesWell}
-use Rattle.bq_simulate.specs.Simulations.{book_of}
 use Rattle.bq_simulate.proofs.MeetAgreeLemmas.{agrees_processor, world_of}
 use Rattle.bq_simulate.proofs.ProcessorStateLemmas.{busy_at}
 use Rattle.bq_simulate.proofs.SoundKindLemmas.{sound_times}

@@ -1,11 +1,11 @@
-use Rattle.std.proofs.Common.{◌≡◌, ◌≤◌, ◌<◌, ◌+◌, ◌-◌, ◌^◌, ℕ, arith, List, [], ◌∷◌, ◌++◌, Some, ap, length, refl, ◌∙◌, subst, take, take_all}
+use Rattle.std.proofs.Common.{◌≡◌, ◌≤◌, ◌<◌, ◌+◌, ◌-◌, ◌^◌, arith, List, [], ◌++◌, Some, ap, length, refl, ◌∙◌, subst, take, take_all}
 use Rattle.std.specs.Prelude.{slice_get}
 use Rattle.std.proofs.lemmas.Option.{slice_get_read}
 use Rattle.bq_parts.specs.declared.event.Event.TheVariants.{Draw}
 use Rattle.bq_parts.specs.declared.reply.Reply.TheVariants.{Drawn}
 use Rattle.bq_verify.specs.Accepted.{Accepted}
 use Rattle.bq_simulate.specs.AgreementLaws.{FailsForMemory}
-use Rattle.bq_simulate.specs.Chronicles.{Deed, Happens}
+use Rattle.bq_simulate.specs.Chronicles.{Deed}
 use Rattle.bq_simulate.specs.Steps.{AreInstalled, AreJust, IsInstalled, installs_of}
 use Rattle.bq_simulate.proofs.CallLemmas.{calls_fail_for_memory}
 use Rattle.bq_simulate.proofs.DeedLemmas.{Lived-event, Lived-join, Lived-same, Lived-weaker, Same-here}

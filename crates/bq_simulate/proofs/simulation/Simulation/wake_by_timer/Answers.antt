@@ -5,7 +5,6 @@ use Rattle.bq_simulate.specs.declared.simulation.Simulation.{Simulation}
 use Rattle.bq_simulate.specs.Chronicles.{Rings}
 use Rattle.bq_simulate.specs.Steps.{AreWake, Meet}
 use Rattle.bq_simulate.proofs.DeedLemmas.{Befell-first, Stays-here}
-use Rattle.bq_simulate.proofs.ComingLemmas.{rings_now}
 use Rattle.bq_simulate.proofs.simulation.Simulation.wake_by_timer.Goals as goal
 
 pub returns-in-Asleep-clause-befell : goal.returns-in-Asleep-clause-befell
