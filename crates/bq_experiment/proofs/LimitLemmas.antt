@@ -10,10 +10,11 @@ use Rattle.bq_experiment.specs.declared.limited.Limited.{Limited}
 
 -- a limit that is passed lets nothing through
 pub passes_nothing : {S : Type 0} (takes : S → ℕ → TraceEvent → S → Type 0) (old new : Limited S) (n : ℕ) (traced : TraceEvent)
-    → old.is_over ≡ true ⊎ (old.left < event_count traced) → new.is_over ≡ true → PassesOn takes old n traced new
-passes_nothing takes old new n traced why over = record {
+    → old.is_over ≡ true ⊎ (old.left < event_count traced) → new.sink ≡ old.sink → new.is_over ≡ true → PassesOn takes old n traced new
+passes_nothing takes old new n traced why same over = record {
   within = λ not. absurd (true≢false (sym over ∙ not));
   over = λ h. why;
+  nothing = λ h. same;
 }
 
 -- what is let through is what its sink takes
@@ -22,6 +23,7 @@ pub OnOk-passes : {S T E : Type 0} (takes : S → ℕ → TraceEvent → S → T
 OnOk-passes takes old new n traced (Ok x) was is left taken = record {
   within = λ not. (taken, left, was);
   over = λ over. absurd (true≢false (sym over ∙ is));
+  nothing = λ over. absurd (true≢false (sym over ∙ is));
 }
 OnOk-passes takes old new n traced (Err e) was is left taken = tt
 

@@ -6,7 +6,7 @@ use Rattle.bq_experiment.proofs.LimitLemmas.{OnOk-passes, passes_nothing}
 use Rattle.bq_experiment.proofs.limited.LimitedSink.take.Goals as goal
 
 pub returns-then-self : goal.returns-then-self
-returns-then-self g c = passes_nothing g.S.Sink.takes _ _ _ _ (c.count.ensures.over c.if-self.true) c.if-self.true
+returns-then-self g c = passes_nothing g.S.Sink.takes _ _ _ _ (c.count.ensures.over c.if-self.true) c.count.ensures.sink c.if-self.true
 
 pub returns : goal.returns
 returns g c =
