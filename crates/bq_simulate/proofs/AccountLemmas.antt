@@ -134,7 +134,7 @@ reads_taken_over processor None now periods a l at = reads_processor (idled now)
 reads_taken_over processor (Some task) now periods a l at =
     reads_task (moved_to processor periods.migration_cost) (λ c. refl) processor task l.size (Some task) a (of_processor (occupied periods.tick task now) processor a) (reads_processor (occupied periods.tick task now) processor a l at)
 
--- what is the same as another is that one
+-- what is found the same is
 pub same_run : (o p : Option ℕ) → is_same o p ≡ true → o ≡ p
 same_run None None h = refl
 same_run None (Some n) h = cc

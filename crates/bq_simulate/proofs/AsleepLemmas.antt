@@ -54,7 +54,7 @@ asleep_there w now processor s h =
     let l = runs_at_one s.roster.by_processor.items processor h.task h.runs in
     omega (arith, slice_get_within s.roster.by_processor.items processor l.0 l.1, h.agrees.mirrors.processors.many)
 
--- the block of a task that falls asleep fails only for memory
+-- so a block fails only for memory
 pub block_fails : (w : Workload) (now processor : ℕ) (s : Simulation) → FallsAsleep w now processor s → FailsForMemory s.driver (Block processor now)
 block_fails w now processor s h =
     calls_fail_for_memory.blocks s.driver (accounts_of s.roster) processor h.task now h.agrees (h.read, asleep_early w now processor s h) (asleep_there w now processor s h) h.runs

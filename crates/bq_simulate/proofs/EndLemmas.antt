@@ -106,7 +106,7 @@ pub record HasEnded (w : Workload) (processor task : ℕ) (c : TaskProgress) (s 
   pub tasks : task < 1024
   pub stream : task < length s.streams.items
 
--- where a phase has ended by the counted time, it has ended in a simulation that goes well
+-- so it is with each whose phase has ended while a simulation goes well
 pub has_ended : (w : Workload) (now processor task : ℕ) (c : TaskProgress) (s : Simulation) (r : Roster) → GoesWell w now s → StaysAgreed s.roster r → accounts_of r ≡ charged processor now (accounts_of s.roster) → IsDone (accounts_of r) processor task c → HasEnded w processor task c s
 has_ended w now processor task c s r h agrees counted done =
     let kinds : List TaskKind = w.tasks.items in

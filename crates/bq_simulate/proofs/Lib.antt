@@ -1,11 +1,15 @@
 pub mod AccountLemmas
+pub mod ActLeftLemmas
 pub mod AdmissionLemmas
 pub mod AdmissionTakenLemmas
 pub mod AimLemmas
 pub mod AsleepLemmas
+pub mod BoundLemmas
 pub mod CallLemmas
+pub mod CountedLemmas
 pub mod ComingLemmas
 pub mod DeedLemmas
+pub mod InAllLemmas
 pub mod InstallLemmas
 pub mod KindLemmas
 pub mod ProcessorStateLemmas
@@ -17,6 +21,7 @@ pub mod StraySwitchLemmas
 pub mod WellMeetLemmas
 pub mod WellStepLemmas
 pub mod StreamLemmas
+pub mod StepsAheadLemmas
 pub mod WholeLemmas
 pub mod DriveLemmas
 pub mod EndLemmas
@@ -26,8 +31,10 @@ pub mod FromImagesLemmas
 pub mod GenerationLemmas
 pub mod HexWordLemmas
 pub mod KeptLemmas
+pub mod LeftLemmas
 pub mod LineLawLemmas
 pub mod MeetAgreeLemmas
+pub mod MeetLeftLemmas
 pub mod MeetTimeLemmas
 pub mod MirrorLemmas
 pub mod NewerLemmas

@@ -178,7 +178,7 @@ tick_agrees periods d e b processor now reply told does h =
     let low = (not_refused_is_there (count_in w) processor None (accepted w (Tick processor now) step.0).0).0 in
     (ticks_are_taken (discipline_of d.machine.rule) periods w b.accounts processor now h low).leaves does.happens.moves.step.calls reply (world_of e) step
 
--- after a block world and accounts agree, once its task sleeps by the accounts
+-- a block, once its task sleeps by the accounts
 pub block_agrees : (periods : Periods) (d e : Driver) (b : Book) (processor task now : ℕ) (reply : Reply) (told : Told) → Does d (Block processor now) reply told e → AgreesBut task (world_of d) b.accounts → run_at b.accounts.by_processor processor ≡ Some task → Agree e (after_answer periods (Block processor now) reply b)
 block_agrees periods d e b processor task now reply told does h runs =
     let w : World = world_of d in
@@ -186,7 +186,7 @@ block_agrees periods d e b processor task now reply told does h runs =
     let low = (not_refused_is_there (count_in w) processor None (accepted w (Block processor now) step.0).0).0 in
     (blocks_are_taken (discipline_of d.machine.rule) periods w b.accounts processor task now h low runs).leaves does.happens.moves.step.calls reply (world_of e) step
 
--- after a pull world and accounts agree
+-- a pull of one processor from another
 pub pull_agrees : (periods : Periods) (d e : Driver) (b : Book) (processor from now : ℕ) (reply : Reply) (told : Told) → Does d (Pull processor from now) reply told e → Agree d b → Agree e (after_answer periods (Pull processor from now) reply b)
 pull_agrees periods d e b processor from now reply told does h =
     let w : World = world_of d in

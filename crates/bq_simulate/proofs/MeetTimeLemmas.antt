@@ -77,13 +77,11 @@ tick_time kinds seed periods d e b c processor now deeds told some (reply, more,
     let its : c.accounts ≡ switched processor (runs_now reply) now periods a = ap (λ (x : Book). x.accounts) kept in
     same_accounts now (switched processor (runs_now reply) now periods a) c.accounts its (switched_any periods now processor (runs_now reply) (world_of e) a some (tasks_run_alone (world_of d) a processor h) (subst (λ (x : Accounts). AgreesWith (world_of e) x) its after) (time busy))
 
--- a task that goes to another queue leaves nothing past
-pub passed_on_time : (now processor from : ℕ) (task : Option ℕ) (a : Accounts) → IsOnTime now a → IsOnTime now (option_map_or (λ _. passed from processor a) task a)
+passed_on_time : (now processor from : ℕ) (task : Option ℕ) (a : Accounts) → IsOnTime now a → IsOnTime now (option_map_or (λ _. passed from processor a) task a)
 passed_on_time now processor from None a h = h
 passed_on_time now processor from (Some id) a h = sized_on_time now processor (λ n. n + 1) (shrunk from a) (sized_on_time now from (λ n. n - 1) a h)
 
--- nor does what runs at a processor run elsewhere then
-pub passed_alone : (processor from : ℕ) (task : Option ℕ) (a : Accounts) → RunsAlone a processor → RunsAlone (option_map_or (λ _. passed from processor a) task a) processor
+passed_alone : (processor from : ℕ) (task : Option ℕ) (a : Accounts) → RunsAlone a processor → RunsAlone (option_map_or (λ _. passed from processor a) task a) processor
 passed_alone processor from None a alone = alone
 passed_alone processor from (Some id) a alone = sized_alone processor processor (λ n. n + 1) (shrunk from a) (sized_alone from processor (λ n. n - 1) a alone)
 
@@ -111,7 +109,7 @@ sleeper_rests w a task c h at sleeps k runs =
     let stands : StandsAs (Some c.task_state) (entry w task) = subst (λ o. StandsAs o (entry w task)) (ap (λ (o : Option TaskProgress). option_map_or (λ (x : TaskProgress). Some x.task_state) o None) at) (h.mirrors.tasks task) in
     true≢false (sym (runs_away w k task h.orderly (sym (h.mirrors.processors.runs k) ∙ runs)) ∙ stands.1 ∙ sleeps)
 
--- a task that is woken, and runs nowhere, leaves nothing past
+-- a task that is woken, and ran nowhere, has no phase that is past
 pub woken_on_time : (now task : ℕ) (a : Accounts) → ((k : ℕ) → run_at a.by_processor k ≢ Some task) → IsOnTime now a → IsOnTime now (of_task woken task a)
 woken_on_time now task a rests h = record {
   tasks = tasks_changed now woken a.by_task task (λ c at. record { phase = omega arith; timer = λ asleep. cc }) h.tasks;
@@ -142,7 +140,7 @@ wakes_time kinds seed periods d e b c processor task now deeds told some (inr (m
 
 -- Ends of phases
 
--- a task that takes up an action has got nothing yet
+-- a task that has done its action has got nothing of its next phase yet
 pub acted_got : (action : Option Action) (kinds : List TaskKind) (length now : ℕ) (c : TaskProgress) → (acted kinds action length now c).got ≡ 0
 acted_got None kinds length now c = refl
 acted_got (Some (Run asked)) kinds length now c = refl

@@ -28,10 +28,11 @@ holds : (b : Bool) (flaw : Unsound) → slice_get (unless b flaw) 0 ≡ None →
 holds true flaw h = refl
 holds false flaw h = absurd (none-some flaw (sym h))
 
--- a kind has tasks, and actions, each of which has a length in its range or wakes one of so many kinds
+-- a kind has tasks, and actions, of which one takes time, and each has a length in its range or wakes one of so many kinds
 pub record IsSoundKind (kinds : ℕ) (kind : TaskKind) : Type 0 where
   pub tasks : 1 ≤ kind.count
   pub actions : 1 ≤ length kind.actions.items
+  pub time : list_any takes_time kind.actions.items ≡ true
   pub wakes : (place number : ℕ) → slice_get kind.actions.items place ≡ Some (Wake number) → number < kinds
   pub each : (place : ℕ) (action : Action) → slice_get kind.actions.items place ≡ Some action → is_action kinds action ≡ true
 
@@ -57,6 +58,7 @@ kind_sound processors kinds number kind h =
     record {
       tasks = (numbers_of kind (holds (has_numbers kind) (flaw.Kind number) numbers.1)).some;
       actions = some_action kind.actions.items (holds (list_any takes_time kind.actions.items) (flaw.NoTime number) doing.1);
+      time = holds (list_any takes_time kind.actions.items) (flaw.NoTime number) doing.1;
       wakes = λ place other at. ltb-true other kinds (action_sound kinds number 0 kind.actions.items place (Wake other) doing.0 at);
       each = λ place action at. action_sound kinds number 0 kind.actions.items place action doing.0 at;
     }

@@ -152,7 +152,7 @@ count_of_places count = record {
 
 -- What an action leaves
 
--- what is not none by a test is the other
+-- an action that there is where a test would leave none
 pub else_of : (b : Bool) (o : Option Action) (action : Action) → (if b then None else o) ≡ Some action → o ≡ Some action
 else_of true o action h = absurd (none-some action h)
 else_of false o action h = h

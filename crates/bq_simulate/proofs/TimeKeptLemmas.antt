@@ -220,13 +220,13 @@ taken_over_on_time periods now processor (Some task) a some low apart h =
           h.processors;
     }
 
--- to count time changes no number of tasks
+-- where the time of a processor is counted there are as many tasks
 pub charged_tasks : (processor now : ℕ) (a : Accounts) → length (charged processor now a).by_task ≡ length a.by_task
 charged_tasks processor now a =
     let by : (l : ProcessorState) → length (charged_by l now a).by_task ≡ length a.by_task = λ l. elim l.run as (λ (o : Option ℕ). length (charged_by (record l { run = o }) now a).by_task ≡ length a.by_task) [ None ↦ refl | Some task ↦ changed_at-length (run_for (now - l.since)) a.by_task task ] in
     elim (slice_get a.by_processor processor) as (λ (o : Option ProcessorState). length (option_map_or (λ (l : ProcessorState). of_processor (λ x. record x { since = now }) processor (charged_by l now a)) o a).by_task ≡ length a.by_task) [ None ↦ refl | Some l ↦ by l ]
 
--- nor does it that another task runs
+-- and where another task runs
 pub taken_over_tasks : (processor : ℕ) (run : Option ℕ) (now : ℕ) (periods : Periods) (a : Accounts) → length (taken_over processor run now periods a).by_task ≡ length a.by_task
 taken_over_tasks processor None now periods a = refl
 taken_over_tasks processor (Some task) now periods a = changed_at-length (moved_to processor periods.migration_cost) a.by_task task

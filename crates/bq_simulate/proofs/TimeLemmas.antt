@@ -24,7 +24,7 @@ until_by_test true end x time test h =
     (same, subst (λ n. n ≤ end) same (leb-true x end (and_parts (nat_le x end) (nat_lt x (2 ^ 48)) test).0))
 until_by_test false end x time test h = cc
 
--- what comes until the end comes at its own time
+-- so it says when it comes
 pub until_is : (end x time : ℕ) → until end x ≡ Some time → (x ≡ time) × (time ≤ end)
 until_is end x time h = until_by_test (nat_le x end && nat_lt x (2 ^ 48)) end x time refl h
 
@@ -46,7 +46,7 @@ ring-of end task a c at = ap (λ (o : Option TaskProgress). option_and_then (λ 
 ring-asleep : (end timer : ℕ) (s : TaskState) → s ≡ Asleep → rings_at end s timer ≡ until end timer
 ring-asleep end timer s is = ap (λ x. rings_at end x timer) is
 
--- a timer that rings is of a task that sleeps by it
+-- a timer that rings is that of a task that sleeps until then
 pub rings_asleep : (end timer time : ℕ) (s : TaskState) → rings_at end s timer ≡ Some time → (s ≡ Asleep) × (timer ≡ time) × (time ≤ end)
 rings_asleep end timer time Asleep h = let u = until_is end timer time h in (refl, u.0, u.1)
 rings_asleep end timer time Waiting h = cc

@@ -1,5 +1,5 @@
 -- A simulation that goes well, from one thing to the next.
-use Rattle.std.proofs.Common.{◌≡◌, ℕ, ◌≤◌, List, [], ◌∷◌, inl, sym, subst, ap, ◌∙◌, arith}
+use Rattle.std.proofs.Common.{◌≡◌, ℕ, ◌≤◌, List, [], ◌∷◌, sym, subst, ap, ◌∙◌, arith}
 use Rattle.std.specs.Prelude.{IfErr, Ok, Result}
 use Rattle.std.specs.Result.{IsErrAnd}
 use Rattle.std.proofs.lemmas.Result.{err_from_is_err_and}
@@ -16,13 +16,12 @@ use Rattle.bq_workload.specs.declared.workload.Workload.{Workload}
 use Rattle.bq_workload.specs.Accounts.{accounts_of}
 use Rattle.bq_workload.specs.Next.{IsNext}
 use Rattle.bq_simulate.specs.declared.driver.Driver.{Driver}
-use Rattle.bq_simulate.specs.declared.fault.SimulateFault.{SimulateFault}
 use Rattle.bq_simulate.specs.declared.simulation.Simulation.{Simulation}
 use Rattle.bq_simulate.specs.Chronicles.{Book, Deed, Lives, events_of}
 use Rattle.bq_simulate.specs.Drives.{Drives}
 use Rattle.bq_simulate.specs.Kept.{IsKept}
 use Rattle.bq_simulate.specs.KeptLaws.{Leads}
-use Rattle.bq_simulate.specs.Order.{EndsEarly, GoesWell, WantsMemory}
+use Rattle.bq_simulate.specs.Order.{GoesWell}
 use Rattle.bq_simulate.specs.Simulations.{Lived, book_of, with_seed}
 use Rattle.bq_simulate.specs.Steps.{Meet}
 use Rattle.bq_simulate.proofs.DeedLemmas.{drives-of-lives}
@@ -81,7 +80,3 @@ pub err-by : {T E : Type 0} {Q P : E → Type 0} (r : Result T E) → IsErrAnd r
 err-by {P = P} r is weaker =
     let p = err_from_is_err_and r is in
     subst (λ x. IfErr x P) (sym p.1) (weaker p.0 p.2)
-
--- to want memory is to end early
-pub early : (why : SimulateFault) → WantsMemory why → EndsEarly why
-early why wants = inl wants

@@ -80,11 +80,11 @@ busy_there a processor busy = elim (some_or_none (slice_get a.by_processor proce
   | inr (l, at) ↦ slice_get_within a.by_processor processor l at
 ]
 
--- a tick fails only for memory while all goes well
+-- so its tick fails only if memory is wanted
 pub tick_fails : (w : Workload) (now : ℕ) (s : Simulation) (processor : ℕ) → GoesWell w now s → is_busy (accounts_of s.roster) processor ≡ true → FailsForMemory s.driver (Tick processor now)
 tick_fails w now s processor h busy = calls_fail_for_memory.ticks s.driver (accounts_of s.roster) processor now (well_ready w now s h) (well_there w now s processor h (busy_there (accounts_of s.roster) processor busy))
 
--- what a tick answers can be switched to
+-- and what it is to run then does
 pub tick_switches : (w : Workload) (now : ℕ) (s : Simulation) (e : Driver) (processor : ℕ) (run : Option ℕ) (reply : Reply) (told : Told) → GoesWell w now s → is_busy (accounts_of s.roster) processor ≡ true → runs_now reply ≡ run → Does s.driver (Tick processor now) reply told e
     → IsStraySwitch s.roster.periods processor run now (accounts_of s.roster) → ⊥
 tick_switches w now s e processor run reply told h busy runs does astray =
@@ -108,7 +108,7 @@ takes_one : (w : World) (a : Accounts) (processor : ℕ) → AgreesWith w a → 
 takes_one w a processor h low (inl none) = let l = state_there w a processor h.mirrors.processors low in none-some l.0 (sym none ∙ l.1)
 takes_one w a processor h low (inr high) = omega (arith, high, few_there w a processor h)
 
--- a pull fails only for memory while all goes well
+-- a pull of one processor from another fails only if memory is wanted
 pub pull_fails : (w : Workload) (now : ℕ) (s : Simulation) (processor from : ℕ) → GoesWell w now s → processor < length s.roster.by_processor.items → from < length s.roster.by_processor.items → processor ≢ from → FailsForMemory s.driver (Pull processor from now)
 pull_fails w now s processor from h low low' apart = calls_fail_for_memory.pulls s.driver (accounts_of s.roster) processor from now (well_ready w now s h) (well_there w now s processor h low) (well_there w now s from h low') apart
 
@@ -164,13 +164,13 @@ wake_rests w now s from task h woken (inr high) =
     let stands = sleeper_stands world (accounts_of s.roster) task woken.progress h.kept.agrees woken.there in
     omega (arith, high, present_there world task stands.0, h.kept.agrees.entries)
 
--- a wake fails only for memory while all goes well
+-- its wake fails only if memory is wanted
 pub wake_fails : (w : Workload) (now : ℕ) (s : Simulation) (from task : ℕ) (why : DriveFault) → GoesWell w now s → IsWoken (accounts_of s.roster) from task → IsWakeFault s.driver from task now why → why ≡ OutOfMemory
 wake_fails w now s from task why h woken fails =
     let a : Accounts = accounts_of s.roster in
     calls_fail_for_memory.wakes s.driver a from task now woken.progress why (well_ready w now s h) (woken_from (world_of s.driver) a from task h.kept.agrees woken) woken.there (woken_sleeps a from task woken) fails
 
--- where a wake has placed its task, the drain fails only for memory
+-- and so does its entry where it was placed
 pub drain_fails : (w : Workload) (now : ℕ) (s : Simulation) (e : Driver) (from task to : ℕ) (told : Told) → GoesWell w now s → IsWoken (accounts_of s.roster) from task → Places s.driver from task now to told e → FailsForMemory e (Drain to now)
 drain_fails w now s e from task to told h woken places =
     let a : Accounts = accounts_of s.roster in

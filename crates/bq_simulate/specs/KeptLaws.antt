@@ -1,5 +1,5 @@
 -- The laws of what is kept: what opens a simulation leaves it so, and so does each thing that is met.
-use Rattle.std.specs.Prelude.{◌≡◌, ℕ, ◌+◌, ◌-◌, ◌<◌, ◌≤◌, ◌^◌, List, Option, None, Ok}
+use Rattle.std.specs.Prelude.{◌≡◌, ℕ, ◌+◌, ◌-◌, ◌<◌, ◌≤◌, ◌*◌, ◌^◌, List, Option, None, Ok, length}
 use Rattle.bq_disc.specs.Discipline.{Discipline}
 use Rattle.bq_bpf.specs.declared.board.Call.{Call as Asked}
 use Rattle.bq_hooks.specs.declared.hook.Hook.{Hook}
@@ -14,9 +14,11 @@ use Rattle.bq_verify.specs.Accepted.{Accepted}
 use Rattle.bq_words.specs.Sizes.{processors_in}
 use Rattle.bq_workload.specs.declared.due.Due.{Due}
 use Rattle.bq_workload.specs.declared.workload.Workload.{Workload}
+use Rattle.bq_workload.specs.Bounds.{steps_at_once}
 use Rattle.bq_workload.specs.Next.{IsNext}
 use Rattle.bq_workload.specs.Soundness.{first_flaw}
 use Rattle.bq_simulate.specs.declared.driver.Driver.{Driver}
+use Rattle.bq_simulate.specs.AtOnce.{left_at}
 use Rattle.bq_simulate.specs.Chronicles.{Book, Deed, Lives}
 use Rattle.bq_simulate.specs.Drives.{Starts}
 use Rattle.bq_simulate.specs.Kept.{IsKept, IsNewerFrom, StandAtActions, WereDrawn}
@@ -53,3 +55,13 @@ pub record GenerationsAreNewer : Type 0 where
       (v.drawn ≡ w.drawn + 1) × WereDrawn v × IsNewerFrom 0 generation v
   pub installed : (d : Discipline) (w v : World) (calls : List Asked) (r : Reply) (processor generation : ℕ) (hook : Hook) (policy : Option Accepted) → IsNewerFrom processor generation w → WereDrawn w →
       WorldStep (policies d) w (Install processor hook generation policy) calls (Ok r) v → (v.drawn ≡ w.drawn) × WereDrawn v × IsNewerFrom (processor + 1) generation v
+
+-- At no instant may as many things still come as are counted for one, and each thing that is the next and is met takes one of them at least.
+pub record FewComeAtOnce : Type 0 where
+  pub few : (w : Workload) (now : ℕ) (d : Driver) (b : Book) → first_flaw w ≡ None → IsKept w.tasks.items now d b → length b.accounts.by_processor ≡ processors_in w.machine.size → left_at w.tasks.items now b.accounts < steps_at_once w
+  pub met : (w : Workload) (d e : Driver) (b c : Book) (due : Due) (now : ℕ) (deeds : List Deed) (told : Told) → first_flaw w ≡ None → now ≤ w.machine.duration → IsNext w.machine.duration b.accounts due now → Meet due now deeds →
+      Leads w d b deeds told e c → IsKept w.tasks.items now d b → left_at w.tasks.items now c.accounts < left_at w.tasks.items now b.accounts
+
+-- So wherever a simulation has been followed to, fewer things have come than are counted for all instants until its end.
+abbrev pub FewComeUntilTheEnd : Type 0
+FewComeUntilTheEnd = (policies : List Accepted) (w : Workload) (told : Told) → first_flaw w ≡ None → (s : Begins policies w told) → length s.proceeds.meets.steps < (w.machine.duration + 1) * steps_at_once w

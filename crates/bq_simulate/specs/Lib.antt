@@ -1,6 +1,7 @@
 pub mod Actions
 pub mod Agreement
 pub mod AgreementLaws
+pub mod AtOnce
 pub mod Chronicles
 pub mod Simulations
 pub mod Steps

@@ -1,5 +1,5 @@
 -- A simulation that goes well: what its calls stand on, so that they fail only for want of memory.
-use Rattle.std.specs.Prelude.{◌≡◌, ◌⊎◌, ◌<◌, ◌≤◌, ℕ, true, List, Option, None, Some, length, slice_get}
+use Rattle.std.specs.Prelude.{◌≡◌, ◌⊎◌, ◌<◌, ◌≤◌, ◌+◌, ◌-◌, ◌*◌, ◌^◌, ℕ, true, List, Option, None, Some, length, slice_get}
 use Rattle.bq_parts.specs.World.{World, count_in}
 use Rattle.bq_words.specs.Sizes.{processors_in}
 use Rattle.bq_workload.specs.declared.action.Action.{Action}
@@ -8,6 +8,7 @@ use Rattle.bq_workload.specs.declared.progress.TaskProgress.{TaskProgress}
 use Rattle.bq_workload.specs.declared.workload.TaskKind.{TaskKind}
 use Rattle.bq_workload.specs.declared.workload.Workload.{Workload}
 use Rattle.bq_workload.specs.Accounts.{accounts_of}
+use Rattle.bq_workload.specs.Bounds.{steps_at_once}
 use Rattle.bq_workload.specs.Kinds.{count_of}
 use Rattle.bq_workload.specs.Next.{IsAgreed}
 use Rattle.bq_workload.specs.Soundness.{first_flaw}
@@ -32,6 +33,15 @@ pub record GoesWell (w : Workload) (now : ℕ) (s : Simulation) : Type 0 where
   pub all_firsts : HasAllFirsts w.tasks.items s
   pub kept : IsKept w.tasks.items now s.driver (book_of s drawn)
   pub agreed : IsAgreed s.roster
+
+-- it has as many processors as its workload says
+abbrev pub HasProcessors : Workload → Simulation → Type 0
+HasProcessors w s = length s.roster.by_processor.items ≡ processors_in w.machine.size
+
+-- it has come to some instant so
+pub record HasGoneWell (w : Workload) (s : Simulation) : Type 0 where
+  pub now : ℕ
+  pub well : GoesWell w now s
 
 -- The task that runs at a processor goes to sleep just now: its accounts say so already, and the machine's world not yet. All else is as
 -- in a simulation that goes well.
@@ -58,11 +68,6 @@ CanFollow w action c processor now s = FallsAsleep w now processor s
 abbrev pub IsStrayAction : List TaskKind → TaskProgress → Option Action → Type 0
 IsStrayAction kinds c action = (slice_get kinds c.kind ≡ None) ⊎ ((number : ℕ) × (action ≡ Some (Wake number)) × (slice_get kinds number ≡ None))
 
--- it has come to some instant so
-pub record HasGoneWell (w : Workload) (s : Simulation) : Type 0 where
-  pub now : ℕ
-  pub well : GoesWell w now s
-
 -- A simulation that opens, at instant 0, with this many processors and so many tasks so far: the accounts agree with the machine's world,
 -- and nothing of them is past.
 pub record IsOpening (processors tasks : ℕ) (d : Driver) (b : Book) : Type 0 where
@@ -84,7 +89,7 @@ pub record OpensWell (w : Workload) (tasks : ℕ) (s : Simulation) : Type 0 wher
   pub counted : s.counts.tasks ≡ tasks
   pub agreed : IsAgreed s.roster
 
--- so many generations were drawn, and each that stands at a hook was
+-- so many generations were drawn, and each that stands at a hook is one of them
 pub record HasGenerations (count : ℕ) (w : World) : Type 0 where
   pub many : w.drawn ≡ count
   pub were : WereDrawn w
@@ -99,10 +104,13 @@ pub record StartsWell (w : Workload) (s : Simulation) : Type 0 where
 abbrev pub WantsMemory : SimulateFault → Type 0
 WantsMemory why = why ≡ OutOfMemory
 
--- or that more things came due than are counted: 2 ^ 64 - 1 at most
-abbrev pub EndsEarly : SimulateFault → Type 0
-EndsEarly why = (why ≡ OutOfMemory) ⊎ (why ≡ Endless)
+-- or that 2 ^ 64 - 1 things came due: the workload's bound is no less, so that 64 bits do not count it
+abbrev pub IsEndless : Workload → SimulateFault → Type 0
+IsEndless w why = (why ≡ Endless) × (2 ^ 64 - 1 ≤ (w.machine.duration + 1) * steps_at_once w)
+
+abbrev pub EndsEarly : Workload → SimulateFault → Type 0
+EndsEarly w why = (why ≡ OutOfMemory) ⊎ IsEndless w why
 
 -- or that the sink has enough
-abbrev pub IsCutOff : SimulateFault → Type 0
-IsCutOff why = (why ≡ OutOfMemory) ⊎ ((why ≡ Enough) ⊎ (why ≡ Endless))
+abbrev pub IsCutOff : Workload → SimulateFault → Type 0
+IsCutOff w why = (why ≡ OutOfMemory) ⊎ ((why ≡ Enough) ⊎ IsEndless w why)

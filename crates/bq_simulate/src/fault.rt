@@ -1,5 +1,6 @@
 //! Why a simulation does not come to its end.
 ghost use Rattle.std.specs.Prelude.{◌≡◌, ◌≢◌, None};
+ghost use Rattle.bq_workload.specs.declared.workload.Workload.{Workload};
 ghost use Rattle.bq_simulate.specs.Faults.{flaw_told};
 ghost use Rattle.bq_simulate.specs.Order.{EndsEarly, IsCutOff};
 ghost use Rattle.bq_simulate.specs.declared.drive_fault.DriveFault.TheVariants as drive;
@@ -11,7 +12,8 @@ use std::alloc::AllocError;
 use thiserror::Error;
 
 /// Why a simulation does not come to its end. What the sink got by then is to be the beginning of a trace; that is only
-/// tested.
+/// tested. It is proved that no simulation ends by `Drive` or `BrokenInvariant`, and none by `Endless` whose bound of steps 64 bits
+/// count.
 #[derive(Debug, Drop, Error)]
 pub enum SimulateFault {
     /// A growth was refused.
@@ -26,7 +28,8 @@ pub enum SimulateFault {
     /// The loop lost count of its tasks. That would be a fault of this program.
     #[error("internal fault: the loop lost count of its tasks")]
     BrokenInvariant,
-    /// The loop took more steps than its workload allows. That would be a fault of this program.
+    /// 2^64 - 1 things came due, and 64 bits do not count the bound of the workload's steps. Else that would be a fault of this
+    /// program.
     #[error("internal fault: the loop does not end")]
     Endless,
     /// The sink has enough of it.
@@ -40,7 +43,7 @@ impl SimulateFault {
     pub(crate) fn of_loop(self) -> SimulateFault
         ensures sound { flaw_told result ≡ None }
         ensures other { result ≢ Enough }
-        ensures early { EndsEarly self → IsCutOff result }
+        ensures early { (w : Workload) → EndsEarly w self → IsCutOff w result }
     {
         match self {
             SimulateFault::Unsound(_) | SimulateFault::Enough => SimulateFault::BrokenInvariant,

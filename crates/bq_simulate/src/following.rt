@@ -8,7 +8,7 @@ ghost use Rattle.bq_workload.specs.Next.{IsAgreed, NothingComes};
 ghost use Rattle.bq_workload.specs.Soundness.{first_flaw};
 ghost use Rattle.bq_workload.specs.declared.workload.Workload.{Workload};
 ghost use Rattle.bq_simulate.specs.Faults.{flaw_told};
-ghost use Rattle.bq_simulate.specs.Order.{EndsEarly, GoesWell, HasGoneWell, IsCutOff, StartsWell, WantsMemory};
+ghost use Rattle.bq_simulate.specs.Order.{EndsEarly, GoesWell, HasGoneWell, HasProcessors, IsCutOff, StartsWell, WantsMemory};
 ghost use Rattle.bq_simulate.specs.Simulations.{Befell, HasEnough, IsFollowed, IsSimulation, LivedFrom, Proceeds, RunsOn, opening_book, periods_of, with_seed};
 ghost use Rattle.bq_simulate.specs.Steps.{AreJust, AreMet, KeepsOthers, all_processors, last_ticks};
 ghost use Rattle.bq_simulate.specs.declared.fault.SimulateFault.TheVariants as why;
@@ -31,8 +31,8 @@ use std::alloc::Global;
 /// that came until then.
 ///
 /// A workload with a flaw is refused for the first of its flaws, as `Unsound`, and nothing is reported. One without is followed to
-/// its end, unless memory runs out, the sink has enough, or as many things came due as are counted; that this last does not come is
-/// only tested. What was reported by then is to be the beginning of a trace, which is only tested too.
+/// its end, unless memory runs out, the sink has enough, or 2^64 - 1 things came due; that last comes only where 64 bits do not
+/// count the bound of its steps. What was reported by then is to be the beginning of a trace, which is only tested.
 pub fn simulate<S: Sink + Enough>(
     alloc: Global,
     workload: &Workload,
@@ -46,7 +46,7 @@ pub fn simulate<S: Sink + Enough>(
     ensures sound { IfOk result (λ _. first_flaw workload.now ≡ None) }
     ensures flaw { IfErr result (λ fault. flaw_told fault ≡ first_flaw workload.now) }
     ensures untold { first_flaw workload.now ≢ None → sink.new ≡ sink.old }
-    ensures ends { first_flaw workload.now ≡ None → IfErr result IsCutOff }
+    ensures ends { first_flaw workload.now ≡ None → IfErr result (IsCutOff workload.now) }
 {
     simulate_seed(alloc, workload, workload.machine.seed, policies, sink)
 }
@@ -66,7 +66,7 @@ pub fn simulate_seed<S: Sink + Enough>(
     ensures sound { IfOk result (λ _. first_flaw workload.now ≡ None) }
     ensures flaw { IfErr result (λ fault. flaw_told fault ≡ first_flaw workload.now) }
     ensures untold { first_flaw workload.now ≢ None → sink.new ≡ sink.old }
-    ensures ends { first_flaw workload.now ≡ None → IfErr result IsCutOff }
+    ensures ends { first_flaw workload.now ≡ None → IfErr result (IsCutOff workload.now) }
 {
     soundness(workload).map_err(SimulateFault::Unsound)?;
     let counts = match follow(alloc, workload, seed, policies, sink) {
@@ -89,7 +89,7 @@ fn follow<S: Sink + Enough>(
 ) -> Result<Counts, SimulateFault>
     ensures told { OnOk result (Gets S.takes sink.old sink.new (IsFollowed (S.sated sink.new) policies.now (with_seed workload.now seed))) }
     ensures tasks { IfOk result (λ counts. counts.tasks ≡ tasks_in workload.now.tasks.items) }
-    ensures ends { first_flaw workload.now ≡ None → IfErr result EndsEarly }
+    ensures ends { first_flaw workload.now ≡ None → IfErr result (EndsEarly workload.now) }
 {
     let machine = &workload.machine;
     let driver = Driver::new(alloc, machine.rule, machine.size, sink)?;
@@ -149,7 +149,7 @@ impl Simulation {
         requires streams { length self.old.streams.items ≡ 0 }
         ensures tasks { IfOk result (λ counts. counts.tasks ≡ tasks_in workload.now.tasks.items) }
         ensures runs { OnOk result (RunsOn S.takes S.sated policies.now workload.now.tasks.items (most_steps workload.now) workload.now.machine.duration (processors_in workload.now.machine.size) sink.old self.old sink.new self.new) }
-        ensures ends { StartsWell workload.now self.old → IfErr result EndsEarly }
+        ensures ends { StartsWell workload.now self.old → IfErr result (EndsEarly workload.now) }
     {
         let tasks = self.proceed(alloc, workload, policies, sink)?;
         if sink.has_enough() {
@@ -177,7 +177,7 @@ impl Simulation {
         ensures none { OnOk result (S.sated sink.new ≡ false → IsAgreed self.new.roster → NothingComes self.new.roster.periods.end (accounts_of self.new.roster)) }
         ensures lived { OnOk result (LivedFrom S.takes workload.now.tasks.items (Proceeds policies.now (processors_in workload.now.machine.size) workload.now.tasks.items self.old.seed self.old.roster.periods (most_steps workload.now) workload.now.machine.duration) sink.old self.old sink.new self.new) }
         ensures well { OnOk result (StartsWell workload.now self.old → HasGoneWell workload.now self.new) }
-        ensures ends { StartsWell workload.now self.old → IfErr result EndsEarly }
+        ensures ends { StartsWell workload.now self.old → IfErr result (EndsEarly workload.now) }
     {
         let processors = workload.machine.size.processors();
         self.install(alloc, processors, policies, sink)?;
@@ -209,7 +209,7 @@ impl Simulation {
         ensures none { OnOk result (S.sated sink.new ≡ false → IsAgreed self.new.roster → NothingComes self.new.roster.periods.end (accounts_of self.new.roster)) }
         ensures lived { OnOk result (LivedFrom S.takes workload.now.tasks.items (AreMet workload.now.tasks.items self.old.seed self.old.roster.periods most workload.now.machine.duration) sink.old self.old sink.new self.new) }
         ensures well { OnOk result (GoesWell workload.now 0 self.old → HasGoneWell workload.now self.new) }
-        ensures ends { GoesWell workload.now 0 self.old → IfErr result EndsEarly }
+        ensures ends { GoesWell workload.now 0 self.old → HasProcessors workload.now self.old → most ≡ most_steps workload.now → IfErr result (EndsEarly workload.now) }
     {
         let end = workload.machine.duration;
         let mut last: u64 = 0;

@@ -1,5 +1,5 @@
 //! Laws of what is kept of a simulation between two things that come due.
-ghost use Rattle.bq_simulate.specs.KeptLaws.{AllIsKept, BeginningsAreKept, GenerationsAreNewer, StandingIsKept};
+ghost use Rattle.bq_simulate.specs.KeptLaws.{AllIsKept, BeginningsAreKept, FewComeAtOnce, FewComeUntilTheEnd, GenerationsAreNewer, StandingIsKept};
 
 /// Each task stands at an action of its kind whatever is done, if each did before.
 pub fn standing_is_kept()
@@ -19,4 +19,14 @@ pub fn beginnings_are_kept()
 /// A generation that is drawn is newer than those that stand at hooks.
 pub fn generations_are_newer()
     ensures { GenerationsAreNewer }
+{}
+
+/// At no instant as many things come as are counted for one.
+pub fn few_come_at_once()
+    ensures { FewComeAtOnce }
+{}
+
+/// So fewer come in all than are counted for all instants until the end.
+pub fn few_come_until_the_end()
+    ensures { FewComeUntilTheEnd }
 {}

@@ -1,4 +1,4 @@
-use Rattle.std.proofs.Common.{◌≡◌, ◌+◌, ◌<◌, false, true≢false, ℕ, suc, List, Option, ◌∷◌, [], ◌++◌, length, sym, ap, ◌∙◌, subst, arith, refl}
+use Rattle.std.proofs.Common.{◌≡◌, ◌+◌, ◌<◌, None, false, true≢false, ℕ, suc, List, Option, ◌∷◌, [], ◌++◌, length, sym, ap, ◌∙◌, subst, arith, refl}
 use Rattle.std.specs.Option.{option_map_or}
 use Rattle.std.specs.Prelude.{IfNone, IfSome}
 use Rattle.bq_workload.specs.declared.workload.TaskKind.{TaskKind}
@@ -83,7 +83,8 @@ pub returns-in_err-home-clause-ends : goal.returns-in_err-home-clause-ends
 returns-in_err-home-clause-ends g c = λ opens.
     let w = c.args.workload.now in
     let mask = (admissible_kind w c.args.number c.args.kind.now opens.sound c.requires.kind).mask in
-    let none = subst (λ (o : Option ℕ). IfNone o (allows_one c.processors-processors.result c.args.kind.now.mask ≡ false)) c.in_err-home.ensures.ok_part c.first_of_mask.ensures.none in
+    let nothing : c.first_of_mask.result ≡ None = c.in_err-home.ensures.ok_part in
+    let none = subst (λ (o : Option ℕ). IfNone o (allows_one c.processors-processors.result c.args.kind.now.mask ≡ false)) nothing c.first_of_mask.ensures.none in
     absurd (true≢false (sym mask ∙ sym (ap (λ (n : ℕ). allows_one n c.args.kind.now.mask) c.processors-processors.ensures) ∙ none))
 
 pub returns-in_err-admit_one-clause-ends : goal.returns-in_err-admit_one-clause-ends

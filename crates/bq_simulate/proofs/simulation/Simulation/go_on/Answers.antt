@@ -1,10 +1,11 @@
-use Rattle.std.proofs.Common.{◌≤◌, inl, subst, ◌∙◌, arith}
+use Rattle.std.proofs.Common.{◌≤◌, inl, inr, refl, subst, ◌∙◌, arith}
 use Rattle.std.proofs.lemmas.Option.{MatchOption-at_none, MatchOption-at_some}
 use Rattle.bq_workload.specs.declared.roster.Periods.{Periods}
 use Rattle.bq_workload.specs.Accounts.{accounts_of}
 use Rattle.bq_workload.specs.Next.{IsAgreed, IsNext, NothingComes}
 use Rattle.bq_simulate.specs.Simulations.{book_of}
 use Rattle.bq_simulate.specs.Steps.{AreMet}
+use Rattle.bq_simulate.proofs.BoundLemmas.{bound-passed, counted-well, none-came}
 use Rattle.bq_simulate.proofs.DeedLemmas.{Lived-same, Same-here}
 use Rattle.bq_simulate.proofs.OrderLemmas.{met-more}
 use Rattle.bq_simulate.proofs.StepLemmas.{AreMet-none}
@@ -31,6 +32,12 @@ steps-preserved g c =
           let well = c.steps.invariant.well begins in
           let comes = comes-well w last now due c.steps.self well (next well.agreed) in
           met-well g.S.Sink.takes _ _ w due now _ _ c.in_ok-meet.ensures.lived comes.2;
+      counted = λ begins many.
+          let w = c.args.workload.now in
+          let well = c.steps.invariant.well begins in
+          let was = c.steps.invariant.counted begins many in
+          let comes = comes-well w last now due c.steps.self well (next well.agreed) in
+          counted-well g.S.Sink.takes _ _ w due count last now _ _ later (next well.agreed) c.in_ok-meet.ensures.lived comes.2 was.0 was.1;
     }
 
 pub steps-init : goal.steps-init
@@ -41,6 +48,7 @@ steps-init g c =
       lived = λ drawn had firsts agreed. Lived-same g.S.Sink.takes (AreMet kinds was.seed was.roster.periods 0 0 (book_of was drawn)) (AreMet-none kinds was.seed was.roster.periods (book_of was drawn)) _ _ _ (Same-here _) kinds drawn had firsts;
       within = omega arith;
       well = λ begins. begins;
+      counted = λ begins many. (many, none-came c.args.workload.now was.driver (book_of was begins.drawn) begins.sound begins.kept many);
     }
 
 pub returns-in_default-clause-none : goal.returns-in_default-clause-none
@@ -62,7 +70,7 @@ returns-then-has_enough-clause-lived g c =
 
 -- what comes next is neither past nor beyond the end
 pub returns-in_err-meet-clause-ends : goal.returns-in_err-meet-clause-ends
-returns-in_err-meet-clause-ends g c = λ begins.
+returns-in_err-meet-clause-ends g c = λ begins many bound.
     let w = c.args.workload.now in
     let here = c.steps.self.roster in
     let due = c.in-Some.due in
@@ -73,7 +81,7 @@ returns-in_err-meet-clause-ends g c = λ begins.
     err-by c.from_residual.result c.from_residual.ensures.1 (λ e is. inl (is ∙ wants))
 
 pub returns-then-now-last-clause-ends : goal.returns-then-now-last-clause-ends
-returns-then-now-last-clause-ends g c = λ begins.
+returns-then-now-last-clause-ends g c = λ begins many bound.
     let w = c.args.workload.now in
     let here = c.steps.self.roster in
     let due = c.in-Some.due in
@@ -85,3 +93,11 @@ returns-then-now-last-clause-ends g c = λ begins.
       | then-now-last-via-then-now-last v ↦ omega (arith, v.if-now-last.true, comes.0)
       | then-now-last-via-else-now-last+then-now-end v ↦ omega (arith, v.if-now-end.true, comes.1)
     ])
+
+-- as many things have come as are counted
+pub returns-clause-ends : goal.returns-clause-ends
+returns-clause-ends g c = λ begins many bound.
+    let w = c.args.workload.now in
+    let counted = c.steps.invariant.counted begins many in
+    let all : c.args.most ≤ c.steps.counter = omega (arith, c.steps-test.false) in
+    inr (refl, bound-passed w c.steps.counter c.steps.last c.args.most (accounts_of c.steps.self.roster) c.steps.invariant.within all bound counted.1)

@@ -55,8 +55,10 @@ returns-in_err-go_on-clause-ends g c = λ starts.
     let w = c.args.workload.now in
     let one = installed-well g.S.Sink.takes _ _ w c.args.policies.now _ _ _ c.processors-processors.ensures c.in_ok-install.ensures.befell c.in_ok-install.ensures.counts starts.opens in
     let none = ap (λ v. length v.items) c.in_ok-install.ensures.firsts ∙ starts.none in
-    let early = c.in_err-go_on.ensures.ends (opened-well w _ (c.in_ok-admit.ensures.firsts none) (c.in_ok-admit.ensures.well one)) in
-    err-by c.from_residual-in_err-go_on.result c.from_residual-in_err-go_on.ensures.1 (λ e is. subst EndsEarly (sym is) early)
+    let all = c.in_ok-admit.ensures.well one in
+    let many = all.opening.agree.mirrors.processors.many ∙ all.opening.processors_there in
+    let early = c.in_err-go_on.ensures.ends (opened-well w _ (c.in_ok-admit.ensures.firsts none) all) many c.most_steps.ensures in
+    err-by c.from_residual-in_err-go_on.result c.from_residual-in_err-go_on.ensures.1 (λ e is. subst (λ x. EndsEarly w x) (sym is) early)
 
 pub returns-clause-well : goal.returns-clause-well
 returns-clause-well g c = λ starts.

@@ -35,7 +35,7 @@ returns-clause-runs g c =
     })
 
 pub returns-in_err-tasks-clause-ends : goal.returns-in_err-tasks-clause-ends
-returns-in_err-tasks-clause-ends g c = λ starts. err-by c.from_residual.result c.from_residual.ensures.1 (λ e is. subst EndsEarly (sym is) (c.in_err-tasks.ensures.ends starts))
+returns-in_err-tasks-clause-ends g c = λ starts. err-by c.from_residual.result c.from_residual.ensures.1 (λ e is. subst (λ x. EndsEarly c.args.workload.now x) (sym is) (c.in_err-tasks.ensures.ends starts))
 
 -- where nothing comes any more all is over
 pub returns-then-not-is_over-clause-ends : goal.returns-then-not-is_over-clause-ends
