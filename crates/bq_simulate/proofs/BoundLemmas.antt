@@ -102,7 +102,7 @@ counted-well takes x y w due came last now s t low next lived h many counted =
     )
 
 -- as many come as the bound, as far as 64 bits count, only where they do not count it
-pub bound-passed : (w : Workload) (came now most : ℕ) (a : Accounts) → now ≤ w.machine.duration → most ≤ came → most ≡ most_steps w → IsCounted w came now a → 2 ^ 64 - 1 ≤ (w.machine.duration + 1) * steps_at_once w
+pub bound-passed : (w : Workload) (came now most : ℕ) (a : Accounts) → now ≤ w.machine.duration → most ≤ came → most ≡ most_steps w → IsCounted w came now a → 2 ^ 64 ≤ (w.machine.duration + 1) * steps_at_once w
 bound-passed w came now most a until all is counted = omega (arith, all, is, counted-below w came now a until counted)
 
 -- A whole simulation

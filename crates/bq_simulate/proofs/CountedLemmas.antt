@@ -29,6 +29,7 @@ use Rattle.bq_simulate.specs.AtOnce.{actions_in, in_all, left_at, left_in, left_
 use Rattle.bq_simulate.specs.Chronicles.{Book}
 use Rattle.bq_simulate.specs.Kept.{IsKept}
 use Rattle.bq_simulate.proofs.InAllLemmas.{in_all-no_more, sum-most}
+use Rattle.bq_simulate.proofs.LeftLemmas.{at-most-one}
 use Rattle.bq_simulate.proofs.SoundKindLemmas.{IsSoundKind, sound_kind}
 use Rattle.bq_simulate.proofs.StepsAheadLemmas.{steps-round}
 use Rattle.bq_simulate.proofs.TimeKeptLemmas.{run_of, runner_low}
@@ -127,11 +128,7 @@ idle-most : (now : ℕ) (l : ProcessorState) → l.tick ≡ None → left_of_pro
 idle-most now l none =
     let looks = is_same l.look (Some now) in
     let form : Option ℕ → ℕ = λ o. if is_same o (Some now) then 2 else if looks then 1 else 0 in
-    omega (arith, ap form none, go looks)
-  where
-    go : (b : Bool) → (if b then 1 else 0) ≤ 1
-    go true = omega arith
-    go false = omega arith
+    omega (arith, ap form none, at-most-one looks)
 
 -- All of them
 

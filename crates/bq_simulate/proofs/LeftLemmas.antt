@@ -149,7 +149,8 @@ charged-left kinds now processor a l at =
 
 -- Another task runs
 
-at-most-one : (b : Bool) → (if b then 1 else 0) ≤ 1
+-- what a test counts once
+pub at-most-one : (b : Bool) → (if b then 1 else 0) ≤ 1
 at-most-one true = omega arith
 at-most-one false = omega arith
 

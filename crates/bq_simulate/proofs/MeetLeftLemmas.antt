@@ -52,7 +52,7 @@ use Rattle.bq_simulate.specs.Steps.{AreJust, AreWake, Follow, Meet, Wakes, pulls
 use Rattle.bq_simulate.proofs.AccountLemmas.{charged_there, read_kept, same_run}
 use Rattle.bq_simulate.proofs.ActLeftLemmas.{act-takes, at-most, stands-at}
 use Rattle.bq_simulate.proofs.InAllLemmas.{sum-most}
-use Rattle.bq_simulate.proofs.LeftLemmas.{charged-left, multiple-past, passed-left, processor-left, sized-left, switched-kept, switched-left, switched-one, task-takes}
+use Rattle.bq_simulate.proofs.LeftLemmas.{at-most-one, charged-left, multiple-past, passed-left, processor-left, sized-left, switched-kept, switched-left, switched-one, task-takes}
 use Rattle.bq_simulate.proofs.MeetAgreeLemmas.{agrees_charged, step_of, world_of}
 use Rattle.bq_simulate.proofs.MeetTimeLemmas.{sleeper_rests}
 use Rattle.bq_simulate.proofs.SoundKindLemmas.{IsSoundKind, sound_kind, sound_times}
@@ -60,10 +60,7 @@ use Rattle.bq_simulate.proofs.StandingLemmas.{AllStand, charged_keeps, standing_
 use Rattle.bq_simulate.proofs.TakenLemmas.{current_id}
 use Rattle.bq_simulate.proofs.TimeKeptLemmas.{run_of, tasks_run_alone}
 
--- what is left of accounts that are equal
-same-left : (kinds : List TaskKind) (now : ℕ) (b c : Book) (a : Accounts) → c.accounts ≡ a → left_at kinds now c.accounts ≡ left_at kinds now a
-same-left kinds now b c a is = ap (left_at kinds now) is
-
+-- where nothing is done no more is left
 nothing-left : (kinds : List TaskKind) (seed : ℕ) (periods : Periods) (d e : Driver) (b c : Book) (now : ℕ) (deeds : List Deed) (told : Told) → deeds ≡ [] → Lives kinds seed periods d b deeds told e c → left_at kinds now c.accounts ≤ left_at kinds now b.accounts
 nothing-left kinds seed periods d e b c now deeds told none lives =
     let (nothing, same, kept) = subst (λ l. Lives kinds seed periods d b l told e c) none lives in
@@ -71,16 +68,14 @@ nothing-left kinds seed periods d e b c now deeds told none lives =
 
 -- Ticks
 
+-- what a test chooses
 tests-true : (b : Bool) (m n : ℕ) → b ≡ true → (if b then m else n) ≡ m
 tests-true b m n is = ap (λ x. if x then m else n) is
 
 tests-false : (b : Bool) (m n : ℕ) → b ≡ false → (if b then m else n) ≡ n
 tests-false b m n is = ap (λ x. if x then m else n) is
 
-one-at-most : (b : Bool) → (if b then 1 else 0) ≤ 1
-one-at-most true = omega arith
-one-at-most false = omega arith
-
+-- a tick, after which its processor may look for a task
 tick-takes : (kinds : List TaskKind) (seed : ℕ) (periods : Periods) (d e : Driver) (b c : Book) (processor now : ℕ) (deeds : List Deed) (told : Told) → 1 ≤ periods.tick → Meet (due.Tick processor) now deeds → Lives kinds seed periods d b deeds told e c
     → left_at kinds now c.accounts + 1 ≤ left_at kinds now b.accounts
 tick-takes kinds seed periods d e b c processor now deeds told some (more, is, (reply, rest, just, none)) lives =
@@ -96,8 +91,8 @@ tick-takes kinds seed periods d e b c processor now deeds told some (more, is, (
     let beat = processor-left kinds now f processor b.accounts l ticks.at (λ task. omega arith) in
     let its : left_at kinds now c.accounts ≡ left_at kinds now (switched processor (runs_now reply) now periods a) = ap (λ (x : Book). left_at kinds now x.accounts) kept in
     elim (switched-left kinds periods now processor (runs_now reply) a (f l) some (changed_at-here f b.accounts.by_processor processor l ticks.at)) [
-      | inl less ↦ omega (arith, less, its, before, next, beat, one-at-most (is_same l.look (Some now)))
-      | inr less ↦ omega (arith, less, its, before, next, beat, one-at-most (is_same l.look (Some now)))
+      | inl less ↦ omega (arith, less, its, before, next, beat, at-most-one (is_same l.look (Some now)))
+      | inr less ↦ omega (arith, less, its, before, next, beat, at-most-one (is_same l.look (Some now)))
     ]
 
 -- Looks

@@ -1,5 +1,5 @@
 -- A simulation that goes well: what its calls stand on, so that they fail only for want of memory.
-use Rattle.std.specs.Prelude.{◌≡◌, ◌⊎◌, ◌<◌, ◌≤◌, ◌+◌, ◌-◌, ◌*◌, ◌^◌, ℕ, true, List, Option, None, Some, length, slice_get}
+use Rattle.std.specs.Prelude.{◌≡◌, ◌⊎◌, ◌<◌, ◌≤◌, ◌+◌, ◌*◌, ◌^◌, ℕ, true, List, Option, None, Some, length, slice_get}
 use Rattle.bq_parts.specs.World.{World, count_in}
 use Rattle.bq_words.specs.Sizes.{processors_in}
 use Rattle.bq_workload.specs.declared.action.Action.{Action}
@@ -34,14 +34,14 @@ pub record GoesWell (w : Workload) (now : ℕ) (s : Simulation) : Type 0 where
   pub kept : IsKept w.tasks.items now s.driver (book_of s drawn)
   pub agreed : IsAgreed s.roster
 
--- it has as many processors as its workload says
-abbrev pub HasProcessors : Workload → Simulation → Type 0
-HasProcessors w s = length s.roster.by_processor.items ≡ processors_in w.machine.size
-
 -- it has come to some instant so
 pub record HasGoneWell (w : Workload) (s : Simulation) : Type 0 where
   pub now : ℕ
   pub well : GoesWell w now s
+
+-- a simulation has as many processors as its workload says
+abbrev pub HasProcessors : Workload → Simulation → Type 0
+HasProcessors w s = length s.roster.by_processor.items ≡ processors_in w.machine.size
 
 -- The task that runs at a processor goes to sleep just now: its accounts say so already, and the machine's world not yet. All else is as
 -- in a simulation that goes well.
@@ -104,9 +104,9 @@ pub record StartsWell (w : Workload) (s : Simulation) : Type 0 where
 abbrev pub WantsMemory : SimulateFault → Type 0
 WantsMemory why = why ≡ OutOfMemory
 
--- or that 2 ^ 64 - 1 things came due: the workload's bound is no less, so that 64 bits do not count it
+-- or that 2 ^ 64 - 1 things came due, where 64 bits do not count the bound of its steps
 abbrev pub IsEndless : Workload → SimulateFault → Type 0
-IsEndless w why = (why ≡ Endless) × (2 ^ 64 - 1 ≤ (w.machine.duration + 1) * steps_at_once w)
+IsEndless w why = (why ≡ Endless) × (2 ^ 64 ≤ (w.machine.duration + 1) * steps_at_once w)
 
 abbrev pub EndsEarly : Workload → SimulateFault → Type 0
 EndsEarly w why = (why ≡ OutOfMemory) ⊎ IsEndless w why
