@@ -415,6 +415,21 @@ static AT: [(&str, &str); 6] = [
     ),
 ];
 
+/// What `check FILE` tells of a policy, after a letter that tells the kind of answer.
+pub fn check_tells(alloc: Global, policy: &str) -> Result<String, AllocError> {
+    let words = check_words(alloc, "", "", "", "")?;
+    checked(alloc, &words, policy)
+}
+
+/// What `run FILE` tells of a policy, after a letter that tells the kind of answer.
+pub fn run_tells(alloc: Global, policy: &str) -> Result<String, AllocError> {
+    let clock = Ticking {
+        readings: Cell::new(0),
+    };
+    let answer = run(alloc, &clock, &no_words(alloc), policy.as_bytes())?;
+    told(alloc, &answer)
+}
+
 /// What `run` tells of a policy that answers the time, at that time.
 fn ran_at(alloc: Global, clock: &Ticking, time: &str) -> Result<String, AllocError> {
     let mut words = no_words(alloc);

@@ -1,9 +1,10 @@
-// One program, one verdict. Each drawn program goes three ways by which a program comes to the verifier: `check` of its hex, a trace's
-// install, and `load_all` of the locked machine. Each must answer what `verify` itself answers: that it is accepted, or the same
-// cause at the same slot.
+// One program, one verdict. Each drawn program goes the five ways by which a program comes to the verifier: `check` of its hex, `check` and
+// `run` of its file, a trace's install, and `load_all` of the locked machine. Each must answer what `verify` itself answers: that it
+// is accepted, or the same cause at the same slot.
 
 ghost use Rattle.std.specs.Prelude.{◌≡◌};
 
+use crate::answers::{check_tells, run_tells};
 use crate::done::{Performed, done_by, holds};
 use bq_cfs::CfsQueue;
 use bq_history::Naming;
@@ -87,6 +88,8 @@ struct Refusal {
 /// A program as it goes the ways.
 #[derive(Drop)]
 struct Sample {
+    /// The policy's file.
+    text: String,
     /// The policy's image.
     image: Vec<u8>,
     /// How `verify` refuses it; none where it is accepted.
@@ -135,7 +138,11 @@ fn next_sample(rt: &impl Abort, alloc: Global, number: &mut u64) -> Sample {
     let policy = read_policy(alloc, text.as_bytes(), &Head::nothing()).expect(rt, "a policy");
     let image = policy.image(alloc).expect(rt, "memory");
     let refusal = judged(rt, alloc, &policy);
-    Sample { image, refusal }
+    Sample {
+        text,
+        image,
+        refusal,
+    }
 }
 
 /// The first line that is told is the one that refuses the program; of one that is accepted, it begins so.
@@ -213,6 +220,40 @@ fn commands_agree(rt: HostRuntime) {
     for _ in 0..PROGRAMS {
         let sample = next_sample(&rt, alloc, &mut number);
         commands_tell(&rt, alloc, &sample);
+    }
+}
+
+/// What is told of the program's file: a refusal is told as one.
+fn file_tells(
+    rt: &impl Abort,
+    alloc: Global,
+    told: Result<String, AllocError>,
+    refusal: Option<Refusal>,
+    accepted: &str,
+) {
+    let told = told.expect(rt, "memory");
+    let kind = if refusal.is_some() { "R " } else { "D " };
+    let told = told.as_str().strip_prefix(kind).unwrap_or("another kind");
+    agrees(rt, alloc, told, refusal, accepted);
+}
+
+/// Two commands on one program's file.
+fn files_tell(rt: &impl Abort, alloc: Global, sample: &Sample) {
+    let policy = sample.text.as_str();
+    let refusal = sample.refusal;
+    let checked = check_tells(alloc, policy);
+    file_tells(rt, alloc, checked, refusal, "accepted preempt budget ");
+    file_tells(rt, alloc, run_tells(alloc, policy), refusal, "r0 ");
+}
+
+/// By its file, checked and run.
+#[test]
+fn files_agree(rt: HostRuntime) {
+    let alloc = rt.alloc();
+    let mut number = SEED;
+    for _ in 0..PROGRAMS {
+        let sample = next_sample(&rt, alloc, &mut number);
+        files_tell(&rt, alloc, &sample);
     }
 }
 
