@@ -474,6 +474,7 @@ impl ScheduleForm for Perfetto {
     ) -> Result<(), AllocError>
         ensures head { OnOk result (Adds (IsPerfettoHead (length schedule.now.processors)) (string_bytes text.old) (string_bytes text.new)) }
         ensures history { OnOk result (self.new ≡ record self.old { history = untold (length schedule.now.processors) 1024 }) }
+        ensures window { self.new.window ≡ self.old.window }
     {
         self.history = History::of(self.alloc, schedule.processors())?;
         write_head(self.alloc, schedule.processors(), text)

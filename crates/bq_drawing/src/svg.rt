@@ -388,6 +388,7 @@ impl ScheduleForm for Svg {
     ) -> Result<(), AllocError>
         ensures rows { OnOk result (self.new ≡ record self.old { drawing = nothing_of (length schedule.now.processors) }) }
         ensures none { text.new ≡ text.old }
+        ensures window { self.new.window ≡ self.old.window }
     {
         self.drawing = Drawing::of(self.alloc, schedule.processors())?;
         Ok(())

@@ -1,6 +1,7 @@
 -- What a verdict says of the program, and what follows of its place.
 use Rattle.std.proofs.Common.{◌≡◌, ℕ, Bool, List, [], Option, Result, Ok, Err, IfOk, arith, subst, sym}
 use Rattle.std.specs.Prelude.{Contains}
+use Rattle.std.proofs.lemmas.Bool.{false≢true}
 use Rattle.bq_insn.specs.declared.Insn.{Insn}
 use Rattle.bq_insn.specs.Slots.{spread}
 use Rattle.bq_verify.specs.Edges.{IsStart}
@@ -18,7 +19,7 @@ use Rattle.bq_verify.specs.KnownAt.{ContainsRuns}
 use Rattle.bq_states.specs.declared.abstract_state.AbstractState.{AbstractState}
 use Rattle.bq_needs.specs.Needs.{IsNeed}
 use Rattle.bq_needs.specs.declared.needs.Need.{Need}
-use Rattle.bq_explain.specs.Explained.{AreMade, IsFinding, IsOfState, IsOfVerifier, IsPlace, IsRefusalOf}
+use Rattle.bq_explain.specs.Explained.{AreAsked, AreMade, IsFinding, IsOfState, IsOfVerifier, IsPlace, IsRefusalOf}
 use Rattle.bq_explain.specs.declared.place.Place.{Place}
 use Rattle.bq_explain.specs.declared.refusal.Finding.TheVariants as finding
 use Rattle.bq_explain.specs.declared.refusal.Refusal.{Refusal}
@@ -78,6 +79,7 @@ refusal_of_graph p slot named place (Ok refusal) at same is finds none = record 
   cause_is = is;
   finds = subst (λ (q : Place). IsFinding p slot q.insn (cause.Graph named) refusal.finding) (sym same) (finds p slot);
   asked = [];
+  are_asked = λ r of. absurd (false≢true of);
   made = nothing_made (spread p.insns.items) slot refusal.trail.made.items none;
 }
 
@@ -85,12 +87,13 @@ refusal_of_graph p slot named place (Ok refusal) at same is finds none = record 
 pub refusal_of_state : {E : Type 0} (p : PolicySource) (slot : ℕ) (named : Cause) (slots : List (Option Insn)) → slots ≡ spread p.insns.items → (place : Place) (r : Result Refusal E) → IsPlace (spread p.insns.items) slot place
     → IfOk r (λ refusal. refusal.place ≡ place) → IfOk r (λ refusal. refusal.cause ≡ named)
     → IfOk r (λ refusal. IsFinding p place.slot place.insn named refusal.finding)
-    → IfOk r (λ refusal. (asked : List Bool) × AreMade slots place.slot asked refusal.trail.made.items) → IfOk r (IsRefusalOf p slot named)
+    → IfOk r (λ refusal. (asked : List Bool) × AreAsked refusal.finding asked × AreMade slots place.slot asked refusal.trail.made.items) → IfOk r (IsRefusalOf p slot named)
 refusal_of_state p slot named slots laid place (Err e) at same is finds made = tt
 refusal_of_state p slot named slots laid place (Ok refusal) at same is finds made = record {
   place = subst (λ (q : Place). IsPlace (spread p.insns.items) slot q) (sym same) at;
   cause_is = is;
   finds = subst (λ (q : Place). IsFinding p slot q.insn named refusal.finding) (sym same) (subst (λ (n : ℕ). IsFinding p n place.insn named refusal.finding) at.slot_is finds);
   asked = made.0;
-  made = subst (λ (n : ℕ). AreMade (spread p.insns.items) n made.0 refusal.trail.made.items) at.slot_is (subst (λ (s : List (Option Insn)). AreMade s place.slot made.0 refusal.trail.made.items) laid made.1);
+  are_asked = made.1;
+  made = subst (λ (n : ℕ). AreMade (spread p.insns.items) n made.0 refusal.trail.made.items) at.slot_is (subst (λ (s : List (Option Insn)). AreMade s place.slot made.0 refusal.trail.made.items) laid made.2);
 }

@@ -1,5 +1,5 @@
 -- What an explanation says of a policy, and how it is said.
-use Rattle.std.specs.Prelude.{◌≡◌, ℕ, List, ◌++◌, Bool, Option, Some, Contains, codes}
+use Rattle.std.specs.Prelude.{◌≡◌, ℕ, ◌==◌, List, ◌++◌, Bool, true, false, Option, Some, Contains, codes, slice_index_or}
 use Rattle.bq_insn.specs.declared.Insn.{Insn}
 use Rattle.bq_insn.specs.Slots.{spread}
 use Rattle.bq_bpf.specs.Memory.{Setting, State}
@@ -14,9 +14,11 @@ use Rattle.bq_verify.specs.Straight.{IsStraightBefore}
 use Rattle.bq_states.specs.AbstractStates.{Contains as Allows}
 use Rattle.bq_states.specs.declared.abstract_state.AbstractState.{AbstractState}
 use Rattle.bq_policy_file.specs.declared.policy_source.PolicySource.{PolicySource}
+use Rattle.bq_needs.specs.Arguments.{register_of}
 use Rattle.bq_needs.specs.Needs.{IsNeed}
 use Rattle.bq_needs.specs.Words.{TellsNeed}
 use Rattle.bq_needs.specs.declared.needs.Need.{Need}
+use Rattle.bq_needs.specs.declared.needs.Need.TheVariants as need
 use Rattle.bq_explain.specs.Makers.{IsOnTrail}
 use Rattle.bq_explain.specs.Telling.{TellsState}
 use Rattle.bq_explain.specs.Texts.{IsStateText}
@@ -68,6 +70,26 @@ IsFinding p slot insn (cause.State obligation) finding.Unknown =
     IsStraightBefore (subject_in p) slot → IsNotReached (subject_in p) slot
 IsFinding p slot insn _ other = ⊥
 
+-- the need speaks of the register
+abbrev pub speaks_of : Need → ℕ → Bool
+speaks_of (need.Unknown registers) r = slice_index_or registers r false
+speaks_of (need.Address access) r = access.register == r
+speaks_of (need.Access access pointer lack) r = access.register == r
+speaks_of (need.Number pointer) r = pointer.register == r
+speaks_of (need.Argument helper argument) r = register_of argument == r
+speaks_of (need.Answer known) r = 0 == r
+speaks_of (need.Map index) r = false
+speaks_of need.Unshown r = false
+
+-- what is found is a need that speaks of the register
+abbrev pub is_found_of : Finding → ℕ → Bool
+is_found_of (finding.State need known) r = speaks_of need r
+is_found_of _ r = false
+
+-- what is found speaks of each of these registers
+abbrev pub AreAsked : Finding → List Bool → Type 0
+AreAsked found asked = (r : ℕ) → slice_index_or asked r false ≡ true → is_found_of found r ≡ true
+
 -- each of them is on the trail of these registers at the slot
 abbrev pub AreMade : List (Option Insn) → ℕ → List Bool → List Made → Type 0
 AreMade slots slot asked made = (one : Made) → Contains made one → IsOnTrail slots slot asked one.register one.place.slot
@@ -81,12 +103,13 @@ pub record IsOf (maker : Maker) (made : Made) : Type 0 where
 abbrev pub AreOf : List Maker → List Made → Type 0
 AreOf makers made = (one : Made) → Contains made one → (maker : Maker) × Contains makers maker × IsOf maker one
 
--- the instruction at the slot, what is found there, and instructions on the trail of some registers
+-- the instruction at the slot, what is found there, and instructions on the trail of registers of which that speaks
 pub record IsRefusalOf (p : PolicySource) (slot : ℕ) (named : Cause) (refusal : Refusal) : Type 0 where
   pub place : IsPlace (spread p.insns.items) slot refusal.place
   pub cause_is : refusal.cause ≡ named
   pub finds : IsFinding p slot refusal.place.insn named refusal.finding
   pub asked : List Bool
+  pub are_asked : AreAsked refusal.finding asked
   pub made : AreMade (spread p.insns.items) slot asked refusal.trail.made.items
 
 -- what explains a verdict

@@ -1,5 +1,5 @@
 //! What helps against each cause, as a value.
-ghost use Rattle.std.specs.Prelude.{◌≡◌};
+ghost use Rattle.std.specs.Prelude.{◌≡◌, ◌==◌, ℕ, false, slice_index_or, true};
 ghost use Rattle.bq_explain.specs.Advising.{GoesBy, IsOn};
 ghost use Rattle.bq_explain.specs.declared.advice.Advice.TheVariants.{Know};
 ghost use Rattle.bq_explain.specs.declared.advice.Missing.{Missing as Lacking};
@@ -164,7 +164,9 @@ fn answer_advice(answer: AbstractValue) -> Advice {
 }
 
 /// That register.
-pub(crate) fn only(register: u8) -> Registers {
+pub(crate) fn only(register: u8) -> Registers
+    ensures { (r : ℕ) → slice_index_or result r false ≡ true → (register == r) ≡ true }
+{
     let mut registers = [false; 11];
     if register < 11 {
         registers[usize::from(register)] = true;

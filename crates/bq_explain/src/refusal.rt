@@ -1,11 +1,11 @@
 //! Where the verifier refuses a policy, why, and what is known there.
-ghost use Rattle.std.specs.Prelude.{◌≡◌, ◌<◌, ℕ, Bool, List, [], IfOk, length};
+ghost use Rattle.std.specs.Prelude.{◌≡◌, ◌<◌, ℕ, Bool, List, [], IfOk, false, length, slice_index_or, true};
 ghost use Rattle.bq_insn.specs.Slots.{spread};
 ghost use Rattle.bq_verify.specs.Faults.{IsFaultless};
 ghost use Rattle.bq_verify.specs.KnownAt.{AreKnown};
 ghost use Rattle.bq_policy_file.specs.Subjects.{subject_in};
 ghost use Rattle.bq_policy_file.specs.declared.policy_source.PolicySource.{PolicySource as Named};
-ghost use Rattle.bq_explain.specs.Explained.{AreMade, IsFinding, IsOfState, IsRefusalOf};
+ghost use Rattle.bq_explain.specs.Explained.{AreAsked, AreMade, IsFinding, IsOfState, IsRefusalOf, speaks_of};
 ghost use Rattle.bq_explain.specs.Verdicts.{IsRefusedPolicy};
 
 use crate::advice::{Advice, graph_advice, only, state_advice};
@@ -122,7 +122,7 @@ fn state_refusal(
     ensures place { IfOk result (λ refusal. refusal.place ≡ place) }
     ensures cause { IfOk result (λ refusal. refusal.cause ≡ cause) }
     ensures finds { IfOk result (λ refusal. IsFinding policy.now place.slot place.insn cause refusal.finding) }
-    ensures made { IfOk result (λ refusal. (asked : List Bool) × AreMade slots.now place.slot asked refusal.trail.made.items) }
+    ensures made { IfOk result (λ refusal. (asked : List Bool) × AreAsked refusal.finding asked × AreMade slots.now place.slot asked refusal.trail.made.items) }
 {
     let program = policy.program(alloc)?;
     let states = known_states(alloc, &program, place.slot)?;
@@ -157,7 +157,9 @@ fn finding_of(policy: &PolicySource, states: &KnownStates, place: Place, cause: 
 }
 
 /// The registers that matter to what is wrong.
-fn asked_in(finding: Finding) -> Registers {
+fn asked_in(finding: Finding) -> Registers
+    ensures { AreAsked finding result }
+{
     match finding {
         Finding::State { need, .. } => asked_by(need),
         Finding::Graph(_) | Finding::Unknown => [false; 11],
@@ -165,7 +167,9 @@ fn asked_in(finding: Finding) -> Registers {
 }
 
 /// The registers of which the need speaks.
-fn asked_by(need: Need) -> Registers {
+fn asked_by(need: Need) -> Registers
+    ensures { (r : ℕ) → slice_index_or result r false ≡ true → speaks_of need r ≡ true }
+{
     match need {
         Need::Unknown(registers) => registers,
         Need::Address(access) | Need::Access { access, .. } => only(access.register),

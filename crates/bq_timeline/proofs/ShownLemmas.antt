@@ -1,8 +1,6 @@
 -- A form that is asked for, once it has begun.
-use Rattle.std.proofs.Common.{◌≡◌, ◌∙◌, sym, subst, Option}
-use Rattle.std.specs.Prelude.{IfSome}
+use Rattle.std.proofs.Common.{◌∙◌}
 use Rattle.bq_report.specs.Names.{NamedTasks}
-use Rattle.bq_report.specs.declared.window.Window.{Window}
 use Rattle.bq_timeline.specs.Shown.{IsAskedFor, StaysShown}
 use Rattle.bq_timeline.specs.declared.settings.Settings.{Settings}
 use Rattle.bq_timeline.specs.declared.shown.Shown.{Shown}
@@ -14,6 +12,6 @@ stays_asked s named old new asked stays = (
   asked.1,
   record {
     form_is = stays.form_is ∙ asked.2.form_is;
-    window_is = subst (λ (o : Option Window). IfSome o (λ w. w ≡ asked.0)) (sym stays.window_is) asked.2.window_is;
+    window_is = stays.window_is ∙ asked.2.window_is;
   },
 )

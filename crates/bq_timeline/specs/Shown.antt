@@ -1,5 +1,5 @@
 -- The form in which a schedule is shown.
-use Rattle.std.specs.Prelude.{◌≡◌, Bool, true, false, ◌++◌, Option, Some, None, IfSome}
+use Rattle.std.specs.Prelude.{◌≡◌, Bool, true, false, ◌++◌, Option, Some, None}
 use Rattle.bq_report.specs.Names.{NamedTasks}
 use Rattle.bq_report.specs.declared.window.Window.{Window}
 use Rattle.bq_timeline.specs.Called.{tasks_for}
@@ -31,16 +31,21 @@ name_of (form.Svg _) = named.Svg
 name_of (form.Perfetto _) = named.Perfetto
 name_of (form.Why _) = named.Why
 
--- the stretch of time, processors and tasks whose slices stand in rows of CSV, and whose runs in lines of a list
-abbrev pub window_of_rows : Shown → Option Window
-window_of_rows (form.Csv window) = Some window
-window_of_rows (form.Timehist window) = Some window
-window_of_rows other = None
+-- the stretch of time, processors and tasks that the form shows
+abbrev pub window_of : Shown → Window
+window_of (form.Report report) = report.window
+window_of (form.Map map) = map.window
+window_of (form.Timehist window) = window
+window_of (form.Csv window) = window
+window_of (form.Json object) = object.window
+window_of (form.Svg picture) = picture.window
+window_of (form.Perfetto trace) = trace.window
+window_of (form.Why choices) = choices.window
 
--- It is the form of that name, and its rows or lines, where it has some, are those of the window.
+-- It is the form of that name, and it shows that window.
 pub record IsShown (form : FormName) (window : Window) (shown : Shown) : Type 0 where
   pub form_is : name_of shown ≡ form
-  pub window_is : IfSome (window_of_rows shown) (λ w. w ≡ window)
+  pub window_is : window_of shown ≡ window
 
 -- It is the window that the settings ask for, with the tasks that have the names that they ask for.
 pub record IsWindowOf (s : Settings) (named : NamedTasks) (window : Window) : Type 0 where
@@ -58,7 +63,7 @@ abbrev pub ShowsAsked : Settings → NamedTasks → Option Shown → Type 0
 ShowsAsked s named None = ⊥
 ShowsAsked s named (Some shown) = IsAskedFor s named shown
 
--- It is a form of the same name, and its rows or lines, where it has some, are those of the same window.
+-- It is a form of the same name, and it shows the same window.
 pub record StaysShown (old new : Shown) : Type 0 where
   pub form_is : name_of new ≡ name_of old
-  pub window_is : window_of_rows new ≡ window_of_rows old
+  pub window_is : window_of new ≡ window_of old

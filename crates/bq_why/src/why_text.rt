@@ -68,7 +68,9 @@ fn running(machine: &AnyCore, processor: u8) -> Option<u16> {
 
 impl Why {
     /// The choices in the window.
-    pub fn new(alloc: Global, window: Window) -> Why {
+    pub fn new(alloc: Global, window: Window) -> Why
+        ensures { result.window ≡ window }
+    {
         Why {
             alloc,
             window,
