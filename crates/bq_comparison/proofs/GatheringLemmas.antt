@@ -1,8 +1,11 @@
 -- What is gathered of all events.
-use Rattle.std.proofs.Common.{◌≡◌, ◌+◌, ℕ, false, List, [], ◌∷◌, ◌++◌, None, sym, ap, ◌∙◌, append_assoc, append-nil, arith}
-use Rattle.bq_trace.specs.TraceEvents.{TraceEvent, Told, TakesAll, Gets}
+use Rattle.std.proofs.Common.{◌≡◌, ℕ, false, List, [], ◌∷◌, ◌++◌, Option, None, Some, IsSome, refl, sym, ap, subst, ◌∙◌, append_assoc, append-nil, arith}
+use Rattle.bq_trace.specs.TraceEvents.{TraceEvent, Told, TakesAll, Gets, Opened, Skipped, Comes, Answered, NotHex, NotLoaded, ProcessorAsked, CounterRead, Bad}
+use Rattle.bq_words.specs.Sizes.{processors_in}
 use Rattle.bq_workload.specs.declared.workload.Workload.{Workload}
-use Rattle.bq_schedule.specs.WakeLatencies.{TakesStart, latencies_of}
+use Rattle.bq_schedule.specs.Figures.{Figures, opening}
+use Rattle.bq_schedule.specs.Steps.{after}
+use Rattle.bq_schedule.specs.WakeLatencies.{Tasks, TakesStart, latencies_of}
 use Rattle.bq_simulate.specs.Simulations.{Accepted, IsSimulation}
 use Rattle.bq_experiment.specs.Limits.{PassesOn}
 use Rattle.bq_experiment.specs.declared.limited.Limited.{Limited}
@@ -48,3 +51,24 @@ gathers_simulation old new policies w none empty g wants =
           ∙ ap (λ s. latencies_of old.sink.latencies task ++ latencies_told task s g.told) none
           ∙ ap (λ l. l ++ latencies_told task None g.told) (empty task);
     }
+
+-- a schedule that has begun stays
+stays : (s : Figures) (told : Told) → IsSome (schedule_after (Some s) told)
+stays s [] = refl
+stays s ((n, Opened rule size) ∷ more) = stays (opening (processors_in size)) more
+stays s ((n, Answered event answer m) ∷ more) = stays (after s event answer) more
+stays s ((n, Skipped line) ∷ more) = stays s more
+stays s ((n, Comes event m) ∷ more) = stays s more
+stays s ((n, NotHex) ∷ more) = stays s more
+stays s ((n, NotLoaded why) ∷ more) = stays s more
+stays s ((n, ProcessorAsked c m) ∷ more) = stays s more
+stays s ((n, CounterRead i value) ∷ more) = stays s more
+stays s ((n, Bad heard) ∷ more) = stays s more
+
+-- so one is gathered of each simulation, whose first event is that of its machine
+pub schedule_gathered : (policies : List Accepted) (w : Workload) (most : ℕ) (schedule : Option Figures) (tasks : Tasks) → IsGathered policies w most schedule tasks → IsSome schedule
+schedule_gathered policies w most schedule tasks g =
+    let run = g.simulation in
+    let told : g.told ≡ (1, Opened w.machine.rule w.machine.size) ∷ run.more = run.whole ∙ ap (λ (l : Told). l ++ run.more) run.starts.tells in
+    let is : schedule ≡ schedule_after (Some (opening (processors_in w.machine.size))) run.more = g.schedule_is ∙ ap (schedule_after None) told in
+    subst IsSome (sym is) (stays (opening (processors_in w.machine.size)) run.more)

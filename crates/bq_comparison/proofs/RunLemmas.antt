@@ -1,8 +1,9 @@
 -- Runs, and more of them at the end.
-use Rattle.std.proofs.Common.{◌≡◌, Some, Option, ℕ, ◌+◌, ◌<◌, ◌≤◌, List, [], ◌∷◌, ◌++◌, length, map, Ok, Err, Result, IfErr, IfOk, ◌⊎◌, inl, inr, ap, sym, refl, zero, suc, subst, ◌∙◌, arith}
+use Rattle.std.proofs.Common.{◌≡◌, Some, None, Option, ℕ, ◌+◌, ◌<◌, ◌≤◌, List, [], ◌∷◌, ◌++◌, length, map, Ok, Err, Result, IfErr, IfOk, ◌⊎◌, inl, inr, ap, sym, refl, zero, suc, subst, ◌∙◌, arith}
 use Rattle.std.proofs.lemmas.List.{length-append, length-map}
 use Rattle.std.proofs.lemmas.Option.{slice_get_within}
 use Rattle.std.specs.Option.{IsSomeAnd}
+use Rattle.std.specs.Prelude.{⊤}
 use Rattle.bq_workload.specs.declared.workload.Workload.{Workload}
 use Rattle.bq_comparison.specs.declared.naming.Figure.{Figure}
 use Rattle.bq_comparison.specs.declared.runs.RunFigures.{RunFigures}
@@ -12,6 +13,7 @@ use Rattle.bq_comparison.specs.Faults.{HasFault, IsNoRun, IsNoSide, IsNoSummary,
 use Rattle.bq_experiment.specs.Limits.{IsLonger}
 use Rattle.bq_workload.specs.Soundness.{first_flaw}
 use Rattle.bq_simulate.specs.Faults.{flaw_told}
+use Rattle.bq_simulate.specs.Order.{IsCutOff, IsEndless}
 use Rattle.bq_simulate.specs.declared.fault.SimulateFault.{SimulateFault}
 use Rattle.bq_simulate.specs.declared.fault.SimulateFault.TheVariants as run_fault
 use Rattle.bq_simulate.specs.Simulations.{Accepted, with_seed}
@@ -57,14 +59,28 @@ AreRuns-come policies w most figures seed next before after results at h k (more
     let R : List (Result RunFigures SeedsFault) → Type 0 = λ l. AreResults policies w most figures (seed + length before) l in
     subst P (sym is) (AreRuns-append policies w most figures seed before more h (subst R ok (subst Q at k)))
 
+-- neither that memory ran out nor that the sink has enough
+abbrev IsOther : SimulateFault → Type 0
+IsOther run_fault.OutOfMemory = ⊥
+IsOther run_fault.Enough = ⊥
+IsOther why = ⊤
+
+-- what else cuts off a simulation is that it is endless
+endless : (w : Workload) (why : SimulateFault) → IsOther why → IsCutOff w why → IsEndless w why
+endless w why other cut = elim cut [
+  | inl out ↦ absurd (subst IsOther out other)
+  | inr more ↦ elim more [ inl enough ↦ absurd (subst IsOther enough other) | inr ends ↦ ends ]
+]
+
 -- the fault of a run, in the words of a summary, says as much
-pub refused_is_no_run : (policies : List Accepted) (w : Workload) (most : ℕ) (why : SimulateFault) → flaw_told why ≡ first_flaw w → (why ≡ run_fault.Enough → IsLonger policies w most) → IsNoRun policies w most (fault_of_run why)
-refused_is_no_run policies w most run_fault.OutOfMemory h k = tt
-refused_is_no_run policies w most (run_fault.Unsound flaw) h k = h
-refused_is_no_run policies w most (run_fault.Drive fault) h k = h
-refused_is_no_run policies w most run_fault.BrokenInvariant h k = h
-refused_is_no_run policies w most run_fault.Endless h k = h
-refused_is_no_run policies w most run_fault.Enough h k = k refl
+pub refused_is_no_run : (policies : List Accepted) (w : Workload) (most : ℕ) (why : SimulateFault)
+    → flaw_told why ≡ first_flaw w → (first_flaw w ≡ None → IsCutOff w why) → (why ≡ run_fault.Enough → IsLonger policies w most) → IsNoRun policies w most (fault_of_run why)
+refused_is_no_run policies w most run_fault.OutOfMemory h ends k = tt
+refused_is_no_run policies w most (run_fault.Unsound flaw) h ends k = (h, λ sound. endless w (run_fault.Unsound flaw) tt (ends sound))
+refused_is_no_run policies w most (run_fault.Drive fault) h ends k = (h, λ sound. endless w (run_fault.Drive fault) tt (ends sound))
+refused_is_no_run policies w most run_fault.BrokenInvariant h ends k = (h, λ sound. endless w run_fault.BrokenInvariant tt (ends sound))
+refused_is_no_run policies w most run_fault.Endless h ends k = (h, λ sound. endless w run_fault.Endless tt (ends sound))
+refused_is_no_run policies w most run_fault.Enough h ends k = k refl
 
 -- where a run with one of the seeds is refused, so are all
 refused_all : (policies : List Accepted) (w : Workload) (most count i : ℕ) (why : SeedsFault) → i < count → IsNoRun policies (with_seed w (w.machine.seed + i)) most why → IsNoSummary policies w most count why

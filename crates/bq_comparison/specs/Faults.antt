@@ -1,10 +1,11 @@
 -- Why there is no summary.
-use Rattle.std.specs.Prelude.{◌≡◌, ◌⊎◌, ℕ, ◌+◌, ◌<◌, ◌^◌, List, Option, Result, Err, Some, slice_get, ⊤}
+use Rattle.std.specs.Prelude.{◌≡◌, ◌⊎◌, ℕ, ◌+◌, ◌<◌, ◌^◌, List, Option, None, Result, Err, Some, slice_get, ⊤}
 use Rattle.std.specs.Option.{IsSomeAnd}
 use Rattle.bq_workload.specs.Soundness.{first_flaw}
 use Rattle.bq_workload.specs.declared.workload.Workload.{Workload}
 use Rattle.bq_experiment.specs.Limits.{IsLonger}
 use Rattle.bq_simulate.specs.Faults.{flaw_told}
+use Rattle.bq_simulate.specs.Order.{IsEndless}
 use Rattle.bq_simulate.specs.Simulations.{Accepted, with_seed}
 use Rattle.bq_simulate.specs.declared.fault.SimulateFault.{SimulateFault}
 use Rattle.bq_simulate.specs.declared.fault.SimulateFault.TheVariants as run_fault
@@ -18,10 +19,15 @@ fault_of_run run_fault.OutOfMemory = fault.OutOfMemory
 fault_of_run run_fault.Enough = fault.Events
 fault_of_run why = fault.Run why
 
--- a run of the workload with these policies is refused: for the workload's first flaw exactly when it has one, and cut off after that many
--- events only when there are more; memory may run out whatever the workload is
+-- the workload is not followed to its end: for its first flaw exactly when it has one, and else only where 64 bits do not count the bound
+-- of its steps
+abbrev pub IsNotFollowed : Workload → SimulateFault → Type 0
+IsNotFollowed w why = (flaw_told why ≡ first_flaw w) × (first_flaw w ≡ None → IsEndless w why)
+
+-- a run of the workload with these policies does not come to its end: the workload is not followed, or the run is cut off after that many
+-- events, only when there are more; memory may run out whatever the workload is
 abbrev pub IsNoRun : List Accepted → Workload → ℕ → SeedsFault → Type 0
-IsNoRun policies w most (fault.Run why) = flaw_told why ≡ first_flaw w
+IsNoRun policies w most (fault.Run why) = IsNotFollowed w why
 IsNoRun policies w most fault.Last = ⊥
 IsNoRun policies w most fault.Events = IsLonger policies w most
 IsNoRun policies w most fault.OutOfMemory = ⊤
@@ -32,7 +38,7 @@ HasLonger policies w most count = (i : ℕ) × (i < count) × IsLonger policies 
 
 -- this many runs are refused for what one of them is; or the last seed is not below 2^64
 abbrev pub IsNoSummary : List Accepted → Workload → ℕ → ℕ → SeedsFault → Type 0
-IsNoSummary policies w most count (fault.Run why) = flaw_told why ≡ first_flaw w
+IsNoSummary policies w most count (fault.Run why) = IsNotFollowed w why
 IsNoSummary policies w most count fault.Last = 2 ^ 64 < w.machine.seed + count
 IsNoSummary policies w most count fault.Events = HasLonger policies w most count
 IsNoSummary policies w most count fault.OutOfMemory = ⊤

@@ -47,8 +47,10 @@ pub struct RunsShown<'a> {
 const MOST_AT_ONCE: usize = 64;
 
 /// Runs a workload with this many seeds, from its own on, with these policies at all processors; what the runs say of each of
-/// the figures. A run that has more events than it may have is cut off, and then there is no summary. As many runs are done at once as there are processors available, each on a thread of its own. A workload with a
-/// flaw is refused for the first of its flaws, and `Last` comes exactly when the last seed would be 2^64 or more.
+/// the figures. A run that has more events than it may have is cut off, and then there is no summary. As many runs are done at once
+/// as there are processors available, each on a thread of its own. A workload with a flaw is refused for the first of its flaws; the
+/// runs of one without fail only for memory, or where 64 bits do not count the bound of its steps. `Last` comes exactly when the
+/// last seed would be 2^64 or more.
 pub fn summary<T: Threads + Sync>(
     threads: &T,
     alloc: Global,

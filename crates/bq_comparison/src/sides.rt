@@ -29,9 +29,9 @@ pub struct RunPlan<'a> {
 }
 
 /// Runs a workload with these seeds, from its own on, under policies, and with the same seeds under others, if there are
-/// others; as many runs at once as there are processors available. A workload with a flaw is refused for the first of its flaws,
-/// and `Last` comes just for the numbers of the seeds. A run that has more events than it may have is cut off, and then there is no
-/// comparison.
+/// others; as many runs at once as there are processors available. A workload with a flaw is refused for the first of its flaws; the
+/// runs of one without fail only for memory, or where 64 bits do not count the bound of its steps. `Last` comes just for the numbers
+/// of the seeds. A run that has more events than it may have is cut off, and then there is no comparison.
 pub fn compare<T: Threads + Sync>(
     threads: &T,
     alloc: Global,

@@ -1,8 +1,10 @@
 -- Why a run does not come to its end.
-use Rattle.std.specs.Prelude.{◌≡◌, ℕ, List}
+use Rattle.std.specs.Prelude.{◌≡◌, ℕ, List, None}
 use Rattle.bq_streams.specs.Counts.{HasRisen}
+use Rattle.bq_workload.specs.Soundness.{first_flaw}
 use Rattle.bq_workload.specs.declared.workload.Workload.{Workload}
 use Rattle.bq_simulate.specs.Faults.{TellsNoOther}
+use Rattle.bq_simulate.specs.Order.{IsCutOff}
 use Rattle.bq_simulate.specs.Simulations.{Accepted}
 use Rattle.bq_simulate.specs.declared.fault.SimulateFault.{SimulateFault}
 use Rattle.bq_simulate.specs.declared.fault.SimulateFault.TheVariants.{Enough}
@@ -17,9 +19,12 @@ IsStopped P (Simulation why) failures = P why × (failures ≡ 0)
 IsStopped P Write failures = HasRisen 0 failures
 IsStopped P Events failures = P Enough × (failures ≡ 0)
 
--- no other flaw is reported than the first of the workload; and a sink of that many events has enough only where there are more
-abbrev pub IsNoEnd : List Accepted → Workload → ℕ → SimulateFault → Type 0
-IsNoEnd policies w most why = TellsNoOther w why × (why ≡ Enough → IsLonger policies w most)
+-- No other flaw is reported than the first of the workload. One without a flaw is followed to its end, unless it is cut off as a simulation
+-- may be; and a sink of that many events has enough only where there are more.
+pub record IsNoEnd (policies : List Accepted) (w : Workload) (most : ℕ) (why : SimulateFault) : Type 0 where
+  pub flaw : TellsNoOther w why
+  pub ends : first_flaw w ≡ None → IsCutOff w why
+  pub longer : why ≡ Enough → IsLonger policies w most
 
 -- so it is with a run of these policies, cut off after that many events
 abbrev pub IsRunFault : List Accepted → Workload → ℕ → RunFault → ℕ → Type 0

@@ -2,6 +2,7 @@
 ghost use Rattle.std.specs.Prelude.{◌≡◌, ◌≢◌, [], false, true, IfErr, IfOk, None, OnOk, string_bytes};
 ghost use Rattle.bq_streams.specs.Counts.{failures_of, inner_of};
 ghost use Rattle.bq_simulate.specs.Faults.{TellsNoOther};
+ghost use Rattle.bq_simulate.specs.Order.{IsCutOff};
 ghost use Rattle.bq_simulate.specs.Simulations.{HasEnough, IsFollowed, IsSimulation};
 ghost use Rattle.bq_simulate.specs.Texts.{image_at};
 ghost use Rattle.bq_simulate.specs.declared.fault.SimulateFault.TheVariants as why;
@@ -66,7 +67,8 @@ pub fn run_as<W: Write + Drop, E: Write + Drop>(
     // After a run that came to its end no write has failed: the first failure ends a run.
     ensures writes { OnOk result.outcome (failures_of result.output ≡ 0) }
 
-    // Each fault has its cause. Where a flaw is reported, it is the first that the workload has; and only a longer run is cut off.
+    // Each fault has its cause. Where a flaw is reported, it is the first that the workload has. The simulation of a workload without
+    // one fails only for memory, or where 64 bits do not count the bound of its steps; and only a longer run is cut off.
     ensures fault { IfErr result.outcome (λ e. IsRunFault policies.now.loaded workload.now most e (failures_of result.output)) }
 {
     match shown {
@@ -160,6 +162,7 @@ fn simulate_before<S: Sink + Enough>(
     ensures sound { OnOk result (first_flaw workload.now ≡ None) }
     ensures of_images { OnOk result (AreOfTheirImages policies.now) }
     ensures flaw { IfErr result (TellsNoOther workload.now) }
+    ensures ends { first_flaw workload.now ≡ None → IfErr result (IsCutOff workload.now) }
     ensures untold { first_flaw workload.now ≢ None → sink.new ≡ sink.old }
 {
     soundness(workload).map_err(SimulateFault::Unsound)?;

@@ -34,4 +34,4 @@ returns-in-Err-clause-fault c =
     let got = said.enough enough in
     subst (λ (most : ℕ). IsLonger policies w most) c.new-limited.ensures.left
     (longer Takes c.new-limited.result c.simulate_seed.new.sink policies w (sym said.flaw ∙ ap flaw_told enough) c.new-limited.ensures.over got.0 got.1) in
-    subst (IsNoRun policies w c.args.most) (sym c.from.ensures) (refused_is_no_run policies w c.args.most c.in-Err.fault said.flaw more)
+    subst (IsNoRun policies w c.args.most) (sym c.from.ensures) (refused_is_no_run policies w c.args.most c.in-Err.fault said.flaw said.ends more)

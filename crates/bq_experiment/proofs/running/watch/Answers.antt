@@ -35,10 +35,11 @@ returns-in_err-counts-clause-fault g c =
     let w = c.args.workload.now in
     let left = c.args.run.now.left in
     let said = c.in_err-counts.ensures in
-    rw (p.1, p.2) (
-      no_other w c.in_err-counts.field-0.0 said.flaw,
-      λ enough.
+    rw (p.1, p.2) (record {
+      flaw = no_other w c.in_err-counts.field-0.0 said.flaw;
+      ends = said.ends;
+      longer = λ enough.
           let got = said.enough enough in
           subst (λ (l : List Accepted). IsLonger l w left) c.loaded.ensures.value
-          (longer (TakesRun g.W.Write.contents) _ c.simulate.new.sink c.loaded.result.now w (sym said.flaw ∙ ap flaw_told enough) c.requires.over got.0 got.1),
-    )
+          (longer (TakesRun g.W.Write.contents) _ c.simulate.new.sink c.loaded.result.now w (sym said.flaw ∙ ap flaw_told enough) c.requires.over got.0 got.1);
+    })

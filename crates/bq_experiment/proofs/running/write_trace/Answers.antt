@@ -26,4 +26,4 @@ returns-in-Err-clause-fault g c =
     let longer : c.in-Err.fault ≡ Enough → IsLonger policies w old.left = λ enough.
     let got = said.enough enough in
     longer_named (TakesRun g.W.Write.contents) old c.simulate_before.new.sink policies w got.0 c.requires.over got.1.0 got.1.1 in
-    IsStopped-by (IsNoEnd policies w old.left) c.in-Err.fault c.write_rest.result _ (said.flaw, longer) c.write_rest.ensures
+    IsStopped-by (IsNoEnd policies w old.left) c.in-Err.fault c.write_rest.result _ (record { flaw = said.flaw; ends = said.ends; longer = longer }) c.write_rest.ensures
