@@ -44,7 +44,7 @@ pub enum AsmFault {
     /// the others, a text with no instruction is `Slots` at line 0, and else the first jump whose label is set
     /// nowhere is `LabelMissing`.
     At { line: usize, cause: Cause },
-    /// A growth was refused.
+    /// Memory ran out.
     OutOfMemory,
 }
 

@@ -31,7 +31,7 @@ impl<T: Drop> Model for Slip<T> {
 }
 
 impl<T: Drop> Slip<T> {
-    /// Where the growth is refused the item is dropped, and nothing else has changed.
+    /// Where memory runs out the item is dropped, and nothing else has changed.
     pub(crate) fn new(alloc: Global, item: T) -> Result<Slip<T>, AllocError>
         ensures { IfOk result (λ s. s ≡ item) }
     {

@@ -31,7 +31,7 @@ impl<R: Drop> Room<R> {
         Room { spare: None }
     }
 
-    /// Makes it ready, which takes memory only where it is not. Where the growth is refused it is as it was.
+    /// Makes it ready, which takes memory only where it is not. Where memory runs out it is as it was.
     #[inline(always)]
     pub fn prepare(&mut self, alloc: Global) -> Result<(), AllocError>
         ensures ready { OnOk result (self.new ≡ true) }

@@ -21,7 +21,7 @@ pub enum Disorder {
     /// fault.
     #[error("the program takes more than {most} slots once every jump goes forward; make it shorter", most = SLOTS)]
     Long,
-    /// A growth was refused.
+    /// Memory ran out.
     #[error("out of memory")]
     OutOfMemory,
 }

@@ -50,7 +50,7 @@ pub enum DecodeFault {
     /// A fault of the bytes. `slot` is the slot of 8 bytes at which the instruction begins, counted from 0; for the length it
     /// is 0.
     At { slot: usize, cause: Cause },
-    /// A growth was refused.
+    /// Memory ran out.
     OutOfMemory,
 }
 

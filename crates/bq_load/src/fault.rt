@@ -34,7 +34,7 @@ pub enum LoadFault {
         slot: usize,
         cause: bq_verify::Cause,
     },
-    /// A growth was refused, which says nothing of the bytes.
+    /// Memory ran out, which says nothing of the bytes.
     OutOfMemory,
 }
 

@@ -36,7 +36,7 @@ pub enum Refusal {
     NotDrawn,
     /// The policy was verified for another hook.
     WrongHook,
-    /// A growth was refused.
+    /// Memory ran out.
     OutOfMemory,
 }
 

@@ -25,7 +25,7 @@ pub enum HeadCause {
 pub enum HeadFault {
     /// The first line that is refused, counted from 1, and why.
     At { line: usize, cause: HeadCause },
-    /// A growth was refused.
+    /// Memory ran out.
     OutOfMemory,
 }
 
@@ -74,7 +74,7 @@ pub enum PolicyFault {
     Disagrees(Key),
     /// Neither the file nor who asks names the hook.
     NoHook,
-    /// A growth was refused.
+    /// Memory ran out.
     OutOfMemory,
 }
 

@@ -31,7 +31,7 @@ pub enum OptionsFault {
     Maps,
     /// A version is named without a hook.
     Format,
-    /// A growth was refused, which says nothing of the options.
+    /// Memory ran out, which says nothing of the options.
     OutOfMemory,
 }
 

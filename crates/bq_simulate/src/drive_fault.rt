@@ -10,7 +10,7 @@ use thiserror::Error;
 /// tested.
 #[derive(Debug, Drop, Error)]
 pub enum DriveFault {
-    /// A growth was refused.
+    /// Memory ran out.
     #[error("out of memory")]
     OutOfMemory,
     /// The machine refused an event: its driver lost count of its tasks.

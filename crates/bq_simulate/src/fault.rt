@@ -16,7 +16,7 @@ use thiserror::Error;
 /// count.
 #[derive(Debug, Drop, Error)]
 pub enum SimulateFault {
-    /// A growth was refused.
+    /// Memory ran out.
     #[error("out of memory")]
     OutOfMemory,
     /// The workload cannot be followed: the first of its flaws.

@@ -14,7 +14,7 @@ pub enum StreamFault {
     Write,
     /// The reader went on after 2^32 reads.
     TooLong,
-    /// A growth was refused.
+    /// Memory ran out.
     OutOfMemory,
 }
 

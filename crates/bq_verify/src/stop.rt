@@ -8,7 +8,7 @@ use std::alloc::AllocError;
 pub enum PassStop {
     /// Something is not shown of it.
     Unproven(Obligation),
-    /// A growth was refused.
+    /// Memory ran out.
     OutOfMemory,
 }
 
