@@ -104,6 +104,7 @@ DEFINED = [
 # Lemmas that show what only their crate may show, and the files that may name them.
 SHUT = [
     ('what only the verifier says', r'\bstopped_at\b', {'bq_verify/specs/Refusals.antt', 'bq_verify/proofs/refused/refuse/Answers.antt'}),
+    ('that the verifier accepts', r'\bstopped_nowhere\b', {'bq_verify/specs/Refusals.antt', 'bq_verify/proofs/pass/judge/Answers.antt'}),
 ]
 
 

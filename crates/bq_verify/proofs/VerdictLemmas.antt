@@ -1,5 +1,5 @@
 -- What the pass rests on, and the verdict of the checks of the control graph.
-use Rattle.std.proofs.Common.{◌≡◌, ◌<◌, ◌≤◌, List, Option, length, true, arith}
+use Rattle.std.proofs.Common.{◌≡◌, ◌<◌, ◌≤◌, ℕ, List, Option, length, true, arith}
 use Rattle.std.specs.List.{list_all}
 use Rattle.bq_insn.specs.declared.Insn.{Insn}
 use Rattle.bq_insn.specs.declared.TheConstants.{SLOTS}
@@ -14,9 +14,11 @@ use Rattle.bq_verify.specs.declared.cause.Cause.TheVariants.{Graph, State}
 use Rattle.bq_verify.specs.declared.policy_form.PolicyForm.{PolicyForm}
 use Rattle.bq_verify.specs.declared.refused.Refused.{Refused}
 use Rattle.bq_verify.specs.declared.refused.Refused.TheVariants.{At, OutOfMemory}
+use Rattle.bq_bpf.specs.Safe.{Safe}
+use Rattle.bq_verify.specs.Accepted.{IsAccepted}
 use Rattle.bq_verify.specs.Control.{CanBePassed}
 use Rattle.bq_verify.specs.Faults.{IsFaultless}
-use Rattle.bq_verify.specs.Refusals.{IsGraphVerdict, IsVerdictOn}
+use Rattle.bq_verify.specs.Refusals.{IsGraphVerdict, IsVerdictOn, StopsNowhere}
 use Rattle.bq_verify.specs.Subjects.{Subject, in_form}
 use Rattle.bq_verify.proofs.FrameLemmas.{spares_frame}
 use Rattle.bq_verify.proofs.GraphLemmas.{faultless_sound, spread_first}
@@ -39,6 +41,10 @@ passable_program insns slots form same registers some short faultless = record {
   few = form.few;
   small = context_small form.hook form.version;
 }
+
+-- a program over which the pass may go, and in which it stops nowhere, is accepted with the budget within which it is safe
+pub accepted_program : (p : Subject) (budget : ℕ) → CanBePassed p → StopsNowhere p → Safe p.slots p.shapes p.context budget → IsAccepted p.slots p.shapes p.context budget
+accepted_program p budget passable passed safe = record { short = passable.short; few = passable.few; passed = passed; safe = safe }
 
 -- the verdict of the checks of the control graph is one on the program
 pub verdict_of_graph : (p : Subject) (answer : Refused) → IsGraphVerdict p.slots answer → IsVerdictOn p answer

@@ -1,8 +1,10 @@
--- What a refusal says of a program: one program has one verdict, whichever way it comes to the verifier.
+-- What the verifier says of a program: one program has one verdict, whichever way it comes to the verifier.
 -- Where the control graph has faults, the verdict is the first of them. Where it has none, the verdict is where the pass stops
--- and for what. Only proofs of this crate show that (`StopsAt` is shut), so any other code has it from a call of `verify`.
+-- and for what, or that it stops nowhere. Only proofs of this crate show that (`StopsAt` and `StopsNowhere` are shut), so any
+-- other code has it from a call of `verify`.
 use Rattle.std.specs.Prelude.{◌≡◌, ℕ, List, Option, Some}
 use Rattle.bq_insn.specs.declared.Insn.{Insn}
+use Rattle.bq_bpf.specs.Safe.{Safe}
 use Rattle.bq_bpf.specs.Steps.{instruction_at}
 use Rattle.bq_verify.specs.Faults.{IsFirstFault, IsFaultless}
 use Rattle.bq_verify.specs.Subjects.{Subject}
@@ -31,6 +33,15 @@ stopped_at subject slot obligation unproven = unproven
 pub unproven_where_it_stops : (subject : Subject) (slot : ℕ) (obligation : Obligation) → StopsAt subject slot obligation → IsUnproven subject.slots obligation slot
 unfolding StopsAt
 unproven_where_it_stops subject slot obligation stops = stops
+
+-- the pass over the program comes to its end: each thing that must be shown at a slot is shown there
+pub StopsNowhere : Subject → Type 0
+StopsNowhere subject = (budget : ℕ) × Safe subject.slots subject.shapes subject.context budget
+
+-- only proofs of this crate cite this (`tests/one_place.py` sees to it): the pass came to its end
+pub stopped_nowhere : (subject : Subject) (budget : ℕ) → Safe subject.slots subject.shapes subject.context budget → StopsNowhere subject
+unfolding StopsNowhere
+stopped_nowhere subject budget safe = (budget, safe)
 
 -- what the pass answers where it stops; lack of memory says nothing of the program
 abbrev pub IsStopped : Subject → Refused → Type 0

@@ -5,7 +5,7 @@ ghost use Rattle.bq_bpf.specs.Memory.{Setting, State, HaveShapes};
 ghost use Rattle.bq_bpf.specs.Safe.{Safe};
 ghost use Rattle.bq_bpf.specs.Runs.{start as beginning};
 ghost use Rattle.bq_verify.specs.Subjects.{judged};
-ghost use Rattle.bq_verify.specs.Refusals.{IsOutOfMemory, IsStopped};
+ghost use Rattle.bq_verify.specs.Refusals.{IsOutOfMemory, IsStopped, StopsNowhere};
 ghost use Rattle.bq_states.specs.Certainty.{Pointer, Has, IsPlainAt, StandsAt};
 ghost use Rattle.bq_verify.specs.Straight.{IsStraightBefore, IsStraightProgram};
 ghost use Rattle.bq_verify.specs.Sure.{IsSure};
@@ -33,6 +33,7 @@ pub fn judge(alloc: Global, subject: &Subject, heights: &[u32]) -> Result<(), Re
     requires heights { AreHeights subject.now.slots.now heights.now }
     requires made { (made : ℕ → ℕ) × AreMade subject.now.slots.now made }
     ensures safe { OnOk result (Safe subject.now.slots.now subject.now.shapes.now subject.now.context (slice_index heights.now 0)) }
+    ensures passed { OnOk result (StopsNowhere (judged subject.now)) }
     ensures stopped { IfErr result (IsStopped (judged subject.now)) }
     ensures accepts { IsStraightProgram (judged subject.now) → IfErr result IsOutOfMemory }
 {

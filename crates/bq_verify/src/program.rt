@@ -4,7 +4,7 @@ ghost use Rattle.std.specs.Prelude.{◌≡◌, ◌<◌, ◌≤◌, ℕ, length, 
 ghost use Rattle.bq_insn.specs.Slots.{spread};
 ghost use Rattle.bq_insn.specs.Spelling.{is_insn, is_well_formed};
 ghost use Rattle.std.specs.List.{list_all};
-ghost use Rattle.bq_bpf.specs.Safe.{Safe};
+ghost use Rattle.bq_verify.specs.Accepted.{IsAccepted};
 ghost use Rattle.bq_verify.specs.Edges.{IsWhole};
 ghost use Rattle.bq_verify.specs.Passes.{IsSound, Measured};
 ghost use Rattle.bq_verify.specs.Paths.{IsGreatest, PathOut};
@@ -80,7 +80,7 @@ fn heights_of(alloc: Global, slots: &[Option<Insn>]) -> Result<Vec<u32>, AllocEr
 /// first slot of which something is not shown. What is accepted is safe within its budget (see `Verified`), and the
 /// budget is the number of instructions on the longest path to an EXIT. `OutOfMemory` is the answer where memory was
 /// refused. A straight program, in which each instruction finds what it needs on every path (`IsStraightProgram`),
-/// gets no other refusal. A program has one verdict (`IsVerdictOn`), whichever way it comes here.
+/// gets no other refusal. A program has one verdict (`IsVerdictOn`, `IsAccepted`), whichever way it comes here.
 ///
 /// # Example
 ///
@@ -104,7 +104,7 @@ pub fn verify(alloc: Global, program: Program) -> Result<Verified, Refused>
     ensures version { IfOk result (λ v. v.version ≡ program.form.version) }
     ensures faultless { IfOk result (λ v. IsFaultless v.slots) }
     ensures budget { IfOk result (λ v. IsGreatest (PathOut v.slots 0) v.budget) }
-    ensures safe { IfOk result (λ v. Safe v.slots v.shapes (context_length_of v.hook v.version) v.budget) }
+    ensures accepted { IfOk result (λ v. IsAccepted v.slots v.shapes (context_length_of v.hook v.version) v.budget) }
     ensures refused { IfErr result (IsVerdictOn (handed_in program)) }
     ensures accepts { IsStraightProgram (handed_in program) → IfErr result IsOutOfMemory }
 {
@@ -122,7 +122,7 @@ fn verify_slots(alloc: Global, program: Program) -> Result<Verified, Refused>
     ensures version { IfOk result (λ v. v.version ≡ program.form.version) }
     ensures faultless { IfOk result (λ v. IsFaultless v.slots) }
     ensures budget { IfOk result (λ v. IsGreatest (PathOut v.slots 0) v.budget) }
-    ensures safe { IfOk result (λ v. Safe v.slots v.shapes (context_length_of v.hook v.version) v.budget) }
+    ensures accepted { IfOk result (λ v. IsAccepted v.slots v.shapes (context_length_of v.hook v.version) v.budget) }
     ensures refused { IfErr result (IsVerdictOn (handed_in program)) }
     ensures accepts { IsStraightProgram (handed_in program) → IfErr result IsOutOfMemory }
 {

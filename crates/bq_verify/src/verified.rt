@@ -40,7 +40,6 @@ impl Verified {
     ghost use Rattle.bq_verify.specs.Subjects.{in_form};
     ghost use Rattle.bq_verify.specs.Refusals.{IsOutOfMemory, IsStopped};
     ghost use Rattle.bq_verify.specs.Straight.{IsStraightProgram};
-    ghost use Rattle.bq_bpf.specs.Safe.{Safe};
     ghost use Rattle.bq_bpf.specs.Steps.{instruction_at};
     ghost use Rattle.std.specs.Option.{option_copied};
 
@@ -114,7 +113,7 @@ impl Verified {
         ensures hook { IfOk result (λ v. v.hook ≡ form.hook) }
         ensures version { IfOk result (λ v. v.version ≡ form.version) }
         ensures budget { IfOk result (λ v. v.budget ≡ slice_index heights.now 0) }
-        ensures safe { IfOk result (λ v. Safe v.slots v.shapes (context_length_of v.hook v.version) v.budget) }
+        ensures accepted { IfOk result (λ v. IsAccepted v.slots v.shapes (context_length_of v.hook v.version) v.budget) }
         ensures stopped { IfErr result (IsStopped (in_form slots.items form)) }
         ensures accepts { IsStraightProgram (in_form slots.items form) → IfErr result IsOutOfMemory }
     {

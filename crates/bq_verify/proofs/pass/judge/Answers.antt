@@ -1,7 +1,7 @@
 use Rattle.std.proofs.Common.{◌≡◌, ℕ, None, rules}
 use Rattle.std.specs.Prelude.{slice_index_or}
 use Rattle.bq_verify.specs.Subjects.{judged}
-use Rattle.bq_verify.specs.Refusals.{IsOutOfMemory}
+use Rattle.bq_verify.specs.Refusals.{IsOutOfMemory, stopped_nowhere}
 use Rattle.bq_verify.proofs.PassLemmas.{safe_from_start}
 use Rattle.bq_verify.proofs.SureLemmas.{sure_start}
 use Rattle.bq_verify.proofs.pass.judge.Goals as goal
@@ -11,6 +11,13 @@ returns-clause-safe c =
     let made = c.requires.made in
     safe_from_start (judged c.args.subject.now) c.args.heights.now made.0 c.as_mut_slice.result.now c.start-state.result
     c.requires.passable.small c.requires.passable.first c.start-state.ensures.contains (c.in_ok-pass.ensures.safe made.0 made.1)
+
+pub returns-clause-passed : goal.returns-clause-passed
+returns-clause-passed c =
+    let made = c.requires.made in
+    stopped_nowhere (judged c.args.subject.now) _
+    (safe_from_start (judged c.args.subject.now) c.args.heights.now made.0 c.as_mut_slice.result.now c.start-state.result
+    c.requires.passable.small c.requires.passable.first c.start-state.ensures.contains (c.in_ok-pass.ensures.safe made.0 made.1))
 
 pub returns-in_err-pass-clause-accepts : goal.returns-in_err-pass-clause-accepts
 returns-in_err-pass-clause-accepts c = λ straight.

@@ -62,8 +62,8 @@ returns-in_err-check_graph-clause-refused c =
 pub returns-in-Ok-clause-faultless : goal.returns-in-Ok-clause-faultless
 returns-in-Ok-clause-faultless c = rw c.in-Ok.ensures.slots (rw c.as_slice-2.ensures.value at c.in_ok-check_graph.ensures.ok)
 
-pub returns-in-Ok-clause-safe : goal.returns-in-Ok-clause-safe
-returns-in-Ok-clause-safe c = c.in-Ok.ensures.safe
+pub returns-in-Ok-clause-accepted : goal.returns-in-Ok-clause-accepted
+returns-in-Ok-clause-accepted c = c.in-Ok.ensures.accepted
 
 pub check_graph-requires-clause-some : goal.check_graph-requires-clause-some
 check_graph-requires-clause-some c = rw (c.as_slice-2.ensures.value, c.in_ok-slots.ensures, c.as_slice.ensures.value) c.requires.some

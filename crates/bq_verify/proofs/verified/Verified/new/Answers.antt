@@ -1,5 +1,7 @@
 use Rattle.std.proofs.Common.{refl}
 use Rattle.std.proofs.lemmas.Result.{err_from_is_err_and}
+use Rattle.bq_verify.specs.Subjects.{in_form}
+use Rattle.bq_verify.proofs.VerdictLemmas.{accepted_program}
 use Rattle.bq_verify.proofs.verified.Verified.new.Goals as goal
 
 pub returns-in_err-judge-clause-stopped : goal.returns-in_err-judge-clause-stopped
@@ -22,8 +24,11 @@ returns-in_err-code-clause-accepts c = λ straight.
     let error = err_from_is_err_and c.from_residual-in_err-code.result c.from_residual-in_err-code.ensures.1 in
     rw (error.1, error.2) refl
 
-pub returns-clause-safe : goal.returns-clause-safe
-returns-clause-safe c = rw (c.as_slice.ensures.value, c.as_slice-2.ensures.value, c.context_length.ensures) at c.in_ok-judge.ensures.safe
+pub returns-clause-accepted : goal.returns-clause-accepted
+returns-clause-accepted c =
+    let passed = rw (c.as_slice.ensures.value, c.as_slice-2.ensures.value, c.context_length.ensures) at c.in_ok-judge.ensures.passed in
+    let safe = rw (c.as_slice.ensures.value, c.as_slice-2.ensures.value, c.context_length.ensures) at c.in_ok-judge.ensures.safe in
+    accepted_program (in_form c.args.slots.items c.args.form) _ c.requires.passable passed safe
 
 pub returns-clause-accepts : goal.returns-clause-accepts
 returns-clause-accepts c = λ straight. tt
