@@ -1,12 +1,10 @@
 -- One option or command more of a table.
-use Rattle.std.proofs.Common.{◌≡◌, ◌∙◌, ℕ, suc, ◌+◌, ◌<◌, List, [], ◌∷◌, ◌++◌, Result, true, false, length, drop, get_or, add-one, ap, append_assoc, append-nil, map, refl, subst, sym, arith, take}
-use Rattle.std.proofs.Math.Seq.{drop-cons, take-suc}
-use Rattle.std.proofs.lemmas.List.{map-append}
+use Rattle.std.proofs.Common.{◌≡◌, ℕ, suc, ◌+◌, ◌<◌, List, [], ◌∷◌, ◌++◌, Result, true, length, drop, get_or, add-one, ap, append_assoc, append-nil, map, refl, subst}
+use Rattle.std.proofs.Math.Seq.{drop-cons}
 use Rattle.std.specs.Prelude.{IfErr}
 use Rattle.std.specs.Borrow.{Bor}
 use Rattle.clap.specs.Simple.{on_top}
-use Rattle.clap.specs.Walk.{is_empty}
-use Rattle.clap.specs.Words.{App, Rule, Shape, Text, takes, with_rule, with_subcommand}
+use Rattle.clap.specs.Words.{App, Rule, Text, takes, with_rule, with_subcommand}
 use Rattle.clap.specs.declared.parser.matches.ArgMatches.{ArgMatches}
 use Rattle.bq_console.specs.declared.fault.WordsFault.{WordsFault}
 use Rattle.bq_console.specs.declared.fault.WordsFault.TheVariants.{OutOfMemory}

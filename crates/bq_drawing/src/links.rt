@@ -10,7 +10,7 @@ use crate::shapes::BAND;
 use std::alloc::AllocError;
 
 /// Why a line leads from one row to another.
-#[derive(Clone, Copy, PartialEq, Eq)]
+#[derive(Clone, Copy)]
 pub enum LinkKind {
     /// A task that waited at one processor was pulled by another.
     Pull,

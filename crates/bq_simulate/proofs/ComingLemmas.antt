@@ -4,30 +4,14 @@ use Rattle.std.specs.Prelude.{◌==◌, if◌then◌else◌, option_and_then, sl
 use Rattle.std.specs.Option.{option_map_or}
 use Rattle.std.proofs.lemmas.Bool.{eq-eqb}
 use Rattle.std.proofs.lemmas.Option.{none-some, same_Some, slice_get_within}
-use Rattle.bq_workload.specs.declared.due.Due.TheVariants.{Pull, Tick, Wake}
+use Rattle.bq_workload.specs.declared.due.Due.TheVariants.{Pull, Tick}
 use Rattle.bq_workload.specs.declared.processor_state.ProcessorState.{ProcessorState}
-use Rattle.bq_workload.specs.declared.progress.TaskProgress.{TaskProgress}
-use Rattle.bq_workload.specs.declared.progress.TaskState.TheVariants.{Asleep}
 use Rattle.bq_workload.specs.Accounts.{Accounts, LooksAt, TicksAt}
 use Rattle.bq_workload.specs.Dues.{HasLargest, IsSource, other_than, size_at, until}
-use Rattle.bq_workload.specs.Next.{comes_at, rings_at}
+use Rattle.bq_workload.specs.Next.{comes_at}
 use Rattle.bq_workload.proofs.AgreeLemmas.{some_or_none}
 use Rattle.bq_workload.proofs.AgreedLemmas.{look-of, look_at, tick-of, tick_at}
-use Rattle.bq_simulate.proofs.TimeLemmas.{ring-of, rings_asleep, until_is}
-
--- a task sleeps until its timer rings at an instant
-pub record RingsAt (a : Accounts) (task now : ℕ) : Type 0 where
-  pub progress : TaskProgress
-  pub there : slice_get a.by_task task ≡ Some progress
-  pub asleep : progress.task_state ≡ Asleep
-  pub timer : progress.timer ≡ now
-
--- when a timer rings its task sleeps until then
-pub rings_now : (end task now : ℕ) (a : Accounts) → comes_at end a (Wake task) ≡ Some now → RingsAt a task now
-rings_now end task now a comes = elim (some_or_none (slice_get a.by_task task)) [
-  | inl none ↦ absurd (none-some now (sym (ap (λ (o : Option TaskProgress). option_and_then (λ (c : TaskProgress). rings_at end c.task_state c.timer) o) none) ∙ comes))
-  | inr (c, at) ↦ let r = rings_asleep end c.timer now c.task_state (sym (ring-of end task a c at) ∙ comes) in record { progress = c; there = at; asleep = r.0; timer = r.1 }
-]
+use Rattle.bq_simulate.proofs.TimeLemmas.{until_is}
 
 -- what comes until the end, if it comes
 comes_then : (end now : ℕ) (o : Option ℕ) → option_and_then (until end) o ≡ Some now → o ≡ Some now
