@@ -1,3 +1,2 @@
 pub mod AllowedLemmas
 pub mod KeptLemmas
-pub mod WordCountLemmas

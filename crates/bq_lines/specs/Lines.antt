@@ -2,7 +2,7 @@
 use Rattle.std.specs.Prelude.{ℕ, ℤ, not, ◌||◌, nat_lt, List, [], ◌∷◌, length, Option, Some, None, if◌then◌else◌, codes, nat_eq, option_map, option_and_then}
 use Rattle.std.specs.List.{list_all, starts_with}
 use Rattle.std.specs.Str.{bytes_eq}
-use Rattle.bq_words.specs.Words.{words}
+use Rattle.bq_words.specs.Words.{words, one_of, two_of, three_of, four_of}
 use Rattle.bq_parts.specs.declared.event.Event.TheVariants.{Admit, Retire, Draw, Install, BeginWake, EndWake, Drain, Tick, Block, Pull}
 use Rattle.bq_hooks.specs.Hooks.{hook_of}
 use Rattle.bq_hooks.specs.declared.hook.Hook.{Hook}
@@ -18,24 +18,6 @@ use Rattle.bq_lines.specs.declared.command.Command.{Command}
 use Rattle.bq_lines.specs.declared.command.Command.TheVariants.{Machine, Does, Wake, Load, Show, Counter}
 use Rattle.bq_lines.specs.declared.command.LineReading.{LineReading}
 use Rattle.bq_lines.specs.declared.command.LineReading.TheVariants.{Skipped, Bad, Says}
-
--- the words of a line that has exactly this many
-
-abbrev pub one_of : List (List ℕ) → Option (List ℕ)
-one_of (word ∷ []) = Some word
-one_of other = None
-
-abbrev pub two_of : List (List ℕ) → Option (List ℕ × List ℕ)
-two_of (first ∷ second ∷ []) = Some (first, second)
-two_of other = None
-
-abbrev pub three_of : List (List ℕ) → Option (List ℕ × List ℕ × List ℕ)
-three_of (first ∷ second ∷ third ∷ []) = Some (first, second, third)
-three_of other = None
-
-abbrev pub four_of : List (List ℕ) → Option (List ℕ × List ℕ × List ℕ × List ℕ)
-four_of (first ∷ second ∷ third ∷ fourth ∷ []) = Some (first, second, third, fourth)
-four_of other = None
 
 -- the words after a command's name, as numbers
 

@@ -4,11 +4,11 @@
 #![tactic(auto)]
 
 pub mod begun;
+pub mod bytes;
 pub mod command;
 pub mod image;
 pub mod keyword;
 pub mod lines;
-pub mod words;
 
 pub use begun::{Begun, first_line};
 pub use command::{Command, LineReading};

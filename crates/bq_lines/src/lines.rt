@@ -5,13 +5,16 @@ ghost use Rattle.std.specs.Option.{option_map};
 ghost use Rattle.bq_words.specs.Words.{words};
 ghost use Rattle.bq_lines.specs.Lines.{machine_of, admit_of, retire_of, draw_of, install_words, install_of, begin_of, end_of, wake_of, drain_of, tick_of, block_of, pull_of, show_of, counter_of, command_of, machine_words, admit_words, one_task, one_number, processor_and_task, processor_and_time, wake_words, pull_words, said, reading_of_words, reading_of, reading_heard};
 
+use crate::bytes::is_allowed_line;
 use crate::command::{Command, LineReading};
 use crate::image::HexWord;
 use crate::keyword::Keyword;
-use crate::words::{end_of_words, four_words, is_allowed_line, only_word, three_words, two_words};
 use bq_hooks::Hook;
 use bq_parts::Event;
-use bq_words::{ProcessorCount, Rule, next_word, quantities};
+use bq_words::{
+    ProcessorCount, Rule, end_of_words, four_words, next_word, only_word, quantities, three_words,
+    two_words,
+};
 
 /// The longest line.
 pub const LONGEST: usize = 131_072;

@@ -2,8 +2,8 @@
 
 use crate::operands::{LineOperand, operands_of};
 use bq_lines::Keyword;
+use bq_lines::bytes::is_allowed_line;
 use bq_lines::lines::LONGEST;
-use bq_lines::words::is_allowed_line;
 use bq_words::next_word;
 use std::{fmt, str};
 

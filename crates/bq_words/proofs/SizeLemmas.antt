@@ -1,5 +1,5 @@
 -- How many processors a machine may have.
-use Rattle.std.proofs.Common.{ℕ, ◌≤◌, lit≤}
+use Rattle.std.proofs.Common.{◌≤◌, lit≤}
 use Rattle.bq_words.specs.declared.processor_count.ProcessorCount.{ProcessorCount}
 use Rattle.bq_words.specs.declared.processor_count.ProcessorCount.TheVariants.{One, Two, Four, Eight, Sixteen, ThirtyTwo, SixtyFour}
 use Rattle.bq_words.specs.Sizes.{processors_in}

@@ -1,5 +1,5 @@
 -- The words of a line: what stands between blanks, whichever bytes are blanks.
-use Rattle.std.specs.Prelude.{◌≡◌, ℕ, ◌<◌, ◌≤◌, Bool, false, true, ◌||◌, ◌==◌, nat_lt, List, [], ◌∷◌, length, take, filter, slice_index}
+use Rattle.std.specs.Prelude.{◌≡◌, ℕ, ◌<◌, ◌≤◌, Bool, false, true, ◌||◌, ◌==◌, nat_lt, List, [], ◌∷◌, length, take, filter, slice_index, Option, Some, None}
 use Rattle.std.specs.List.{All, slice_split}
 
 -- the parts between blanks that are not empty
@@ -13,6 +13,24 @@ is_space b = (b == 32) || (b == 9)
 -- the words between spaces and tabs
 abbrev pub words : List ℕ → List (List ℕ)
 words line = words_by is_space line
+
+-- the words of a text that has exactly this many
+
+abbrev pub one_of : List (List ℕ) → Option (List ℕ)
+one_of (word ∷ []) = Some word
+one_of other = None
+
+abbrev pub two_of : List (List ℕ) → Option (List ℕ × List ℕ)
+two_of (first ∷ second ∷ []) = Some (first, second)
+two_of other = None
+
+abbrev pub three_of : List (List ℕ) → Option (List ℕ × List ℕ × List ℕ)
+three_of (first ∷ second ∷ third ∷ []) = Some (first, second, third)
+three_of other = None
+
+abbrev pub four_of : List (List ℕ) → Option (List ℕ × List ℕ × List ℕ × List ℕ)
+four_of (first ∷ second ∷ third ∷ fourth ∷ []) = Some (first, second, third, fourth)
+four_of other = None
 
 -- nothing, or no blank at the front
 abbrev pub StartsWithWord : (ℕ → Bool) → List ℕ → Type 0

@@ -13,6 +13,7 @@ pub mod processor_sets;
 pub mod quantities;
 pub mod rule;
 pub mod units;
+pub mod word_counts;
 pub mod words;
 
 pub use blanks::{Blank, Spaces};
@@ -22,4 +23,5 @@ pub use numbers::{number, value};
 pub use processor_count::ProcessorCount;
 pub use rule::Rule;
 pub use units::nanoseconds;
+pub use word_counts::{end_of_words, four_words, only_word, three_words, two_words};
 pub use words::{next_word, next_word_by};

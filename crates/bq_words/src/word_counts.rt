@@ -1,30 +1,10 @@
-//! The bytes that may stand in a line, and the end of its words.
+//! The words of a text that has just so many.
 ghost use Rattle.std.specs.Prelude.{◌≡◌, ◌∷◌, [], ℕ, List, MatchOption};
 ghost use Rattle.std.specs.Borrow.{Bor};
-ghost use Rattle.std.specs.List.{list_all};
-ghost use Rattle.bq_words.specs.Words.{words};
 ghost use Rattle.std.specs.Option.{option_map};
-ghost use Rattle.bq_lines.specs.Bytes.{is_allowed};
-ghost use Rattle.bq_lines.specs.Lines.{one_of, two_of, three_of, four_of};
+ghost use Rattle.bq_words.specs.Words.{words, one_of, two_of, three_of, four_of};
 
-use bq_words::next_word;
-
-fn is_allowed(byte: u8) -> bool
-    ensures { result ≡ is_allowed byte }
-{
-    (b' ' <= byte && byte <= b'~') || byte == b'\t'
-}
-
-/// Whether each byte may stand in a line.
-pub fn is_allowed_line(line: &[u8]) -> bool
-    ensures { result ≡ list_all is_allowed line.now }
-{
-    let mut allowed = true;
-    for byte in line {
-        allowed = allowed & is_allowed(*byte);
-    }
-    allowed
-}
+use crate::words::next_word;
 
 /// Whether no word is left.
 pub fn end_of_words(text: &[u8]) -> Option<()>

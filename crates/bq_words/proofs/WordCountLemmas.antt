@@ -1,7 +1,7 @@
 -- A text's words are its first one and those behind it.
 use Rattle.std.proofs.Common.{◌≡◌, ℕ, List, [], ◌∷◌, refl}
 use Rattle.std.specs.Option.{option_map}
-use Rattle.bq_lines.specs.Lines.{one_of, two_of, three_of, four_of}
+use Rattle.bq_words.specs.Words.{one_of, two_of, three_of, four_of}
 
 -- two words are one and one
 pub two_by_one : (word : List ℕ) (more : List (List ℕ)) → two_of (word ∷ more) ≡ option_map (λ w. (word, w)) (one_of more)

@@ -1,6 +1,6 @@
 use Rattle.bq_lines.specs.Bytes.{is_allowed}
 use Rattle.bq_lines.proofs.AllowedLemmas.{all_step, all_end}
-use Rattle.bq_lines.proofs.words.is_allowed_line.Goals as goal
+use Rattle.bq_lines.proofs.bytes.is_allowed_line.Goals as goal
 
 pub loop-byte-preserved : goal.loop-byte-preserved
 loop-byte-preserved c =
