@@ -1,5 +1,5 @@
 //! The lines of a text that comes in pieces.
-ghost use Rattle.std.specs.Prelude.{◌≡◌, ◌↔◌, IsTrue, ◌==◌, ◌++◌, ◌∷◌, ℕ, List, [], length, OnOk, OnErr, IfSome, IfNone, Some, None};
+ghost use Rattle.std.specs.Prelude.{◌≡◌, ◌↔◌, IsTrue, ◌==◌, ◌++◌, ◌∷◌, ℕ, List, [], length, OnOk, OnErr, IfSome, IfNone, MatchOption, Some, None};
 ghost use Rattle.std.specs.Borrow.{Bor};
 ghost use Rattle.std.specs.Option.{option_map};
 ghost use Rattle.std.specs.Str.Lines.{strip_carriage_return};
@@ -48,6 +48,18 @@ impl Begun {
         ensures line { (line : List ℕ) → StandsFor self.now line → result ≡ (length line == 0) }
     {
         !self.is_too_long && self.bytes.is_empty()
+    }
+
+    /// The line that these bytes and a line feed end, if it comes whole: nothing of it had begun, and it is not too long.
+    pub fn whole_line<'a>(&self, tail: &'a [u8]) -> Option<&'a [u8]>
+        ensures { MatchOption result ((self.now ≡ Some []) → heard (strip_carriage_return tail.now) ≡ None)
+            (λ l. (self.now ≡ Some []) × (heard (strip_carriage_return tail.now) ≡ Some l.now)) }
+    {
+        if self.is_empty() {
+            heard(without_cr(tail))
+        } else {
+            None
+        }
     }
 
     /// The line goes on with this piece. An `Err` changes nothing.
@@ -99,7 +111,7 @@ impl Begun {
 }
 
 /// What is heard of a line.
-pub fn heard(line: &[u8]) -> Option<&[u8]>
+fn heard(line: &[u8]) -> Option<&[u8]>
     ensures { option_map (λ (l : Bor (List ℕ)). l.now) result ≡ heard line.now }
 {
     if line.len() > LONGEST {
@@ -121,7 +133,7 @@ pub fn first_line(bytes: &[u8]) -> Option<(&[u8], &[u8])>
 }
 
 /// The line without the one CR at its end, if it has one.
-pub fn without_cr(line: &[u8]) -> &[u8]
+fn without_cr(line: &[u8]) -> &[u8]
     ensures { result.now ≡ strip_carriage_return line.now }
 {
     match line {

@@ -6,7 +6,7 @@ ghost use Rattle.bq_trace.specs.TraceEvents.{Gets};
 
 use crate::progress::Progress;
 use crate::sink::Sink;
-use bq_lines::begun::{Begun, first_line, heard, without_cr};
+use bq_lines::{Begun, first_line};
 use std::alloc::{AllocError, Global};
 
 /// Where a replay stands: after some lines, and in a line that has begun.
@@ -45,8 +45,8 @@ impl TracePosition {
             → Gets S.takes sink.old sink.new (λ told. TellsLine self.old.progress (strip_carriage_return (line ++ tail.now)) told self.new.progress)) }
         ensures cleared { OnOk result (self.new.begun ≡ Some []) }
     {
-        if self.begun.is_empty() {
-            return self.progress.answer(alloc, heard(without_cr(tail)), sink);
+        if let Some(line) = self.begun.whole_line(tail) {
+            return self.progress.answer(alloc, Some(line), sink);
         }
         self.begun.extend(tail)?;
         self.progress.answer(alloc, self.begun.ended(), sink)?;
