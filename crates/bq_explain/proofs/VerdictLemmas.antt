@@ -1,9 +1,8 @@
 -- What the verifier answers of a policy's program, it answers of the policy.
 use Rattle.std.proofs.Common.{◌≡◌, ◌∙◌, ℕ, subst, sym}
 use Rattle.bq_insn.specs.Slots.{spread}
-use Rattle.bq_bpf.specs.Safe.{Safe}
 use Rattle.bq_hooks.specs.Hooks.{context_length_of}
-use Rattle.bq_verify.specs.Accepted.{Accepted}
+use Rattle.bq_verify.specs.Accepted.{Accepted, IsAccepted}
 use Rattle.bq_verify.specs.Faults.{IsFaultless}
 use Rattle.bq_verify.specs.Paths.{IsGreatest, PathOut}
 use Rattle.bq_verify.specs.Refusals.{IsOutOfMemory, IsVerdictOn}
@@ -14,13 +13,13 @@ use Rattle.bq_verify.specs.declared.refused.Refused.{Refused}
 use Rattle.bq_verify.specs.declared.refused.Refused.TheVariants as refused
 use Rattle.bq_policy_file.specs.Subjects.{subject_in}
 use Rattle.bq_policy_file.specs.declared.policy_source.PolicySource.{PolicySource}
-use Rattle.bq_explain.specs.Verdicts.{IsRefusedPolicy, IsSafePolicy}
+use Rattle.bq_explain.specs.Verdicts.{IsAcceptedPolicy, IsRefusedPolicy}
 
--- what is safe of an accepted program, is so of the policy whose program it is
-pub safe_policy : (p : PolicySource) (v : Accepted) → v.slots ≡ spread p.insns.items → v.shapes ≡ p.form.shapes.items → v.hook ≡ p.form.hook → v.version ≡ p.form.version
-    → IsFaultless v.slots → Safe v.slots v.shapes (context_length_of v.hook v.version) v.budget → IsGreatest (PathOut v.slots 0) v.budget → IsSafePolicy p v.budget
-safe_policy p v slots shapes hook version faultless safe longest =
-    record { faultless = rw (sym slots) faultless; safe = rw (sym slots, sym shapes, sym hook, sym version) safe; longest = rw (sym slots) longest }
+-- a program that is accepted is so as that of the policy whose program it is
+pub accepted_policy : (p : PolicySource) (v : Accepted) → v.slots ≡ spread p.insns.items → v.shapes ≡ p.form.shapes.items → v.hook ≡ p.form.hook → v.version ≡ p.form.version
+    → IsFaultless v.slots → IsAccepted v.slots v.shapes (context_length_of v.hook v.version) v.budget → IsGreatest (PathOut v.slots 0) v.budget → IsAcceptedPolicy p v.budget
+accepted_policy p v slots shapes hook version faultless accepted longest =
+    record { faultless = rw (sym slots) faultless; accepted = rw (sym slots, sym shapes, sym hook, sym version) accepted; longest = rw (sym slots) longest }
 
 -- a refusal at a slot wants no memory
 not_memory : (slot : ℕ) (cause : Cause) → refused.At slot cause ≡ refused.OutOfMemory → ⊥

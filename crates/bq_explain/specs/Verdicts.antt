@@ -6,7 +6,7 @@ use Rattle.bq_insn.specs.declared.Insn.TheVariants.{Call}
 use Rattle.bq_insn.specs.Slots.{spread}
 use Rattle.bq_verify.specs.Faults.{IsFaultless}
 use Rattle.bq_verify.specs.Paths.{IsGreatest, PathOut}
-use Rattle.bq_bpf.specs.Safe.{Safe}
+use Rattle.bq_verify.specs.Accepted.{IsAccepted}
 use Rattle.bq_load.specs.declared.fault.LoadFault.TheVariants as load
 use Rattle.bq_load.specs.Naming.{fault_text}
 use Rattle.bq_hooks.specs.Hooks.{hook_word}
@@ -28,10 +28,10 @@ use Rattle.bq_explain.specs.declared.measure.Measure.TheVariants.{Maps, MapBytes
 use Rattle.bq_explain.specs.declared.verdict.Verdict.{Verdict}
 use Rattle.bq_explain.specs.declared.verdict.Verdict.TheVariants.{Accepted, OverSteps, Forbidden, OtherHook, Beyond, Refused}
 
--- the program's control graph has no fault, and it is safe within its budget, which is the longest path
-pub record IsSafePolicy (p : PolicySource) (budget : ℕ) : Type 0 where
+-- the program's control graph has no fault, and the verifier accepts the program with that budget, which is the longest path
+pub record IsAcceptedPolicy (p : PolicySource) (budget : ℕ) : Type 0 where
   pub faultless : IsFaultless (spread p.insns.items)
-  pub safe : Safe (spread p.insns.items) p.form.shapes.items (context_of p.form) budget
+  pub accepted : IsAccepted (spread p.insns.items) p.form.shapes.items (context_of p.form) budget
   pub longest : IsGreatest (PathOut (spread p.insns.items) 0) budget
 
 -- the verifier's verdict on the policy's program is that cause at that slot, which it is on no straight program
@@ -103,9 +103,9 @@ pub record IsFirstOver (p : PolicySource) (l : Limits) (over : Over) : Type 0 wh
   pub is_over : IsOver p l over
   pub before : KeepsBefore p l over.measure
 
--- the policy is safe within its budget, and within the limits of steps and helpers
-pub record IsSafeWithin (p : PolicySource) (l : Limits) (budget : ℕ) : Type 0 where
-  pub safe : IsSafePolicy p budget
+-- the verifier accepts the policy with that budget, and it is within the limits of steps and helpers
+pub record IsAcceptedWithin (p : PolicySource) (l : Limits) (budget : ℕ) : Type 0 where
+  pub accepted : IsAcceptedPolicy p budget
   pub steps : IsWithin budget l.steps
   pub helpers : All (CallsNoOther (allowed l)) p.insns.items
 
@@ -116,13 +116,13 @@ pub record KeepsLimits (p : PolicySource) (l : Limits) (budget : ℕ) : Type 0 w
   pub hook : AllowsHook l p.form.hook
   pub measures : KeepsMeasures p l
 
--- the verifier's answer, or the first of the limits that a program exceeds which is safe
+-- the verifier's answer, or the first of the limits that a program exceeds which it accepts
 abbrev pub IsVerdict : PolicySource → Limits → Verdict → Type 0
-IsVerdict p l (Accepted budget) = IsSafePolicy p budget × KeepsLimits p l budget
-IsVerdict p l (OverSteps budget most) = IsSafePolicy p budget × (l.steps ≡ Some most) × (most < budget)
-IsVerdict p l (Forbidden helper) = (budget : ℕ) × IsSafePolicy p budget × IsWithin budget l.steps × IsCalledAgainst (allowed l) p.insns.items helper
-IsVerdict p l OtherHook = (budget : ℕ) × IsSafeWithin p l budget × (¬ (AllowsHook l p.form.hook))
-IsVerdict p l (Beyond over) = (budget : ℕ) × IsSafeWithin p l budget × AllowsHook l p.form.hook × IsFirstOver p l over
+IsVerdict p l (Accepted budget) = IsAcceptedPolicy p budget × KeepsLimits p l budget
+IsVerdict p l (OverSteps budget most) = IsAcceptedPolicy p budget × (l.steps ≡ Some most) × (most < budget)
+IsVerdict p l (Forbidden helper) = (budget : ℕ) × IsAcceptedPolicy p budget × IsWithin budget l.steps × IsCalledAgainst (allowed l) p.insns.items helper
+IsVerdict p l OtherHook = (budget : ℕ) × IsAcceptedWithin p l budget × (¬ (AllowsHook l p.form.hook))
+IsVerdict p l (Beyond over) = (budget : ℕ) × IsAcceptedWithin p l budget × AllowsHook l p.form.hook × IsFirstOver p l over
 IsVerdict p l (Refused slot cause) = IsRefusedPolicy p slot cause
 
 abbrev pub is_accepted : Verdict → Bool

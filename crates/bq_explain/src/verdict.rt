@@ -1,7 +1,7 @@
 //! What the verifier and a keeper's limits answer to a policy.
 ghost use Rattle.std.specs.Prelude.{◌≡◌, IfOk};
 ghost use Rattle.std.specs.String.{string_bytes};
-ghost use Rattle.bq_explain.specs.Verdicts.{IsSafePolicy, IsVerdict, is_accepted, over_line, verdict_line};
+ghost use Rattle.bq_explain.specs.Verdicts.{IsAcceptedPolicy, IsVerdict, is_accepted, over_line, verdict_line};
 
 use crate::limits::{Limits, Over};
 use bq_hooks::Hook;
@@ -50,9 +50,9 @@ pub fn judge(alloc: Global, policy: &PolicySource, limits: &Limits) -> Result<Ve
     }
 }
 
-/// The verdict on a policy that is safe within this budget.
+/// The verdict on a policy that the verifier accepts with this budget.
 fn limited(policy: &PolicySource, limits: &Limits, budget: u32) -> Verdict
-    requires { IsSafePolicy policy.now budget }
+    requires { IsAcceptedPolicy policy.now budget }
     ensures { IsVerdict policy.now limits.now result }
 {
     if let Some(most) = limits.steps {

@@ -1,5 +1,5 @@
 -- What `load` answers, by its parts.
-use Rattle.std.proofs.Common.{◌≡◌, ℕ, ◌≤◌, true, List, Option, length, refl, sym, ap, subst, ◌∙◌}
+use Rattle.std.proofs.Common.{◌≡◌, ℕ, true, List, refl, sym, ap, subst, ◌∙◌}
 use Rattle.bq_verify.specs.declared.cause.Cause.{Cause as Reason}
 use Rattle.bq_insn.specs.declared.Insn.{Insn}
 use Rattle.bq_insn.specs.declared.fault.Cause.TheVariants.{Length, Opcode, Register, Field, Offset, Imm, WideCut}
@@ -12,12 +12,10 @@ use Rattle.bq_insn.specs.Faults.{IsFault as IsProgramFault}
 use Rattle.bq_insn.proofs.UniqueLemmas as insn
 use Rattle.bq_insn.proofs.LengthLemmas as lengths
 use Rattle.bq_bpf.specs.declared.shape.MapShape.{MapShape}
-use Rattle.bq_verify.specs.Accepted.{Accepted}
+use Rattle.bq_verify.specs.Accepted.{Accepted, IsAccepted}
 use Rattle.bq_hooks.specs.Hooks.{context_length_of}
 use Rattle.bq_verify.specs.Faults.{IsFaultless}
 use Rattle.bq_verify.specs.Paths.{IsGreatest, PathOut}
-use Rattle.bq_bpf.specs.Safe.{Safe}
-use Rattle.bq_verify.proofs.SlotLemmas.{few_slots}
 use Rattle.bq_verify.specs.Refusals.{IsVerdictOn}
 use Rattle.bq_verify.specs.Straight.{IsStraightProgram}
 use Rattle.bq_verify.specs.Subjects.{subject_of}
@@ -103,19 +101,15 @@ unloaded_refusal bytes s code insns shapes (refused.At slot cause) parts is well
 -- what was accepted is loaded
 pub accepted_is_loaded : (bytes : List ℕ) (s : Spelled) (code : List ℕ) (insns : List Insn) (shapes : List MapShape) (v : Accepted) → HasParts bytes s code → code ≡ spelling insns → is_well_formed insns ≡ true → AllFit insns
     → s.shapes ≡ shapes_bytes shapes → v.slots ≡ spread insns → v.shapes ≡ shapes → v.hook ≡ s.hook → v.version ≡ s.version
-    → length shapes ≤ 8 → IsFaultless v.slots → Safe v.slots v.shapes (context_length_of v.hook v.version) v.budget → IsGreatest (PathOut v.slots 0) v.budget → Loads bytes v
-accepted_is_loaded bytes s code insns shapes v parts is well_formed numbers shapes-are slots same_shapes same_hook same_version few faultless safe longest = record {
+    → IsFaultless v.slots → IsAccepted v.slots v.shapes (context_length_of v.hook v.version) v.budget → IsGreatest (PathOut v.slots 0) v.budget → Loads bytes v
+accepted_is_loaded bytes s code insns shapes v parts is well_formed numbers shapes-are slots same_shapes same_hook same_version faultless accepted longest = record {
   insns = insns;
   image = rw (same_shapes, same_hook, same_version) (subst (λ (p : List ℕ). IsImage bytes s.version s.hook shapes p) is (is_image bytes s code shapes parts shapes-are));
   well_formed = well_formed;
   numbers = numbers;
   slots = slots;
   faultless = faultless;
-  accepted = record {
-    short = subst (λ (x : List (Option Insn)). length x ≤ 4096) (sym slots) (few_slots insns well_formed);
-    few = subst (λ (x : List MapShape). length x ≤ 8) (sym same_shapes) few;
-    safe = safe;
-  };
+  accepted = accepted;
   longest = longest;
 }
 

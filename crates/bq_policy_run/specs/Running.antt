@@ -7,7 +7,7 @@ use Rattle.bq_bpf.specs.declared.board.Call.{Call as Asked}
 use Rattle.bq_bpf.specs.declared.board.TheConstants.{COUNTERS}
 use Rattle.bq_explain.specs.declared.verdict.Verdict.{Verdict}
 use Rattle.bq_explain.specs.declared.verdict.Verdict.TheVariants as verdict
-use Rattle.bq_explain.specs.Verdicts.{IsRefusedPolicy, IsSafePolicy, verdict_line}
+use Rattle.bq_explain.specs.Verdicts.{IsAcceptedPolicy, IsRefusedPolicy, verdict_line}
 use Rattle.bq_policy_run.specs.declared.inputs.Inputs.{Inputs}
 use Rattle.bq_maps.specs.Arrays.{Arrays}
 use Rattle.bq_bpf.specs.Runs.{start}
@@ -153,11 +153,11 @@ pub record IsUnaccepted (p : PolicySource) (told_as : Answered) : Type 0 where
   pub is : told_as ≡ Refused text
   pub told : TellsVerdict p.form.hook (verdict.Refused slot cause) (string_bytes text)
 
--- the policy's program is safe within its budget, which is the longest path, and runs
+-- the verifier accepts the policy's program with its budget, which is the longest path, and it runs
 pub record RunsAccepted (w : RunWords) (p : PolicySource) (told_as : Answered) : Type 0 where
   pub program : Accepted
   pub of : IsProgramOf p program
-  pub safe : IsSafePolicy p program.budget
+  pub accepted : IsAcceptedPolicy p program.budget
   pub runs : RunsProgram w program told_as
 
 abbrev pub RunsPolicy : RunWords → PolicySource → Answered → Type 0

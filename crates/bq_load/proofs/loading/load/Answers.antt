@@ -59,5 +59,4 @@ returns-clause-loaded c =
     accepted_is_loaded c.args.bytes.now (spelled_of c.in_ok-header.header) c.in_ok-header.program.now c.in_ok-insns.insns.items c.in_ok-shapes.shapes.items c.in_ok-verified.verified c.in_ok-header.ensures.ok
     c.in_ok-insns.ensures.spelled c.in_ok-insns.ensures.well_formed c.in_ok-insns.ensures.numbers c.in_ok-shapes.ensures.ok
     c.in_ok-verified.ensures.slots c.in_ok-verified.ensures.shapes c.in_ok-verified.ensures.hook c.in_ok-verified.ensures.version
-    (is_image c.args.bytes.now (spelled_of c.in_ok-header.header) c.in_ok-header.program.now c.in_ok-shapes.shapes.items c.in_ok-header.ensures.ok c.in_ok-shapes.ensures.ok).framed.header.few
-    c.in_ok-verified.ensures.faultless c.in_ok-verified.ensures.safe c.in_ok-verified.ensures.budget
+    c.in_ok-verified.ensures.faultless c.in_ok-verified.ensures.accepted c.in_ok-verified.ensures.budget

@@ -4,7 +4,7 @@ use Rattle.bq_verify.specs.Refusals.{IsOutOfMemory}
 use Rattle.bq_insn.specs.Slots.{spread}
 use Rattle.bq_policy_run.specs.Running.{IsProgramOf, RunsPolicy, RunsProgram}
 use Rattle.bq_verify.specs.Subjects.{handed_in}
-use Rattle.bq_explain.proofs.VerdictLemmas.{refused_policy, safe_policy}
+use Rattle.bq_explain.proofs.VerdictLemmas.{accepted_policy, refused_policy}
 use Rattle.bq_policy_run.proofs.AcceptedLemmas.{runs_accepted}
 use Rattle.bq_policy_run.proofs.running.run_policy.Goals as goal
 
@@ -16,9 +16,9 @@ returns-in-Ok g c =
       hook = c.in-Ok.ensures.hook ∙ c.in_ok-program.ensures.hook;
       version = c.in-Ok.ensures.version ∙ c.in_ok-program.ensures.version;
     } in
-    let safe = safe_policy c.args.policy.now c.in-Ok.verified of.slots of.shapes of.hook of.version c.in-Ok.ensures.faultless c.in-Ok.ensures.safe c.in-Ok.ensures.budget in
+    let accepted = accepted_policy c.args.policy.now c.in-Ok.verified of.slots of.shapes of.hook of.version c.in-Ok.ensures.faultless c.in-Ok.ensures.accepted c.in-Ok.ensures.budget in
     IfOk-weaker c.run_verified.result (RunsProgram c.args.words.now c.in-Ok.verified) (RunsPolicy c.args.words.now c.args.policy.now)
-    (λ answer runs. inr (runs_accepted c.args.words.now c.args.policy.now c.in-Ok.verified answer of safe runs)) c.run_verified.ensures
+    (λ answer runs. inr (runs_accepted c.args.words.now c.args.policy.now c.in-Ok.verified answer of accepted runs)) c.run_verified.ensures
 
 pub returns-in_ok-text-in-Err-At : goal.returns-in_ok-text-in-Err-At
 returns-in_ok-text-in-Err-At g c =
