@@ -50,6 +50,7 @@ fn held_call(held: Held) -> Request {
     let processor = 0;
     match held {
         Held::Tick => Request::Tick { processor },
+        Held::NextTick => Request::Tick { processor: 1 },
         Held::Drain => Request::Drain { processor },
         Held::Block => Request::Block { processor },
         Held::Wake => Request::Wake { processor, task: 7 },
@@ -218,11 +219,13 @@ impl<'a, N: Naming + Counting, R: Wait> Player<'a, N, R> {
         }
     }
 
-    /// Whether another seat's event comes into the history, which has so many events, while processor 3 ticks.
-    fn sees_another(&mut self, events: u64) -> Result<bool, Refusal> {
+    /// Whether so many events of other seats come into the history, which has so many events, while a processor ticks. Its last tick
+    /// comes after them.
+    fn sees_others(&mut self, processor: u8, events: u64, others: u64) -> Result<bool, Refusal> {
         let mut next = events;
         for _ in 0..LOOKS {
-            if self.call(Request::Tick { processor: 3 })? != next {
+            let place = self.call(Request::Tick { processor })?;
+            if place.wrapping_sub(next) >= others {
                 return Ok(true);
             }
             next = next.wrapping_add(1);
@@ -278,8 +281,13 @@ impl<'a, N: Naming + Counting, R: Wait> Player<'a, N, R> {
                     self.load(image)?;
                 }
             }
-            Play::Watch(gate, events) => {
-                if gate.is_entered() && self.sees_another(events)? {
+            Play::Watch {
+                gate,
+                processor,
+                events,
+                others,
+            } => {
+                if gate.is_entered() && self.sees_others(processor, events, others)? {
                     gate.open();
                 }
             }

@@ -6,7 +6,7 @@ use std::alloc::{AllocError, Global};
 use std::sync::Arc;
 use std::sync::atomic::{AtomicU64, Ordering};
 
-/// Reads 1, 2, 3 and so on at each processor. A reading at processor 0 may be held at a gate.
+/// Reads 1, 2, 3 and so on at each processor. A reading may be held at a gate.
 #[derive(Drop)]
 pub struct CountingClock {
     readings: Vec<AtomicU64>,
@@ -14,7 +14,7 @@ pub struct CountingClock {
 }
 
 impl CountingClock {
-    /// Clocks for so many processors. Each reading at processor 0 comes to the gate, if there is one, before it is taken.
+    /// Clocks for so many processors. Each reading comes to the gate, if there is one, before it is taken.
     pub fn new(
         alloc: Global,
         processors: u8,
@@ -32,10 +32,8 @@ impl Clock for CountingClock {
     ghost gives = { λ _ _. Unit {0} };
 
     fn now(&self, processor: u8) -> u64 {
-        if processor == 0 {
-            if let Some(gate) = &self.gate {
-                gate.pass(Point::Clock);
-            }
+        if let Some(gate) = &self.gate {
+            gate.pass(Point::Clock(processor));
         }
         match self.readings.get(usize::from(processor)) {
             Some(next) => next.fetch_add(1, Ordering::SeqCst),

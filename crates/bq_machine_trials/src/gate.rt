@@ -6,11 +6,11 @@ use std::thread::yield_now;
 /// How often a held thread looks whether it may go on.
 const TURNS: u32 = 1_000_000;
 
-/// What a thread is about to do when it comes to a gate: it reads processor 0's clock, or calls processor 0's queue for its mark,
-/// whether the running task gives way, its choice, or one of its tasks.
+/// What a thread is about to do when it comes to a gate: it reads the clock of this processor, or calls processor 0's queue for its
+/// mark, whether the running task gives way, its choice, or one of its tasks.
 #[derive(Clone, Copy, PartialEq, Eq)]
 pub enum Point {
-    Clock,
+    Clock(u8),
     Mark,
     Preempt,
     Choice,

@@ -15,11 +15,11 @@ use std::thread::Threads;
 /// locks that its event needs; the journal's is not among them, before a policy has run and after (the queue gives the task that
 /// comes to run once the policy has answered). A block has the lobby, too.
 const HOLDS: [(Held, Point, Beside); 19] = [
-    (Held::Tick, Point::Clock, Beside::Inbox),
-    (Held::Drain, Point::Clock, Beside::Inbox),
-    (Held::Block, Point::Clock, Beside::Inbox),
-    (Held::Wake, Point::Clock, Beside::Inbox),
-    (Held::Pull, Point::Clock, Beside::Ticks),
+    (Held::Tick, Point::Clock(0), Beside::Inbox),
+    (Held::Drain, Point::Clock(0), Beside::Inbox),
+    (Held::Block, Point::Clock(0), Beside::Inbox),
+    (Held::Wake, Point::Clock(0), Beside::Inbox),
+    (Held::Pull, Point::Clock(0), Beside::Ticks),
     (Held::Tick, Point::Mark, Beside::Inbox),
     (Held::Drain, Point::Mark, Beside::Life),
     (Held::Block, Point::Mark, Beside::Queues),
@@ -95,7 +95,7 @@ fn calls_go_on_beside_a_call_that_is_held(rt: HostRuntime) {
 /// tick that was held does.
 #[test]
 fn counters_are_read_while_a_call_is_held(rt: HostRuntime) {
-    let gate = Arc::new(rt.alloc(), Gate::new(Point::Clock)).expect(&rt, "memory");
+    let gate = Arc::new(rt.alloc(), Gate::new(Point::Clock(0))).expect(&rt, "memory");
     let mut script = holding(&rt, rt.alloc(), &gate, Held::Tick, &SUMS);
     let life = Play::Life {
         processor: 1,
@@ -119,7 +119,31 @@ fn a_number_is_drawn_while_a_processor_is_held(rt: HostRuntime) {
     let mut script = holding(&rt, rt.alloc(), &gate, Held::Tick, &ALWAYS);
     let load = Play::LoadBeside(again(&rt, &gate), &ZERO);
     script.at_once.push(load).expect(&rt, "memory");
-    let watch = Play::Watch(again(&rt, &gate), 14);
+    let watch = Play::Watch {
+        gate: again(&rt, &gate),
+        processor: 3,
+        events: 14,
+        others: 1,
+    };
     let (opened, _) = run_beside(&rt, rt.alloc(), &gate, script, watch);
     assert!(&rt; opened);
+}
+
+/// A load holds one processor at a time: while processor 1's lock is held it draws its number, installs at processor 0, and waits
+/// without the lock of processor 0, which ticks after that install.
+#[test]
+fn a_processor_ticks_while_a_load_waits_for_the_next(rt: HostRuntime) {
+    let gate = Arc::new(rt.alloc(), Gate::new(Point::Clock(1))).expect(&rt, "memory");
+    let mut script = holding(&rt, rt.alloc(), &gate, Held::NextTick, &ALWAYS);
+    let load = Play::LoadBeside(again(&rt, &gate), &ZERO);
+    script.at_once.push(load).expect(&rt, "memory");
+    let watch = Play::Watch {
+        gate: again(&rt, &gate),
+        processor: 0,
+        events: 14,
+        others: 2,
+    };
+    let (opened, outcome) = run_beside(&rt, rt.alloc(), &gate, script, watch);
+    assert!(&rt; opened);
+    assert_eq!(&rt; outcome.confirmed(), outcome.closed.len());
 }

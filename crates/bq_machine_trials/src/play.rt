@@ -8,6 +8,8 @@ use std::sync::Arc;
 #[derive(Clone, Copy, Drop)]
 pub enum Held {
     Tick,
+    /// Processor 1 ticks.
+    NextTick,
     Drain,
     Block,
     /// A sleeping task is woken at processor 0.
@@ -61,9 +63,14 @@ pub enum Play {
     Read(Arc<Gate, Global>),
     /// Once a thread is held at the gate an image is loaded.
     LoadBeside(Arc<Gate, Global>, &'static [u8]),
-    /// Once a thread is held at the gate, when the history has so many events, processor 3 ticks until another seat's event
-    /// stands among its ticks. Then the gate is opened.
-    Watch(Arc<Gate, Global>, u64),
+    /// Once a thread is held at the gate, when the history has so many events, the processor ticks until so many events of others
+    /// stand before its last tick. Then the gate is opened.
+    Watch {
+        gate: Arc<Gate, Global>,
+        processor: u8,
+        events: u64,
+        others: u64,
+    },
 }
 
 /// What is played: some plays in turn by one seat, then some at once, each by a thread and a seat of its own, and then some in
