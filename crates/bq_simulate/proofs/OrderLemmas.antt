@@ -12,7 +12,7 @@ use Rattle.bq_simulate.specs.declared.driver.Driver.{Driver}
 use Rattle.bq_simulate.specs.declared.simulation.Simulation.{Simulation}
 use Rattle.bq_simulate.specs.Chronicles.{Acts, Beats, Book, Deed, Happens, Joins, Lives, Looks, Misses, Reaches, Rings, after_act, after_answer, after_beat, after_deeds, after_look, joined}
 use Rattle.bq_simulate.specs.Simulations.{Goes, Lived, LivedFrom, book_of}
-use Rattle.bq_simulate.specs.Steps.{AreMet, Meet}
+use Rattle.bq_simulate.specs.Steps.{AreAllMet, Meet}
 use Rattle.bq_simulate.proofs.DeedLemmas.{Goes-join}
 use Rattle.bq_simulate.proofs.StepLemmas.{AreMet-more}
 
@@ -36,7 +36,7 @@ book-after takes kinds A x y s t drawn goes = kept-by kinds s.seed s.roster.peri
 
 -- the next thing by the event queue is met, which agrees with the accounts
 pub met-more : {S : Type 0} (takes : S → ℕ → TraceEvent → S → Type 0) (kinds : List TaskKind) (count last now : ℕ) (due : Due) (x y z : S) (s t u : Simulation) → last ≤ now → (IsAgreed t.roster → IsNext t.roster.periods.end (accounts_of t.roster) due now)
-    → LivedFrom takes kinds (AreMet kinds s.seed s.roster.periods count last) x s y t → Lived takes kinds (Meet due now) y t z u → LivedFrom takes kinds (AreMet kinds s.seed s.roster.periods (count + 1) now) x s z u
+    → LivedFrom takes kinds (AreAllMet kinds s.seed s.roster.periods count last) x s y t → Lived takes kinds (Meet due now) y t z u → LivedFrom takes kinds (AreAllMet kinds s.seed s.roster.periods (count + 1) now) x s z u
 met-more takes kinds count last now due x y z s t u later next lived meet drawn had firsts agreed =
     let periods = s.roster.periods in
     let start = book_of s drawn in
@@ -44,5 +44,5 @@ met-more takes kinds count last now due x y z s t u later next lived meet drawn 
     let two = meet one.after one.streams one.firsts in
     let is : IsNext t.roster.periods.end (accounts_of t.roster) due now = next (one.agrees agreed) in
     let here : IsNext periods.end (after_deeds kinds s.seed periods start one.deeds).accounts due now =
-    subst (λ (b : Book). IsNext periods.end b.accounts due now) (book-after takes kinds (AreMet kinds s.seed periods count last start) x y s t drawn one) (subst (λ (p : Periods). IsNext p.end (accounts_of t.roster) due now) one.periods is) in
-    Goes-join takes kinds (AreMet kinds s.seed periods count last start) (Meet due now) (AreMet kinds s.seed periods (count + 1) now start) x y z s t u drawn one two (AreMet-more kinds s.seed periods start due count last now one.deeds two.deeds later one.are here two.are)
+    subst (λ (b : Book). IsNext periods.end b.accounts due now) (book-after takes kinds (AreAllMet kinds s.seed periods count last start) x y s t drawn one) (subst (λ (p : Periods). IsNext p.end (accounts_of t.roster) due now) one.periods is) in
+    Goes-join takes kinds (AreAllMet kinds s.seed periods count last start) (Meet due now) (AreAllMet kinds s.seed periods (count + 1) now start) x y z s t u drawn one two (AreMet-more kinds s.seed periods start due count last now one.deeds two.deeds later one.are here two.are)

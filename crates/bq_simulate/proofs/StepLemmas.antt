@@ -1,5 +1,5 @@
 -- Deeds of one form after another.
-use Rattle.std.proofs.Common.{◌≡◌, ℕ, ◌+◌, ◌≤◌, List, [], ◌∷◌, ◌++◌, refl, sym, ap, ◌∙◌, subst, arith, append-nil, length-append}
+use Rattle.std.proofs.Common.{◌≡◌, ℕ, ◌+◌, ◌≤◌, List, [], ◌∷◌, ◌++◌, refl, sym, ap, ◌∙◌, subst, arith, append-nil, length, length-append}
 use Rattle.std.proofs.lemmas.Grind.{flat_map-append}
 use Rattle.bq_workload.specs.declared.due.Due.{Due}
 use Rattle.bq_parts.specs.declared.event.Event.{Event}
@@ -7,7 +7,7 @@ use Rattle.bq_workload.specs.declared.roster.Periods.{Periods}
 use Rattle.bq_workload.specs.declared.workload.TaskKind.{TaskKind}
 use Rattle.bq_workload.specs.Next.{IsNext}
 use Rattle.bq_simulate.specs.Chronicles.{Book, Deed, after_deed, after_deeds}
-use Rattle.bq_simulate.specs.Steps.{AreInOrder, AreJust, AreMet, Meet, Rise, Step, deeds_of}
+use Rattle.bq_simulate.specs.Steps.{AreAllMet, AreInOrder, AreJust, AreMet, Meet, Rise, Step, deeds_of}
 
 -- some events, and then others
 pub AreJust-join : (xs ys : List Event) (ds es : List Deed) → AreJust xs ds → AreJust ys es → AreJust (xs ++ ys) (ds ++ es)
@@ -19,13 +19,14 @@ Rise-more : (first last : ℕ) (steps : List Step) (step : Step) → Rise first 
 Rise-more first last [] step h k = (omega (arith, h, k), omega arith)
 Rise-more first last (s ∷ steps) step h k = (h.0, Rise-more s.at last steps step h.1 k)
 
-Rise-later : (first last later : ℕ) (steps : List Step) → Rise first steps last → last ≤ later → Rise first steps later
+-- until a later instant they never fall either
+pub Rise-later : (first last later : ℕ) (steps : List Step) → Rise first steps last → last ≤ later → Rise first steps later
 Rise-later first last later [] h k = omega (arith, h, k)
 Rise-later first last later (s ∷ steps) h k = (h.0, Rise-later s.at last later steps h.1 k)
 
 -- nothing has come due yet
-pub AreMet-none : (kinds : List TaskKind) (seed : ℕ) (periods : Periods) (b : Book) → AreMet kinds seed periods 0 0 b []
-AreMet-none kinds seed periods b = record { steps = []; whole = refl; rise = omega arith; few = omega arith; order = tt }
+pub AreMet-none : (kinds : List TaskKind) (seed : ℕ) (periods : Periods) (b : Book) → AreAllMet kinds seed periods 0 0 b []
+AreMet-none kinds seed periods b = (record { steps = []; whole = refl; rise = omega arith; few = omega arith; order = tt }, refl)
 
 -- what is kept after some deeds, and then others
 pub after-append : (kinds : List TaskKind) (seed : ℕ) (periods : Periods) (b : Book) (xs ys : List Deed) → after_deeds kinds seed periods b (xs ++ ys) ≡ after_deeds kinds seed periods (after_deeds kinds seed periods b xs) ys
@@ -41,21 +42,24 @@ order-more kinds seed periods b (s ∷ steps) step h next =
     (h.0, order-more kinds seed periods (after_deeds kinds seed periods b s.deeds) steps step h.1 (subst (λ (x : Book). IsNext periods.end x.accounts step.due step.at) later next))
 
 -- one thing more comes due, the next
-pub AreMet-more : (kinds : List TaskKind) (seed : ℕ) (periods : Periods) (b : Book) (due : Due) (most last now : ℕ) (ds es : List Deed) → last ≤ now → AreMet kinds seed periods most last b ds → IsNext periods.end (after_deeds kinds seed periods b ds).accounts due now → Meet due now es
-    → AreMet kinds seed periods (most + 1) now b (ds ++ es)
-AreMet-more kinds seed periods b due most last now ds es later met next meet =
+pub AreMet-more : (kinds : List TaskKind) (seed : ℕ) (periods : Periods) (b : Book) (due : Due) (count last now : ℕ) (ds es : List Deed) → last ≤ now → AreAllMet kinds seed periods count last b ds → IsNext periods.end (after_deeds kinds seed periods b ds).accounts due now → Meet due now es
+    → AreAllMet kinds seed periods (count + 1) now b (ds ++ es)
+AreMet-more kinds seed periods b due count last now ds es later (met, all) next meet =
     let step : Step = record { due = due; at = now; deeds = es; meet = meet } in
     let added : deeds_of (met.steps ++ step ∷ []) ≡ deeds_of met.steps ++ es = flat_map-append (λ (s : Step). s.deeds) met.steps (step ∷ []) ∙ ap (λ l. deeds_of met.steps ++ l) (append-nil es) in
-    record {
-      steps = met.steps ++ step ∷ [];
-      whole = ap (λ l. l ++ es) met.whole ∙ sym added;
-      rise = Rise-more 0 last met.steps step met.rise later;
-      few = omega (arith, met.few, length-append met.steps (step ∷ []));
-      order = order-more kinds seed periods b met.steps step met.order (subst (λ (l : List Deed). IsNext periods.end (after_deeds kinds seed periods b l).accounts due now) met.whole next);
-    }
+    let longer : length (met.steps ++ step ∷ []) ≡ count + 1 = omega (arith, all, length-append met.steps (step ∷ [])) in (
+      record {
+        steps = met.steps ++ step ∷ [];
+        whole = ap (λ l. l ++ es) met.whole ∙ sym added;
+        rise = Rise-more 0 last met.steps step met.rise later;
+        few = omega (arith, longer);
+        order = order-more kinds seed periods b met.steps step met.order (subst (λ (l : List Deed). IsNext periods.end (after_deeds kinds seed periods b l).accounts due now) met.whole next);
+      },
+      longer,
+    )
 
 -- no more than this many, until no later than this
-pub AreMet-within : (kinds : List TaskKind) (seed : ℕ) (periods : Periods) (few most last end : ℕ) (b : Book) (ds : List Deed) → few ≤ most → last ≤ end → AreMet kinds seed periods few last b ds → AreMet kinds seed periods most end b ds
+abbrev pub AreMet-within : (kinds : List TaskKind) (seed : ℕ) (periods : Periods) (few most last end : ℕ) (b : Book) (ds : List Deed) → few ≤ most → last ≤ end → AreMet kinds seed periods few last b ds → AreMet kinds seed periods most end b ds
 AreMet-within kinds seed periods few most last end b ds low later met = record {
   steps = met.steps;
   whole = met.whole;
@@ -63,3 +67,7 @@ AreMet-within kinds seed periods few most last end b ds low later met = record {
   few = omega (arith, met.few, low);
   order = met.order;
 }
+
+-- just this many, until no later than this
+pub AreAllMet-within : (kinds : List TaskKind) (seed : ℕ) (periods : Periods) (count most last end : ℕ) (b : Book) (ds : List Deed) → count ≡ most → last ≤ end → AreAllMet kinds seed periods count last b ds → AreAllMet kinds seed periods most end b ds
+AreAllMet-within kinds seed periods count most last end b ds same later (met, all) = (AreMet-within kinds seed periods count most last end b ds (omega (arith, same)) later met, all ∙ same)

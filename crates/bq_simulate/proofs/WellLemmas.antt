@@ -1,6 +1,6 @@
 -- A simulation that goes well, from one thing to the next.
-use Rattle.std.proofs.Common.{◌≡◌, ℕ, ◌≤◌, List, [], ◌∷◌, sym, subst, ap, ◌∙◌, arith}
-use Rattle.std.specs.Prelude.{IfErr, Ok, Result}
+use Rattle.std.proofs.Common.{◌≡◌, ℕ, ◌+◌, ◌*◌, ◌^◌, ◌≤◌, inl, inr, List, [], ◌∷◌, sym, subst, ap, ◌∙◌, arith}
+use Rattle.std.specs.Prelude.{Err, IfErr, Ok, Result, ⊤}
 use Rattle.std.specs.Result.{IsErrAnd}
 use Rattle.std.proofs.lemmas.Result.{err_from_is_err_and}
 use Rattle.bq_core.proofs.SizeLemmas.{step_count}
@@ -14,14 +14,17 @@ use Rattle.bq_workload.specs.declared.roster.Periods.{Periods}
 use Rattle.bq_workload.specs.declared.workload.TaskKind.{TaskKind}
 use Rattle.bq_workload.specs.declared.workload.Workload.{Workload}
 use Rattle.bq_workload.specs.Accounts.{accounts_of}
+use Rattle.bq_workload.specs.Bounds.{steps_at_once}
 use Rattle.bq_workload.specs.Next.{IsNext}
 use Rattle.bq_simulate.specs.declared.driver.Driver.{Driver}
+use Rattle.bq_simulate.specs.declared.fault.SimulateFault.{SimulateFault}
+use Rattle.bq_simulate.specs.declared.fault.SimulateFault.TheVariants as why
 use Rattle.bq_simulate.specs.declared.simulation.Simulation.{Simulation}
 use Rattle.bq_simulate.specs.Chronicles.{Book, Deed, Lives, events_of}
 use Rattle.bq_simulate.specs.Drives.{Drives}
 use Rattle.bq_simulate.specs.Kept.{IsKept}
 use Rattle.bq_simulate.specs.KeptLaws.{Leads}
-use Rattle.bq_simulate.specs.Order.{GoesWell}
+use Rattle.bq_simulate.specs.Order.{EndsEarly, GoesWell}
 use Rattle.bq_simulate.specs.Simulations.{Lived, book_of, with_seed}
 use Rattle.bq_simulate.specs.Steps.{Meet}
 use Rattle.bq_simulate.proofs.DeedLemmas.{drives-of-lives}
@@ -80,3 +83,21 @@ pub err-by : {T E : Type 0} {Q P : E → Type 0} (r : Result T E) → IsErrAnd r
 err-by {P = P} r is weaker =
     let p = err_from_is_err_and r is in
     subst (λ x. IfErr x P) (sym p.1) (weaker p.0 p.2)
+
+abbrev IsWant : SimulateFault → Type 0
+IsWant why.OutOfMemory = ⊤
+IsWant fault = ⊥
+
+-- a simulation that wants memory is not one that is too long
+pub wants-no-end : why.OutOfMemory ≡ why.Endless → ⊥
+wants-no-end same = subst IsWant same tt
+
+-- where one is, 64 bits do not count the bound of its steps
+pub bound-of-endless : (w : Workload) → EndsEarly w why.Endless → 2 ^ 64 ≤ (w.machine.duration + 1) * steps_at_once w
+bound-of-endless w (inl wants) = absurd (wants-no-end (sym wants))
+bound-of-endless w (inr ends) = ends.1
+
+-- two things that hold of an error
+pub err-both : {T E : Type 0} {P Q R : E → Type 0} (r : Result T E) → IfErr r P → IfErr r Q → ((e : E) → P e → Q e → R e) → IfErr r R
+err-both (Ok x) p q both = tt
+err-both (Err e) p q both = both e p q

@@ -1,5 +1,5 @@
 -- What a simulation tells.
-use Rattle.std.specs.Prelude.{◌≡◌, ◌⊎◌, ℕ, ◌++◌, ◌+◌, ◌≤◌, Bool, true, List, [], ◌∷◌, Option, Some, None, length, slice_get, slice_set}
+use Rattle.std.specs.Prelude.{◌≡◌, ◌⊎◌, ℕ, ◌++◌, ◌+◌, ◌-◌, ◌^◌, ◌≤◌, Bool, true, List, [], ◌∷◌, Option, Some, None, length, slice_get, slice_set}
 use Rattle.rand_pcg.specs.Lcg.{Lcg}
 use Rattle.bq_workload.specs.declared.action.Length.{Length}
 use Rattle.bq_workload.specs.declared.roster.Periods.{Periods}
@@ -40,6 +40,10 @@ pub record Proceeds (policies : List Accepted) (processors : ℕ) (kinds : List 
   pub whole : deeds ≡ opening ++ met
   pub opens : Opens policies processors kinds opening
   pub meets : AreMet kinds seed periods most end (after_deeds kinds seed periods b opening) met
+
+-- just this many come due so
+abbrev pub ProceedsBy : List Accepted → ℕ → List TaskKind → ℕ → Periods → ℕ → ℕ → Book → List Deed → Type 0
+ProceedsBy policies processors kinds seed periods count end b deeds = (proceeds : Proceeds policies processors kinds seed periods count end b deeds) × (length proceeds.meets.steps ≡ count)
 
 -- when nothing comes any more, and no timer, no end of a phase, no tick and no look for a task is left until the end, each processor that
 -- runs something ticks then, by number, and nothing else is done
@@ -92,6 +96,11 @@ pub record Begins (policies : List Accepted) (w : Workload) (told : Told) : Type
   pub lives : Lives w.tasks.items w.machine.seed (periods_of w.machine) opening (opening_book w.machine) deeds more closing book
   pub whole : told ≡ first ++ more
   pub proceeds : Proceeds policies (processors_in w.machine.size) w.tasks.items w.machine.seed (periods_of w.machine) (most_steps w) w.machine.duration (opening_book w.machine) deeds
+
+-- A simulation that is too long: it begins, and then 2 ^ 64 - 1 things come due, one after another, as many as 64 bits count.
+pub record IsTooLong (policies : List Accepted) (w : Workload) (told : Told) : Type 0 where
+  pub begins : Begins policies w told
+  pub many : length begins.proceeds.meets.steps ≡ 2 ^ 64 - 1
 
 -- all of a simulation; where there is enough of it, its beginning may do
 abbrev pub IsFollowed : Bool → List Accepted → Workload → Told → Type 0
@@ -174,6 +183,10 @@ abbrev pub RunsOn : {S : Type 0} → (S → ℕ → TraceEvent → S → Type 0)
 RunsOn takes sated policies kinds most end processors old s new t =
     Runs takes policies kinds most end processors old s new t
     ⊎ ((sated new ≡ true) × LivedFrom takes kinds (Proceeds policies processors kinds s.seed s.roster.periods most end) old s new t)
+
+-- it goes on until just as many things have come due as are counted for all instants until its end, as far as 64 bits count
+abbrev pub RunsOut : {S : Type 0} → (S → ℕ → TraceEvent → S → Type 0) → List Accepted → Workload → S → Simulation → S → Simulation → Type 0
+RunsOut takes policies w old s new t = LivedFrom takes w.tasks.items (ProceedsBy policies (processors_in w.machine.size) w.tasks.items s.seed s.roster.periods (most_steps w) w.machine.duration) old s new t
 
 -- what stays beside the machine and the accounts, and that the event queue agrees with them
 pub record Stays (s t : Simulation) : Type 0 where

@@ -138,6 +138,10 @@ pub record AreMet (kinds : List TaskKind) (seed : ℕ) (periods : Periods) (most
   pub few : length steps ≤ most
   pub order : AreInOrder kinds seed periods b steps
 
+-- just this many come due so
+abbrev pub AreAllMet : List TaskKind → ℕ → Periods → ℕ → ℕ → Book → List Deed → Type 0
+AreAllMet kinds seed periods count last b deeds = (met : AreMet kinds seed periods count last b deeds) × (length met.steps ≡ count)
+
 -- which of these processors run something: each of them ticks at the end
 abbrev pub last_ticks : ℕ → List ℕ → Accounts → List Event
 last_ticks end processors a = map (λ processor. Tick processor end) (filter (is_busy a) processors)

@@ -4,7 +4,7 @@ ghost use Rattle.bq_workload.specs.declared.workload.Workload.{Workload};
 ghost use Rattle.bq_simulate.specs.Faults.{flaw_told};
 ghost use Rattle.bq_simulate.specs.Order.{EndsEarly, IsCutOff};
 ghost use Rattle.bq_simulate.specs.declared.drive_fault.DriveFault.TheVariants as drive;
-ghost use Rattle.bq_simulate.specs.declared.fault.SimulateFault.TheVariants.{BrokenInvariant, Enough, OutOfMemory};
+ghost use Rattle.bq_simulate.specs.declared.fault.SimulateFault.TheVariants.{BrokenInvariant, Endless, Enough, OutOfMemory};
 
 use crate::DriveFault;
 use bq_workload::{BrokenInvariant, Unsound};
@@ -12,8 +12,8 @@ use std::alloc::AllocError;
 use thiserror::Error;
 
 /// Why a simulation does not come to its end. What the sink got by then is to be the beginning of a trace; that is only
-/// tested. It is proved that no simulation ends by `Drive` or `BrokenInvariant`, and none by `Endless` whose bound of steps 64 bits
-/// count.
+/// tested, but for `Enough` and `Endless`. It is proved that no simulation ends by `Drive` or `BrokenInvariant`, and none by `Endless`
+/// whose bound of steps 64 bits count.
 #[derive(Debug, Drop, Error)]
 pub enum SimulateFault {
     /// Memory ran out.
@@ -44,6 +44,7 @@ impl SimulateFault {
         ensures sound { flaw_told result ≡ None }
         ensures other { result ≢ Enough }
         ensures early { (w : Workload) → EndsEarly w self → IsCutOff w result }
+        ensures endless { result ≡ Endless → self ≡ Endless }
     {
         match self {
             SimulateFault::Unsound(_) | SimulateFault::Enough => SimulateFault::BrokenInvariant,

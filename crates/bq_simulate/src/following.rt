@@ -9,8 +9,8 @@ ghost use Rattle.bq_workload.specs.Soundness.{first_flaw};
 ghost use Rattle.bq_workload.specs.declared.workload.Workload.{Workload};
 ghost use Rattle.bq_simulate.specs.Faults.{flaw_told};
 ghost use Rattle.bq_simulate.specs.Order.{EndsEarly, GoesWell, HasGoneWell, HasProcessors, IsCutOff, StartsWell, WantsMemory};
-ghost use Rattle.bq_simulate.specs.Simulations.{Befell, HasEnough, IsFollowed, IsSimulation, LivedFrom, Proceeds, RunsOn, opening_book, periods_of, with_seed};
-ghost use Rattle.bq_simulate.specs.Steps.{AreJust, AreMet, KeepsOthers, all_processors, last_ticks};
+ghost use Rattle.bq_simulate.specs.Simulations.{Befell, HasEnough, IsFollowed, IsSimulation, IsTooLong, LivedFrom, Proceeds, RunsOn, RunsOut, opening_book, periods_of, with_seed};
+ghost use Rattle.bq_simulate.specs.Steps.{AreAllMet, AreJust, AreMet, KeepsOthers, all_processors, last_ticks};
 ghost use Rattle.bq_simulate.specs.declared.fault.SimulateFault.TheVariants as why;
 ghost use Rattle.bq_trace.specs.TraceEvents.{Gets};
 
@@ -32,7 +32,8 @@ use std::alloc::Global;
 ///
 /// A workload with a flaw is refused for the first of its flaws, as `Unsound`, and nothing is reported. One without is followed to
 /// its end, unless memory runs out, the sink has enough, or 2^64 - 1 things came due; that last comes only where 64 bits do not
-/// count the bound of its steps. What was reported by then is to be the beginning of a trace, which is only tested.
+/// count the bound of its steps, and the sink got the beginning until then. What is reported before memory runs out
+/// is to be the beginning of a trace, which is only tested.
 pub fn simulate<S: Sink + Enough>(
     alloc: Global,
     workload: &Workload,
@@ -47,6 +48,7 @@ pub fn simulate<S: Sink + Enough>(
     ensures flaw { IfErr result (λ fault. flaw_told fault ≡ first_flaw workload.now) }
     ensures untold { first_flaw workload.now ≢ None → sink.new ≡ sink.old }
     ensures ends { first_flaw workload.now ≡ None → IfErr result (IsCutOff workload.now) }
+    ensures endless { IfErr result (λ fault. fault ≡ why.Endless → Gets S.takes sink.old sink.new (IsTooLong policies.now workload.now)) }
 {
     simulate_seed(alloc, workload, workload.machine.seed, policies, sink)
 }
@@ -67,6 +69,7 @@ pub fn simulate_seed<S: Sink + Enough>(
     ensures flaw { IfErr result (λ fault. flaw_told fault ≡ first_flaw workload.now) }
     ensures untold { first_flaw workload.now ≢ None → sink.new ≡ sink.old }
     ensures ends { first_flaw workload.now ≡ None → IfErr result (IsCutOff workload.now) }
+    ensures endless { IfErr result (λ fault. fault ≡ why.Endless → Gets S.takes sink.old sink.new (IsTooLong policies.now (with_seed workload.now seed))) }
 {
     soundness(workload).map_err(SimulateFault::Unsound)?;
     let counts = match follow(alloc, workload, seed, policies, sink) {
@@ -90,6 +93,7 @@ fn follow<S: Sink + Enough>(
     ensures told { OnOk result (Gets S.takes sink.old sink.new (IsFollowed (S.sated sink.new) policies.now (with_seed workload.now seed))) }
     ensures tasks { IfOk result (λ counts. counts.tasks ≡ tasks_in workload.now.tasks.items) }
     ensures ends { first_flaw workload.now ≡ None → IfErr result (EndsEarly workload.now) }
+    ensures endless { first_flaw workload.now ≡ None → IfErr result (λ fault. fault ≡ why.Endless → Gets S.takes sink.old sink.new (IsTooLong policies.now (with_seed workload.now seed))) }
 {
     let machine = &workload.machine;
     let driver = Driver::new(alloc, machine.rule, machine.size, sink)?;
@@ -150,6 +154,7 @@ impl Simulation {
         ensures tasks { IfOk result (λ counts. counts.tasks ≡ tasks_in workload.now.tasks.items) }
         ensures runs { OnOk result (RunsOn S.takes S.sated policies.now workload.now.tasks.items (most_steps workload.now) workload.now.machine.duration (processors_in workload.now.machine.size) sink.old self.old sink.new self.new) }
         ensures ends { StartsWell workload.now self.old → IfErr result (EndsEarly workload.now) }
+        ensures endless { StartsWell workload.now self.old → IfErr result (λ fault. fault ≡ why.Endless → RunsOut S.takes policies.now workload.now sink.old self.old sink.new self.new) }
     {
         let tasks = self.proceed(alloc, workload, policies, sink)?;
         if sink.has_enough() {
@@ -178,6 +183,7 @@ impl Simulation {
         ensures lived { OnOk result (LivedFrom S.takes workload.now.tasks.items (Proceeds policies.now (processors_in workload.now.machine.size) workload.now.tasks.items self.old.seed self.old.roster.periods (most_steps workload.now) workload.now.machine.duration) sink.old self.old sink.new self.new) }
         ensures well { OnOk result (StartsWell workload.now self.old → HasGoneWell workload.now self.new) }
         ensures ends { StartsWell workload.now self.old → IfErr result (EndsEarly workload.now) }
+        ensures endless { StartsWell workload.now self.old → IfErr result (λ fault. fault ≡ why.Endless → RunsOut S.takes policies.now workload.now sink.old self.old sink.new self.new) }
     {
         let processors = workload.machine.size.processors();
         self.install(alloc, processors, policies, sink)?;
@@ -210,6 +216,7 @@ impl Simulation {
         ensures lived { OnOk result (LivedFrom S.takes workload.now.tasks.items (AreMet workload.now.tasks.items self.old.seed self.old.roster.periods most workload.now.machine.duration) sink.old self.old sink.new self.new) }
         ensures well { OnOk result (GoesWell workload.now 0 self.old → HasGoneWell workload.now self.new) }
         ensures ends { GoesWell workload.now 0 self.old → HasProcessors workload.now self.old → most ≡ most_steps workload.now → IfErr result (EndsEarly workload.now) }
+        ensures endless { GoesWell workload.now 0 self.old → IfErr result (λ fault. fault ≡ why.Endless → LivedFrom S.takes workload.now.tasks.items (AreAllMet workload.now.tasks.items self.old.seed self.old.roster.periods most workload.now.machine.duration) sink.old self.old sink.new self.new) }
     {
         let end = workload.machine.duration;
         let mut last: u64 = 0;

@@ -1,9 +1,10 @@
-use Rattle.std.proofs.Common.{inl, ◌∙◌}
+use Rattle.std.proofs.Common.{inl, subst, sym, ◌∙◌}
 use Rattle.std.proofs.lemmas.Result.{on_ok_weaker}
+use Rattle.bq_simulate.specs.Order.{EndsEarly}
 use Rattle.bq_simulate.specs.Simulations.{with_seed}
-use Rattle.bq_simulate.proofs.WholeLemmas.{IsNew, followed-of}
+use Rattle.bq_simulate.proofs.WholeLemmas.{IsNew, followed-of, too-long-of}
 use Rattle.bq_simulate.proofs.OpenWellLemmas.{starts-well}
-use Rattle.bq_simulate.proofs.WellLemmas.{err-by}
+use Rattle.bq_simulate.proofs.WellLemmas.{bound-of-endless, err-both, err-by, wants-no-end}
 use Rattle.bq_simulate.proofs.following.follow.Goals as goal
 
 pub returns-clause-told : goal.returns-clause-told
@@ -27,3 +28,21 @@ returns-clause-ends g c = λ sound.
     let made = c.in_ok-driver.ensures.starts in
     let new : IsNew (with_seed w c.args.seed) _ _ = record { driver = s.driver; accounts = s.accounts; periods = s.periods; agreed = s.agrees; seed = s.seed; streams = s.streams; firsts = s.firsts } in
     c.run.ensures.ends (starts-well w c.args.seed _ _ made.told sound made.holds new s.counts)
+
+pub returns-in_err-driver-clause-endless : goal.returns-in_err-driver-clause-endless
+returns-in_err-driver-clause-endless g c = λ sound. err-by c.from_residual.result c.from_residual.ensures.1 (λ e is ends. absurd (wants-no-end (sym (is c.in_err-driver.ensures.fault) ∙ ends)))
+
+pub returns-in_err-simulation-clause-endless : goal.returns-in_err-simulation-clause-endless
+returns-in_err-simulation-clause-endless g c = λ sound. err-by c.from_residual-in_err-simulation.result c.from_residual-in_err-simulation.ensures.1 (λ e is ends. absurd (wants-no-end (sym (is ∙ c.in_err-simulation.ensures.ends) ∙ ends)))
+
+-- the bound is more than 64 bits count, and so many things have come due
+pub returns-clause-endless : goal.returns-clause-endless
+returns-clause-endless g c = λ sound.
+    let s = c.in_ok-simulation.ensures in
+    let w = c.args.workload.now in
+    let made = c.in_ok-driver.ensures.starts in
+    let seeded = with_seed w c.args.seed in
+    let new : IsNew seeded _ _ = record { driver = s.driver; accounts = s.accounts; periods = s.periods; agreed = s.agrees; seed = s.seed; streams = s.streams; firsts = s.firsts } in
+    let starts = starts-well w c.args.seed _ _ made.told sound made.holds new s.counts in
+    err-both c.run.result (c.run.ensures.ends starts) (c.run.ensures.endless starts)
+    (λ e early runs is. too-long-of g.S.Sink.takes _ _ _ c.args.policies.now seeded _ _ _ made new (bound-of-endless w (subst (EndsEarly w) is early)) (runs is))

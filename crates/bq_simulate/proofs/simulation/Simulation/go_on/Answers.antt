@@ -1,16 +1,16 @@
-use Rattle.std.proofs.Common.{◌≤◌, inl, inr, refl, subst, ◌∙◌, arith}
+use Rattle.std.proofs.Common.{◌≡◌, ◌≤◌, inl, inr, refl, sym, subst, ◌∙◌, arith}
 use Rattle.std.proofs.lemmas.Option.{MatchOption-at_none, MatchOption-at_some}
 use Rattle.bq_workload.specs.declared.roster.Periods.{Periods}
 use Rattle.bq_workload.specs.Accounts.{accounts_of}
 use Rattle.bq_workload.specs.Next.{IsAgreed, IsNext, NothingComes}
 use Rattle.bq_simulate.specs.Simulations.{book_of}
-use Rattle.bq_simulate.specs.Steps.{AreMet}
+use Rattle.bq_simulate.specs.Steps.{AreAllMet}
 use Rattle.bq_simulate.proofs.BoundLemmas.{bound-passed, counted-well, none-came}
 use Rattle.bq_simulate.proofs.DeedLemmas.{Lived-same, Same-here}
 use Rattle.bq_simulate.proofs.OrderLemmas.{met-more}
 use Rattle.bq_simulate.proofs.StepLemmas.{AreMet-none}
-use Rattle.bq_simulate.proofs.WellLemmas.{comes-well, err-by, met-well}
-use Rattle.bq_simulate.proofs.WholeLemmas.{LivedFrom-within}
+use Rattle.bq_simulate.proofs.WellLemmas.{comes-well, err-by, met-well, wants-no-end}
+use Rattle.bq_simulate.proofs.WholeLemmas.{LivedFrom-all, LivedFrom-within}
 use Rattle.bq_simulate.proofs.simulation.Simulation.go_on.Goals as goal
 use Rattle.bq_simulate.proofs.simulation.Simulation.go_on.Goals.{then-now-last-via-then-now-last, then-now-last-via-else-now-last+then-now-end}
 
@@ -45,7 +45,7 @@ steps-init g c =
     let was = c.args.self.now in
     let kinds = c.args.workload.now.tasks.items in
     record {
-      lived = λ drawn had firsts agreed. Lived-same g.S.Sink.takes (AreMet kinds was.seed was.roster.periods 0 0 (book_of was drawn)) (AreMet-none kinds was.seed was.roster.periods (book_of was drawn)) _ _ _ (Same-here _) kinds drawn had firsts;
+      lived = λ drawn had firsts agreed. Lived-same g.S.Sink.takes (AreAllMet kinds was.seed was.roster.periods 0 0 (book_of was drawn)) (AreMet-none kinds was.seed was.roster.periods (book_of was drawn)) _ _ _ (Same-here _) kinds drawn had firsts;
       within = omega arith;
       well = λ begins. begins;
       counted = λ begins many. (many, none-came c.args.workload.now was.driver (book_of was begins.drawn) begins.sound begins.kept many);
@@ -101,3 +101,21 @@ returns-clause-ends g c = λ begins many bound.
     let counted = c.steps.invariant.counted begins many in
     let all : c.args.most ≤ c.steps.counter = omega (arith, c.steps-test.false) in
     inr (refl, bound-passed w c.steps.counter c.steps.last c.args.most (accounts_of c.steps.self.roster) c.steps.invariant.within all bound counted.1)
+
+-- what wants memory is no want of an end
+pub returns-in_err-meet-clause-endless : goal.returns-in_err-meet-clause-endless
+returns-in_err-meet-clause-endless g c = λ begins.
+    let w = c.args.workload.now in
+    let here = c.steps.self.roster in
+    let due = c.in-Some.due in
+    let now = c.in-Some.now in
+    let well = c.steps.invariant.well begins in
+    let next = MatchOption-at_some (NothingComes here.periods.end (accounts_of here)) (λ d. IsNext here.periods.end (accounts_of here) d.1 d.0) (now, due) c.in-Some.is (c.first.ensures.next well.agreed) in
+    let wants = c.in_err-meet.ensures.ends (comes-well w c.steps.last now due c.steps.self well next).2 (subst (λ (p : Periods). IsNext p.end (accounts_of here) due now) well.periods next) in
+    err-by c.from_residual.result c.from_residual.ensures.1 (λ e is ends. absurd (wants-no-end (sym (is ∙ wants) ∙ ends)))
+
+pub returns-clause-endless : goal.returns-clause-endless
+returns-clause-endless g c = λ begins is.
+    let was = c.args.self.now in
+    let all : c.steps.counter ≡ c.args.most = omega (arith, c.steps-test.false, c.steps.auto.counter-end) in
+    LivedFrom-all g.S.Sink.takes c.args.workload.now.tasks.items was.seed was.roster.periods c.steps.counter c.args.most c.steps.last c.args.workload.now.machine.duration _ _ _ _ all c.steps.invariant.within c.steps.invariant.lived

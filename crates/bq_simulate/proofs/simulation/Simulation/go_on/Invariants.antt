@@ -2,13 +2,13 @@ use Rattle.std.proofs.Common.{◌≤◌}
 use Rattle.bq_workload.specs.Accounts.{accounts_of}
 use Rattle.bq_simulate.specs.Order.{GoesWell, HasProcessors}
 use Rattle.bq_simulate.specs.Simulations.{LivedFrom}
-use Rattle.bq_simulate.specs.Steps.{AreMet}
+use Rattle.bq_simulate.specs.Steps.{AreAllMet}
 use Rattle.bq_simulate.proofs.BoundLemmas.{IsCounted}
 use Rattle.bq_simulate.proofs.simulation.Simulation.go_on.Given as goal
 
 abbrev pub invariant-steps : goal.invariant-steps
 invariant-steps g l = record {
-  lived : LivedFrom g.S.Sink.takes l.workload.tasks.items (AreMet l.workload.tasks.items l.initial.self.seed l.initial.self.roster.periods l.counter l.last) l.initial.sink l.initial.self l.sink l.self;
+  lived : LivedFrom g.S.Sink.takes l.workload.tasks.items (AreAllMet l.workload.tasks.items l.initial.self.seed l.initial.self.roster.periods l.counter l.last) l.initial.sink l.initial.self l.sink l.self;
   within : l.last ≤ l.end;
   well : GoesWell l.workload 0 l.initial.self → GoesWell l.workload l.last l.self;
   counted : GoesWell l.workload 0 l.initial.self → HasProcessors l.workload l.initial.self → HasProcessors l.workload l.self × IsCounted l.workload l.counter l.last (accounts_of l.self.roster);

@@ -12,7 +12,7 @@ use Rattle.bq_simulate.proofs.DeedLemmas.{Lived-weaker}
 use Rattle.bq_simulate.proofs.EndWellLemmas.{ended-well, keep_phases}
 use Rattle.bq_simulate.proofs.OpenWellLemmas.{processors-there}
 use Rattle.bq_simulate.proofs.SoundKindLemmas.{sound_times}
-use Rattle.bq_simulate.proofs.WellLemmas.{err-by}
+use Rattle.bq_simulate.proofs.WellLemmas.{err-by, wants-no-end}
 use Rattle.bq_simulate.proofs.simulation.Simulation.run.Goals as goal
 
 -- where the sink has enough the rest is left
@@ -59,3 +59,18 @@ returns-in_err-finish-clause-ends g c = λ starts.
     let many = gone.well.kept.agrees.mirrors.processors.many in
     let wants = c.in_err-finish.ensures.ends w (ended-well w ended none gone) (omega (arith, c.processors-processors.ensures, there, many)) in
     err-by c.from_residual-in_err-finish.result c.from_residual-in_err-finish.ensures.1 (λ e is. inl (is ∙ wants))
+
+pub returns-in_err-tasks-clause-endless : goal.returns-in_err-tasks-clause-endless
+returns-in_err-tasks-clause-endless g c = λ starts. err-by c.from_residual.result c.from_residual.ensures.1 (λ e is ends. c.in_err-tasks.ensures.endless starts (sym is ∙ ends))
+
+pub returns-in_err-finish-clause-endless : goal.returns-in_err-finish-clause-endless
+returns-in_err-finish-clause-endless g c = λ starts.
+    let w = c.args.workload.now in
+    let ended = c.proceed.new.self in
+    let gone = c.in_ok-tasks.ensures.well starts in
+    let none = c.in_ok-tasks.ensures.none (sym c.has_enough.ensures ∙ c.if-has_enough.false) gone.well.agreed in
+    let was = c.args.self.now in
+    let there = processors-there g.S.Sink.takes (Proceeds c.args.policies.now (processors_in w.machine.size) w.tasks.items was.seed was.roster.periods (most_steps w) w.machine.duration) _ _ w 0 _ _ c.in_ok-tasks.ensures.lived starts.opens in
+    let many = gone.well.kept.agrees.mirrors.processors.many in
+    let wants = c.in_err-finish.ensures.ends w (ended-well w ended none gone) (omega (arith, c.processors-processors.ensures, there, many)) in
+    err-by c.from_residual-in_err-finish.result c.from_residual-in_err-finish.ensures.1 (λ e is ends. absurd (wants-no-end (sym (is ∙ wants) ∙ ends)))
