@@ -10,7 +10,7 @@ use std::process::Abort;
 use std::test::Fail;
 
 /// The bytes of a program in hex, an instruction a line, and its text after the line that names the hook.
-static IMPORTED: [(&str, &str); 7] = [
+static IMPORTED: [(&str, &str); 8] = [
     // the exit at slot 3 is shared: slot 5 jumps back to it. It comes to stand behind both that go on to it, and a jump to
     // what follows goes no slot on
     (
@@ -26,6 +26,11 @@ static IMPORTED: [(&str, &str); 7] = [
     (
         "b400000001000000\n0500010000000000\nb400000000000000\n9500000000000000",
         "mov32 r0, 1\nja +0\nexit\n",
+    ),
+    // a loop where control never comes: slot 2 jumps to itself
+    (
+        "b400000001000000\n9500000000000000\n0500ffff00000000",
+        "mov32 r0, 1\nexit\n",
     ),
     // all is in order
     (
@@ -228,6 +233,21 @@ fn runs_of_4096_slots(rt: HostRuntime) -> Result<(), Fail> {
         "the program takes more than 4096 slots once every jump goes forward; make it shorter";
     holds(&rt, text.as_str() == words, text.as_str(), words);
     Ok(())
+}
+
+/// A jump over the exit; 60 jumps, each to the next slot of a run; and this run, of 120 moves and a jump back to the exit. The runs from slots 0, 1 and 2
+/// have 1, 1 and 181 slots, those from the 60 slots 121 to 62: 5673 together. In the copy only the exit moves, to the end: 183 slots.
+#[test]
+fn runs_that_share_their_slots(rt: HostRuntime) -> Result<(), Fail> {
+    let alloc = rt.alloc();
+    let exit = "0500010000000000\n9500000000000000\n";
+    let jumps = repeated(alloc, exit, "16023b0000000000\n", 60, "")?;
+    // a distance counts from the slot behind the jump, 183: -182 to slot 1
+    let back = "05004aff00000000\n";
+    let hex = repeated(alloc, jumps.as_str(), "b400000000000000\n", 120, back)?;
+    let jumps = repeated(alloc, "ja +0\n", "jeq32 r2, 0, +59\n", 60, "")?;
+    let listing = repeated(alloc, jumps.as_str(), "mov32 r0, 0\n", 120, "ja +0\nexit\n")?;
+    is_imported(&rt, alloc, hex.as_bytes(), listing.as_str())
 }
 
 #[test]

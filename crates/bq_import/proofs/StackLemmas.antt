@@ -10,7 +10,7 @@ use Rattle.bq_insn.proofs.OptionLemmas.{some_same, some_none}
 use Rattle.bq_verify.proofs.EdgeLemmas.{start_inside, IsPath-push, end_of-push}
 use Rattle.bq_import.specs.Copies.{Stands}
 use Rattle.bq_import.specs.Backward.{IsBuilt, IsLengthened}
-use Rattle.bq_import.specs.Search.{place_at, IsDone, AreKnown, AreClosed, IsReady, is_open, unopened, IsOn, IsTop, IsSearching, KeepsOpen, left_of}
+use Rattle.bq_import.specs.Search.{AllComeTo, IsQueued, place_at, IsDone, AreKnown, AreClosed, IsReady, is_open, unopened, IsOn, IsTop, IsSearching, KeepsOpen, left_of}
 
 -- two numbers are equal or not
 pub equal_or_not : (a b : ℕ) → (a ≡ b) ⊎ (a ≢ b)
@@ -31,12 +31,38 @@ still_set places slot place inside s done = elim (equal_or_not s slot) [
 ]
 
 -- a path and one edge more
-path_on : (slots : List (Option Insn)) (a b c : ℕ) → Path slots a b → IsEdge slots b c → Path slots a c
+pub path_on : (slots : List (Option Insn)) (a b c : ℕ) → Path slots a b → IsEdge slots b c → Path slots a c
 path_on slots a b c p edge = record {
   rest = p.rest ++ c ∷ [];
   is_path = IsPath-push slots a p.rest c p.is_path (subst (λ (n : ℕ). IsEdge slots n c) (sym p.ends) edge);
   ends = end_of-push a p.rest c;
 }
+
+-- control comes to what it goes on to from the top of the stack
+pub comes_next : (slots : List (Option Insn)) (stack : List ℕ) (top to : ℕ) → AllComeTo slots stack → IsTop stack top → IsEdge slots top to → Path slots 0 to
+comes_next slots stack top to comes is edge =
+    let long = is.long in
+    path_on slots 0 top to (subst (λ (n : ℕ). Path slots 0 n) is.slot_is (comes is.below (omega (arith, long)))) edge
+
+-- control comes to all of a list, and to one slot more
+pub comes_more : (slots : List (Option Insn)) (list : List ℕ) (slot : ℕ) → AllComeTo slots list → Path slots 0 slot → AllComeTo slots (list ++ slot ∷ [])
+comes_more slots list slot comes way index lt = elim (equal_or_not index (length list)) [
+  | inl e ↦
+      let last : slice_index (list ++ slot ∷ []) index ≡ slot =
+      ap (λ (n : ℕ). get_or (list ++ slot ∷ []) n 0) (let same : index ≡ length list + 0 = omega (arith, e) in same) ∙ get_or-append-add list (slot ∷ []) 0 0 in
+      subst (λ (n : ℕ). Path slots 0 n) (sym last) way
+  | inr apart ↦
+      let long = length-append list (slot ∷ []) in
+      let inside : index < length list = omega (arith, lt, long, apart) in
+      subst (λ (n : ℕ). Path slots 0 n) (sym (get_or_append_left list (slot ∷ []) 0 index inside)) (comes index inside)
+]
+
+-- so it does to all of a queue when a slot is queued that it comes to
+pub comes_queued : (slots : List (Option Insn)) (before : List ℕ) (slot : Option ℕ) (after : List ℕ) → IsQueued before slot after → AllComeTo slots before → ((k : ℕ) → slot ≡ Some k → Path slots 0 k) → AllComeTo slots after
+comes_queued slots before slot after queued comes way = elim queued [
+  | inl same ↦ subst (λ (list : List ℕ). AllComeTo slots list) (sym same) comes
+  | inr (k, is, more) ↦ subst (λ (list : List ℕ). AllComeTo slots list) (sym more) (comes_more slots before k comes (way k is))
+]
 
 module _ (maps : ℕ) (old back : List (Option Insn)) (origins : List ℕ) (places : List (Option ℕ)) (opens : List Bool) (stack : List ℕ) (at : IsSearching maps old back origins places opens stack) (slot : ℕ) where
   module _ (start : IsStart old slot) (new : is_open opens slot ≡ false) (edge : (top : ℕ) → IsTop stack top → IsEdge old top slot) where
@@ -95,8 +121,8 @@ module _ (maps : ℕ) (old back : List (Option Insn)) (origins : List ℕ) (plac
           | inr e ↦ subst (λ (n : ℕ). IsStart old n) (sym (ap (λ (n : ℕ). slice_index (stack ++ slot ∷ []) n) e ∙ last_on)) start
         ]
 
-    pub after_open : IsSearching maps old back origins places (slice_set opens slot true) (stack ++ slot ∷ [])
-    after_open = record { ordered = at.ordered; room = length-set opens slot true ∙ at.room; opened = opened_more; ways = ways_more; starts = starts_more }
+    pub after_open : Path old 0 slot → IsSearching maps old back origins places (slice_set opens slot true) (stack ++ slot ∷ [])
+    after_open way = record { ordered = at.ordered; room = length-set opens slot true ∙ at.room; opened = opened_more; ways = ways_more; starts = starts_more; comes = comes_more old stack slot at.comes way }
 
     pub open_now : is_open (slice_set opens slot true) slot ≡ true
     open_now = get_or-set_same opens slot true false slot_inside
@@ -185,6 +211,12 @@ module _ (maps : ℕ) (old back : List (Option Insn)) (origins : List ℕ) (plac
         let lt' : i < length stack - 1 = omega (arith, lt, taken) in
         subst (λ (n : ℕ). IsStart old n) (sym (taken_index i lt')) (at.starts i (omega (arith, lt')))
 
+    comes_less : AllComeTo old (take (length stack - 1) stack)
+    comes_less i lt =
+        let taken = taken_long in
+        let lt' : i < length stack - 1 = omega (arith, lt, taken) in
+        subst (λ (n : ℕ). Path old 0 n) (sym (taken_index i lt')) (at.comes i (omega (arith, lt')))
+
     pub after_leave : IsSearching maps old back' origins' (slice_set places slot (Some (length back' - 1))) opens (take (length stack - 1) stack)
     unfolding place
     after_leave = record {
@@ -193,6 +225,7 @@ module _ (maps : ℕ) (old back : List (Option Insn)) (origins : List ℕ) (plac
       opened = opened_less;
       ways = ways_less;
       starts = starts_less;
+      comes = comes_less;
     }
 
     pub less_leave : left_of opens (take (length stack - 1) stack) < left_of opens stack
@@ -215,6 +248,7 @@ nothing_begun maps old back origins places opens stack built nothing none room s
       opened = λ slot e. absurd (let never : true ≡ false = sym e ∙ shut slot in true_false never);
       ways = λ i j le lt. absurd (omega (arith, lt, short));
       starts = λ i lt. absurd (omega (arith, lt, short));
+      comes = λ i lt. absurd (omega (arith, lt, short));
     }
   where
     true_false : true ≡ false → ⊥

@@ -45,8 +45,9 @@ pub record LeadsNowhere (slots : List (Option Insn)) (slot : ℕ) : Type 0 where
   pub jumps : distance_of insn ≡ Some distance
   pub nowhere : (to : ℕ) → LeadsTo slot distance to → IsStart slots to → ⊥
 
--- control goes from the one slot to the other, and from there back again
+-- control comes to the one slot, goes from there to the other, and from there back again
 pub record IsLoop (slots : List (Option Insn)) (from to : ℕ) : Type 0 where
+  pub comes : Path slots 0 from
   pub edge : IsEdge slots from to
   pub back : Path slots to from
 

@@ -1,5 +1,5 @@
 -- What the search keeps that puts each slot in front once all slots are in place to which control may go from it.
-use Rattle.std.specs.Prelude.{◌≡◌, ℕ, ◌+◌, ◌*◌, ◌<◌, ◌≤◌, ◌⊎◌, Bool, true, false, ℤ, pos, List, length, Option, Some, None, slice_index, slice_index_or, sum_by}
+use Rattle.std.specs.Prelude.{◌++◌, [], ◌∷◌, ◌≡◌, ℕ, ◌+◌, ◌*◌, ◌<◌, ◌≤◌, ◌⊎◌, Bool, true, false, ℤ, pos, List, length, Option, Some, None, slice_index, slice_index_or, sum_by}
 use Rattle.bq_insn.specs.declared.Insn.{Insn}
 use Rattle.bq_bpf.specs.Steps.{LeadsTo, instruction_at}
 use Rattle.bq_insn.specs.Slots.{slots_of}
@@ -81,9 +81,13 @@ pub record IsOrdered (maps : ℕ) (old back : List (Option Insn)) (origins : Lis
 abbrev pub is_open : List Bool → ℕ → Bool
 is_open opens slot = slice_index_or opens slot false
 
--- a jump leads to each slot that is marked
+-- a jump leads to each slot that is marked, and control comes to it
 abbrev pub AreLandings : List (Option Insn) → List Bool → Type 0
-AreLandings slots marks = (slot : ℕ) → is_open marks slot ≡ true → IsLanding slots slot
+AreLandings slots marks = (slot : ℕ) → is_open marks slot ≡ true → IsLanding slots slot × Path slots 0 slot
+
+-- control comes to each slot of the list
+abbrev pub AllComeTo : List (Option Insn) → List ℕ → Type 0
+AllComeTo slots list = (index : ℕ) → index < length list → Path slots 0 (slice_index list index)
 
 -- the slot stands on the stack
 pub record IsOn (stack : List ℕ) (slot : ℕ) : Type 0 where
@@ -97,6 +101,10 @@ pub record IsTop (stack : List ℕ) (slot : ℕ) : Type 0 where
   pub long : length stack ≡ below + 1
   pub slot_is : slice_index stack below ≡ slot
 
+-- the list is as it was, or ends with the slot now
+abbrev pub IsQueued : List ℕ → Option ℕ → List ℕ → Type 0
+IsQueued before slot after = (after ≡ before) ⊎ ((k : ℕ) × (slot ≡ Some k) × (after ≡ before ++ k ∷ []))
+
 -- 1 where the slot was not begun
 abbrev pub unopened : Bool → ℕ
 unopened true = 0
@@ -109,6 +117,7 @@ pub record IsSearching (maps : ℕ) (old back : List (Option Insn)) (origins : L
   pub opened : (slot : ℕ) → is_open opens slot ≡ true → IsDone places slot ⊎ IsOn stack slot
   pub ways : (i j : ℕ) → i ≤ j → j < length stack → Path old (slice_index stack i) (slice_index stack j)
   pub starts : (i : ℕ) → i < length stack → IsStart old (slice_index stack i)
+  pub comes : AllComeTo old stack
 
 abbrev pub KeepsOpen : List Bool → List Bool → Type 0
 KeepsOpen before after = (slot : ℕ) → is_open before slot ≡ true → is_open after slot ≡ true

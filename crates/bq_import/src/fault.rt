@@ -13,7 +13,7 @@ pub enum Disorder {
     /// Control goes on past the end from this slot.
     #[error("slot {slot}: control goes on past the end; end the function with a return")]
     Ends { slot: usize },
-    /// Control goes from the first slot to the second, and from there back to the first.
+    /// Control comes to the first slot, goes from there to the second, and from that back to the first.
     #[error("slots {from} and {to}: a loop, by the jump from {from} to {to}; unroll it")]
     Loop { from: usize, to: usize },
     /// The copies take more than 4096 slots. This is said only if some jump goes back, and the runs from the first slot and from

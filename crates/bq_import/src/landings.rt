@@ -1,23 +1,25 @@
 //! Where jumps lead, of those that control may come to. It decides how good an order is, not whether it is right: a slot that is
 //! marked is only known to be where a jump leads.
-ghost use Rattle.std.specs.Prelude.{◌≡◌, ◌<◌, ◌⊎◌, ℕ, Some, true, IfOk};
+ghost use Rattle.std.specs.Prelude.{◌≡◌, ◌<◌, ◌⊎◌, ℕ, Some, true, IfOk, OnOk};
+ghost use Rattle.bq_verify.specs.Edges.{IsEdge};
+ghost use Rattle.bq_verify.specs.Passes.{IsOf};
 ghost use Rattle.bq_import.specs.Faults.{IsLinked};
 ghost use Rattle.bq_import.specs.Lengths.{IsJump};
-ghost use Rattle.bq_import.specs.Search.{AreLandings, is_open};
+ghost use Rattle.bq_import.specs.Search.{AreLandings, IsQueued, is_open};
 
 use crate::linked::targets;
 use bq_insn::Insn;
 use bq_verify::edges::{Targets, instruction};
 use std::alloc::{AllocError, Global};
 
-/// A walk over all slots that control may come to.
+/// A walk over all slots that control comes to.
 #[derive(Drop)]
 struct Walk {
     /// Whether a jump leads to the slot.
     landings: Vec<bool>,
     /// Whether the slot was queued.
     seen: Vec<bool>,
-    /// The slots that control may come to, as far as they were found.
+    /// The slots that control comes to, as far as they were found.
     queue: Vec<usize>,
 }
 
@@ -33,10 +35,10 @@ pub fn landings(alloc: Global, slots: &[Option<Insn>]) -> Result<Vec<bool>, Allo
     };
     walk.find(Some(0))?;
     for index in 0..slots.len() {
-        let Some(slot) = walk.queue.get(index).copied() else {
+        if index >= walk.queue.len() {
             return Ok(walk.landings);
-        };
-        let targets = targets_of(slots, slot);
+        }
+        let targets = targets_of(slots, walk.queue[index]);
         walk.land(targets.jump);
         walk.find(targets.jump)?;
         walk.find(targets.next)?;
@@ -47,7 +49,8 @@ pub fn landings(alloc: Global, slots: &[Option<Insn>]) -> Result<Vec<bool>, Allo
 impl Walk {
     /// Queues the slot, unless it was.
     fn find(&mut self, slot: Option<usize>) -> Result<(), AllocError>
-        ensures { self.new.landings ≡ self.old.landings }
+        ensures landings { self.new.landings ≡ self.old.landings }
+        ensures queue { OnOk result (IsQueued self.old.queue.items slot self.new.queue.items) }
     {
         let Some(slot) = slot else {
             return Ok(());
@@ -62,7 +65,8 @@ impl Walk {
 
     /// Marks the slot, if there is one.
     fn land(&mut self, slot: Option<usize>)
-        ensures { (k : ℕ) → is_open self.new.landings.items k ≡ true → (is_open self.old.landings.items k ≡ true) ⊎ (slot ≡ Some k) }
+        ensures queue { self.new.queue ≡ self.old.queue }
+        ensures landings { (k : ℕ) → is_open self.new.landings.items k ≡ true → (is_open self.old.landings.items k ≡ true) ⊎ (slot ≡ Some k) }
     {
         let Some(slot) = slot else {
             return;
@@ -76,7 +80,8 @@ impl Walk {
 /// Where control may go from the slot; nowhere where no instruction begins there.
 fn targets_of(slots: &[Option<Insn>], slot: usize) -> Targets
     requires { IsLinked slots.now }
-    ensures { (to : ℕ) → result.jump ≡ Some to → IsJump slots.now slot to }
+    ensures jumps { (to : ℕ) → result.jump ≡ Some to → IsJump slots.now slot to }
+    ensures edges { (to : ℕ) → IsOf result to → IsEdge slots.now slot to }
 {
     if slot >= slots.len() {
         return NOWHERE;

@@ -3,6 +3,7 @@ ghost use Rattle.std.specs.Prelude.{◌≡◌, ◌<◌, ◌≤◌, ◌+◌, ◌+
 ghost use Rattle.bq_insn.specs.declared.Insn.{Insn};
 ghost use Rattle.bq_verify.specs.Edges.{IsEdge, IsStart};
 ghost use Rattle.bq_verify.specs.Passes.{IsOf};
+ghost use Rattle.bq_verify.specs.Paths.{Path};
 ghost use Rattle.bq_import.specs.Backward.{IsFront};
 ghost use Rattle.bq_import.specs.Faults.{IsSearchFault, IsLinked};
 ghost use Rattle.bq_import.specs.Lengths.{IsLanding, run_at};
@@ -48,6 +49,7 @@ impl Search {
         requires linked { IsLinked old.now }
         requires few { maps ≤ 8 }
         requires start { IsStart old.now root }
+        requires reached { Path old.now 0 root }
         requires root { IsLanding old.now root ⊎ (root ≡ 0) }
         requires done { IsDoneWith maps old.now self.old }
         requires within { IsWithin old.now self.old 0 }
@@ -140,6 +142,7 @@ impl Search {
     fn open(&mut self, old: &[Option<Insn>], maps: usize, slot: usize) -> Result<(), Disorder>
         requires linked { IsLinked old.now }
         requires at { IsAt maps old.now self.old }
+        requires reached { Path old.now 0 slot }
         requires start { IsStart old.now slot }
         requires new { is_open self.old.opens.items slot ≡ false }
         requires edge { (top : ℕ) → IsTop self.old.stack.items top → IsEdge old.now top slot × (place_at self.old.places.items slot ≡ None) }

@@ -20,7 +20,7 @@ returns-clause-ok c =
     let stack_is : c.push.new.self.items ≡ stack ++ (c.args.slot ∷ []) = c.in_ok-push.ensures.items in
     record {
       at = subst (λ (s : List ℕ). IsSearching c.args.maps old back origins places (slice_set opens c.args.slot true) s) (sym stack_is)
-          (after_open c.args.maps old back origins places opens stack c.requires.at c.args.slot c.requires.start c.requires.new (λ top is. (c.requires.edge top is).0));
+          (after_open c.args.maps old back origins places opens stack c.requires.at c.args.slot c.requires.start c.requires.new (λ top is. (c.requires.edge top is).0) c.requires.reached);
       keeps = keeps_open c.args.maps old back origins places opens stack c.requires.at c.args.slot c.requires.start c.requires.new (λ top is. (c.requires.edge top is).0);
       bottom = λ root bottom. inl (subst (λ (s : List ℕ). IsBottom s root) (sym stack_is) (bottom_open stack c.args.slot root bottom));
       less = subst (λ (s : List ℕ). left_of (slice_set opens c.args.slot true) s < left_of opens stack) (sym stack_is)
