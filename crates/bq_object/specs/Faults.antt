@@ -1,7 +1,7 @@
 -- Why an object has no policy that can be read.
 use Rattle.std.specs.Prelude.{◌≡◌, ◌≢◌, ℕ, ◌+◌, ◌*◌, ◌<◌, ◌≤◌, ◌⊎◌, List, length}
 use Rattle.bq_object.specs.declared.fault.ObjectFault.{ObjectFault}
-use Rattle.bq_object.specs.declared.fault.ObjectFault.TheVariants.{Class, Machine, HeaderSize, Sections, NoPolicy, Relocation, Cut}
+use Rattle.bq_object.specs.declared.fault.ObjectFault.TheVariants.{Class, Machine, HeaderSize, Sections, NoPolicy, Cut}
 use Rattle.bq_object.specs.declared.fault.Piece.TheVariants as piece
 use Rattle.bq_object.specs.declared.fault.TheConstants.{MOST_SECTIONS}
 use Rattle.bq_object.specs.declared.section.Section.{Section}
@@ -10,7 +10,7 @@ use Rattle.bq_object.specs.Numbers.{number_at}
 use Rattle.bq_object.specs.Sections.{HasNone, IsFirstOf, IsSection}
 use Rattle.bq_object.specs.Symbols.{HasNoPolicy, IsFirstPolicy}
 use Rattle.bq_object.specs.Relocations.{IsRelocationFault}
-use Rattle.bq_object.specs.Objects.{HasHeaders, HasTables, IsClass, IsCode}
+use Rattle.bq_object.specs.Objects.{HasHeaders, HasTables, IsClass}
 
 -- what is wrong with the head of a file: the first of these that holds
 abbrev pub IsHeaderFault : List ℕ → ObjectFault → Type 0
