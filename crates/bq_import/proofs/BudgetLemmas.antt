@@ -14,8 +14,9 @@ use Rattle.bq_import.specs.declared.fault.Disorder.TheVariants.{Outside, Ends, L
 use Rattle.bq_import.specs.Backward.{IsFront}
 use Rattle.bq_import.specs.Budgets.{AreKeptFor, HasBudget, IsBottom, IsKept, waiting}
 use Rattle.bq_import.specs.Faults.{IsFull, IsLinked, IsSearchFault}
-use Rattle.bq_import.specs.Lengths.{IsIn, IsLanding, run_at}
-use Rattle.bq_import.specs.Search.{AreTargets, IsDone, IsLastOf, IsMissing, IsTop, Suffices, is_open, place_at, width_at, width_of}
+use Rattle.bq_import.specs.Lengths.{IsIn, IsLanding, run_at, width_at, width_of}
+use Rattle.bq_import.specs.Orders.{HasLongOrder}
+use Rattle.bq_import.specs.Search.{AreTargets, IsDone, IsLastOf, IsMissing, IsTop, Suffices, is_open, place_at}
 use Rattle.bq_import.proofs.LengthLemmas.{run_next}
 use Rattle.bq_import.proofs.RunningLemmas.{next_of}
 use Rattle.bq_import.proofs.StackLemmas.{equal_or_not}
@@ -221,14 +222,14 @@ module _ (old back : List (Option Insn)) (origins : List ℕ) (places : List (Op
       fits = λ landings has. let before = budget.fits landings has in let all = kept_top.all in omega (arith, grown, before, all);
     }
 
--- a program is too long whose copy is full within its budget
+-- a program is too long whose copy is full within its budget and that of a forward order
 pub full_within : (old back : List (Option Insn)) (origins : List ℕ) (places : List (Option ℕ)) (opens : List Bool) (stack : List ℕ) (extra own most : ℕ) (d : Disorder) → IsLinked old →
-    (budget : HasBudget old back origins places opens stack extra) → own + extra ≤ budget.kept + run_at old 0 → most ≤ length back + own → IsFull most d → IsSearchFault old d
-full_within old back origins places opens stack extra own most (Outside slot) linked budget le fits full = absurd full
-full_within old back origins places opens stack extra own most (Ends slot) linked budget le fits full = absurd full
-full_within old back origins places opens stack extra own most (Loop from to) linked budget le fits full = absurd full
-full_within old back origins places opens stack extra own most Long linked budget le fits full = (linked, λ landings has. let within = budget.fits landings has in omega (arith, within, le, fits, full))
-full_within old back origins places opens stack extra own most OutOfMemory linked budget le fits full = tt
+    (budget : HasBudget old back origins places opens stack extra) → own + extra ≤ budget.kept + run_at old 0 → most ≤ length back + own → IsFull most d → (long : ℕ) → IsFull long d → (4096 < long → HasLongOrder old) → IsSearchFault old d
+full_within old back origins places opens stack extra own most (Outside slot) linked budget le fits full long over order = absurd full
+full_within old back origins places opens stack extra own most (Ends slot) linked budget le fits full long over order = absurd full
+full_within old back origins places opens stack extra own most (Loop from to) linked budget le fits full long over order = absurd full
+full_within old back origins places opens stack extra own most Long linked budget le fits full long over order = (linked, λ landings has. let within = budget.fits landings has in omega (arith, within, le, fits, full), order over)
+full_within old back origins places opens stack extra own most OutOfMemory linked budget le fits full long over order = tt
 
 -- before the first slot
 pub nothing_written : (old back : List (Option Insn)) (origins : List ℕ) (places : List (Option ℕ)) (opens : List Bool) (stack : List ℕ) → back ≡ [] → stack ≡ [] → HasBudget old back origins places opens stack 0

@@ -11,8 +11,8 @@ use Rattle.bq_verify.specs.Edges.{IsStart}
 use Rattle.bq_verify.proofs.EdgeLemmas.{leads_same, start_inside}
 use Rattle.bq_verify.proofs.SpreadLemmas.{one_or_two}
 use Rattle.bq_import.specs.Faults.{IsLinked}
-use Rattle.bq_import.specs.Lengths.{IsIn, IsLanding, IsTooLong, run_at, run_of}
-use Rattle.bq_import.specs.Search.{IsNext, width_at, width_of}
+use Rattle.bq_import.specs.Lengths.{IsIn, IsLanding, IsTooLong, run_at, run_of, width_at, width_of}
+use Rattle.bq_import.specs.Search.{IsNext}
 use Rattle.bq_import.proofs.RoomLemmas.{enough, one_slot}
 
 -- the run, by the first of its slots
@@ -48,6 +48,12 @@ run_next slots slot next linked n = elim (one_or_two n.insn) [ inl one ↦ by_on
         let there : run_at slots next ≡ run_at slots (slot + 1 + 1) = ap (run_at slots) same in
         omega (arith, same, here, second, there)
 
+-- an instruction from which control does not go on is a run by itself
+pub run_alone : (slots : List (Option Insn)) (slot : ℕ) (insn : Insn) → instruction_at slots slot ≡ Some insn → goes_on insn ≡ false → run_at slots slot ≡ 1
+run_alone slots slot insn here on =
+    run_here slots slot (Some insn) (start_inside slots slot (record { insn = insn; here = here })) here
+    ∙ ap (λ (b : Bool). if b then 1 + run_of (drop (slot + 1) slots) else 1) on
+
 -- the run has the slots of its first instruction
 pub run_has : (slots : List (Option Insn)) (slot : ℕ) → IsLinked slots → IsStart slots slot → width_at slots slot ≤ run_at slots slot
 run_has slots slot linked start = by (goes_on start.insn) refl
@@ -62,8 +68,7 @@ run_has slots slot linked start = by (goes_on start.insn) refl
         omega (arith, ends, same)
     by false on =
         let one = one_slot start.insn on in
-        let here : run_at slots slot ≡ 1 =
-        run_here slots slot (Some start.insn) (start_inside slots slot start) start.here ∙ ap (λ (b : Bool). if b then 1 + run_of (drop (slot + 1) slots) else 1) on in
+        let here = run_alone slots slot start.insn start.here on in
         let same = wide in
         omega (arith, one, here, same)
 

@@ -5,6 +5,7 @@ pub mod PathLemmas
 pub mod BackwardLemmas
 pub mod SearchLemmas
 pub mod StackLemmas
+pub mod ForwardLemmas
 pub mod OrderLemmas
 pub mod ProgramLemmas
 pub mod TurningLemmas

@@ -55,7 +55,7 @@ pub wrong_by_search : (slots : List (Option Insn)) (d : Disorder) → (AllForwar
 wrong_by_search slots (Outside slot) back wrong = absurd wrong
 wrong_by_search slots (Ends slot) back wrong = absurd wrong
 wrong_by_search slots (Loop from to) back wrong = wrong
-wrong_by_search slots Long back wrong = (wrong.0, back, wrong.1, long_enough slots wrong.0 wrong.1)
+wrong_by_search slots Long back wrong = (wrong.0, back, wrong.1, wrong.2, long_enough slots wrong.0 wrong.1)
 wrong_by_search slots OutOfMemory back wrong = tt
 
 -- that memory runs out is wrong with no program

@@ -11,7 +11,8 @@ use Rattle.bq_verify.specs.declared.edges.Targets.{Targets}
 use Rattle.bq_import.specs.declared.fault.Disorder.{Disorder}
 use Rattle.bq_import.specs.Backward.{IsBuilt, IsFront, IsLengthened}
 use Rattle.bq_import.specs.Faults.{IsFull, IsLinked}
-use Rattle.bq_import.specs.Search.{AreClosed, AreTargets, IsNext, IsReady, Suffices, width_at, width_of}
+use Rattle.bq_import.specs.Lengths.{width_at, width_of}
+use Rattle.bq_import.specs.Search.{AreClosed, AreTargets, IsNext, IsReady, Suffices}
 use Rattle.bq_import.specs.Running.{HasPlace, IsPut, IsPutting, IsRun}
 use Rattle.bq_import.proofs.LengthLemmas.{run_has, run_next}
 use Rattle.bq_import.proofs.RoomLemmas.{full_more}

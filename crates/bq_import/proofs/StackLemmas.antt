@@ -1,5 +1,5 @@
 -- The stack of the search, and what is done.
-use Rattle.std.proofs.Common.{◌≡◌, ℕ, zero, suc, ◌+◌, ◌-◌, ◌<◌, ◌≤◌, ◌≢◌, Bool, true, false, List, [], ◌∷◌, ◌++◌, length, take, get_or, Option, Some, None, refl, arith, sym, ap, ◌∙◌, subst, ◌⊎◌, inl, inr, length-append, length-take}
+use Rattle.std.proofs.Common.{◌≡◌, ℕ, zero, suc, ◌+◌, ◌-◌, ◌<◌, ◌≤◌, ◌≢◌, Bool, true, false, true≢false, List, [], ◌∷◌, ◌++◌, length, take, get_or, Option, Some, None, refl, arith, sym, ap, ◌∙◌, subst, ◌⊎◌, inl, inr, length-append, length-take}
 use Rattle.std.specs.Prelude.{slice_index, slice_set}
 use Rattle.std.proofs.lemmas.List.{get_or_append_left, get_or-append-add, get_or-take, get_or-set_same, get_or-set_other, length-set}
 use Rattle.std.proofs.lemmas.List.Sums.{sum_by-set}
@@ -10,7 +10,7 @@ use Rattle.bq_insn.proofs.OptionLemmas.{some_same, some_none}
 use Rattle.bq_verify.proofs.EdgeLemmas.{start_inside, IsPath-push, end_of-push}
 use Rattle.bq_import.specs.Copies.{Stands}
 use Rattle.bq_import.specs.Backward.{IsBuilt, IsLengthened}
-use Rattle.bq_import.specs.Search.{AllComeTo, IsQueued, place_at, IsDone, AreKnown, AreClosed, IsReady, is_open, unopened, IsOn, IsTop, IsSearching, KeepsOpen, left_of}
+use Rattle.bq_import.specs.Search.{AllComeTo, AreWaiting, IsCounted, IsQueued, place_at, IsDone, AreKnown, AreClosed, IsReady, is_open, unopened, IsOn, IsTop, IsSearching, KeepsOpen, left_of}
 
 -- two numbers are equal or not
 pub equal_or_not : (a b : ℕ) → (a ≡ b) ⊎ (a ≢ b)
@@ -121,9 +121,6 @@ module _ (maps : ℕ) (old back : List (Option Insn)) (origins : List ℕ) (plac
           | inr e ↦ subst (λ (n : ℕ). IsStart old n) (sym (ap (λ (n : ℕ). slice_index (stack ++ slot ∷ []) n) e ∙ last_on)) start
         ]
 
-    pub after_open : Path old 0 slot → IsSearching maps old back origins places (slice_set opens slot true) (stack ++ slot ∷ [])
-    after_open way = record { ordered = at.ordered; room = length-set opens slot true ∙ at.room; opened = opened_more; ways = ways_more; starts = starts_more; comes = comes_more old stack slot at.comes way }
-
     pub open_now : is_open (slice_set opens slot true) slot ≡ true
     open_now = get_or-set_same opens slot true false slot_inside
 
@@ -133,12 +130,60 @@ module _ (maps : ℕ) (old back : List (Option Insn)) (origins : List ℕ) (plac
       | inr apart ↦ get_or-set_other opens slot s true false apart ∙ begun
     ]
 
+    shut_undone : place_at places slot ≡ None
+    shut_undone = by (place_at places slot) refl
+      where
+        by : (v : Option ℕ) → place_at places slot ≡ v → place_at places slot ≡ None
+        by None e = e
+        by (Some place) e = absurd (true≢false (sym (at.waiting.begun slot (place, e)) ∙ new))
+
+    now_last : (i : ℕ) → i ≡ length stack → slice_index (stack ++ slot ∷ []) i ≡ slot
+    now_last i e = ap (λ (n : ℕ). slice_index (stack ++ slot ∷ []) n) e ∙ last_on
+
+    each_more : (P : ℕ → Type 0) → ((i : ℕ) → i < length stack → P (slice_index stack i)) → P slot → (i : ℕ) → i < length (stack ++ slot ∷ []) → P (slice_index (stack ++ slot ∷ []) i)
+    each_more P before last i lt = let long = length-append stack (slot ∷ []) in elim (below_or i (omega (arith, long, lt))) [
+      | inl inside ↦ subst P (sym (left_index i inside)) (before i inside)
+      | inr e ↦ subst P (sym (now_last i e)) last
+    ]
+
+    apart_more : (i j : ℕ) → i < j → j < length (stack ++ slot ∷ []) → slice_index (stack ++ slot ∷ []) i ≢ slice_index (stack ++ slot ∷ []) j
+    apart_more i j lt less =
+        let long = length-append stack (slot ∷ []) in
+        elim (below_or j (omega (arith, long, less))) [
+          | inl inside ↦ λ same. at.waiting.apart i j lt inside (sym (left_index i (omega (arith, lt, inside))) ∙ (same ∙ left_index j inside))
+          | inr e ↦ λ same.
+              let below : i < length stack = omega (arith, lt, e) in
+              let is : slice_index stack i ≡ slot = sym (left_index i below) ∙ (same ∙ now_last j e) in
+              true≢false (sym (at.waiting.opened i below) ∙ (ap (is_open opens) is ∙ new))
+        ]
+
+    waits_more : AreWaiting places (slice_set opens slot true) (stack ++ slot ∷ [])
+    waits_more = record {
+      begun = λ s done. keeps_open s (at.waiting.begun s done);
+      opened = each_more (λ n. is_open (slice_set opens slot true) n ≡ true) (λ i lt. keeps_open (slice_index stack i) (at.waiting.opened i lt)) open_now;
+      undone = each_more (λ n. place_at places n ≡ None) at.waiting.undone shut_undone;
+      apart = apart_more;
+    }
+
+    pub after_open : Path old 0 slot → IsSearching maps old back origins places (slice_set opens slot true) (stack ++ slot ∷ [])
+    after_open way = record { ordered = at.ordered; room = length-set opens slot true ∙ at.room; opened = opened_more; ways = ways_more; starts = starts_more; comes = comes_more old stack slot at.comes way; waiting = waits_more }
+
     pub less_open : left_of (slice_set opens slot true) (stack ++ slot ∷ []) < left_of opens stack
     less_open =
         let sum = sum_by-set unopened opens slot true false slot_inside in
         let one : unopened (get_or opens slot false) ≡ 1 = ap unopened new in
         let long = length-append stack (slot ∷ []) in
         omega (arith, sum, one, long)
+
+  module _ (top : IsTop stack slot) where
+    pub top_comes : Path old 0 slot
+    top_comes = let long = top.long in subst (λ (n : ℕ). Path old 0 n) top.slot_is (at.comes top.below (omega (arith, long)))
+
+    pub top_undone : place_at places slot ≡ None
+    top_undone = let long = top.long in subst (λ (n : ℕ). place_at places n ≡ None) top.slot_is (at.waiting.undone top.below (omega (arith, long)))
+
+    pub top_starts : IsStart old slot
+    top_starts = let long = top.long in subst (λ (n : ℕ). IsStart old n) top.slot_is (at.starts top.below (omega (arith, long)))
 
   module _ (top : IsTop stack slot) (ready : IsReady old places slot) (back' : List (Option Insn)) (origins' : List ℕ) (more : IsLengthened maps old back origins back' origins' slot) where
     place : ℕ
@@ -217,15 +262,37 @@ module _ (maps : ℕ) (old back : List (Option Insn)) (origins : List ℕ) (plac
         let lt' : i < length stack - 1 = omega (arith, lt, taken) in
         subst (λ (n : ℕ). Path old 0 n) (sym (taken_index i lt')) (at.comes i (omega (arith, lt')))
 
-    pub after_leave : IsSearching maps old back' origins' (slice_set places slot (Some (length back' - 1))) opens (take (length stack - 1) stack)
+    waits_less : AreWaiting (slice_set places slot (Some place)) opens (take (length stack - 1) stack)
+    waits_less = record {
+      begun = λ s done. elim (equal_or_not s slot) [
+        | inl e ↦
+            let long = top.long in
+            ap (is_open opens) (e ∙ sym top.slot_is) ∙ at.waiting.opened top.below (omega (arith, long))
+        | inr other ↦ at.waiting.begun s (done.0, sym (get_or-set_other places slot s (Some place) None other) ∙ done.1)
+      ];
+      opened = λ i lt. let taken = taken_long in let below : i < length stack - 1 = omega (arith, lt, taken) in ap (is_open opens) (taken_index i below) ∙ at.waiting.opened i (omega (arith, below));
+      undone = λ i lt.
+          let taken = taken_long in
+          let long = top.long in
+          let below : i < length stack - 1 = omega (arith, lt, taken) in
+          let other : slice_index stack i ≢ slot = λ e. at.waiting.apart i top.below (omega (arith, below, long)) (omega (arith, long)) (e ∙ sym top.slot_is) in
+          ap (place_at (slice_set places slot (Some place))) (taken_index i below) ∙ (get_or-set_other places slot (slice_index stack i) (Some place) None other ∙ at.waiting.undone i (omega (arith, below)));
+      apart = λ i j lt less.
+          let taken = taken_long in
+          let below : j < length stack - 1 = omega (arith, less, taken) in
+          λ same. at.waiting.apart i j lt (omega (arith, below)) (sym (taken_index i (omega (arith, lt, below))) ∙ (same ∙ taken_index j below));
+    }
+
+    pub after_leave : IsCounted old back' origins' (slice_set places slot (Some (length back' - 1))) → IsSearching maps old back' origins' (slice_set places slot (Some (length back' - 1))) opens (take (length stack - 1) stack)
     unfolding place
-    after_leave = record {
-      ordered = record { built = more.built; known = known_more; closed = closed_more; room = length-set places slot (Some place) ∙ at.ordered.room };
+    after_leave counted = record {
+      ordered = record { built = more.built; known = known_more; closed = closed_more; counted = counted; room = length-set places slot (Some place) ∙ at.ordered.room };
       room = at.room;
       opened = opened_less;
       ways = ways_less;
       starts = starts_less;
       comes = comes_less;
+      waiting = waits_less;
     }
 
     pub less_leave : left_of opens (take (length stack - 1) stack) < left_of opens stack
@@ -242,14 +309,25 @@ nothing_begun maps old back origins places opens stack built nothing none room s
         built = built;
         known = λ slot place e. absurd (some_none _ place e (none slot));
         closed = λ from to done edge. absurd (some_none _ done.0 done.1 (none from));
+        counted = record {
+          order = [];
+          forward = tt;
+          has = λ slot done. absurd (some_none _ done.0 done.1 (none slot));
+          only = λ slot at. absurd at;
+          front = λ first later e. absurd (let no : ⊥ = cc in no);
+          short = let zero_is : length back ≡ 0 = ap length nothing in omega (arith, zero_is);
+        };
         room = room;
       };
       room = room';
-      opened = λ slot e. absurd (let never : true ≡ false = sym e ∙ shut slot in true_false never);
+      opened = λ slot e. absurd (true≢false (sym e ∙ shut slot));
       ways = λ i j le lt. absurd (omega (arith, lt, short));
       starts = λ i lt. absurd (omega (arith, lt, short));
       comes = λ i lt. absurd (omega (arith, lt, short));
+      waiting = record {
+        begun = λ slot done. absurd (some_none _ done.0 done.1 (none slot));
+        opened = λ i lt. absurd (omega (arith, lt, short));
+        undone = λ i lt. absurd (omega (arith, lt, short));
+        apart = λ i j lt less. absurd (omega (arith, less, short));
+      };
     }
-  where
-    true_false : true ≡ false → ⊥
-    true_false e = cc

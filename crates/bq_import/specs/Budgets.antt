@@ -1,8 +1,8 @@
 -- How many slots the search may still write: those of a run for each slot that a jump leads to.
 use Rattle.std.specs.Prelude.{◌≡◌, ℕ, ◌+◌, ◌<◌, ◌≤◌, ◌⊎◌, Bool, List, [], ◌∷◌, reverse, length, sum_by, slice_index, Option, if◌then◌else◌}
 use Rattle.bq_insn.specs.declared.Insn.{Insn}
-use Rattle.bq_import.specs.Lengths.{HasLandings, run_at}
-use Rattle.bq_import.specs.Search.{IsLastOf, IsReady, Suffices, is_open, width_at}
+use Rattle.bq_import.specs.Lengths.{HasLandings, run_at, width_at}
+use Rattle.bq_import.specs.Search.{IsLastOf, IsReady, Suffices, is_open}
 
 -- the slots are shared out: some are for the one, and more for the rest
 pub record IsShared (Own Rest : ℕ → Type 0) (slots : ℕ) : Type 0 where

@@ -2,6 +2,7 @@
 -- control may come into it.
 use Rattle.std.specs.Prelude.{◌≡◌, ℕ, ◌+◌, ◌<◌, ◌⊎◌, ℤ, List, [], ◌∷◌, drop, sum_by, Option, Some, None, if◌then◌else◌}
 use Rattle.bq_insn.specs.declared.Insn.{Insn}
+use Rattle.bq_insn.specs.Slots.{slots_of}
 use Rattle.bq_bpf.specs.Steps.{LeadsTo, instruction_at}
 use Rattle.bq_bpf.specs.Instructions.{distance_of, goes_on}
 
@@ -14,6 +15,14 @@ run_of (Some insn ∷ slots) = if goes_on insn then 1 + run_of slots else 1
 -- the slots of the run from that slot
 abbrev pub run_at : List (Option Insn) → ℕ → ℕ
 run_at slots slot = run_of (drop slot slots)
+
+abbrev pub width_of : Option Insn → ℕ
+width_of None = 0
+width_of (Some insn) = slots_of insn
+
+-- how many slots the instruction takes that begins at the slot; 0 where none does
+abbrev pub width_at : List (Option Insn) → ℕ → ℕ
+width_at slots slot = width_of (instruction_at slots slot)
 
 -- the instruction at the one slot may jump to the other
 pub record IsJump (slots : List (Option Insn)) (from to : ℕ) : Type 0 where

@@ -2,6 +2,7 @@ pub mod Copies
 pub mod Laws
 pub mod Backward
 pub mod Lengths
+pub mod Orders
 pub mod Faults
 pub mod Search
 pub mod Budgets

@@ -3,8 +3,8 @@ use Rattle.std.specs.Prelude.{◌≡◌, ℕ, ◌+◌, ◌<◌, ◌≤◌, List,
 use Rattle.bq_insn.specs.declared.Insn.{Insn}
 use Rattle.bq_verify.specs.Edges.{IsStart}
 use Rattle.bq_import.specs.Backward.{IsBuilt, IsFront, Keeps}
-use Rattle.bq_import.specs.Lengths.{run_at}
-use Rattle.bq_import.specs.Search.{IsNext, IsReady, width_at}
+use Rattle.bq_import.specs.Lengths.{run_at, width_at}
+use Rattle.bq_import.specs.Search.{IsNext, IsReady}
 
 -- control goes on from the slot to the next instruction, and so on to the last one; all to which it may go from them is in place
 pub record IsRun (slots : List (Option Insn)) (places : List (Option ℕ)) (slot last : ℕ) : Type 0 where

@@ -1,5 +1,5 @@
 -- What the search keeps that puts each slot in front once all slots are in place to which control may go from it.
-use Rattle.std.specs.Prelude.{◌++◌, [], ◌∷◌, ◌≡◌, ℕ, ◌+◌, ◌*◌, ◌<◌, ◌≤◌, ◌⊎◌, Bool, true, false, ℤ, pos, List, length, Option, Some, None, slice_index, slice_index_or, sum_by}
+use Rattle.std.specs.Prelude.{◌≢◌, ◌++◌, [], ◌∷◌, ◌≡◌, ℕ, ◌+◌, ◌*◌, ◌<◌, ◌≤◌, ◌⊎◌, Bool, true, false, ℤ, pos, List, length, Option, Some, None, slice_index, slice_index_or, sum_by}
 use Rattle.bq_insn.specs.declared.Insn.{Insn}
 use Rattle.bq_bpf.specs.Steps.{LeadsTo, instruction_at}
 use Rattle.bq_insn.specs.Slots.{slots_of}
@@ -10,7 +10,8 @@ use Rattle.bq_verify.specs.Passes.{LeadsOut, IsOf}
 use Rattle.bq_verify.specs.declared.edges.Targets.{Targets}
 use Rattle.bq_import.specs.Copies.{Stands}
 use Rattle.bq_import.specs.Backward.{IsBuilt, IsFront}
-use Rattle.bq_import.specs.Lengths.{IsJump, IsLanding, run_at}
+use Rattle.bq_import.specs.Lengths.{IsIn, IsJump, IsLanding, run_at, width_at}
+use Rattle.bq_import.specs.Orders.{IsForwardOrder, copy_length}
 
 -- where control may go from the instruction: on, and where it jumps to
 pub record AreTargets (slots : List (Option Insn)) (slot : ℕ) (insn : Insn) (targets : Targets) : Type 0 where
@@ -29,14 +30,6 @@ pub record IsNext (slots : List (Option Insn)) (slot next : ℕ) : Type 0 where
   pub here : instruction_at slots slot ≡ Some insn
   pub on : goes_on insn ≡ true
   pub is : next ≡ slot + slots_of insn
-
-abbrev pub width_of : Option Insn → ℕ
-width_of None = 0
-width_of (Some insn) = slots_of insn
-
--- how many slots the instruction takes that begins at the slot; 0 where none does
-abbrev pub width_at : List (Option Insn) → ℕ → ℕ
-width_at slots slot = width_of (instruction_at slots slot)
 
 abbrev pub place_at : List (Option ℕ) → ℕ → Option ℕ
 place_at places slot = slice_index_or places slot None
@@ -71,11 +64,21 @@ pub record JumpsTo (back : List (Option Insn)) (origins : List ℕ) (distance : 
 abbrev pub IsReady : List (Option Insn) → List (Option ℕ) → ℕ → Type 0
 IsReady old places slot = (to : ℕ) → IsEdge old slot to → IsDone places to
 
+-- the copy so far is one of a forward order of what is in place, or shorter, and begins with the first of that
+pub record IsCounted (old back : List (Option Insn)) (origins : List ℕ) (places : List (Option ℕ)) : Type 0 where
+  pub order : List ℕ
+  pub forward : IsForwardOrder old order
+  pub has : (slot : ℕ) → IsDone places slot → IsIn order slot
+  pub only : (slot : ℕ) → IsIn order slot → IsDone places slot
+  pub front : (first : ℕ) (later : List ℕ) → order ≡ first ∷ later → IsFront back origins first
+  pub short : length back ≤ copy_length old order
+
 -- the copy so far, and the places in it
 pub record IsOrdered (maps : ℕ) (old back : List (Option Insn)) (origins : List ℕ) (places : List (Option ℕ)) : Type 0 where
   pub built : IsBuilt maps old back origins
   pub known : AreKnown back origins places
   pub closed : AreClosed old places
+  pub counted : IsCounted old back origins places
   pub room : length places ≡ length old
 
 abbrev pub is_open : List Bool → ℕ → Bool
@@ -110,6 +113,13 @@ abbrev pub unopened : Bool → ℕ
 unopened true = 0
 unopened false = 1
 
+-- what was begun and is not done: each slot was opened, none stands twice
+pub record AreWaiting (places : List (Option ℕ)) (opens : List Bool) (stack : List ℕ) : Type 0 where
+  pub begun : (slot : ℕ) → IsDone places slot → is_open opens slot ≡ true
+  pub opened : (i : ℕ) → i < length stack → is_open opens (slice_index stack i) ≡ true
+  pub undone : (i : ℕ) → i < length stack → place_at places (slice_index stack i) ≡ None
+  pub apart : (i j : ℕ) → i < j → j < length stack → slice_index stack i ≢ slice_index stack j
+
 -- the stack is a path of slots that were opened and are not done
 pub record IsSearching (maps : ℕ) (old back : List (Option Insn)) (origins : List ℕ) (places : List (Option ℕ)) (opens : List Bool) (stack : List ℕ) : Type 0 where
   pub ordered : IsOrdered maps old back origins places
@@ -118,6 +128,7 @@ pub record IsSearching (maps : ℕ) (old back : List (Option Insn)) (origins : L
   pub ways : (i j : ℕ) → i ≤ j → j < length stack → Path old (slice_index stack i) (slice_index stack j)
   pub starts : (i : ℕ) → i < length stack → IsStart old (slice_index stack i)
   pub comes : AllComeTo old stack
+  pub waiting : AreWaiting places opens stack
 
 abbrev pub KeepsOpen : List Bool → List Bool → Type 0
 KeepsOpen before after = (slot : ℕ) → is_open before slot ≡ true → is_open after slot ≡ true

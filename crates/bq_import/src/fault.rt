@@ -16,9 +16,9 @@ pub enum Disorder {
     /// Control comes to the first slot, goes from there to the second, and from that back to the first.
     #[error("slots {from} and {to}: a loop, by the jump from {from} to {to}; unroll it")]
     Loop { from: usize, to: usize },
-    /// The copies take more than 4096 slots. This is said only if some jump goes back, and the runs from the first slot and from
-    /// each slot that a jump leads to have more than 4096 slots together (`IsTooLong`). A program of fewer than 64 slots has no such
-    /// fault.
+    /// The copies take more than 4096 slots. This is said only if some jump goes back, the runs from the first slot and from each
+    /// slot that a jump leads to have more than 4096 slots together (`IsTooLong`), and the copy in some forward order has more than
+    /// 4096 (`HasLongOrder`). A program of fewer than 64 slots has no such fault.
     #[error("the program takes more than {most} slots once every jump goes forward; make it shorter", most = SLOTS)]
     Long,
     /// Memory ran out.

@@ -39,8 +39,9 @@ pub struct Ordered {
 ///
 /// An instruction may stand several times, where control comes to it from several sides: its original is known for each slot.
 /// Instructions that control never comes to are left out. A wide number that is the reference of a map is that reference.
-/// If there is no such order the answer is a loop, by its two slots. The answer is `Long` only if some jump goes back and `IsTooLong` holds:
-/// a run is copied at most once for each slot that a jump leads to.
+/// If there is no such order the answer is a loop that control comes to, by its two slots. The answer is `Long` only if some jump goes back, and both
+/// `IsTooLong` and `HasLongOrder` hold: a run is copied at most once for each slot that a jump leads to, and not at all where an instruction stands in
+/// front of the one that control goes on to from it.
 pub fn order(alloc: Global, insns: &[Insn], maps: usize) -> Result<Ordered, Disorder>
     requires whole { is_well_formed insns.now ≡ true }
     requires numbers { AllFit insns.now }

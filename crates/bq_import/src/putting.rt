@@ -7,7 +7,8 @@ ghost use Rattle.bq_verify.specs.Edges.{IsStart};
 ghost use Rattle.bq_import.specs.Backward.{IsBuilt, IsFront, IsLengthened, IsOneMore};
 ghost use Rattle.bq_import.specs.Faults.{IsFull, IsLinked};
 ghost use Rattle.bq_import.specs.Running.{IsPut, IsRun};
-ghost use Rattle.bq_import.specs.Search.{AreClosed, AreTargets, AreKnown, IsDone, IsNext, IsReady, JumpsTo, Suffices, place_at, width_at};
+ghost use Rattle.bq_import.specs.Lengths.{width_at};
+ghost use Rattle.bq_import.specs.Search.{AreClosed, AreTargets, AreKnown, IsDone, IsNext, IsReady, JumpsTo, Suffices, place_at};
 
 use crate::backward::Backward;
 use crate::fault::Disorder;

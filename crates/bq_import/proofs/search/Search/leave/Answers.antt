@@ -4,11 +4,13 @@ use Rattle.std.proofs.lemmas.Result.{err_from_is_err_and}
 use Rattle.bq_import.specs.Backward.{IsFront}
 use Rattle.bq_import.specs.Budgets.{HasBudget, IsBottom}
 use Rattle.bq_import.specs.Lengths.{run_at}
+use Rattle.bq_import.specs.Orders.{share}
 use Rattle.bq_import.specs.Search.{IsSearching, left_of}
 use Rattle.bq_verify.specs.Edges.{IsStart}
 use Rattle.bq_verify.proofs.EdgeLemmas.{start_inside}
 use Rattle.bq_import.proofs.BudgetLemmas.{bottom_left, full_within, kept_top, left_budget, suffices}
-use Rattle.bq_import.proofs.StackLemmas.{after_leave, less_leave, now_set, still_set}
+use Rattle.bq_import.proofs.ForwardLemmas.{counted_more, share_suffices, too_long}
+use Rattle.bq_import.proofs.StackLemmas.{after_leave, less_leave, now_set, still_set, top_comes, top_starts, top_undone}
 use Rattle.bq_import.proofs.search.Search.leave.Goals as goal
 
 pub place-requires-clause-known : goal.place-requires-clause-known
@@ -40,7 +42,17 @@ returns-clause-ok c =
     let more = c.in_ok-place.ensures.ok in
     let count : c.len.result ≡ length back' = c.len.ensures ∙ c.place.new.self.slots.ok.0 in
     let stack_is : c.pop.new.self.items ≡ take (length stack - 1) stack = c.pop.ensures.rest ∙ ap (λ (n : ℕ). take (n - 1) stack) before.stack.ok.0 in
-    let at = after_leave c.args.maps old before.copy.slots.items before.copy.origins.items places opens stack c.requires.at c.args.slot c.requires.top c.requires.ready back' origins' more in
+    let origins = before.copy.origins.items in
+    let start = top_starts c.args.maps old before.copy.slots.items origins places opens stack c.requires.at c.args.slot c.requires.top in
+    let way = top_comes c.args.maps old before.copy.slots.items origins places opens stack c.requires.at c.args.slot c.requires.top in
+    let undone = top_undone c.args.maps old before.copy.slots.items origins places opens stack c.requires.at c.args.slot c.requires.top in
+    let counted = c.requires.at.ordered.counted in
+    let enough = share_suffices old before.copy.slots.items origins places counted c.args.slot start in
+    let within = start_inside old c.args.slot start in
+    let room = c.requires.at.ordered.room in
+    let longer = counted_more old before.copy.slots.items origins places counted c.args.slot start way undone c.requires.ready (length back' - 1) (omega (arith, within, room)) back' origins' more.front
+    (c.in_ok-place.ensures.grown (share old c.args.slot counted.order) enough) in
+    let at = after_leave c.args.maps old before.copy.slots.items origins places opens stack c.requires.at c.args.slot c.requires.top c.requires.ready back' origins' more longer in
     let less = less_leave c.args.maps old before.copy.slots.items before.copy.origins.items places opens stack c.requires.at c.args.slot c.requires.top c.requires.ready back' origins' more in
     record {
       at = subst (λ (n : ℕ). IsSearching c.args.maps old back' origins' (slice_set places c.args.slot (Some (n - 1))) opens c.pop.new.self.items) (sym count)
@@ -66,8 +78,14 @@ returns-in_err-place-clause-err c =
     let kept = kept_top old back origins places opens stack (run_at old 0) c.requires.within c.args.slot c.requires.top in
     let enough = suffices old back origins places opens stack (run_at old 0) c.requires.within c.args.slot c.requires.top in
     let all = kept.all in
+    let start = top_starts c.args.maps old back origins places opens stack c.requires.at c.args.slot c.requires.top in
+    let way = top_comes c.args.maps old back origins places opens stack c.requires.at c.args.slot c.requires.top in
+    let undone = top_undone c.args.maps old back origins places opens stack c.requires.at c.args.slot c.requires.top in
+    let counted = c.requires.at.ordered.counted in
+    let one = share_suffices old back origins places counted c.args.slot start in
     rw (p.1, p.2) (full_within old back origins places opens stack (run_at old 0) kept.own (length back + kept.own) c.in_err-place.field-0.0 c.requires.linked c.requires.within (omega (arith, all)) (omega arith)
-    (c.in_err-place.ensures.full kept.own enough))
+    (c.in_err-place.ensures.full kept.own enough) (length back + share old c.args.slot counted.order) (c.in_err-place.ensures.full (share old c.args.slot counted.order) one)
+    (too_long old back origins places counted c.args.slot start way undone c.requires.ready))
 
 pub returns-clause-within : goal.returns-clause-within
 returns-clause-within c =
