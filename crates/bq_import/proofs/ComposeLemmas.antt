@@ -1,5 +1,5 @@
 -- A copy of a copy is a copy.
-use Rattle.std.proofs.Common.{◌≡◌, ℕ, ◌+◌, Bool, true, false, List, Option, Some, length, map, get_or, refl, arith, sym, ap, ◌∙◌, subst, ℤ}
+use Rattle.std.proofs.Common.{◌≡◌, ℕ, ◌+◌, Bool, true, false, List, Option, Some, length, refl, arith, sym, ap, ◌∙◌, subst, ℤ}
 use Rattle.std.specs.Prelude.{slice_index, nat_le, nat_lt, ◌&&◌}
 use Rattle.std.proofs.lemmas.List.{get_or-map}
 use Rattle.bq_insn.specs.declared.Insn.{Insn}
