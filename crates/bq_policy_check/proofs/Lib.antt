@@ -1,3 +1,4 @@
 mod DifferenceLemmas
 mod ImageLemmas
 mod ListLemmas
+mod ShowingLemmas

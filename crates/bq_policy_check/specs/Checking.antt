@@ -1,8 +1,5 @@
 -- What `check` answers to a file.
-use Rattle.std.specs.Prelude.{◌≡◌, ◌≢◌, ℕ, Bool, true, false, List, ◌++◌, ◌⊎◌, Some, String, codes, string_bytes}
-use Rattle.serde_json.specs.Data.{Data, boolean}
-use Rattle.serde_json.specs.Find.{get}
-use Rattle.serde_json.specs.Written.{IsInOrder}
+use Rattle.std.specs.Prelude.{◌≡◌, ◌≢◌, ℕ, Bool, true, false, List, ◌⊎◌, String, string_bytes}
 use Rattle.std.specs.declared.alloc.Global.{Global}
 use Rattle.bq_explain.specs.declared.limits.Limits.{Limits}
 use Rattle.bq_explain.specs.declared.verdict.Verdict.{Verdict}
@@ -18,22 +15,15 @@ use Rattle.bq_policy_check.specs.declared.words.CheckWords.{CheckWords}
 use Rattle.bq_policy_check.specs.Limiting.{HasLimits}
 use Rattle.bq_policy_check.specs.Refusing.{fault_line}
 use Rattle.bq_policy_check.specs.Saying.{IsWordsFault, SaysHead}
+use Rattle.bq_policy_check.specs.Showing.{ShowsFault, ShowsVerdict}
 
 -- neither explained nor as JSON the answer is only this line
 abbrev pub IsTold : CheckWords → List ℕ → List ℕ → Type 0
 IsTold w line text = w.is_explained ≡ false → w.is_json ≡ false → text ≡ line
 
--- the value as JSON, on a line of its own
-abbrev pub IsLineOf : Data → List ℕ → Type 0
-IsLineOf d text = (line : List ℕ) × IsInOrder line d × (text ≡ line ++ codes "\n")
-
--- an object on a line of its own, which says whether the policy is accepted
-abbrev pub IsJson : Bool → List ℕ → Type 0
-IsJson accepted text = (d : Data) × (get (codes "accepted") d ≡ Some (boolean accepted)) × IsLineOf d text
-
--- as JSON the answer says so
-abbrev pub IsShown : CheckWords → Bool → List ℕ → Type 0
-IsShown w accepted text = w.is_json ≡ true → IsJson accepted text
+-- as JSON the answer shows this
+abbrev pub IsShown : CheckWords → (List ℕ → Type 0) → List ℕ → Type 0
+IsShown w Shows text = w.is_json ≡ true → Shows text
 
 abbrev pub answered : Bool → String Global → Answered
 answered true text = Done text
@@ -46,7 +36,7 @@ pub record TellsVerdict (w : CheckWords) (p : PolicySource) (l : Limits) (answer
   pub text : String Global
   pub is : answer ≡ answered (is_accepted verdict) text
   pub told : IsTold w (verdict_line p.form.hook verdict) (string_bytes text)
-  pub shown : IsShown w (is_accepted verdict) (string_bytes text)
+  pub shown : IsShown w (ShowsVerdict p verdict) (string_bytes text)
 
 -- the file is no policy, for this fault, by the line that names it
 pub record TellsFault (w : CheckWords) (bytes : List ℕ) (h : Head) (answer : Answered) : Type 0 where
@@ -56,7 +46,7 @@ pub record TellsFault (w : CheckWords) (bytes : List ℕ) (h : Head) (answer : A
   pub text : String Global
   pub is : answer ≡ Refused text
   pub told : IsTold w (fault_line named) (string_bytes text)
-  pub shown : IsShown w false (string_bytes text)
+  pub shown : IsShown w (ShowsFault named) (string_bytes text)
 
 -- the file is this policy, and its verdict is reported
 pub record TellsPolicy (w : CheckWords) (bytes : List ℕ) (h : Head) (l : Limits) (answer : Answered) : Type 0 where

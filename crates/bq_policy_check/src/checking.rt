@@ -1,12 +1,12 @@
 //! `check` of a policy's file.
 ghost use Rattle.std.specs.Prelude.{◌≡◌, ◌≢◌, IfErr, IfOk, OnOk, false, string_bytes};
-ghost use Rattle.bq_explain.specs.Verdicts.{is_accepted};
 ghost use Rattle.bq_policy_file.specs.declared.fault.PolicyFault.TheVariants.{OutOfMemory};
 ghost use Rattle.bq_policy_check.specs.Checking.{ChecksFile, ChecksTo, IsShown, IsTold, SaysTerms, TellsVerdict, answered};
 ghost use Rattle.bq_policy_check.specs.Limiting.{HasLimits};
 ghost use Rattle.bq_policy_check.specs.Refusing.{fault_line};
 ghost use Rattle.bq_console.specs.Words.{SaysNone};
 ghost use Rattle.bq_policy_check.specs.Saying.{SaysHead};
+ghost use Rattle.bq_policy_check.specs.Showing.{ShowsFault, ShowsVerdict};
 
 use crate::answered::Answered;
 use crate::given::said_by;
@@ -114,7 +114,7 @@ fn refusal(
     fault: PolicyFault,
 ) -> Result<String, AllocError>
     ensures told { IfOk result (λ text. IsTold words.now (fault_line fault) (string_bytes text)) }
-    ensures shown { IfOk result (λ text. IsShown words.now false (string_bytes text)) }
+    ensures shown { IfOk result (λ text. IsShown words.now (ShowsFault fault) (string_bytes text)) }
     ensures other { OnOk result (fault ≢ OutOfMemory) }
 {
     let line = fault_line(alloc, fault)?;
@@ -144,7 +144,8 @@ fn reasoned_refusal(
     fault: PolicyFault,
     line: &String,
 ) -> Result<String, AllocError>
-    ensures { IfOk result (λ text. IsShown words.now false (string_bytes text)) }
+    requires { string_bytes line.now ≡ fault_line fault }
+    ensures { IfOk result (λ text. IsShown words.now (ShowsFault fault) (string_bytes text)) }
 {
     let reason = reason_of(alloc, bytes, fault)?;
     let text = reasoned(alloc, name, &reason, line)?;
@@ -163,7 +164,7 @@ fn shown(
     policy: &PolicySource,
     explanation: &Explanation,
 ) -> Result<String, AllocError>
-    ensures { IfOk result (λ text. IsShown words.now (is_accepted explanation.now.verdict) (string_bytes text)) }
+    ensures { IfOk result (λ text. IsShown words.now (ShowsVerdict policy.now explanation.now.verdict) (string_bytes text)) }
 {
     if words.is_json {
         return explanation_json(alloc, name, policy, explanation);

@@ -1,4 +1,8 @@
 //! The fields of an answer of `check` as JSON.
+ghost use Rattle.std.specs.Prelude.{◌≡◌, OnOk};
+ghost use Rattle.serde_json.specs.Data.{number, put as with_member, string, unsigned};
+ghost use Rattle.serde_json.specs.View.{members_view};
+ghost use Rattle.bq_policy_check.specs.Showing.{of_accepted, of_limit, of_refusal, of_verdict, put_all};
 
 use bq_bpf::MapShape;
 use bq_console::{NO_TEXT, Name};
@@ -12,39 +16,92 @@ use serde_json::{Map, Value, put};
 use std::alloc::{AllocError, Global};
 use std::str::Lines;
 
-/// Of an accepted policy: its hook, version, budget and maps, and what it uses.
-pub(crate) fn fields_of_summary(
+/// The parts of a verdict.
+pub(crate) fn put_verdict(
+    fields: &mut Map<String, Value>,
+    alloc: Global,
+    policy: &PolicySource,
+    verdict: Verdict,
+) -> Result<(), AllocError>
+    ensures { OnOk result (members_view fields.new.entries ≡ put_all (of_verdict policy.now verdict) (members_view fields.old.entries)) }
+{
+    match verdict {
+        Verdict::Accepted { budget } => put_accepted(fields, alloc, policy, budget),
+        Verdict::OverSteps { budget, most } => {
+            put_limit(fields, alloc, "steps")?;
+            put_number(fields, alloc, "budget", u64::from(budget))?;
+            put_number(fields, alloc, "limit", u64::from(most))
+        }
+        Verdict::Forbidden { helper } => {
+            put_limit(fields, alloc, "helper")?;
+            put(fields, alloc, "helper", Value::from(i64::from(helper)))
+        }
+        Verdict::OtherHook => put_limit(fields, alloc, "hook"),
+        Verdict::Beyond(over) => {
+            put_limit(fields, alloc, over.measure.word())?;
+            put_number(fields, alloc, "used", over.used)?;
+            put_number(fields, alloc, "limit", u64::from(over.most))
+        }
+        Verdict::Refused { slot, cause } => put_refusal(fields, alloc, slot, cause),
+    }
+}
+
+/// The hook, the version and the budget of a policy that is accepted.
+fn put_accepted(
+    fields: &mut Map<String, Value>,
     alloc: Global,
     policy: &PolicySource,
     budget: u32,
+) -> Result<(), AllocError>
+    ensures { OnOk result (members_view fields.new.entries ≡ put_all (of_accepted policy.now budget) (members_view fields.old.entries)) }
+{
+    put_text(fields, alloc, "hook", policy.form.hook.word())?;
+    let version = policy.form.version.number();
+    put_number(fields, alloc, "version", u64::from(version))?;
+    put_number(fields, alloc, "budget", u64::from(budget))
+}
+
+/// The limit that a policy is beyond.
+fn put_limit(fields: &mut Map<String, Value>, alloc: Global, cause: &str) -> Result<(), AllocError>
+    ensures { OnOk result (members_view fields.new.entries ≡ put_all (of_limit cause.now) (members_view fields.old.entries)) }
+{
+    put_text(fields, alloc, "stage", "limit")?;
+    put_text(fields, alloc, "cause", cause)
+}
+
+/// The cause for which the verifier refuses a policy, and the slot.
+fn put_refusal(
+    fields: &mut Map<String, Value>,
+    alloc: Global,
+    slot: usize,
+    cause: Cause,
+) -> Result<(), AllocError>
+    ensures { OnOk result (members_view fields.new.entries ≡ put_all (of_refusal slot cause) (members_view fields.old.entries)) }
+{
+    let number = cause.number();
+    let code = format!(in alloc; "V{number}")?;
+    put_text(fields, alloc, "stage", "verifier")?;
+    put_text(fields, alloc, "code", code.as_str())?;
+    put_number(fields, alloc, "slot", slot as u64)
+}
+
+/// Of an accepted policy: its maps, and what it uses.
+pub(crate) fn fields_of_summary(
+    alloc: Global,
+    policy: &PolicySource,
     summary: &Summary,
 ) -> Result<Map<String, Value>, AllocError> {
     let mut fields = Map::new(alloc);
-    let hook = Value::try_from_str(alloc, policy.form.hook.word())?;
-    put(&mut fields, alloc, "hook", hook)?;
-    let version = Value::from(u64::from(policy.form.version.number()));
-    put(&mut fields, alloc, "version", version)?;
-    put(&mut fields, alloc, "budget", Value::from(u64::from(budget)))?;
     let maps = maps_value(alloc, policy.form.shapes.as_slice())?;
     put(&mut fields, alloc, "maps", maps)?;
     let helpers = helpers_value(alloc, summary.helpers.as_slice())?;
     put(&mut fields, alloc, "helpers", helpers)?;
-    put(
-        &mut fields,
-        alloc,
-        "counters",
-        Value::from(summary.counters as u64),
-    )?;
-    put(
-        &mut fields,
-        alloc,
-        "slots",
-        Value::from(summary.slots as u64),
-    )?;
+    put_number(&mut fields, alloc, "counters", summary.counters as u64)?;
+    put_number(&mut fields, alloc, "slots", summary.slots as u64)?;
     Ok(fields)
 }
 
-/// Of a policy that the verifier refuses: the stage, code and cause, the place, the need, what is known, where that comes from, and
+/// Of a policy that the verifier refuses: the cause in words, the instruction, the need, what is known, where that comes from, and
 /// what helps.
 pub(crate) fn fields_of_refusal(
     alloc: Global,
@@ -52,12 +109,8 @@ pub(crate) fn fields_of_refusal(
     refusal: &Refusal,
 ) -> Result<Map<String, Value>, AllocError> {
     let mut fields = Map::new(alloc);
-    let number = refusal.cause.number();
-    let code = format!(in alloc; "V{number}")?;
-    put_text(&mut fields, alloc, "stage", "verifier")?;
-    put_text(&mut fields, alloc, "code", code.as_str())?;
     put_text(&mut fields, alloc, "cause", cause_word(refusal.cause))?;
-    put_place(&mut fields, alloc, &refusal.place)?;
+    put_instruction(&mut fields, alloc, &refusal.place)?;
     let need = need_words(alloc, policy, refusal)?;
     put_text(&mut fields, alloc, "need", need.as_str())?;
     let shapes = policy.form.shapes.as_slice();
@@ -70,37 +123,12 @@ pub(crate) fn fields_of_refusal(
     Ok(fields)
 }
 
-/// Of a policy beyond a limit: the stage, the cause, and the place of a call that is not allowed.
+/// Of a policy beyond a limit: the place of a call that is not allowed.
 pub(crate) fn fields_of_limit(
     alloc: Global,
-    verdict: Verdict,
     place: &Option<Place>,
 ) -> Result<Map<String, Value>, AllocError> {
     let mut fields = Map::new(alloc);
-    put_text(&mut fields, alloc, "stage", "limit")?;
-    match verdict {
-        Verdict::OverSteps { budget, most } => {
-            put_text(&mut fields, alloc, "cause", "steps")?;
-            put(&mut fields, alloc, "budget", Value::from(u64::from(budget)))?;
-            put(&mut fields, alloc, "limit", Value::from(u64::from(most)))?;
-        }
-        Verdict::Forbidden { helper } => {
-            put_text(&mut fields, alloc, "cause", "helper")?;
-            put(&mut fields, alloc, "helper", Value::from(i64::from(helper)))?;
-        }
-        Verdict::OtherHook => put_text(&mut fields, alloc, "cause", "hook")?,
-        Verdict::Beyond(over) => {
-            put_text(&mut fields, alloc, "cause", over.measure.word())?;
-            put(&mut fields, alloc, "used", Value::from(over.used))?;
-            put(
-                &mut fields,
-                alloc,
-                "limit",
-                Value::from(u64::from(over.most)),
-            )?;
-        }
-        Verdict::Accepted { .. } | Verdict::Refused { .. } => {}
-    }
     if let Some(place) = place {
         put_place(&mut fields, alloc, place)?;
     }
@@ -113,8 +141,22 @@ pub(crate) fn put_text(
     alloc: Global,
     key: &str,
     text: &str,
-) -> Result<(), AllocError> {
+) -> Result<(), AllocError>
+    ensures { OnOk result (members_view fields.new.entries ≡ with_member key.now (string text.now) (members_view fields.old.entries)) }
+{
     put(fields, alloc, key, Value::try_from_str(alloc, text)?)
+}
+
+/// A number under a key.
+fn put_number(
+    fields: &mut Map<String, Value>,
+    alloc: Global,
+    key: &str,
+    value: u64,
+) -> Result<(), AllocError>
+    ensures { OnOk result (members_view fields.new.entries ≡ with_member key.now (number (unsigned value)) (members_view fields.old.entries)) }
+{
+    put(fields, alloc, key, Value::from(value))
 }
 
 /// The slot, the line and the text of an instruction.
@@ -123,7 +165,16 @@ fn put_place(
     alloc: Global,
     place: &Place,
 ) -> Result<(), AllocError> {
-    put(fields, alloc, "slot", Value::from(place.slot as u64))?;
+    put_number(fields, alloc, "slot", place.slot as u64)?;
+    put_instruction(fields, alloc, place)
+}
+
+/// The line and the text of an instruction.
+fn put_instruction(
+    fields: &mut Map<String, Value>,
+    alloc: Global,
+    place: &Place,
+) -> Result<(), AllocError> {
     put(fields, alloc, "line", number_value(place.line))?;
     let insn = instruction_text(alloc, place.insn)?;
     put_text(fields, alloc, "instruction", insn.as_str())

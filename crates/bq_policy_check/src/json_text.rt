@@ -1,17 +1,18 @@
 //! An answer of `check` as JSON: one line, by the schema of docs/JSON.md.
-ghost use Rattle.std.specs.Prelude.{◌≡◌, Bool, IfOk, Some, codes, false, string_bytes};
-ghost use Rattle.serde_json.specs.Data.{boolean};
-ghost use Rattle.serde_json.specs.Find.{get};
-ghost use Rattle.serde_json.specs.View.{view};
-ghost use Rattle.bq_explain.specs.Verdicts.{is_accepted};
-ghost use Rattle.bq_policy_check.specs.Checking.{IsJson, IsLineOf};
+ghost use Rattle.std.specs.Prelude.{◌≡◌, Bool, IfOk, OnOk, false, string_bytes};
+ghost use Rattle.serde_json.specs.Data.{object};
+ghost use Rattle.serde_json.specs.View.{members_view, view};
+ghost use Rattle.bq_insn.specs.Appending.{StartsWith};
+ghost use Rattle.bq_policy_check.specs.Refusing.{fault_line};
+ghost use Rattle.bq_policy_check.specs.Showing.{IsLineOf, ShowsFault, ShowsNone, ShowsVerdict, answer_members, first_line, put_all};
 
 use crate::json_parts::{
     fields_of_limit, fields_of_refusal, fields_of_summary, file_value, lines_value, put_text,
+    put_verdict,
 };
-use crate::reasons::{Reason, fields_of_reason};
+use crate::reasons::{Reason, fields_of_reason, put_fault};
 use bq_console::Name;
-use bq_explain::{Detail, Explanation, Verdict, explanation_text};
+use bq_explain::{Detail, Explanation, explanation_text};
 use bq_policy_file::{PolicyFault, PolicySource};
 use serde_json::{Map, Value, put};
 use std::alloc::{AllocError, Global};
@@ -26,13 +27,22 @@ pub(crate) fn explanation_json(
     policy: &PolicySource,
     explanation: &Explanation,
 ) -> Result<String, AllocError>
-    ensures { IfOk result (λ text. IsJson (is_accepted explanation.now.verdict) (string_bytes text)) }
+    ensures { IfOk result (λ text. ShowsVerdict policy.now explanation.now.verdict (string_bytes text)) }
 {
     let shown = name_text(alloc, name)?;
     let prose = explanation_text(alloc, policy, shown.as_deref(), explanation)?;
-    let fields = fields_of(alloc, policy, explanation)?;
-    let accepted = explanation.verdict.is_accepted();
-    answer_json(alloc, name, accepted, fields, Some(prose.as_str()))
+    let (first, rest) = first_line(prose.as_str());
+    let answer = Value::try_from_str(alloc, first)?;
+    let mut fields = fields_of(alloc, policy, explanation)?;
+    put_explanation(&mut fields, alloc, name, rest)?;
+    put_answer(
+        &mut fields,
+        alloc,
+        explanation.verdict.is_accepted(),
+        answer,
+    )?;
+    put_verdict(&mut fields, alloc, policy, explanation.verdict)?;
+    line_of(alloc, fields)
 }
 
 /// Why a file is no policy, as one line of JSON.
@@ -43,10 +53,16 @@ pub(crate) fn reason_json(
     reason: &Reason,
     prose: &str,
 ) -> Result<String, AllocError>
-    ensures { IfOk result (λ text. IsJson false (string_bytes text)) }
+    requires { StartsWith (fault_line fault) prose.now }
+    ensures { IfOk result (λ text. ShowsFault fault (string_bytes text)) }
 {
-    let fields = fields_of_reason(alloc, fault, reason)?;
-    answer_json(alloc, name, false, fields, Some(prose))
+    let (first, rest) = first_line(prose);
+    let answer = Value::try_from_str(alloc, first)?;
+    let mut fields = fields_of_reason(alloc, fault, reason)?;
+    put_explanation(&mut fields, alloc, name, rest)?;
+    put_answer(&mut fields, alloc, false, answer)?;
+    put_fault(&mut fields, alloc, fault)?;
+    line_of(alloc, fields)
 }
 
 /// Why no answer comes to a file, as one line of JSON: `stage` is `words`, `memory`, `reading` or `writing`.
@@ -56,12 +72,14 @@ pub fn unanswered_json(
     stage: &str,
     why: &str,
 ) -> Result<String, AllocError>
-    ensures { IfOk result (λ text. IsJson false (string_bytes text)) }
+    ensures { IfOk result (λ text. ShowsNone (string_bytes text)) }
 {
     let mut fields = Map::new(alloc);
     put_text(&mut fields, alloc, "stage", stage)?;
     put_text(&mut fields, alloc, "need", why)?;
-    answer_json(alloc, name, false, fields, None)
+    put_explanation(&mut fields, alloc, name, "")?;
+    put_answer(&mut fields, alloc, false, Value::Null)?;
+    line_of(alloc, fields)
 }
 
 /// A name of a file as messages show it.
@@ -75,63 +93,60 @@ pub(crate) fn name_text(alloc: Global, name: Option<&str>) -> Result<Option<Stri
     }
 }
 
-/// What is said of an explanation beside its prose.
+/// The first line of a text, and what stands behind it.
+fn first_line(text: &str) -> (&str, &str)
+    ensures { result.0.now ≡ first_line text.now }
+{
+    text.split_once('\n').unwrap_or((text, ""))
+}
+
+/// What explains a verdict, beside its prose.
 fn fields_of(
     alloc: Global,
     policy: &PolicySource,
     explanation: &Explanation,
 ) -> Result<Map<String, Value>, AllocError> {
-    match (explanation.verdict, &explanation.detail) {
-        (Verdict::Accepted { budget }, Detail::Accepted(summary)) => {
-            fields_of_summary(alloc, policy, budget, summary)
-        }
-        (_, Detail::Refused(refusal)) => fields_of_refusal(alloc, policy, refusal),
-        (verdict, Detail::Limited(place)) => fields_of_limit(alloc, verdict, place),
-        (_, Detail::Accepted(_)) => Ok(Map::new(alloc)),
+    match &explanation.detail {
+        Detail::Accepted(summary) => fields_of_summary(alloc, policy, summary),
+        Detail::Refused(refusal) => fields_of_refusal(alloc, policy, refusal),
+        Detail::Limited(place) => fields_of_limit(alloc, place),
     }
 }
 
-/// The fields with those that each answer has, on a line of their own.
-fn answer_json(
+/// The version of the schema, the file's name, and the lines that explain the answer.
+fn put_explanation(
+    fields: &mut Map<String, Value>,
     alloc: Global,
     name: Option<&str>,
-    accepted: bool,
-    mut fields: Map<String, Value>,
-    prose: Option<&str>,
-) -> Result<String, AllocError>
-    ensures { IfOk result (λ text. IsJson accepted (string_bytes text)) }
-{
-    let mut lines = prose.unwrap_or("").lines();
-    let first = lines.next().unwrap_or("");
-    let answer = match prose {
-        Some(_) => Value::try_from_str(alloc, first)?,
-        None => Value::Null,
-    };
-    let explanation = lines_value(alloc, lines)?;
-    put(&mut fields, alloc, "schema", Value::from(SCHEMA))?;
-    put(&mut fields, alloc, "file", file_value(alloc, name)?)?;
-    put(&mut fields, alloc, "answer", answer)?;
-    put(&mut fields, alloc, "explanation", explanation)?;
-    let value = with_verdict(alloc, fields, accepted)?;
-    line_of(alloc, &value)
+    lines: &str,
+) -> Result<(), AllocError> {
+    put(fields, alloc, "schema", Value::from(SCHEMA))?;
+    put(fields, alloc, "file", file_value(alloc, name)?)?;
+    put(
+        fields,
+        alloc,
+        "explanation",
+        lines_value(alloc, lines.lines())?,
+    )
 }
 
-/// The fields, and whether the policy is accepted.
-fn with_verdict(
+/// Whether the policy is accepted, and the answer's first line.
+fn put_answer(
+    fields: &mut Map<String, Value>,
     alloc: Global,
-    mut fields: Map<String, Value>,
     accepted: bool,
-) -> Result<Value, AllocError>
-    ensures { IfOk result (λ v. get (codes "accepted") (view v) ≡ Some (boolean accepted)) }
+    answer: Value,
+) -> Result<(), AllocError>
+    ensures { OnOk result (members_view fields.new.entries ≡ put_all (answer_members accepted (view answer)) (members_view fields.old.entries)) }
 {
-    put(&mut fields, alloc, "accepted", Value::Bool(accepted))?;
-    Ok(Value::Object(fields))
+    put(fields, alloc, "accepted", Value::Bool(accepted))?;
+    put(fields, alloc, "answer", answer)
 }
 
-/// The value on a line of its own.
-fn line_of(alloc: Global, value: &Value) -> Result<String, AllocError>
-    ensures { IfOk result (λ text. IsLineOf (view value.now) (string_bytes text)) }
+/// The object of these fields, on a line of its own.
+fn line_of(alloc: Global, fields: Map<String, Value>) -> Result<String, AllocError>
+    ensures { IfOk result (λ text. IsLineOf (object (members_view fields.entries)) (string_bytes text)) }
 {
-    let line = value.to_string(alloc)?;
+    let line = Value::Object(fields).to_string(alloc)?;
     format!(in alloc; "{line}\n")
 }

@@ -1,6 +1,8 @@
 //! Why a file is no policy: the line that refuses it, and what is wrong, as a value and in words.
 ghost use Rattle.std.specs.Prelude.{◌≡◌, ◌≢◌, IfOk, OnOk, string_bytes};
+ghost use Rattle.serde_json.specs.View.{members_view, view};
 ghost use Rattle.bq_policy_check.specs.Refusing.{fault_line};
+ghost use Rattle.bq_policy_check.specs.Showing.{of_fault, put_all, slot_of};
 ghost use Rattle.bq_policy_file.specs.declared.fault.PolicyFault.TheVariants.{OutOfMemory};
 
 use crate::image_words::{image_words, spelling_words};
@@ -149,12 +151,32 @@ pub(crate) fn fields_of_reason(
 ) -> Result<Map<String, Value>, AllocError> {
     let mut fields = Map::new(alloc);
     put_text(&mut fields, alloc, "stage", stage_of(fault))?;
-    let code = format!(in alloc; "{fault}")?;
-    put_text(&mut fields, alloc, "code", code.as_str())?;
     put(&mut fields, alloc, "line", number_value(reason.line))?;
-    put(&mut fields, alloc, "slot", number_value(reason.slot))?;
     put_text(&mut fields, alloc, "need", reason.why.as_str())?;
     Ok(fields)
+}
+
+/// The fault by its text, and its slot.
+pub(crate) fn put_fault(
+    fields: &mut Map<String, Value>,
+    alloc: Global,
+    fault: PolicyFault,
+) -> Result<(), AllocError>
+    ensures { OnOk result (members_view fields.new.entries ≡ put_all (of_fault fault) (members_view fields.old.entries)) }
+{
+    let code = format!(in alloc; "{fault}")?;
+    put_text(fields, alloc, "code", code.as_str())?;
+    put(fields, alloc, "slot", slot_value(fault))
+}
+
+/// The slot that a fault names, or null.
+fn slot_value(fault: PolicyFault) -> Value
+    ensures { view result ≡ slot_of fault }
+{
+    match fault {
+        PolicyFault::Program { slot, .. } => Value::from(slot as u64),
+        _ => Value::Null,
+    }
 }
 
 /// Which part of the program refuses the file.
