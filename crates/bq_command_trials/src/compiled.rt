@@ -250,6 +250,27 @@ fn runs_that_share_their_slots(rt: HostRuntime) -> Result<(), Fail> {
     is_imported(&rt, alloc, hex.as_bytes(), listing.as_str())
 }
 
+/// A jump to a second arm; an arm as in the program above; and the second arm, the same again. Both jump back to one exit. The runs of an arm
+/// have 181 slots from its head, and 5490 from the 60 slots that jumps lead to. The copy keeps each arm together, and only the exit moves, to
+/// the end: 365 slots.
+#[test]
+fn arms_that_share_an_exit(rt: HostRuntime) -> Result<(), Fail> {
+    let alloc = rt.alloc();
+    let (into, step) = ("16023b0000000000\n", "b400000000000000\n");
+    let head = "1602b70000000000\n0500010000000000\n9500000000000000\n";
+    let jumps = repeated(alloc, head, into, 60, "")?;
+    // a distance counts from the slot behind the jump: -182 from 184 to slot 2, and -363 from 365
+    let first = repeated(alloc, jumps.as_str(), step, 120, "05004aff00000000\n")?;
+    let jumps = repeated(alloc, first.as_str(), into, 60, "")?;
+    let hex = repeated(alloc, jumps.as_str(), step, 120, "050095fe00000000\n")?;
+    let (into, step) = ("jeq32 r2, 0, +59\n", "mov32 r0, 0\n");
+    let jumps = repeated(alloc, "jeq32 r2, 0, +182\nja +0\n", into, 60, "")?;
+    let first = repeated(alloc, jumps.as_str(), step, 120, "ja +181\n")?;
+    let jumps = repeated(alloc, first.as_str(), into, 60, "")?;
+    let listing = repeated(alloc, jumps.as_str(), step, 120, "ja +0\nexit\n")?;
+    is_imported(&rt, alloc, hex.as_bytes(), listing.as_str())
+}
+
 #[test]
 fn refusals_in_words(rt: HostRuntime) -> Result<(), Fail> {
     for (hex, words) in &REFUSED {
