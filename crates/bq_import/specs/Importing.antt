@@ -17,6 +17,7 @@ use Rattle.bq_import.specs.declared.section.ImportFault.{ImportFault}
 use Rattle.bq_import.specs.declared.section.ImportFault.TheVariants.{At, Order}
 use Rattle.bq_import.specs.Copies.{IsCopy}
 use Rattle.bq_import.specs.Faults.{IsDisorder}
+use Rattle.bq_import.specs.Keeping.{AllReached}
 use Rattle.bq_import.specs.Reasons.{reason_of}
 
 -- the bytes spell this program
@@ -44,7 +45,7 @@ pub record IsFirstAddress (program : List Insn) (slot : ℕ) : Type 0 where
   pub address : is_address insn ≡ true
   pub first : list_any is_address before ≡ false
 
--- the bytes spell a program without addresses, and the instructions are a copy of it, a program too
+-- the bytes spell a program without addresses; the instructions are a copy of it and a program too, and control comes to each of them
 pub record Imports (maps : ℕ) (bytes : List ℕ) (insns : List Insn) (origins : List ℕ) : Type 0 where
   pub program : List Insn
   pub spells : Spells bytes program
@@ -52,6 +53,7 @@ pub record Imports (maps : ℕ) (bytes : List ℕ) (insns : List Insn) (origins 
   pub copy : IsCopy maps (spread program) (spread insns) origins
   pub well_formed : is_well_formed insns ≡ true
   pub numbers : AllFit insns
+  pub reached : AllReached (spread insns)
 
 -- a byte of a slot; 0 past the end
 abbrev pub byte_at : List ℕ → ℕ → ℕ → ℕ
