@@ -12,7 +12,7 @@ use std::io;
 use std::test::Fail;
 use std::time::{Clock, Duration};
 
-/// The policy that answers the processor which the task last left.
+/// The policy that answers the processor at which the task last blocked.
 pub const KEEP_HOME: &str = ";@ hook place\nldxw r0, [r1+28]\nexit\n";
 
 /// Adds 1 to counter 0, and answers 1.
