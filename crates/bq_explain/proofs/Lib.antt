@@ -1,8 +1,10 @@
 pub mod BeginningLemmas
 pub mod VerdictLemmas
 pub mod ExplainLemmas
+pub mod LineLemmas
 pub mod MakerLemmas
 pub mod MeasureLemmas
+pub mod RefusalTextLemmas
 pub mod RunLemmas
 pub mod SlotLemmas
 pub mod StateTextLemmas

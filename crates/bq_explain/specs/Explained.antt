@@ -22,6 +22,7 @@ use Rattle.bq_needs.specs.declared.needs.Need.TheVariants as need
 use Rattle.bq_explain.specs.Makers.{IsOnTrail}
 use Rattle.bq_explain.specs.Telling.{TellsState}
 use Rattle.bq_explain.specs.Texts.{IsStateText}
+use Rattle.bq_explain.specs.TrailTexts.{TellsTrail, place_line}
 use Rattle.bq_explain.specs.Verdicts.{IsRefusedPolicy, IsVerdict}
 use Rattle.bq_explain.specs.declared.explanation.Detail.{Detail}
 use Rattle.bq_explain.specs.declared.explanation.Detail.TheVariants as detail
@@ -138,15 +139,22 @@ pub record TellsNeedAndState (p : PolicySource) (insn : Insn) (need : Need) (kno
   pub lines : List ℕ
   pub are_state : IsStateText p.form.shapes.items known lines
   pub hold : (f : Setting) (s : State) → f.shapes ≡ p.form.shapes.items → Allows f known s → TellsState f s lines
-  pub before : List ℕ
-  pub after : List ℕ
-  pub text_is : text ≡ before ++ (codes "\n  " ++ (told ++ (codes "\n" ++ (lines ++ after))))
+  pub text_is : text ≡ codes "\n  " ++ (told ++ (codes "\n" ++ lines))
 
 abbrev pub TellsFinding : PolicySource → Insn → Finding → List ℕ → Type 0
 TellsFinding p insn (finding.State need known) text = TellsNeedAndState p insn need known text
 TellsFinding p insn other text = Unit {0}
 
--- of a refusal the text tells what is found
+-- the line of the instruction that is refused, then what is found there, then where the registers come from, then advice
+pub record TellsRefusal (p : PolicySource) (refusal : Refusal) (text : List ℕ) : Type 0 where
+  pub before : List ℕ
+  pub found : List ℕ
+  pub tells_finding : TellsFinding p refusal.place.insn refusal.finding found
+  pub after : List ℕ
+  pub tells_trail : TellsTrail p.form.shapes.items refusal.trail after
+  pub text_is : text ≡ before ++ (place_line refusal.place ++ (found ++ after))
+
+-- of a refusal the text tells what is found and where the registers come from
 abbrev pub TellsDetail : PolicySource → Detail → List ℕ → Type 0
-TellsDetail p (detail.Refused refusal) text = TellsFinding p refusal.place.insn refusal.finding text
+TellsDetail p (detail.Refused refusal) text = TellsRefusal p refusal text
 TellsDetail p other text = Unit {0}

@@ -5,4 +5,5 @@ pub mod Makers
 pub mod Measures
 pub mod Telling
 pub mod Texts
+pub mod TrailTexts
 pub mod Verdicts

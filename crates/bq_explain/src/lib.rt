@@ -21,6 +21,7 @@ mod state_words;
 mod summary;
 mod text;
 mod trail;
+mod trail_words;
 mod verdict;
 mod ways;
 

@@ -5,6 +5,7 @@ ghost use Rattle.bq_insn.specs.declared.Insn.{Insn as Told};
 ghost use Rattle.bq_bpf.specs.Steps.{instruction_at};
 ghost use Rattle.bq_verify.specs.Edges.{IsStart};
 ghost use Rattle.bq_explain.specs.Explained.{IsPlace};
+ghost use Rattle.bq_explain.specs.TrailTexts.{EndsWith, place_line, place_text};
 
 use bq_insn::Insn;
 use bq_policy_file::{PolicySource, instruction_text};
@@ -66,7 +67,9 @@ fn calls(insn: Insn, helper: i32) -> bool {
 }
 
 /// The line of the text where the instruction stands, if there is a text, and its slot.
-pub(crate) fn place_text(alloc: Global, place: &Place) -> Result<String, AllocError> {
+pub(crate) fn place_text(alloc: Global, place: &Place) -> Result<String, AllocError>
+    ensures { IfOk result (λ text. string_bytes text ≡ place_text place.now) }
+{
     let slot = place.slot;
     match place.line {
         Some(line) => format!(in alloc; "line {line}, slot {slot}"),
@@ -79,7 +82,9 @@ pub(crate) fn instruction_line(
     alloc: Global,
     name: Option<&str>,
     place: &Place,
-) -> Result<String, AllocError> {
+) -> Result<String, AllocError>
+    ensures { IfOk result (λ text. EndsWith (place_line place.now) (string_bytes text)) }
+{
     let at = place_text(alloc, place)?;
     let insn = instruction_text(alloc, place.insn)?;
     match name {

@@ -1,25 +1,23 @@
 //! An explanation in words.
-ghost use Rattle.std.specs.Prelude.{◌≡◌, ◌++◌, ℕ, List, IfOk, codes, false, string_bytes};
+ghost use Rattle.std.specs.Prelude.{◌≡◌, IfOk, false, string_bytes};
 ghost use Rattle.bq_insn.specs.Appending.{StartsWith};
 ghost use Rattle.bq_explain.specs.Beginnings.{accepted_words, first_words};
-ghost use Rattle.bq_explain.specs.Explained.{TellsDetail, TellsFinding};
+ghost use Rattle.bq_explain.specs.Explained.{TellsDetail, TellsRefusal};
+ghost use Rattle.bq_explain.specs.TrailTexts.{TellsTrail};
 ghost use Rattle.bq_explain.specs.Verdicts.{is_accepted};
 
 use crate::advice_words::advice_text;
 use crate::explanation::{Detail, Explanation};
 use crate::graph_fault::graph_text;
 use crate::limits::Over;
-use crate::meeting::{Coming, Meeting};
-use crate::place::{Place, instruction_line, place_text};
+use crate::place::{Place, instruction_line};
 use crate::refusal::{Finding, Refusal};
 use crate::state_words::state_text;
 use crate::summary::{accepted_words, summary_text};
-use crate::trail::{Made, Trail};
+use crate::trail_words::trail_text;
 use crate::verdict::{Verdict, verdict_line};
-use bq_bpf::MapShape;
-use bq_needs::{Need, known_text, need_text};
-use bq_policy_file::{PolicySource, instruction_text};
-use bq_states::abstract_state::{AbstractState, AbstractValue};
+use bq_needs::need_text;
+use bq_policy_file::PolicySource;
 use std::alloc::{AllocError, Global};
 
 /// The explanation, line by line; the first line is `accepted` or `refused` and why. The file's name, if there is one, stands before the
@@ -123,7 +121,7 @@ fn refusal_text(
     refusal: &Refusal,
 ) -> Result<String, AllocError>
     ensures begins { IfOk result (λ text. StartsWith (string_bytes line) (string_bytes text)) }
-    ensures tells { IfOk result (λ text. TellsFinding policy.now refusal.now.place.insn refusal.now.finding (string_bytes text)) }
+    ensures tells { IfOk result (λ text. TellsRefusal policy.now refusal.now (string_bytes text)) }
 {
     let at = instruction_line(alloc, name, &refusal.place)?;
     let after = after_text(alloc, policy, refusal)?;
@@ -157,93 +155,10 @@ pub fn need_words(
 }
 
 /// Where the registers come from, and what helps.
-fn after_text(
-    alloc: Global,
-    policy: &PolicySource,
-    refusal: &Refusal,
-) -> Result<String, AllocError> {
+fn after_text(alloc: Global, policy: &PolicySource, refusal: &Refusal) -> Result<String, AllocError>
+    ensures { IfOk result (λ text. TellsTrail policy.now.form.shapes.items refusal.now.trail (string_bytes text)) }
+{
     let trail = trail_text(alloc, policy.form.shapes.as_slice(), &refusal.trail)?;
     let help = advice_text(alloc, policy, refusal.advice)?;
     format!(in alloc; "{trail}  helps: {help}\n")
-}
-
-/// A line for each instruction that made a register, for each register that is unset on some way, and for each place where ways meet.
-fn trail_text(alloc: Global, shapes: &[MapShape], trail: &Trail) -> Result<String, AllocError> {
-    let mut text = String::new(alloc);
-    for made in trail.made.as_slice() {
-        let line = made_text(alloc, shapes, made)?;
-        text.push_str(line.as_str())?;
-    }
-    for register in 0..11usize {
-        if trail.unset[register] {
-            write!(
-                text,
-                "  r{register} is set by no instruction on some way from the start\n"
-            )?;
-        }
-    }
-    for meeting in trail.meetings.as_slice() {
-        let line = meeting_text(alloc, shapes, meeting)?;
-        text.push_str(line.as_str())?;
-    }
-    Ok(text)
-}
-
-/// An instruction that made a register, and what it made of it.
-fn made_text(alloc: Global, shapes: &[MapShape], made: &Made) -> Result<String, AllocError> {
-    let place = place_text(alloc, &made.place)?;
-    let insn = instruction_text(alloc, made.place.insn)?;
-    let outcome = outcome_text(alloc, shapes, made)?;
-    format!(in alloc; "  made at {place}:  {insn}{outcome}\n")
-}
-
-/// What the register is right behind it.
-fn outcome_text(alloc: Global, shapes: &[MapShape], made: &Made) -> Result<String, AllocError> {
-    let register = made.register;
-    match made.known {
-        Some(known) => {
-            let told = known_text(alloc, shapes, &known)?;
-            format!(in alloc; "    r{register} then is {told}")
-        }
-        None if made.is_unset() => format!(in alloc; "    r{register} then is unset"),
-        None => Ok(String::new(alloc)),
-    }
-}
-
-/// Two ways that meet, with what the register is on each and where they meet.
-fn meeting_text(
-    alloc: Global,
-    shapes: &[MapShape],
-    meeting: &Meeting,
-) -> Result<String, AllocError> {
-    let register = meeting.register;
-    let slot = meeting.slot;
-    let first = coming_text(alloc, shapes, &meeting.first)?;
-    let second = coming_text(alloc, shapes, &meeting.second)?;
-    let met = met_text(alloc, shapes, meeting.known)?;
-    format!(in alloc;
-        "  r{register} is {first}, and {second}; where they meet, at slot {slot}, {met}\n"
-    )
-}
-
-/// What the register is on a way.
-fn coming_text(alloc: Global, shapes: &[MapShape], coming: &Coming) -> Result<String, AllocError> {
-    let known = known_text(alloc, shapes, &coming.known)?;
-    let place = place_text(alloc, &coming.place)?;
-    format!(in alloc; "{known} on the way over {place}")
-}
-
-/// What is known of it where the ways meet.
-fn met_text(
-    alloc: Global,
-    shapes: &[MapShape],
-    known: Option<AbstractValue>,
-) -> Result<String, AllocError> {
-    match known {
-        Some(known) => {
-            let told = known_text(alloc, shapes, &known)?;
-            format!(in alloc; "it is {told}")
-        }
-        None => String::from_str(alloc, "nothing is known of it"),
-    }
 }

@@ -3,6 +3,7 @@ ghost use Rattle.std.specs.Prelude.{◌≡◌, ◌<◌, ◌≤◌, [], IfOk, IfS
 ghost use Rattle.bq_verify.specs.Passes.{IsSound};
 ghost use Rattle.bq_explain.specs.Explained.{AreMade, AreOf, IsOf};
 ghost use Rattle.bq_explain.specs.Makers.{CanBeWalked};
+ghost use Rattle.bq_explain.specs.TrailTexts.{leaves_unset};
 
 use crate::makers::{Maker, makers, trail};
 use crate::meeting::{Meeting, known_at, known_behind, meeting_of};
@@ -54,13 +55,17 @@ pub struct Made {
 
 impl Made {
     /// Whether it is a call, which left the register unset.
-    pub fn is_unset(&self) -> bool {
+    pub fn is_unset(&self) -> bool
+        ensures { result ≡ leaves_unset self.now.place.insn self.now.register }
+    {
         leaves_unset(self.place.insn, self.register)
     }
 }
 
 /// Whether the instruction is a call that leaves the register unset, if it writes that.
-fn leaves_unset(insn: Insn, register: u8) -> bool {
+fn leaves_unset(insn: Insn, register: u8) -> bool
+    ensures { result ≡ leaves_unset insn register }
+{
     matches!(insn, Insn::Call { .. }) && register != 0
 }
 

@@ -1,0 +1,143 @@
+//! Where registers come from in words.
+ghost use Rattle.std.specs.Prelude.{◌≡◌, IfOk, flat_map, string_bytes};
+ghost use Rattle.bq_explain.specs.TrailTexts.{coming_text, made_text, meeting_text, met_text, outcome_text, trail_text, unset_below, unset_text};
+
+use crate::meeting::{Coming, Meeting};
+use crate::place::place_text;
+use crate::trail::{Made, Trail};
+use bq_bpf::MapShape;
+use bq_needs::{Registers, known_text};
+use bq_policy_file::instruction_text;
+use bq_states::abstract_state::AbstractValue;
+use std::alloc::{AllocError, Global};
+
+/// A line for each instruction that made a register, for each register that is unset on some way, and for each place where ways meet.
+pub(crate) fn trail_text(
+    alloc: Global,
+    shapes: &[MapShape],
+    trail: &Trail,
+) -> Result<String, AllocError>
+    ensures { IfOk result (λ text. string_bytes text ≡ trail_text shapes.now trail.now) }
+{
+    let made = made_lines(alloc, shapes, trail.made.as_slice())?;
+    let unset = unset_lines(alloc, &trail.unset)?;
+    let meetings = meeting_lines(alloc, shapes, trail.meetings.as_slice())?;
+    format!(in alloc; "{made}{unset}{meetings}")
+}
+
+/// The instructions that made registers, a line for each.
+fn made_lines(alloc: Global, shapes: &[MapShape], makers: &[Made]) -> Result<String, AllocError>
+    ensures { IfOk result (λ text. string_bytes text ≡ flat_map (made_text shapes.now) makers.now) }
+{
+    let mut text = String::new(alloc);
+    for made in makers {
+        let line = made_text(alloc, shapes, made)?;
+        text.push_str(line.as_str())?;
+    }
+    Ok(text)
+}
+
+/// The registers that are unset on some way, a line for each.
+fn unset_lines(alloc: Global, unset: &Registers) -> Result<String, AllocError>
+    ensures { IfOk result (λ text. string_bytes text ≡ unset_below 11 unset.now) }
+{
+    let mut text = String::new(alloc);
+    for register in 0..11usize {
+        let line = unset_text(alloc, register, unset[register])?;
+        text.push_str(line.as_str())?;
+    }
+    Ok(text)
+}
+
+/// The line of a register, if it is unset on some way.
+fn unset_text(alloc: Global, register: usize, is_unset: bool) -> Result<String, AllocError>
+    ensures { IfOk result (λ text. string_bytes text ≡ unset_text register is_unset) }
+{
+    if is_unset {
+        return format!(in alloc;
+            "  r{register} is set by no instruction on some way from the start\n"
+        );
+    }
+    Ok(String::new(alloc))
+}
+
+/// The places where ways meet, a line for each.
+fn meeting_lines(
+    alloc: Global,
+    shapes: &[MapShape],
+    meetings: &[Meeting],
+) -> Result<String, AllocError>
+    ensures { IfOk result (λ text. string_bytes text ≡ flat_map (meeting_text shapes.now) meetings.now) }
+{
+    let mut text = String::new(alloc);
+    for meeting in meetings {
+        let line = meeting_text(alloc, shapes, meeting)?;
+        text.push_str(line.as_str())?;
+    }
+    Ok(text)
+}
+
+/// An instruction that made a register, and what it made of it.
+fn made_text(alloc: Global, shapes: &[MapShape], made: &Made) -> Result<String, AllocError>
+    ensures { IfOk result (λ text. string_bytes text ≡ made_text shapes.now made.now) }
+{
+    let place = place_text(alloc, &made.place)?;
+    let insn = instruction_text(alloc, made.place.insn)?;
+    let outcome = outcome_text(alloc, shapes, made)?;
+    format!(in alloc; "  made at {place}:  {insn}{outcome}\n")
+}
+
+/// What the register is right behind it.
+fn outcome_text(alloc: Global, shapes: &[MapShape], made: &Made) -> Result<String, AllocError>
+    ensures { IfOk result (λ text. string_bytes text ≡ outcome_text shapes.now made.now.place.insn made.now.register made.now.known) }
+{
+    let register = made.register;
+    match made.known {
+        Some(known) => {
+            let told = known_text(alloc, shapes, &known)?;
+            format!(in alloc; "    r{register} then is {told}")
+        }
+        None if made.is_unset() => format!(in alloc; "    r{register} then is unset"),
+        None => Ok(String::new(alloc)),
+    }
+}
+
+/// Two ways that meet, with what the register is on each and where they meet.
+fn meeting_text(alloc: Global, shapes: &[MapShape], meeting: &Meeting) -> Result<String, AllocError>
+    ensures { IfOk result (λ text. string_bytes text ≡ meeting_text shapes.now meeting.now) }
+{
+    let register = meeting.register;
+    let slot = meeting.slot;
+    let first = coming_text(alloc, shapes, &meeting.first)?;
+    let second = coming_text(alloc, shapes, &meeting.second)?;
+    let met = met_text(alloc, shapes, meeting.known)?;
+    format!(in alloc;
+        "  r{register} is {first}, and {second}; where they meet, at slot {slot}, {met}\n"
+    )
+}
+
+/// What the register is on a way.
+fn coming_text(alloc: Global, shapes: &[MapShape], coming: &Coming) -> Result<String, AllocError>
+    ensures { IfOk result (λ text. string_bytes text ≡ coming_text shapes.now coming.now) }
+{
+    let known = known_text(alloc, shapes, &coming.known)?;
+    let place = place_text(alloc, &coming.place)?;
+    format!(in alloc; "{known} on the way over {place}")
+}
+
+/// What is known of it where the ways meet.
+fn met_text(
+    alloc: Global,
+    shapes: &[MapShape],
+    known: Option<AbstractValue>,
+) -> Result<String, AllocError>
+    ensures { IfOk result (λ text. string_bytes text ≡ met_text shapes.now known) }
+{
+    match known {
+        Some(known) => {
+            let told = known_text(alloc, shapes, &known)?;
+            format!(in alloc; "it is {told}")
+        }
+        None => String::from_str(alloc, "nothing is known of it"),
+    }
+}
