@@ -93,16 +93,18 @@ AreAsked found asked = (r : ℕ) → slice_index_or asked r false ≡ true → i
 
 -- each of them is on the trail of these registers at the slot
 abbrev pub AreMade : List (Option Insn) → ℕ → List Bool → List Made → Type 0
-AreMade slots slot asked made = (one : Made) → Contains made one → IsOnTrail slots slot asked one.register one.place.slot
+AreMade slots slot asked made =
+    (one : Made) → Contains made one → IsOnTrail slots slot asked one.register one.place.slot × (instruction_at slots one.place.slot ≡ Some one.place.insn)
 
--- it tells of that maker
-pub record IsOf (maker : Maker) (made : Made) : Type 0 where
+-- it tells of that maker, and of the instruction there
+pub record IsOf (slots : List (Option Insn)) (maker : Maker) (made : Made) : Type 0 where
   pub register_is : made.register ≡ maker.register
   pub slot_is : made.place.slot ≡ maker.slot
+  pub insn_is : instruction_at slots made.place.slot ≡ Some made.place.insn
 
 -- each of them tells of one of the makers
-abbrev pub AreOf : List Maker → List Made → Type 0
-AreOf makers made = (one : Made) → Contains made one → (maker : Maker) × Contains makers maker × IsOf maker one
+abbrev pub AreOf : List (Option Insn) → List Maker → List Made → Type 0
+AreOf slots makers made = (one : Made) → Contains made one → (maker : Maker) × Contains makers maker × IsOf slots maker one
 
 -- the instruction at the slot, what is found there, and instructions on the trail of registers of which that speaks
 pub record IsRefusalOf (p : PolicySource) (slot : ℕ) (named : Cause) (refusal : Refusal) : Type 0 where

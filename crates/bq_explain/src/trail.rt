@@ -124,7 +124,7 @@ fn made_by(
     states: &KnownStates,
     makers: &[Maker],
 ) -> Result<Vec<Made>, AllocError>
-    ensures { IfOk result (λ made. AreOf makers.now made.items) }
+    ensures { IfOk result (λ made. AreOf slots.now makers.now made.items) }
 {
     let mut made = Vec::new(alloc);
     for maker in makers {
@@ -142,7 +142,7 @@ fn made_of(
     states: &KnownStates,
     maker: Maker,
 ) -> Option<Made>
-    ensures { IfSome result (IsOf maker) }
+    ensures { IfSome result (IsOf slots.now maker) }
 {
     let place = place_at(policy, slots, maker.slot)?;
     let next = maker.slot.saturating_add(place.insn.slots());
