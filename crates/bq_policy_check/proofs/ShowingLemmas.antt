@@ -1,5 +1,5 @@
 -- An object that has members put last under names of their own has each of them, and the first line of a text is that of what it begins with.
-use Rattle.std.proofs.Common.{◌≡◌, ◌∙◌, ◌==◌, ◌+◌, ℕ, suc, Bool, true, false, not, cond, true≢false, List, [], ◌∷◌, ◌++◌, take, Some, ap, arith, refl, subst, sym}
+use Rattle.std.proofs.Common.{◌≡◌, ◌∙◌, ◌==◌, ◌+◌, ℕ, suc, Bool, true, false, not, cond, true≢false, List, [], ◌∷◌, ◌++◌, take, ap, arith, refl, subst, sym}
 use Rattle.std.specs.Prelude.{codes}
 use Rattle.std.specs.Fmt.{decimal, signed_decimal}
 use Rattle.std.specs.List.{AllByRecursion}

@@ -1,5 +1,5 @@
 -- What an answer of `check` says as JSON.
-use Rattle.std.specs.Prelude.{◌≡◌, ◌==◌, ℕ, Bool, true, false, List, [], ◌∷◌, ◌++◌, Option, Some, None, codes}
+use Rattle.std.specs.Prelude.{◌≡◌, ◌==◌, ℕ, Bool, false, List, [], ◌∷◌, ◌++◌, Some, codes}
 use Rattle.std.specs.Fmt.{decimal}
 use Rattle.std.specs.List.{AllByRecursion, before_first}
 use Rattle.serde_json.specs.Data.{Data, null, boolean, number, string, unsigned, Members, put}
@@ -16,7 +16,7 @@ use Rattle.bq_explain.specs.declared.verdict.Verdict.{Verdict}
 use Rattle.bq_explain.specs.declared.verdict.Verdict.TheVariants.{Accepted, OverSteps, Forbidden, OtherHook, Beyond, Refused}
 use Rattle.bq_policy_file.specs.Naming.{fault_text}
 use Rattle.bq_policy_file.specs.declared.fault.PolicyFault.{PolicyFault}
-use Rattle.bq_policy_file.specs.declared.fault.PolicyFault.TheVariants.{Program}
+use Rattle.bq_policy_file.specs.declared.fault.PolicyFault.TheVariants.{Assembly, Head, Image, Program}
 use Rattle.bq_policy_file.specs.declared.policy_source.PolicySource.{PolicySource}
 use Rattle.bq_policy_check.specs.Refusing.{fault_line}
 
@@ -83,9 +83,17 @@ abbrev pub slot_of : PolicyFault → Data
 slot_of (Program slot cause) = number (unsigned slot)
 slot_of other = null
 
--- the fault by its text, and its slot
+-- which part of the program refuses a file for that fault
+abbrev pub stage_of : PolicyFault → List ℕ
+stage_of (Head line cause) = codes "head"
+stage_of (Assembly line cause) = codes "assembler"
+stage_of (Image fault) = codes "image"
+stage_of (Program slot cause) = codes "decoder"
+stage_of other = codes "file"
+
+-- what refuses the file, the fault by its text, and its slot
 abbrev pub of_fault : PolicyFault → List (List ℕ × Data)
-of_fault named = (codes "code", string (fault_text named)) ∷ (codes "slot", slot_of named) ∷ []
+of_fault named = (codes "stage", string (stage_of named)) ∷ (codes "code", string (fault_text named)) ∷ (codes "slot", slot_of named) ∷ []
 
 -- so is a fault of a file
 abbrev pub ShowsFault : PolicyFault → List ℕ → Type 0

@@ -58,7 +58,7 @@ pub(crate) fn reason_json(
 {
     let (first, rest) = first_line(prose);
     let answer = Value::try_from_str(alloc, first)?;
-    let mut fields = fields_of_reason(alloc, fault, reason)?;
+    let mut fields = fields_of_reason(alloc, reason)?;
     put_explanation(&mut fields, alloc, name, rest)?;
     put_answer(&mut fields, alloc, false, answer)?;
     put_fault(&mut fields, alloc, fault)?;

@@ -2,7 +2,7 @@
 ghost use Rattle.std.specs.Prelude.{◌≡◌, ◌≢◌, IfOk, OnOk, string_bytes};
 ghost use Rattle.serde_json.specs.View.{members_view, view};
 ghost use Rattle.bq_policy_check.specs.Refusing.{fault_line};
-ghost use Rattle.bq_policy_check.specs.Showing.{of_fault, put_all, slot_of};
+ghost use Rattle.bq_policy_check.specs.Showing.{of_fault, put_all, slot_of, stage_of};
 ghost use Rattle.bq_policy_file.specs.declared.fault.PolicyFault.TheVariants.{OutOfMemory};
 
 use crate::image_words::{image_words, spelling_words};
@@ -146,17 +146,15 @@ fn place_text(alloc: Global, reason: &Reason) -> Result<String, AllocError> {
 /// What is said of it as JSON, beside the prose.
 pub(crate) fn fields_of_reason(
     alloc: Global,
-    fault: PolicyFault,
     reason: &Reason,
 ) -> Result<Map<String, Value>, AllocError> {
     let mut fields = Map::new(alloc);
-    put_text(&mut fields, alloc, "stage", stage_of(fault))?;
     put(&mut fields, alloc, "line", number_value(reason.line))?;
     put_text(&mut fields, alloc, "need", reason.why.as_str())?;
     Ok(fields)
 }
 
-/// The fault by its text, and its slot.
+/// What refuses the file, the fault by its text, and its slot.
 pub(crate) fn put_fault(
     fields: &mut Map<String, Value>,
     alloc: Global,
@@ -165,6 +163,7 @@ pub(crate) fn put_fault(
     ensures { OnOk result (members_view fields.new.entries ≡ put_all (of_fault fault) (members_view fields.old.entries)) }
 {
     let code = format!(in alloc; "{fault}")?;
+    put_text(fields, alloc, "stage", stage_of(fault))?;
     put_text(fields, alloc, "code", code.as_str())?;
     put(fields, alloc, "slot", slot_value(fault))
 }
@@ -180,7 +179,9 @@ fn slot_value(fault: PolicyFault) -> Value
 }
 
 /// Which part of the program refuses the file.
-fn stage_of(fault: PolicyFault) -> &'static str {
+fn stage_of(fault: PolicyFault) -> &'static str
+    ensures { result.now ≡ stage_of fault }
+{
     match fault {
         PolicyFault::Head { .. } => "head",
         PolicyFault::Assembly { .. } => "assembler",
