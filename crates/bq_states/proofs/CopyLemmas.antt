@@ -9,7 +9,7 @@ use Rattle.std.proofs.lemmas.Option.{same_Some}
 use Rattle.bq_bpf.specs.Memory.{State, InStack, number_of, written}
 use Rattle.bq_bpf.specs.Steps.{called, next, put}
 use Rattle.bq_states.specs.declared.relations.Related.{Related}
-use Rattle.bq_states.specs.Copies.{AreCopies, HasWord, HaveWords, KeepsClasses, PartsFirst, PartsSlots}
+use Rattle.bq_states.specs.Copies.{AreCopies, HasWord, HaveWords, HoldsClass, KeepsClasses, PartsFirst, PartsSlots}
 use Rattle.bq_states.specs.Relations.{AreRelated}
 use Rattle.bq_states.proofs.StoreLemmas.{apart_byte}
 
@@ -111,12 +111,12 @@ other_by word own n k b (inr (e, _)) other = rw e refl
 -- a place of no class gets one that no place has, and that is not related to any; that other class keeps its word
 pub class_given : (old retired : List ℕ) (before related : List (Option Related)) (place own beside n : ℕ) (s : State) → place < length retired → KeepsClasses old retired → ((p : ℕ) → slice_index retired p ≢ own)
     → own ≢ beside → ((word other : ℕ → ℕ) → ((k : ℕ) → k ≢ own → other k ≡ word k) → AreRelated word before → AreRelated other related) → (copies : AreCopies old before s) → HasWord s place n
-    → (word : ℕ → ℕ) × HaveWords (slice_set retired place own) s word × AreRelated word related × HasWord s place (word own) × (word beside ≡ copies.0 beside)
+    → (is : HoldsClass (slice_set retired place own) related s place own) × (is.0.0 beside ≡ copies.0 beside)
 class_given old retired before related place own beside n s there keeps gone apart_is unrelated copies has = (
-  with_word copies.0 own n,
-  λ p some. at p _ (eqb_tells p place) some,
-  unrelated copies.0 (with_word copies.0 own n) other copies.2,
-  subst (λ (k : ℕ). HasWord s place k) (own_by copies.0 own n own _ (eqb_tells own own) refl) has,
+  (
+    (with_word copies.0 own n, λ p some. at p _ (eqb_tells p place) some, unrelated copies.0 (with_word copies.0 own n) other copies.2),
+    subst (λ (k : ℕ). HasWord s place k) (own_by copies.0 own n own _ (eqb_tells own own) refl) has,
+  ),
   other beside (λ e. apart_is (sym e)),
 )
   where

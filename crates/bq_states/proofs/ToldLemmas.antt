@@ -17,7 +17,7 @@ use Rattle.bq_states.specs.declared.relations.Related.{Related}
 use Rattle.bq_states.specs.Copies.{AreCopies, HasWord}
 use Rattle.bq_states.specs.Relations.{IsRelatedBy}
 use Rattle.bq_states.specs.Certainty.{Certainty, Stands, NoPointer, Fact, Never, AtRegister, IsSetAt, IsPlainAt, Has}
-use Rattle.bq_states.specs.Told.{HasLearnt, IsLasting, IsLastingWord, IsSharper}
+use Rattle.bq_states.specs.Told.{HasLearnt, IsLasting, IsLastingWord, IsSharper, Sharpens, SharpensBy}
 use Rattle.bq_states.specs.AbstractStates.{Contains, Describes, Holds, Keeps}
 use Rattle.bq_states.proofs.LearnLemmas.{learn_at}
 use Rattle.bq_states.proofs.WordLemmas.{number_within, word_fits}
@@ -172,14 +172,6 @@ pub class_within : (f : Setting) (v : AbstractState) (s : State) (contains : Con
 class_within f v s contains register None r low some is any known small = any (contains.copies.0 (slice_index v.classes register)) small refl
 class_within f v s contains register (Some k) r low some is any known small =
     known f.shapes k (contains.copies.0 (slice_index v.classes register)) refl (class_known f v s contains register k low some (sym is))
-
--- a state of the one abstract state in which the word of the class is as told is one of the other, with the same words of classes
-abbrev pub Sharpens : AbstractValue → ℕ → AbstractState → AbstractState → Type 0
-Sharpens told class old new = (f : Setting) (s : State) (was : Contains f old s) → Describes f.shapes told (was.copies.0 class) → (is : Contains f new s) × (is.copies.0 ≡ was.copies.0)
-
--- and so is one in which the two classes are so related, and the class's word is in that range
-abbrev pub SharpensBy : Related → Range → ℕ → AbstractState → AbstractState → Type 0
-SharpensBy known told class old new = (f : Setting) (s : State) (was : Contains f old s) → IsRelatedBy was.copies.0 (Some known) → Within told (was.copies.0 class) → (is : Contains f new s) × (is.copies.0 ≡ was.copies.0)
 
 -- a relation that is known sharpens both its words
 pub sharpens_more : (told : AbstractValue) (class i : ℕ) (known : Related) (v w x y : AbstractState) → told.kind ≡ Number → slice_index_or w.related i None ≡ Some known → Sharpens told class v w → SharpensBy known told.offset class w x → SharpensBy known told.offset class x y → Sharpens told class v y

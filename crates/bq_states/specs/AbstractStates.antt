@@ -2,9 +2,10 @@
 use Rattle.std.specs.Prelude.{Bool, ◌≡◌, ℕ, ◌+◌, ◌*◌, ◌%◌, ◌^◌, ◌<◌, ◌≤◌, true, false, List, Option, Some, None, length, slice_get, slice_set, slice_index, slice_index_or, ◌⊎◌}
 use Rattle.std.specs.Int.{byte_at}
 use Rattle.bq_bpf.specs.declared.shape.MapShape.{MapShape}
-use Rattle.bq_bpf.specs.Memory.{Setting, State, Region, Reads, InContext, InStack, InEntry, Spans, IsEntry, reference, values_base, context_base, stack_base, HaveShapes, stack_size}
-use Rattle.bq_bpf.specs.Steps.{IsOperand}
+use Rattle.bq_bpf.specs.Memory.{Setting, State, Region, Reads, InContext, InStack, InEntry, Spans, IsEntry, reference, values_base, context_base, stack_base, HaveShapes, stack_size, written}
+use Rattle.bq_bpf.specs.Steps.{IsOperand, next}
 use Rattle.bq_insn.specs.declared.Source.{Source}
+use Rattle.bq_ranges.specs.declared.range.Range.{Range}
 use Rattle.bq_ranges.specs.Within.{Within}
 use Rattle.bq_states.specs.Copies.{AreCopies}
 use Rattle.bq_states.specs.Parts.{HaveParts}
@@ -62,6 +63,10 @@ abbrev pub Keeps : List MapShape → Option AbstractValue → (ℕ → Option �
 Keeps shapes None stack j = Unit {0}
 Keeps shapes (Some k) stack j = (n : ℕ) × Describes shapes k n × ((i : ℕ) → i < 8 → stack (8 * j + i) ≡ Some (byte_at i n))
 
+-- each number of the list is below 256
+abbrev pub AreBytes : List ℕ → Type 0
+AreBytes bytes = (k : ℕ) → k < length bytes → slice_index bytes k < 256
+
 -- the abstract state is right about the state
 pub record Contains (f : Setting) (v : AbstractState) (s : State) : Type 0 where
   pub registers : (r : ℕ) → Holds f.shapes (slice_index_or v.registers r None) (s.register r)
@@ -111,10 +116,17 @@ pub record Clears (old new : List (Option AbstractValue)) : Type 0 where
   pub first : slice_index_or new 0 None ≡ slice_index_or old 0 None
   pub others : (r : ℕ) → 6 ≤ r → slice_index_or new r None ≡ slice_index_or old r None
 
--- in every state of the abstract state the register points to this many bytes that may be read
+-- the register points to this many bytes that may be read
+abbrev pub PointsToBytes : Setting → State → ℕ → ℕ → Type 0
+PointsToBytes f s r count = (word : ℕ) × (bytes : List ℕ) × (s.register r ≡ Some word) × (length bytes ≡ count) × Reads f s word bytes × ((i : ℕ) → slice_index bytes i < 256)
+
+-- in every state of the abstract state it does
 abbrev pub FindsBytes : List MapShape → ℕ → AbstractState → ℕ → ℕ → Type 0
-FindsBytes shapes context_length state r count =
-    (f : Setting) (s : State) → Suits shapes context_length f → Contains f state s → (word : ℕ) × (bytes : List ℕ) × (s.register r ≡ Some word) × (length bytes ≡ count) × Reads f s word bytes × ((i : ℕ) → slice_index bytes i < 256)
+FindsBytes shapes context_length state r count = (f : Setting) (s : State) → Suits shapes context_length f → Contains f state s → PointsToBytes f s r count
+
+-- all bytes from there to there are set
+abbrev pub AreSet : List Bool → ℕ → ℕ → Type 0
+AreSet set from to = (i : ℕ) → from ≤ i → i < to → slice_index_or set i false ≡ true
 
 -- only bytes from there to there were newly set
 abbrev pub Marks : List Bool → List Bool → ℕ → ℕ → Type 0
@@ -123,6 +135,11 @@ Marks old new from to = (i : ℕ) → slice_index_or new i false ≡ true → ((
 -- each slot is forgotten, or is as it was and lies apart
 abbrev pub Forgets : List (Option AbstractValue) → List (Option AbstractValue) → ℕ → ℕ → Type 0
 Forgets old new from to = (j : ℕ) → (slice_index_or new j None ≡ None) ⊎ ((slice_index_or new j None ≡ slice_index_or old j None) × ((8 * j + 8 ≤ from) ⊎ (to ≤ 8 * j)))
+
+-- from every state of the old abstract state a write of this many bytes on the stack, at a place of the range, leads to a state of the new one
+abbrev pub Overwrites : AbstractState → AbstractState → Range → ℕ → Type 0
+Overwrites old new at count =
+    (f : Setting) (s : State) (o : ℕ) (bytes : List ℕ) → Contains f old s → Within at o → length bytes ≡ count → AreBytes bytes → Contains f new (next (written s InStack o bytes))
 
 -- the known word in a slot of eight bytes
 abbrev pub keeping : AbstractState → ℕ → AbstractValue → AbstractState

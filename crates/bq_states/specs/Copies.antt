@@ -17,6 +17,10 @@ HaveWords classes s word = (p : ℕ) → slice_index classes p ≢ 0 → HasWord
 abbrev pub AreCopies : List ℕ → List (Option Related) → State → Type 0
 AreCopies classes related s = (word : ℕ → ℕ) × HaveWords classes s word × AreRelated word related
 
+-- and the place holds the word of that class
+abbrev pub HoldsClass : List ℕ → List (Option Related) → State → ℕ → ℕ → Type 0
+HoldsClass classes related s place class = (copies : AreCopies classes related s) × HasWord s place (copies.0 class)
+
 -- a place is of the class that it was of, or of none
 abbrev pub KeepsClasses : List ℕ → List ℕ → Type 0
 KeepsClasses old new = (p : ℕ) → slice_index new p ≢ 0 → slice_index new p ≡ slice_index old p

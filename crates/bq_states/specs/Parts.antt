@@ -1,7 +1,10 @@
 -- Numbers of which a few bytes of the stack are known.
-use Rattle.std.specs.Prelude.{◌≡◌, ℕ, ◌+◌, ◌<◌, ◌≤◌, List, Option, Some, None, length, slice_index, slice_index_or}
+use Rattle.std.specs.Prelude.{◌≡◌, ℕ, ◌+◌, ◌^◌, ◌<◌, ◌≤◌, List, Option, Some, None, length, slice_index, slice_index_or}
 use Rattle.bq_insn.specs.Slots.{byte_count}
+use Rattle.bq_insn.specs.declared.Size.{Size}
 use Rattle.bq_bpf.specs.Memory.{number_of, stack_with}
+use Rattle.bq_bpf.specs.Steps.{low_bytes}
+use Rattle.bq_ranges.specs.declared.range.Range.{Range}
 use Rattle.bq_ranges.specs.Within.{Within}
 use Rattle.bq_states.specs.declared.abstract_state.StackPart.{StackPart}
 
@@ -16,6 +19,15 @@ HasPart stack (Some p) = (bytes : List ℕ) × HasBytes stack p.first (byte_coun
 
 abbrev pub HaveParts : (ℕ → Option ℕ) → List (Option StackPart) → Type 0
 HaveParts stack parts = (j : ℕ) → HasPart stack (slice_index_or parts j None)
+
+-- the low bytes of the word are there
+abbrev pub HasLowBytes : (ℕ → Option ℕ) → ℕ → Size → ℕ → Type 0
+HasLowBytes stack first size word = HasBytes stack first (byte_count size) (low_bytes size word)
+
+-- what is read so at a place of the one range, of a stack of those parts, is a number of the other range
+abbrev pub ReadsWithin : List (Option StackPart) → Range → ℕ → Range → Type 0
+ReadsWithin parts at count read =
+    (stack : ℕ → Option ℕ) (o : ℕ) (bytes : List ℕ) → HaveParts stack parts → Within at o → HasBytes stack o count bytes → number_of bytes < 256 ^ count → Within read (number_of bytes)
 
 -- every stack of the one part is a stack of the other
 pub record AllowsPart (old new : Option StackPart) : Type 0 where

@@ -2,8 +2,7 @@
 
 ghost use Rattle.std.specs.Prelude.{◌≡◌, ◌≢◌, ◌+◌, ◌<◌, ◌≤◌, ℕ, length, slice_index};
 ghost use Rattle.bq_bpf.specs.Memory.{State, stack_size};
-ghost use Rattle.bq_states.specs.Copies.{AreCopies, HasWord, HaveWords, KeepsClasses, PartsFirst, PartsSlots};
-ghost use Rattle.bq_states.specs.Relations.{AreRelated};
+ghost use Rattle.bq_states.specs.Copies.{AreCopies, HasWord, HoldsClass, KeepsClasses, PartsFirst, PartsSlots};
 
 use crate::relations::{Related, unrelate};
 
@@ -47,7 +46,7 @@ pub fn class_of(classes: &mut [u8], related: &mut [Option<Related>], place: usiz
     ensures some { result ≢ 0 }
     ensures long { length classes.new ≡ 75 }
     ensures room { length related.new ≡ length related.old }
-    ensures word { (s : State) (n : ℕ) (copies : AreCopies classes.old related.old s) → HasWord s place n → (word : ℕ → ℕ) × HaveWords classes.new s word × AreRelated word related.new × HasWord s place (word result) × (word beside ≡ copies.0 beside) }
+    ensures word { (s : State) (n : ℕ) (was : AreCopies classes.old related.old s) → HasWord s place n → (is : HoldsClass classes.new related.new s place result) × (is.0.0 beside ≡ was.0 beside) }
 {
     let class = classes[place];
     if class != 0 {

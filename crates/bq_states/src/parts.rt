@@ -1,11 +1,11 @@
 //! Numbers that are stored in a few bytes of the stack.
 
-ghost use Rattle.std.specs.Prelude.{◌≡◌, ◌+◌, ◌^◌, ◌<◌, ℕ, Some, None, List, Option, length, slice_index_or};
+ghost use Rattle.std.specs.Prelude.{◌≡◌, ◌+◌, ◌^◌, ◌<◌, ℕ, Some, None, Option, length, slice_index_or};
 ghost use Rattle.bq_insn.specs.Slots.{byte_count};
 ghost use Rattle.bq_bpf.specs.Steps.{low_bytes};
 ghost use Rattle.bq_bpf.specs.Memory.{number_of};
 ghost use Rattle.bq_ranges.specs.Within.{Within};
-ghost use Rattle.bq_states.specs.Parts.{AllowsPart, HasBytes, HaveParts, Outlives};
+ghost use Rattle.bq_states.specs.Parts.{AllowsPart, HasLowBytes, HaveParts, Outlives, ReadsWithin};
 
 use crate::abstract_state::StackPart;
 use bq_bpf::addresses::STACK_SIZE;
@@ -15,7 +15,7 @@ use bq_ranges::Range;
 /// A number of the range was stored there: its low bytes are known.
 fn keep_part(parts: &mut [Option<StackPart>], first: u16, size: Size, word: Range)
     requires { length parts.old ≡ 4 }
-    ensures { (stack : ℕ → Option ℕ) (v : ℕ) → Within word v → HasBytes stack first (byte_count size) (low_bytes size v) → HaveParts stack parts.old → HaveParts stack parts.new }
+    ensures { (stack : ℕ → Option ℕ) (v : ℕ) → Within word v → HasLowBytes stack first size v → HaveParts stack parts.old → HaveParts stack parts.new }
 {
     let range = low_of(size, word);
     parts[place_of(first)] = Some(StackPart { first, size, range });
@@ -25,7 +25,7 @@ fn keep_part(parts: &mut [Option<StackPart>], first: u16, size: Size, word: Rang
 pub fn store_part(parts: &mut [Option<StackPart>], at: Range, size: Size, word: Range)
     requires room { length parts.old ≡ 4 }
     requires small { at.hi < 2 ^ 16 }
-    ensures { (stack : ℕ → Option ℕ) (o v : ℕ) → Within at o → Within word v → HasBytes stack o (byte_count size) (low_bytes size v) → HaveParts stack parts.old → HaveParts stack parts.new }
+    ensures { (stack : ℕ → Option ℕ) (o v : ℕ) → Within at o → Within word v → HasLowBytes stack o size v → HaveParts stack parts.old → HaveParts stack parts.new }
 {
     if at.is_single() {
         keep_part(parts, at.lo as u16, size, word);
@@ -35,7 +35,7 @@ pub fn store_part(parts: &mut [Option<StackPart>], at: Range, size: Size, word: 
 /// The numbers that a read of this many bytes at an offset of the range gives.
 pub fn numbers_at(parts: &[Option<StackPart>], at: Range, size: Size) -> Range
     requires { length parts.now ≡ 4 }
-    ensures { (stack : ℕ → Option ℕ) (o : ℕ) (bytes : List ℕ) → HaveParts stack parts.now → Within at o → HasBytes stack o (byte_count size) bytes → number_of bytes < 256 ^ byte_count size → Within result (number_of bytes) }
+    ensures { ReadsWithin parts.now at (byte_count size) result }
 {
     if !at.is_single() || at.lo >= STACK_SIZE {
         return numbers(size);

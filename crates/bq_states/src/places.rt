@@ -4,7 +4,8 @@ ghost use Rattle.std.specs.Prelude.{Some, ◌↔◌, ◌≡◌, ◌+◌, ◌^◌
 ghost use Rattle.bq_insn.specs.Slots.{byte_count};
 ghost use Rattle.bq_ranges.specs.Within.{Within};
 ghost use Rattle.bq_states.specs.Certainty.{Pointer, StandsAt};
-ghost use Rattle.bq_states.specs.AbstractStates.{bound_of, Bounds, FindsBytes};
+ghost use Rattle.bq_states.specs.AbstractStates.{bound_of, AreSet, Bounds, FindsBytes};
+ghost use Rattle.bq_states.specs.declared.abstract_state.ValueKind.TheVariants.{Stack};
 
 use crate::abstract_state::{AbstractState, ValueKind};
 use crate::registers::known;
@@ -58,8 +59,8 @@ pub fn stays(at: Range, size: Size, bound: usize) -> bool
 
 /// Whether the bytes of an access at each offset of the range are set, where they are on the stack.
 pub fn is_readable(state: &AbstractState, kind: ValueKind, at: Range, size: Size) -> bool
-    ensures stack { IsTrue result → kind ≡ ValueKind.Stack → (o i : ℕ) → Within at o → i < byte_count size → slice_index_or state.now.set (o + i) false ≡ true }
-    ensures found { (kind ≡ ValueKind.Stack → at.hi + byte_count size ≤ STACK_SIZE) → (kind ≡ ValueKind.Stack → (i : ℕ) → at.lo ≤ i → i < at.hi + byte_count size → slice_index_or state.now.set i false ≡ true) → IsTrue result }
+    ensures stack { IsTrue result → kind ≡ Stack → (o i : ℕ) → Within at o → i < byte_count size → slice_index_or state.now.set (o + i) false ≡ true }
+    ensures found { (kind ≡ Stack → at.hi + byte_count size ≤ STACK_SIZE) → (kind ≡ Stack → AreSet state.now.set at.lo (at.hi + byte_count size)) → IsTrue result }
 {
     match kind {
         ValueKind::Stack => {
@@ -76,7 +77,7 @@ pub fn is_readable(state: &AbstractState, kind: ValueKind, at: Range, size: Size
 fn is_set(state: &AbstractState, at: Range, size: Size) -> bool
     requires { at.hi + byte_count size ≤ STACK_SIZE }
     ensures all { IsTrue result → (o i : ℕ) → Within at o → i < byte_count size → slice_index_or state.now.set (o + i) false ≡ true }
-    ensures found { ((i : ℕ) → at.lo ≤ i → i < at.hi + byte_count size → slice_index_or state.now.set i false ≡ true) → IsTrue result }
+    ensures found { AreSet state.now.set at.lo (at.hi + byte_count size) → IsTrue result }
 {
     all_set(&state.set, at.lo as usize, at.hi as usize + size.bytes())
 }
@@ -84,8 +85,8 @@ fn is_set(state: &AbstractState, at: Range, size: Size) -> bool
 /// Whether all of these bytes are set.
 fn all_set(set: &[bool], from: usize, to: usize) -> bool
     requires { to ≤ length set.now }
-    ensures all { IsTrue result → (k : ℕ) → from ≤ k → k < to → slice_index_or set.now k false ≡ true }
-    ensures found { ((k : ℕ) → from ≤ k → k < to → slice_index_or set.now k false ≡ true) → IsTrue result }
+    ensures all { IsTrue result → AreSet set.now from to }
+    ensures found { AreSet set.now from to → IsTrue result }
 {
     for k in from..to {
         if !set[k] {
@@ -105,7 +106,7 @@ pub fn reads(
 ) -> bool
     requires { context < 2 ^ 16 }
     ensures finds { IsTrue result → FindsBytes shapes.now context state.now register (byte_count size) }
-    ensures accepts { (place : ℕ) → StandsAt (Pointer ValueKind.Stack place) state.now register → place + byte_count size ≤ STACK_SIZE → ((i : ℕ) → place ≤ i → i < place + byte_count size → slice_index_or state.now.set i false ≡ true) → IsTrue result }
+    ensures accepts { (at : ℕ) → StandsAt (Pointer Stack at) state.now register → at + byte_count size ≤ STACK_SIZE → AreSet state.now.set at (at + byte_count size) → IsTrue result }
 {
     let Some(base) = known(state, register) else {
         return false;
@@ -133,7 +134,7 @@ pub fn reads_value(
     requires context { context < 2 ^ 16 }
     requires count { count ≤ 256 }
     ensures finds { IsTrue result → FindsBytes shapes.now context state.now register count }
-    ensures accepts { (place : ℕ) → StandsAt (Pointer ValueKind.Stack place) state.now register → place + count ≤ STACK_SIZE → ((i : ℕ) → place ≤ i → i < place + count → slice_index_or state.now.set i false ≡ true) → IsTrue result }
+    ensures accepts { (at : ℕ) → StandsAt (Pointer Stack at) state.now register → at + count ≤ STACK_SIZE → AreSet state.now.set at (at + count) → IsTrue result }
 {
     let Some(base) = known(state, register) else {
         return false;
@@ -154,7 +155,7 @@ pub fn reads_value(
 fn stack_is_set(state: &AbstractState, at: Range, count: usize) -> bool
     requires { count ≤ 256 }
     ensures all { IsTrue result → (o i : ℕ) → Within at o → i < count → slice_index_or state.now.set (o + i) false ≡ true }
-    ensures found { at.hi + count ≤ STACK_SIZE → ((i : ℕ) → at.lo ≤ i → i < at.hi + count → slice_index_or state.now.set i false ≡ true) → IsTrue result }
+    ensures found { at.hi + count ≤ STACK_SIZE → AreSet state.now.set at.lo (at.hi + count) → IsTrue result }
 {
     if at.hi > STACK_SIZE - count as u64 {
         return false;

@@ -1,12 +1,10 @@
 //! Bytes of the stack that are written: which are set then, and what is forgotten.
 
-ghost use Rattle.std.specs.Prelude.{◌≡◌, ◌+◌, ◌*◌, ◌<◌, ◌≤◌, ℕ, true, false, List, None, Some, length, slice_index, slice_index_or};
+ghost use Rattle.std.specs.Prelude.{◌≡◌, ◌+◌, ◌*◌, ◌<◌, ◌≤◌, ℕ, true, false, None, Some, length, slice_index_or};
 ghost use Rattle.bq_insn.specs.Slots.{byte_count};
-ghost use Rattle.bq_bpf.specs.Memory.{Setting, State, InStack, stack_size, written};
-ghost use Rattle.bq_bpf.specs.Steps.{next};
-ghost use Rattle.bq_ranges.specs.Within.{Within};
+ghost use Rattle.bq_bpf.specs.Memory.{stack_size};
 ghost use Rattle.bq_states.specs.Certainty.{IsStoredAt};
-ghost use Rattle.bq_states.specs.AbstractStates.{Contains, Forgets, Marks, keeping};
+ghost use Rattle.bq_states.specs.AbstractStates.{AreSet, Forgets, Marks, Overwrites, keeping};
 
 use crate::abstract_state::{AbstractState, AbstractValue};
 use crate::copies::part_slots;
@@ -19,7 +17,7 @@ pub fn overwrite(state: &mut AbstractState, at: Range, size: Size)
     requires { at.hi + byte_count size ≤ stack_size }
     ensures long { length state.new.kept ≡ 64 }
     ensures stored { at.lo ≡ at.hi → IsStoredAt state.old state.new at.lo (at.hi + byte_count size) }
-    ensures contains { (f : Setting) (s : State) (o : ℕ) (bytes : List ℕ) → Contains f state.old s → Within at o → length bytes ≡ byte_count size → ((k : ℕ) → k < length bytes → slice_index bytes k < 256) → Contains f state.new (next (written s InStack o bytes)) }
+    ensures contains { Overwrites state.old state.new at (byte_count size) }
 {
     let from = at.lo as usize;
     let to = at.hi as usize + size.bytes();
@@ -44,7 +42,7 @@ pub fn keep(state: &mut AbstractState, slot: usize, word: AbstractValue)
 fn mark(set: &mut [bool], from: usize, to: usize)
     requires { to ≤ length set.old }
     ensures only { Marks set.old set.new from to }
-    ensures marked { (i : ℕ) → from ≤ i → i < to → slice_index_or set.new i false ≡ true }
+    ensures marked { AreSet set.new from to }
     ensures kept { (i : ℕ) → slice_index_or set.old i false ≡ true → slice_index_or set.new i false ≡ true }
 {
     for k in from..to {

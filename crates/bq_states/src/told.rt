@@ -3,8 +3,8 @@
 ghost use Rattle.std.specs.Prelude.{◌≡◌, ◌≢◌, ◌+◌, ◌^◌, ◌<◌, ◌≤◌, ℕ, List, Some, None, length, slice_index, slice_index_or};
 ghost use Rattle.bq_bpf.specs.Memory.{Setting, State};
 ghost use Rattle.bq_states.specs.Certainty.{Fact, Has, Certainty, Stands};
-ghost use Rattle.bq_states.specs.Told.{HasLearnt, IsLasting, IsLastingWord, IsSharper, IsTold};
-ghost use Rattle.bq_states.specs.Relations.{IsRelated, IsRelatedBy};
+ghost use Rattle.bq_states.specs.Told.{HasLearnt, HoldsRight, IsLasting, IsLastingWord, IsSharper, IsTold, Sharpens, SharpensBy};
+ghost use Rattle.bq_states.specs.Relations.{Relates};
 ghost use Rattle.bq_ranges.specs.Within.{Within};
 ghost use Rattle.bq_bpf.specs.declared.shape.MapShape.{MapShape};
 ghost use Rattle.bq_states.specs.AbstractStates.{Contains, Describes};
@@ -37,7 +37,7 @@ pub fn tell(
 /// Both operands, if the right one is a register, are so related.
 fn tell_relation(state: &mut AbstractState, dst: u8, src: Source, relation: Relation)
     requires { dst < 11 }
-    ensures contains { (f : Setting) (s : State) (a : ℕ) → Contains f state.old s → s.register dst ≡ Some a → a < 2 ^ 64 → ((r : ℕ) → src ≡ Source.Reg r → (b : ℕ) × (s.register r ≡ Some b) × (b < 2 ^ 64) × IsRelated relation a b) → Contains f state.new s }
+    ensures contains { (f : Setting) (s : State) (a : ℕ) → Contains f state.old s → s.register dst ≡ Some a → HoldsRight s src (Relates relation a) → Contains f state.new s }
     ensures has { (x : Fact) → Has x state.old → Has x state.new }
     ensures same { state.new.registers ≡ state.old.registers }
 {
@@ -66,7 +66,7 @@ fn tell_relation(state: &mut AbstractState, dst: u8, src: Source, relation: Rela
 
 /// The right operand is as told.
 fn tell_right(state: &mut AbstractState, src: Source, told: AbstractValue)
-    ensures contains { (f : Setting) (s : State) → Contains f state.old s → ((r : ℕ) → src ≡ Source.Reg r → (n : ℕ) × (s.register r ≡ Some n) × Describes f.shapes told n) → Contains f state.new s }
+    ensures contains { (f : Setting) (s : State) → Contains f state.old s → HoldsRight s src (Describes f.shapes told) → Contains f state.new s }
     ensures has { (x : Fact) → IsLasting x → Has x state.old → Has x state.new }
 {
     match src {
@@ -97,7 +97,7 @@ fn sharpen(state: &mut AbstractState, register: u8, told: AbstractValue)
 
 /// The word of a class is as told.
 fn sharpen_class(state: &mut AbstractState, class: u8, told: AbstractValue)
-    ensures contains { (f : Setting) (s : State) (was : Contains f state.old s) → Describes f.shapes told (was.copies.0 class) → (is : Contains f state.new s) × (is.copies.0 ≡ was.copies.0) }
+    ensures contains { Sharpens told class state.old state.new }
     ensures has { (x : Fact) → IsLasting x → Has x state.old → Has x state.new }
 {
     if class == 0 {
@@ -109,7 +109,7 @@ fn sharpen_class(state: &mut AbstractState, class: u8, told: AbstractValue)
 
 /// Words that are related to that of a class, which is as told, are as that shows.
 fn sharpen_related(state: &mut AbstractState, class: u8, told: AbstractValue)
-    ensures contains { (f : Setting) (s : State) (was : Contains f state.old s) → Describes f.shapes told (was.copies.0 class) → (is : Contains f state.new s) × (is.copies.0 ≡ was.copies.0) }
+    ensures contains { Sharpens told class state.old state.new }
     ensures has { (x : Fact) → IsLasting x → Has x state.old → Has x state.new }
 {
     if told.kind != ValueKind::Number {
@@ -125,7 +125,7 @@ fn sharpen_related(state: &mut AbstractState, class: u8, told: AbstractValue)
 
 /// The left word of a relation is as the right one shows, if that is of the class.
 fn sharpen_left(state: &mut AbstractState, known: Related, class: u8, told: Range)
-    ensures contains { (f : Setting) (s : State) (was : Contains f state.old s) → IsRelatedBy was.copies.0 (Some known) → Within told (was.copies.0 class) → (is : Contains f state.new s) × (is.copies.0 ≡ was.copies.0) }
+    ensures contains { SharpensBy known told class state.old state.new }
     ensures has { (x : Fact) → IsLasting x → Has x state.old → Has x state.new }
 {
     if known.right != class {
@@ -139,7 +139,7 @@ fn sharpen_left(state: &mut AbstractState, known: Related, class: u8, told: Rang
 
 /// The right word of a relation is as the left one shows, if that is of the class.
 fn sharpen_right(state: &mut AbstractState, known: Related, class: u8, told: Range)
-    ensures contains { (f : Setting) (s : State) (was : Contains f state.old s) → IsRelatedBy was.copies.0 (Some known) → Within told (was.copies.0 class) → (is : Contains f state.new s) × (is.copies.0 ≡ was.copies.0) }
+    ensures contains { SharpensBy known told class state.old state.new }
     ensures has { (x : Fact) → IsLasting x → Has x state.old → Has x state.new }
 {
     if known.left != class {

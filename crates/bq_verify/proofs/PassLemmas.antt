@@ -66,7 +66,7 @@ test_chooses_side f state s slot dst a b src (Some word) right relation is opera
     word = a;
     is = is;
     left_is = fits;
-    right_is = λ r same. (b, (let at : IsOperand s (Reg r) b = subst (λ (x : Source). IsOperand s x b) same operand in at), told, related);
+    right_is = λ r same. (b, (let at : IsOperand s (Reg r) b = subst (λ (x : Source). IsOperand s x b) same operand in at), (told, related));
   },
 )
 

@@ -1,6 +1,9 @@
-use Rattle.std.proofs.Common.{◌<◌, length, arith}
+use Rattle.std.proofs.Common.{◌<◌, length, refl, arith}
 use Rattle.bq_states.proofs.CopyLemmas.{class_given}
 use Rattle.bq_states.proofs.copies.class_of.Goals as goal
+
+pub returns-then-class-ne0-clause-word : goal.returns-then-class-ne0-clause-word
+returns-then-class-ne0-clause-word c = λ s n was has. ((was, was.1 c.args.place c.if-class-ne0.true), refl)
 
 pub returns-clause-word : goal.returns-clause-word
 returns-clause-word c = λ s n copies has.

@@ -1,6 +1,5 @@
 use Rattle.bq_states.specs.Certainty.{Fact, Has}
-use Rattle.bq_states.specs.Told.{IsLasting}
-use Rattle.bq_states.proofs.ToldLemmas.{Sharpens}
+use Rattle.bq_states.specs.Told.{IsLasting, Sharpens}
 use Rattle.bq_states.proofs.told.sharpen_related.Given as goal
 
 abbrev pub invariant-loop-i : goal.invariant-loop-i

@@ -8,7 +8,7 @@ pub returns-clause-contains : goal.returns-clause-contains
 returns-clause-contains c = λ f s contains told.
     let same : c.from.result ≡ c.args.dst = search rules in
     let there : c.from.result < length c.sharpen.new.state.registers = omega arith in
-    contains_left f c.sharpen.new.state s c.from.result told.word c.args.left there (subst (λ (r : ℕ). s.register r ≡ Some told.word) (sym same) told.is) (c.sharpen.ensures.contains f s told.word (c.tell_right.ensures.contains f s (c.tell_relation.ensures.contains f s told.word contains told.is (word_fits f.shapes c.args.left told.word told.left_is) (λ r e. let right = told.right_is r e in (right.0, right.1, word_fits f.shapes c.args.right right.0 right.2, right.3))) (λ r e. let right = told.right_is r e in (right.0, right.1, right.2))) told.is told.left_is) told.left_is
+    contains_left f c.sharpen.new.state s c.from.result told.word c.args.left there (subst (λ (r : ℕ). s.register r ≡ Some told.word) (sym same) told.is) (c.sharpen.ensures.contains f s told.word (c.tell_right.ensures.contains f s (c.tell_relation.ensures.contains f s told.word contains told.is (λ r e. let right = told.right_is r e in (right.0, right.1, record { left = word_fits f.shapes c.args.left told.word told.left_is; right = word_fits f.shapes c.args.right right.0 right.2.0; is = right.2.1 }))) (λ r e. let right = told.right_is r e in (right.0, right.1, right.2.0))) told.is told.left_is) told.left_is
 
 pub returns-clause-has : goal.returns-clause-has
 returns-clause-has c = λ x lasting has.

@@ -11,8 +11,8 @@ returns c = λ s a copies is relates.
     let low : c.from.result < 11 = omega arith in
     let there : s.register c.from.result ≡ Some a = subst (λ (r : ℕ). s.register r ≡ Some a) (sym to) is in
     let given = c.class_of-left.ensures.word s a copies (register_word s c.from.result a low there) in
-    let left : a ≡ given.0 c.class_of-left.result = same_Some a (given.0 c.class_of-left.result) (sym there ∙ given.3.0 low) in
-    let known : Relates (Sum c.args.more) (given.0 c.class_of-left.result) (given.0 c.args.class) =
-    subst (λ (x : ℕ). Relates (Sum c.args.more) x (given.0 c.args.class)) left
-    (subst (λ (y : ℕ). Relates (Sum c.args.more) a y) (sym given.4) (relates c.if-class-eq0.false)) in
-    (given.0, given.1, c.relate.ensures given.0 given.2 known)
+    let left : a ≡ given.0.0.0 c.class_of-left.result = same_Some a (given.0.0.0 c.class_of-left.result) (sym there ∙ given.0.1.0 low) in
+    let known : Relates (Sum c.args.more) (given.0.0.0 c.class_of-left.result) (given.0.0.0 c.args.class) =
+    subst (λ (x : ℕ). Relates (Sum c.args.more) x (given.0.0.0 c.args.class)) left
+    (subst (λ (y : ℕ). Relates (Sum c.args.more) a y) (sym given.1) (relates c.if-class-eq0.false)) in
+    (given.0.0.0, given.0.0.1, c.relate.ensures given.0.0.0 given.0.0.2 known)
