@@ -86,7 +86,12 @@ abbrev pub After : Fact → ℕ → ℕ → Insn → AbstractState → Type 0
 After Never slot k insn state = ⊥
 After (AtRegister Scalar r) slot k insn state = GivesNumber insn r ⊎ (LeavesNumber insn r × Has (AtRegister Scalar r) state)
 After (AtRegister (Exact n) r) slot k insn state = GivesExact n insn r ⊎ (Spares insn r × IsNoTestOf insn r × Has (AtRegister (Exact n) r) state)
-After (AtRegister (Pointer kind o) r) slot k insn state = GivesPointer kind o slot k insn r state ⊎ (Spares insn r × LeavesPointer kind insn × Has (AtRegister (Pointer kind o) r) state)
+After (AtRegister (Pointer kind o) r) slot k insn state =
+    GivesPointer kind o slot k insn r state ⊎ (Spares insn r × LeavesPointer kind insn × Has (AtRegister (Pointer kind o) r) state)
 After (AtRegister NoPointer r) slot k insn state = ⊥
 After (IsSetAt i) slot k insn state = StoresByte insn i ⊎ Has (IsSetAt i) state
 After (IsPlainAt j) slot k insn state = Has (IsPlainAt j) state
+
+-- what is sure after the instruction, on the way to each slot, is true of the new abstract state
+abbrev pub CarriesFacts : Insn → AbstractState → AbstractState → Type 0
+CarriesFacts insn old new = (x : Fact) (slot k : ℕ) → After x slot k insn old → Has x new

@@ -15,6 +15,7 @@ use Rattle.bq_insn.specs.declared.Width.{Width}
 use Rattle.bq_bpf.specs.declared.board.TheConstants.{COUNTERS}
 use Rattle.bq_bpf.specs.declared.shape.MapShape.{MapShape}
 use Rattle.bq_bpf.specs.Helpers.{number_of_helper}
+use Rattle.bq_bpf.specs.declared.helper.Helper.{Helper}
 use Rattle.bq_bpf.specs.declared.helper.Helper.TheVariants.{Lookup, Update, Now, Processor, AddCounter, ReadCounter}
 use Rattle.bq_bpf.specs.Memory.{stack_size}
 use Rattle.bq_bpf.specs.Instructions.{destination_of}
@@ -24,6 +25,7 @@ use Rattle.bq_states.specs.declared.abstract_state.ValueKind.TheVariants.{Number
 use Rattle.bq_states.specs.declared.abstract_state.ValueKind.{ValueKind}
 use Rattle.bq_states.specs.declared.abstract_state.AbstractValue.{AbstractValue}
 use Rattle.bq_states.specs.declared.abstract_state.AbstractState.{AbstractState}
+use Rattle.bq_transfer.specs.declared.access.Access.{Access}
 
 -- the first operand of an arithmetic instruction, which a MOV has not
 abbrev pub IsLeftReady : Operation → AbstractState → ℕ → Type 0
@@ -38,6 +40,10 @@ pub record IsPlaced (shapes : List MapShape) (context : ℕ) (state : AbstractSt
   pub bound : ℕ
   pub bound_is : bound_of shapes context kind ≡ Some bound
   pub inside : at + byte_count size ≤ bound
+
+-- the access lies there
+abbrev pub IsPlacedAt : List MapShape → ℕ → AbstractState → Access → ValueKind → ℕ → Type 0
+IsPlacedAt shapes context state access kind at = IsPlaced shapes context state access.size access.base access.off kind at
 
 -- a load of what may be read: on the stack, of bytes that are set, and no pointer is kept there
 pub record IsReadable (shapes : List MapShape) (context : ℕ) (state : AbstractState) (size : Size) (r : ℕ) (off : ℤ) : Type 0 where
@@ -117,9 +123,14 @@ pub record IsNullCheck (w : Width) (c : Condition) (src : Source) : Type 0 where
   pub of_null : IsNullTest c
   pub with_zero : src ≡ Imm (pos 0)
 
+-- the number in a call is that of the helper
+abbrev pub IsHelper : Helper → ℤ → Type 0
+IsHelper helper number = number ≡ number_of_helper helper
+
 -- what an instruction needs, by the abstract state before it
 abbrev pub IsReady : List MapShape → ℕ → AbstractState → Insn → Type 0
-IsReady shapes context state (Alu w op dst src) = (dst < 10) × ((IsLeftReady op state dst × IsScalarOperand state src) ⊎ (IsCopyOfFrame state w op src ⊎ IsMoveOfPointer state w op dst src))
+IsReady shapes context state (Alu w op dst src) =
+    (dst < 10) × ((IsLeftReady op state dst × IsScalarOperand state src) ⊎ (IsCopyOfFrame state w op src ⊎ IsMoveOfPointer state w op dst src))
 IsReady shapes context state (MovSx w bits dst src) = (dst < 10) × StandsAt Scalar state src
 IsReady shapes context state (Neg w dst) = (dst < 10) × StandsAt Scalar state dst
 IsReady shapes context state (End order bits dst) = (dst < 10) × StandsAt Scalar state dst
@@ -133,7 +144,7 @@ IsReady shapes context state (Goto32 imm) = Unit {0}
 IsReady shapes context state (Branch w c dst src off) =
     (dst < 10) × ((StandsAt Scalar state dst × IsScalarOperand state src) ⊎ (IsNullCheck w c src × (m : ℕ) × StandsAt (Pointer (EntryOrNull m) 0) state dst))
 IsReady shapes context state (Call helper) =
-    ((helper ≡ number_of_helper Now) ⊎ (helper ≡ number_of_helper Processor)) ⊎ ((helper ≡ number_of_helper Lookup) × (m : ℕ) × IsNamingEntry state m) ⊎ ((helper ≡ number_of_helper Update) × (m : ℕ) × IsUpdating shapes state m)
+    (IsHelper Now helper ⊎ IsHelper Processor helper) ⊎ (IsHelper Lookup helper × (m : ℕ) × IsNamingEntry state m) ⊎ (IsHelper Update helper × (m : ℕ) × IsUpdating shapes state m)
 IsReady shapes context state Exit = StandsAt Scalar state 0
 
 -- neither a jump nor an EXIT
@@ -150,9 +161,9 @@ WritesBelowFrame insn = (r : ℕ) → destination_of insn ≡ Some r → r < 10
 
 -- a call of a counter: register 1 is its number, and of an add register 2 is the amount
 abbrev pub IsAsking : AbstractState → ℤ → Type 0
-IsAsking state helper = IsAtMost (COUNTERS - 1) (slice_index_or state.registers 1 None) × (helper ≡ number_of_helper AddCounter → StandsAt Scalar state 2)
+IsAsking state helper = IsAtMost (COUNTERS - 1) (slice_index_or state.registers 1 None) × (IsHelper AddCounter helper → StandsAt Scalar state 2)
 
 -- what a call of a counter needs
 abbrev pub IsReadyToAsk : AbstractState → Insn → Type 0
-IsReadyToAsk state (Call helper) = ((helper ≡ number_of_helper AddCounter) ⊎ (helper ≡ number_of_helper ReadCounter)) × IsAsking state helper
+IsReadyToAsk state (Call helper) = (IsHelper AddCounter helper ⊎ IsHelper ReadCounter helper) × IsAsking state helper
 IsReadyToAsk state insn = ⊥

@@ -3,15 +3,17 @@
 ghost use Rattle.std.specs.Prelude.{◌≡◌, ◌≢◌, ◌+◌, ◌%◌, ◌^◌, ◌<◌, length, slice_index, IsTrue, IfSome, OnOk, IsOk, IfErr, List, ℕ, ℤ, Some};
 ghost use Rattle.bq_bpf.specs.declared.shape.MapShape.{MapShape};
 ghost use Rattle.bq_bpf.specs.Meaning.{alu_result, word_of};
+ghost use Rattle.bq_insn.specs.declared.Insn.TheVariants.{Alu};
 ghost use Rattle.bq_transfer.specs.Obligations.{MayBeUnproven};
-ghost use Rattle.bq_states.specs.Certainty.{Fact, Has, Scalar, Exact, Pointer, Stands, StandsAt, IsScalarOperand, IsGiven, IsMade, IsWord};
-ghost use Rattle.bq_transfer.specs.After.{After};
+ghost use Rattle.bq_states.specs.Certainty.{Scalar, Exact, Pointer, Stands, StandsAt, IsScalarOperand, IsGiven, IsMade};
+ghost use Rattle.bq_transfer.specs.After.{CarriesFacts};
 ghost use Rattle.bq_transfer.specs.Ready.{IsReady, IsCopyOfFrame, IsMoveOfPointer};
 ghost use Rattle.bq_bpf.specs.Memory.{State};
 ghost use Rattle.bq_states.specs.Copies.{AreCopies};
-ghost use Rattle.bq_transfer.specs.Transfers.{IsCopied, Transfers};
+ghost use Rattle.bq_transfer.specs.Transfers.{IsCopied, MovesPointer, Transfers};
 ghost use Rattle.bq_states.specs.AbstractStates.{Describes};
 ghost use Rattle.bq_states.specs.Relations.{Relates};
+ghost use Rattle.bq_states.specs.declared.relations.Relation.TheVariants.{Sum};
 ghost use Rattle.bq_ranges.specs.Within.{Within};
 
 use crate::obligation::Obligation;
@@ -31,7 +33,7 @@ pub fn combine(
 ) -> Option<AbstractValue>
     ensures describes { IfSome result (λ k. (shapes : List MapShape) (x y : ℕ) → Describes shapes a x → Describes shapes b y → Describes shapes k (alu_result width op x y)) }
     ensures scalar { a.kind ≡ ValueKind.Number → b.kind ≡ ValueKind.Number → Stands Scalar result }
-    ensures moves { (base word : ℕ) → width ≡ Width.W64 → op ≡ Operation.Add → Stands (Pointer ValueKind.Stack base) (Some a) → IsWord word (Some b) → Stands (Pointer ValueKind.Stack (alu_result Width.W64 Operation.Add base word)) result }
+    ensures moves { MovesPointer width op (Some a) (Some b) result }
 {
     match (a.kind, b.kind) {
         (ValueKind::Number, ValueKind::Number) => Some(AbstractValue {
@@ -48,7 +50,7 @@ pub fn combine(
 /// A pointer and a number.
 fn moved(width: Width, op: Operation, a: AbstractValue, b: AbstractValue) -> Option<AbstractValue>
     requires { b.kind ≡ ValueKind.Number }
-    ensures moves { (base word : ℕ) → width ≡ Width.W64 → op ≡ Operation.Add → Stands (Pointer ValueKind.Stack base) (Some a) → IsWord word (Some b) → Stands (Pointer ValueKind.Stack (alu_result Width.W64 Operation.Add base word)) result }
+    ensures moves { MovesPointer width op (Some a) (Some b) result }
     ensures describes { IfSome result (λ k. (shapes : List MapShape) (x y : ℕ) → Describes shapes a x → Describes shapes b y → Describes shapes k (alu_result width op x y)) }
 {
     match (width, op) {
@@ -88,9 +90,9 @@ pub fn alu(
     src: Source,
 ) -> Result<(), Obligation>
     requires { dst < 10 }
-    ensures transfers { OnOk result ((shapes : List MapShape) (context_length : ℕ) → Transfers shapes context_length (Insn.Alu width op dst src) state.old state.new) }
-    ensures obligations { IfErr result (λ obligation. MayBeUnproven obligation (Insn.Alu width op dst src)) }
-    ensures accepts { (shapes : List MapShape) (context_length : ℕ) → IsReady shapes context_length state.old (Insn.Alu width op dst src) → IsOk result × ((x : Fact) (slot k : ℕ) → After x slot k (Insn.Alu width op dst src) state.old → Has x state.new) }
+    ensures transfers { OnOk result ((shapes : List MapShape) (context_length : ℕ) → Transfers shapes context_length (Alu width op dst src) state.old state.new) }
+    ensures obligations { IfErr result (λ obligation. MayBeUnproven obligation (Alu width op dst src)) }
+    ensures accepts { (shapes : List MapShape) (context : ℕ) → IsReady shapes context state.old (Alu width op dst src) → IsOk result × CarriesFacts (Alu width op dst src) state.old state.new }
 {
     if op == Operation::Mov {
         return copy(state, width, dst, src);
@@ -108,8 +110,8 @@ fn operate(
 ) -> Result<(), Obligation>
     requires other { op ≢ Operation.Mov }
     requires below { dst < 10 }
-    ensures transfers { OnOk result ((shapes : List MapShape) (context_length : ℕ) → Transfers shapes context_length (Insn.Alu width op dst src) state.old state.new) }
-    ensures obligations { IfErr result (λ obligation. MayBeUnproven obligation (Insn.Alu width op dst src)) }
+    ensures transfers { OnOk result ((shapes : List MapShape) (context_length : ℕ) → Transfers shapes context_length (Alu width op dst src) state.old state.new) }
+    ensures obligations { IfErr result (λ obligation. MayBeUnproven obligation (Alu width op dst src)) }
     ensures accepts { StandsAt Scalar state.old dst → IsScalarOperand state.old src → IsOk result × IsGiven state.old state.new dst }
     ensures moves { (m : IsMoveOfPointer state.old width op dst src) → IsOk result × IsMade (Pointer ValueKind.Stack m.at) state.old state.new dst }
 {
@@ -181,7 +183,7 @@ fn relate_sum(
     requires register { register < 11 }
     requires room { length classes.old ≡ 75 }
     requires few { length related.old ≡ RELATIONS }
-    ensures { (s : State) (a : ℕ) (copies : AreCopies classes.old related.old s) → s.register register ≡ Some a → (class ≢ 0 → Relates (Relation.Sum more) a (copies.0 class)) → AreCopies classes.new related.new s }
+    ensures { (s : State) (a : ℕ) (was : AreCopies classes.old related.old s) → s.register register ≡ Some a → (class ≢ 0 → Relates (Sum more) a (was.0 class)) → AreCopies classes.new related.new s }
 {
     if class == 0 {
         return;
@@ -201,8 +203,8 @@ fn relate_sum(
 /// A copy.
 fn copy(state: &mut AbstractState, width: Width, dst: u8, src: Source) -> Result<(), Obligation>
     requires { dst < 10 }
-    ensures transfers { OnOk result ((shapes : List MapShape) (context_length : ℕ) → Transfers shapes context_length (Insn.Alu width Operation.Mov dst src) state.old state.new) }
-    ensures obligations { IfErr result (λ obligation. MayBeUnproven obligation (Insn.Alu width Operation.Mov dst src)) }
+    ensures transfers { OnOk result ((shapes : List MapShape) (context_length : ℕ) → Transfers shapes context_length (Alu width Operation.Mov dst src) state.old state.new) }
+    ensures obligations { IfErr result (λ obligation. MayBeUnproven obligation (Alu width Operation.Mov dst src)) }
     ensures accepts { IsScalarOperand state.old src → IsOk result × IsGiven state.old state.new dst }
     ensures exact { OnOk result ((i : ℤ) → src ≡ Source.Imm i → width ≡ Width.W64 → IsMade (Exact (word_of i)) state.old state.new dst) }
     ensures copies { (m : IsCopyOfFrame state.old width Operation.Mov src) → IsOk result × IsMade (Pointer ValueKind.Stack m.base) state.old state.new dst }

@@ -6,8 +6,8 @@ ghost use Rattle.bq_bpf.specs.Steps.{called};
 ghost use Rattle.bq_bpf.specs.declared.shape.MapShape.{MapShape};
 ghost use Rattle.bq_ranges.specs.Within.{Within};
 ghost use Rattle.bq_transfer.specs.Obligations.{MayBeUnproven};
-ghost use Rattle.bq_transfer.specs.After.{After};
-ghost use Rattle.bq_states.specs.Certainty.{Fact, Has, IsAnswered, IsCalled, IsMade, Pointer, Scalar, StandsAt};
+ghost use Rattle.bq_transfer.specs.After.{CarriesFacts};
+ghost use Rattle.bq_states.specs.Certainty.{IsAnswered, IsCalled, IsMade, Pointer, Scalar, StandsAt};
 ghost use Rattle.bq_transfer.specs.Ready.{IsAtMost, IsReady, IsUpdating, IsNamingEntry};
 ghost use Rattle.bq_transfer.specs.Transfers.{Transfers, IsBelow};
 ghost use Rattle.bq_states.specs.AbstractStates.{AreAlike, Contains};
@@ -95,7 +95,7 @@ pub fn call(
     requires { context < 2 ^ 16 }
     ensures transfers { OnOk result (Transfers shapes.now context (Insn.Call helper) state.old state.new) }
     ensures obligations { IfErr result (λ obligation. MayBeUnproven obligation (Insn.Call helper)) }
-    ensures accepts { IsReady shapes.now context state.old (Insn.Call helper) → IsOk result × ((x : Fact) (slot k : ℕ) → After x slot k (Insn.Call helper) state.old → Has x state.new) }
+    ensures accepts { IsReady shapes.now context state.old (Insn.Call helper) → IsOk result × CarriesFacts (Insn.Call helper) state.old state.new }
 {
     if helper == LOOKUP {
         return look_up(state, shapes, context);

@@ -1,16 +1,15 @@
 //! Loads.
 
-ghost use Rattle.std.specs.Prelude.{Some, List, Option, ◌≡◌, ◌≢◌, ◌^◌, ◌<◌, ℕ, IsOk, IfSome, OnOk, false, slice_index_or, IfErr, ◌*◌, None};
+ghost use Rattle.std.specs.Prelude.{Some, Option, ◌≡◌, ◌≢◌, ◌^◌, ◌<◌, ℕ, IsOk, IfSome, OnOk, slice_index_or, IfErr, None};
 ghost use Rattle.bq_insn.specs.Slots.{byte_count};
 ghost use Rattle.bq_bpf.specs.Steps.{loaded};
 ghost use Rattle.bq_ranges.specs.Within.{Within};
 ghost use Rattle.bq_insn.specs.declared.Insn.{Insn};
-ghost use Rattle.bq_bpf.specs.Memory.{number_of};
-ghost use Rattle.bq_states.specs.Parts.{HasBytes, HaveParts};
+ghost use Rattle.bq_states.specs.Parts.{ReadsWithin};
 ghost use Rattle.bq_transfer.specs.Obligations.{MayBeUnproven};
 ghost use Rattle.bq_states.specs.Certainty.{IsGiven};
 ghost use Rattle.bq_transfer.specs.Ready.{IsReadable};
-ghost use Rattle.bq_transfer.specs.Transfers.{Transfers};
+ghost use Rattle.bq_transfer.specs.Transfers.{LoadsKept, Transfers};
 
 use crate::access::{Access, Location, locate};
 use crate::obligation::Obligation;
@@ -73,7 +72,7 @@ fn kept_at(
     size: Size,
     signed: bool,
 ) -> Option<AbstractValue>
-    ensures { IfSome result (λ word. (place.kind ≡ ValueKind.Stack) × (size ≡ Size.Double) × (signed ≡ false) × (place.at.lo ≡ place.at.hi) × (slot : ℕ) × (slot < 64) × (place.at.lo ≡ 8 * slot) × (slice_index_or state.now.kept slot None ≡ Some word)) }
+    ensures { IfSome result (λ word. LoadsKept state.now place size signed word) }
 {
     if place.kind != ValueKind::Stack || size != Size::Double || signed {
         return None;
@@ -95,7 +94,7 @@ fn kept_in(state: &AbstractState, slot: usize) -> Option<AbstractValue>
 /// The numbers that a read of this many bytes gives there.
 fn reads_at(state: &AbstractState, place: Location, size: Size) -> Range
     ensures any { (x : ℕ) → place.kind ≢ ValueKind.Stack → x < 256 ^ byte_count size → Within result x }
-    ensures stack { (stack : ℕ → Option ℕ) (o : ℕ) (bytes : List ℕ) → place.kind ≡ ValueKind.Stack → HaveParts stack state.now.parts → Within place.at o → HasBytes stack o (byte_count size) bytes → number_of bytes < 256 ^ byte_count size → Within result (number_of bytes) }
+    ensures stack { place.kind ≡ ValueKind.Stack → ReadsWithin state.now.parts place.at (byte_count size) result }
 {
     if place.kind != ValueKind::Stack {
         return numbers(size);

@@ -4,15 +4,13 @@ ghost use Rattle.std.specs.Prelude.{◌≡◌, ◌≢◌, ◌+◌, ◌<◌, ◌�
 ghost use Rattle.bq_insn.specs.declared.Insn.{Insn};
 ghost use Rattle.bq_insn.specs.Slots.{byte_count};
 ghost use Rattle.bq_bpf.specs.Meaning.{word_of};
-ghost use Rattle.bq_bpf.specs.Memory.{Setting, State, InStack, written};
-ghost use Rattle.bq_bpf.specs.Steps.{low_bytes, next};
-ghost use Rattle.bq_ranges.specs.Within.{Within};
-ghost use Rattle.bq_states.specs.Copies.{AreCopies, HasWord};
+ghost use Rattle.bq_bpf.specs.Memory.{State};
+ghost use Rattle.bq_states.specs.Copies.{AreCopies};
 ghost use Rattle.bq_transfer.specs.Obligations.{IsAccess, MayBeUnproven, ReadsOperand, UsesWord};
-ghost use Rattle.bq_transfer.specs.Ready.{IsPlaced};
-ghost use Rattle.bq_states.specs.Certainty.{IsStoredAt, Scalar, StandsAt};
-ghost use Rattle.bq_transfer.specs.Transfers.{Transfers, IsWholeSlot, Stores};
-ghost use Rattle.bq_states.specs.AbstractStates.{Contains, Describes};
+ghost use Rattle.bq_transfer.specs.Ready.{IsPlacedAt};
+ghost use Rattle.bq_states.specs.Certainty.{Scalar, StandsAt};
+ghost use Rattle.bq_transfer.specs.Transfers.{IsStored, IsWholeSlot, SlotHolds, Stores, Transfers, WritesStack};
+ghost use Rattle.bq_states.specs.declared.abstract_state.ValueKind.TheVariants.{Entry, Number, Stack};
 
 use crate::access::{Access, locate};
 use crate::obligation::Obligation;
@@ -39,8 +37,8 @@ pub fn store_imm(
     requires context { context < 2 ^ 16 }
     ensures transfers { OnOk result (Transfers shapes.now context (Insn.StoreImm access.size access.base access.off imm) state.old state.new) }
     ensures obligations { IfErr result (λ obligation. MayBeUnproven obligation (Insn.StoreImm access.size access.base access.off imm)) }
-    ensures accepts { (place : ℕ) → IsPlaced shapes.now context state.old access.size access.base access.off ValueKind.Stack place → IsOk result × IsStoredAt state.old state.new place (place + byte_count access.size) }
-    ensures entry { (map place : ℕ) → IsPlaced shapes.now context state.old access.size access.base access.off (ValueKind.Entry map) place → IsOk result × (state.new ≡ state.old) }
+    ensures accepts { (at : ℕ) → IsPlacedAt shapes.now context state.old access Stack at → IsOk result × IsStored state.old state.new access.size at }
+    ensures entry { (m at : ℕ) → IsPlacedAt shapes.now context state.old access (Entry m) at → IsOk result × (state.new ≡ state.old) }
 {
     let word = AbstractValue {
         kind: ValueKind::Number,
@@ -68,8 +66,8 @@ pub fn store_reg(
     requires context { context < 2 ^ 16 }
     ensures transfers { OnOk result (Transfers shapes.now context (Insn.StoreReg access.size access.base access.off src) state.old state.new) }
     ensures obligations { IfErr result (λ obligation. MayBeUnproven obligation (Insn.StoreReg access.size access.base access.off src)) }
-    ensures accepts { StandsAt Scalar state.old src → (place : ℕ) → IsPlaced shapes.now context state.old access.size access.base access.off ValueKind.Stack place → IsOk result × IsStoredAt state.old state.new place (place + byte_count access.size) }
-    ensures entry { StandsAt Scalar state.old src → (map place : ℕ) → IsPlaced shapes.now context state.old access.size access.base access.off (ValueKind.Entry map) place → IsOk result × (state.new ≡ state.old) }
+    ensures accepts { StandsAt Scalar state.old src → (at : ℕ) → IsPlacedAt shapes.now context state.old access Stack at → IsOk result × IsStored state.old state.new access.size at }
+    ensures entry { StandsAt Scalar state.old src → (m at : ℕ) → IsPlacedAt shapes.now context state.old access (Entry m) at → IsOk result × (state.new ≡ state.old) }
 {
     let Some(word) = known(state, src) else {
         return Err(Obligation::Unset);
@@ -83,7 +81,7 @@ pub fn store_reg(
 fn link_slot(classes: &mut [u8], related: &mut [Option<Related>], slot: Option<usize>, register: u8)
     requires room { length classes.old ≡ 75 }
     requires inside { IfSome slot (λ n. n < 64) }
-    ensures copies { (s : State) (word : ℕ) → AreCopies classes.old related.old s → s.register register ≡ Some word → ((n : ℕ) → slot ≡ Some n → HasWord s (11 + n) word) → AreCopies classes.new related.new s }
+    ensures copies { (s : State) (word : ℕ) → AreCopies classes.old related.old s → s.register register ≡ Some word → SlotHolds s slot word → AreCopies classes.new related.new s }
     ensures none { slot ≡ None → classes.new ≡ classes.old }
     ensures unrelated { slot ≡ None → related.new ≡ related.old }
 {
@@ -107,9 +105,9 @@ fn store(
     requires context { context < 2 ^ 16 }
     ensures stores { IfOk result (Stores shapes.now context access.base access.off access.size word state.old state.new) }
     ensures inside { IfOk result (λ slot. IfSome slot (λ n. n < 64)) }
-    ensures obligations { IfErr result (λ obligation. (insn : Insn) → IsAccess insn → ReadsOperand insn → (word.kind ≢ ValueKind.Number → UsesWord insn) → MayBeUnproven obligation insn) }
-    ensures accepts { word.kind ≡ ValueKind.Number → (place : ℕ) → IsPlaced shapes.now context state.old access.size access.base access.off ValueKind.Stack place → IsOk result × IsStoredAt state.old state.new place (place + byte_count access.size) }
-    ensures entry { word.kind ≡ ValueKind.Number → (map place : ℕ) → IsPlaced shapes.now context state.old access.size access.base access.off (ValueKind.Entry map) place → IsOk result × (state.new ≡ state.old) × IfOk result (λ slot. slot ≡ None) }
+    ensures obligations { IfErr result (λ obligation. (insn : Insn) → IsAccess insn → ReadsOperand insn → (word.kind ≢ Number → UsesWord insn) → MayBeUnproven obligation insn) }
+    ensures accepts { word.kind ≡ Number → (at : ℕ) → IsPlacedAt shapes.now context state.old access Stack at → IsOk result × IsStored state.old state.new access.size at }
+    ensures entry { word.kind ≡ Number → (m at : ℕ) → IsPlacedAt shapes.now context state.old access (Entry m) at → IsOk result × (state.new ≡ state.old) × IfOk result (λ n. n ≡ None) }
 {
     let found = locate(state, shapes, context, access)?;
     match found.kind {
@@ -133,9 +131,9 @@ fn store_on_stack(
     word: AbstractValue,
 ) -> Result<Option<usize>, Obligation>
     ensures slot { IfOk result (λ slot. IfSome slot (IsWholeSlot at size)) }
-    ensures contains { OnOk result ((f : Setting) (s : State) (o v : ℕ) → Contains f state.old s → Within at o → Describes f.shapes word v → Contains f state.new (next (written s InStack o (low_bytes size v)))) }
-    ensures obligations { IfErr result (λ obligation. (insn : Insn) → IsAccess insn → (word.kind ≢ ValueKind.Number → UsesWord insn) → MayBeUnproven obligation insn) }
-    ensures accepts { word.kind ≡ ValueKind.Number → (place : ℕ) → at.lo ≡ place → at.hi ≡ place → place + byte_count size ≤ STACK_SIZE → IsOk result × IsStoredAt state.old state.new place (place + byte_count size) }
+    ensures contains { OnOk result (WritesStack state.old state.new at size word) }
+    ensures obligations { IfErr result (λ obligation. (insn : Insn) → IsAccess insn → (word.kind ≢ Number → UsesWord insn) → MayBeUnproven obligation insn) }
+    ensures accepts { word.kind ≡ Number → (place : ℕ) → at.lo ≡ place → at.hi ≡ place → place + byte_count size ≤ STACK_SIZE → IsOk result × IsStored state.old state.new size place }
 {
     if !stays(at, size, STACK_SIZE as usize) {
         return Err(Obligation::Access);

@@ -1,10 +1,9 @@
 //! Instructions after which the next one runs.
 
-ghost use Rattle.std.specs.Prelude.{ℕ, IsOk, ◌<◌, ◌≤◌, ◌^◌, OnOk, length, IfErr};
+ghost use Rattle.std.specs.Prelude.{IsOk, ◌<◌, ◌≤◌, ◌^◌, OnOk, length, IfErr};
 ghost use Rattle.bq_transfer.specs.Obligations.{MayBeUnproven};
 ghost use Rattle.bq_transfer.specs.Transfers.{Transfers, IsStraight};
-ghost use Rattle.bq_transfer.specs.After.{After};
-ghost use Rattle.bq_states.specs.Certainty.{Fact, Has};
+ghost use Rattle.bq_transfer.specs.After.{CarriesFacts};
 ghost use Rattle.bq_transfer.specs.Ready.{IsTransferred, IsReady, WritesBelowFrame};
 
 use crate::access::Access;
@@ -33,7 +32,7 @@ pub fn transfer(
     ensures straight { OnOk result (IsStraight insn) }
     ensures transfers { OnOk result (Transfers shapes.now context insn state.old state.new) }
     ensures obligations { IfErr result (λ obligation. MayBeUnproven obligation insn) }
-    ensures accepts { IsReady shapes.now context state.old insn → IsOk result × ((x : Fact) (slot k : ℕ) → After x slot k insn state.old → Has x state.new) }
+    ensures accepts { IsReady shapes.now context state.old insn → IsOk result × CarriesFacts insn state.old state.new }
 {
     match insn {
         Insn::Alu {

@@ -29,7 +29,7 @@ returns-clause-transfers c =
     (carries_put c.args.shapes.now c.args.context (Load c.args.access.size c.args.signed c.args.dst c.args.access.base c.args.access.off) c.args.state.now c.args.dst _ there
     (load_gives c.args.shapes.now c.args.context c.args.state.now c.args.access.size c.args.signed c.args.dst c.args.access.base c.args.access.off c.in_ok-found.found.kind c.in_ok-found.found.at c.loads.result
     c.in_ok-found.ensures.finds (search rules)
-    (λ f s word bytes r contains long small is within. c.loads.ensures _ (read_numbers c.in_ok-found.found.kind c.in_ok-found.found.at c.reads_at.result c.args.access.size f s _ bytes c.args.state.now.parts r c.reads_at.ensures.any c.reads_at.ensures.stack contains.parts long small is within)) c.requires.below))
+    (λ f s word bytes r contains long small is within. c.loads.ensures _ (read_numbers c.in_ok-found.found.kind c.in_ok-found.found.at c.reads_at.result c.args.access.size f s _ bytes c.args.state.now.parts r c.reads_at.ensures.any (λ stack o own at. c.reads_at.ensures.stack at stack o own) contains.parts long small is within)) c.requires.below))
 
 pub returns-in_err-found-clause-accepts : goal.returns-in_err-found-clause-accepts
 returns-in_err-found-clause-accepts c = λ ready.
