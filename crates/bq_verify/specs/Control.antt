@@ -72,16 +72,24 @@ abbrev pub IsIn : Setting → Option (Box AbstractState Global) → State → Ty
 IsIn f None s = ⊥
 IsIn f (Some boxed) s = Contains f boxed.value s
 
+-- for each slot the abstract state that waits there, if one does
+abbrev pub Waiting : Type 0
+Waiting = List (Option (Box AbstractState Global))
+
 -- an abstract state that waits at the state's slot is right about it
-abbrev pub WaitsBoxed : Setting → List (Option (Box AbstractState Global)) → State → Type 0
+abbrev pub WaitsBoxed : Setting → Waiting → State → Type 0
 WaitsBoxed f pending s = IsIn f (slice_index_or pending s.slot None) s
 
 -- in a setting of maps of these shapes, what waited waits still
-abbrev pub KeepsWaiting : List MapShape → List (Option (Box AbstractState Global)) → List (Option (Box AbstractState Global)) → Type 0
+abbrev pub KeepsWaiting : List MapShape → Waiting → Waiting → Type 0
 KeepsWaiting shapes old new = (f : Setting) (s : State) → f.shapes ≡ shapes → WaitsBoxed f old s → WaitsBoxed f new s
 
+-- states at that slot of such a kind are waited for
+abbrev pub AddsWaiting : List MapShape → ℕ → (Setting → State → Type 0) → Waiting → Type 0
+AddsWaiting shapes slot Is pending = (f : Setting) (s : State) → f.shapes ≡ shapes → s.slot ≡ slot → Is f s → WaitsBoxed f pending s
+
 -- the state is one of a waiting abstract state, or one of the abstract state that is transferred to that slot
-abbrev pub IsKnown : List (Option (Box AbstractState Global)) → AbstractState → Bool → ℕ → Setting → State → Type 0
+abbrev pub IsKnown : Waiting → AbstractState → Bool → ℕ → Setting → State → Type 0
 IsKnown pending state live slot f s = WaitsBoxed f pending s ⊎ ((live ≡ true) × (s.slot ≡ slot) × Contains f state s)
 
 -- at the state the program ends, or goes on to a state that is known; at a call of a counter it does so for each answer
@@ -119,3 +127,7 @@ pub record PartsTo (K : Setting → State → Type 0) (f : Setting) (s : State) 
   pub right_is : IsOperand s src right
   pub yes : (t : State) → t ≡ record s { slot = to } → taken w c left right ≡ true → K f t
   pub no : (t : State) → t ≡ record s { slot = next } → taken w c left right ≡ false → K f t
+
+-- from each state of the abstract state the branch goes to a known state
+abbrev pub PartsFrom : (Setting → State → Type 0) → List MapShape → AbstractState → Width → Condition → ℕ → Source → ℕ → ℕ → Type 0
+PartsFrom K shapes state w c dst src to next = (f : Setting) (s : State) → f.shapes ≡ shapes → Contains f state s → PartsTo K f s w c dst src to next

@@ -29,4 +29,5 @@ SafeOnLonger =
 -- what a run on the first bytes of a context gives, a run on the whole context gives
 abbrev pub RunsOnLonger : Type 0
 RunsOnLonger =
-    (f : Setting) (n steps : ℕ) (calls : List Asked) (answer : ℕ) (maps after : List (List ℕ)) → RunFrom (shortened f n) (start maps) steps calls answer after → RunFrom f (start maps) steps calls answer after
+    (f : Setting) (n steps : ℕ) (calls : List Asked) (answer : ℕ) (maps after : List (List ℕ)) → RunFrom (shortened f n) (start maps) steps calls answer after
+    → RunFrom f (start maps) steps calls answer after

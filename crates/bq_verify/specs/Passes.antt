@@ -23,10 +23,14 @@ pub record LeadsOut (slots : List (Option Insn)) (slot : ℕ) (targets : Targets
   pub only : (to : ℕ) → IsOf targets to → IsEdge slots slot to
   pub none : targets.next ≡ None → targets.jump ≡ None → instruction_at slots slot ≡ Some Exit
 
+-- the slot has a number that is at least so much
+abbrev pub HasAtLeast : List (Option ℕ) → ℕ → ℕ → Type 0
+HasAtLeast most slot n = (m : ℕ) × (slice_index_or most slot None ≡ Some m) × (n ≤ m)
+
 -- the number at that slot, if there is one, is raised to the count, and no other changes
 pub record Raises (old : List (Option ℕ)) (to : Option ℕ) (count : ℕ) (new : List (Option ℕ)) : Type 0 where
-  pub kept : (k a : ℕ) → slice_index_or old k None ≡ Some a → (b : ℕ) × (slice_index_or new k None ≡ Some b) × (a ≤ b)
-  pub raised : (k : ℕ) → to ≡ Some k → (b : ℕ) × (slice_index_or new k None ≡ Some b) × (count ≤ b)
+  pub kept : (k a : ℕ) → slice_index_or old k None ≡ Some a → HasAtLeast new k a
+  pub raised : (k : ℕ) → to ≡ Some k → HasAtLeast new k count
   pub only : (k b : ℕ) → slice_index_or new k None ≡ Some b → (slice_index_or old k None ≡ Some b) ⊎ ((to ≡ Some k) × (b ≡ count))
 
 -- each number is of a path, and the edges from the slots below have been followed
@@ -34,7 +38,7 @@ pub record CountsFollowed (slots : List (Option Insn)) (below : ℕ) (most : Lis
   pub begins : (n : ℕ) × (slice_index_or most 0 None ≡ Some n)
   pub way : (k n : ℕ) → slice_index_or most k None ≡ Some n → CallsOnWay slots k n
   pub small : (k n : ℕ) → slice_index_or most k None ≡ Some n → n ≤ k
-  pub closed : (from to n : ℕ) → from < below → IsEdge slots from to → slice_index_or most from None ≡ Some n → (m : ℕ) × (slice_index_or most to None ≡ Some m) × (n + calls_of (instruction_at slots from) ≤ m)
+  pub closed : (from to n : ℕ) → from < below → IsEdge slots from to → slice_index_or most from None ≡ Some n → HasAtLeast most to (n + calls_of (instruction_at slots from))
 
 -- from that slot on each instruction has the number of the longest path out
 abbrev pub Measured : List (Option Insn) → ℕ → List ℕ → Type 0

@@ -1,15 +1,15 @@
 -- What the pass is sure to know on the way through a straight program.
-use Rattle.std.specs.Prelude.{Bool, ◌≡◌, ℕ, List, Option, ◌⊎◌}
-use Rattle.std.proofs.Common.{Global}
-use Rattle.std.specs.declared.boxed.Box.{Box}
+use Rattle.std.specs.Prelude.{Bool, ◌≡◌, ℕ, ◌+◌, List, Option, ◌⊎◌}
 use Rattle.bq_insn.specs.declared.Insn.{Insn}
 use Rattle.bq_bpf.specs.Memory.{stack_size}
+use Rattle.bq_verify.specs.Control.{Waiting}
 use Rattle.bq_verify.specs.Paths.{Path}
 use Rattle.bq_states.specs.declared.abstract_state.ValueKind.TheVariants.{Context, Stack}
 use Rattle.bq_states.specs.declared.abstract_state.AbstractState.{AbstractState}
 use Rattle.bq_states.specs.Certainty.{Scalar, Exact, Pointer, NoPointer, Fact, Never, AtRegister, IsSetAt, IsPlainAt}
 use Rattle.bq_verify.specs.Ways.{IsSureOf}
-use Rattle.bq_verify.specs.Straight.{IsWritten, IsLoaded, IsByteStored, IsContextLeft, IsPointerAt}
+use Rattle.bq_verify.specs.Subjects.{Subject}
+use Rattle.bq_verify.specs.Straight.{IsStraightBefore, IsWritten, IsLoaded, IsByteStored, IsContextLeft, IsPointerAt}
 
 -- what is to be known at a slot: nothing where no path leads there; of registers, that written ones are numbers, which number was
 -- loaded, register 1 the context where it was left, register 10 the end of the stack, and the pointers that were made; of the
@@ -25,5 +25,9 @@ IsDue slots (IsSetAt i) k = IsByteStored slots k i
 IsDue slots (IsPlainAt j) k = Unit {0}
 
 -- what is due at a slot is known there
-abbrev pub IsSure : List (Option Insn) → List (Option (Box AbstractState Global)) → AbstractState → Bool → ℕ → Type 0
+abbrev pub IsSure : List (Option Insn) → Waiting → AbstractState → Bool → ℕ → Type 0
 IsSure slots pending state live slot = (x : Fact) (k : ℕ) → IsDue slots x k → IsSureOf x pending state live slot k
+
+-- where the program is straight as far as that slot, and what is due there is known
+abbrev pub WhereSure : Subject → ℕ → Waiting → AbstractState → Bool → Type 0 → Type 0
+WhereSure p slot pending state live Then = IsStraightBefore p (slot + 1) → IsSure p.slots pending state live slot → Then

@@ -1,18 +1,17 @@
 //! Where control goes from a slot, and what is known there.
 
-ghost use Rattle.std.specs.Prelude.{◌≡◌, ◌<◌, ◌+◌, ℕ, length, IfOk, IfErr, IsOk, OnOk, Some, true, false};
+ghost use Rattle.std.specs.Prelude.{◌≡◌, ◌<◌, ◌+◌, ℕ, length, IfOk, IfErr, IsOk, OnOk, Some, true};
 ghost use Rattle.bq_insn.specs.declared.Insn.{Insn};
 ghost use Rattle.bq_bpf.specs.Memory.{Setting, State};
 ghost use Rattle.bq_bpf.specs.Steps.{instruction_at};
 ghost use Rattle.bq_verify.specs.Subjects.{judged};
 ghost use Rattle.bq_transfer.specs.Obligations.{MayBeUnproven, ReadsOperand, UsesWord};
 ghost use Rattle.bq_verify.specs.Stops.{IsWantOfMemory, MayStop};
-ghost use Rattle.bq_verify.specs.Ways.{AfterTest, GoesOnSure, HasOnSide, HasWaiting, IsReadyFor, OutlastsTest, PartsSure};
-ghost use Rattle.bq_states.specs.Certainty.{Fact, Has, IsScalarOperand, Pointer, Scalar, StandsAt};
-ghost use Rattle.bq_transfer.specs.Ready.{IsNullCheck, IsReady};
-ghost use Rattle.bq_transfer.specs.Sides.{is_found};
+ghost use Rattle.bq_verify.specs.Ways.{GoesOnSure, HasOnSide, HasWaiting, IsAnswerCheck, IsReadyFor, PartsChecked, PartsTested};
+ghost use Rattle.bq_states.specs.Certainty.{Fact, Has, IsScalarOperand, Scalar, StandsAt};
+ghost use Rattle.bq_transfer.specs.Ready.{IsReady};
 ghost use Rattle.bq_states.specs.AbstractStates.{Contains};
-ghost use Rattle.bq_verify.specs.Control.{CanBePassed, Goes, IsKnown, IsOnSide, KeepsWaiting, PartsTo, WaitsBoxed};
+ghost use Rattle.bq_verify.specs.Control.{AddsWaiting, CanBePassed, Goes, IsKnown, IsOnSide, KeepsWaiting, PartsFrom};
 
 use crate::passes::target;
 use crate::stop::PassStop;
@@ -181,12 +180,12 @@ fn branch(
     requires to { to < length pending.old }
     ensures long { length pending.new ≡ length pending.old }
     ensures kept { OnOk result (KeepsWaiting shapes.now pending.old pending.new) }
-    ensures parts { IfOk result (λ live. (f : Setting) (s : State) → f.shapes ≡ shapes.now → Contains f state.old s → PartsTo (IsKnown pending.new state.new live next) f s test.width test.cond test.dst test.src to next) }
+    ensures parts { IfOk result (λ live. PartsFrom (IsKnown pending.new state.new live next) shapes.now state.old test.width test.cond test.dst test.src to next) }
     ensures obligations { IfErr result (λ stop. (insn : Insn) → ReadsOperand insn → UsesWord insn → MayStop stop insn) }
     ensures accepts { test.dst < 10 → StandsAt Scalar state.old test.dst → IsScalarOperand state.old test.src → IfErr result IsWantOfMemory }
-    ensures checks { (map : ℕ) → test.dst < 10 → IsNullCheck test.width test.cond test.src → StandsAt (Pointer (ValueKind.EntryOrNull map) 0) state.old test.dst → IfErr result IsWantOfMemory }
-    ensures checked { (map : ℕ) → IsNullCheck test.width test.cond test.src → StandsAt (Pointer (ValueKind.EntryOrNull map) 0) state.old test.dst → IfOk result (PartsSure (AfterTest state.old test.dst map (is_found test.cond true)) (AfterTest state.old test.dst map (is_found test.cond false)) to next pending.old pending.new state.new) }
-    ensures sure { StandsAt Scalar state.old test.dst → IsScalarOperand state.old test.src → IfOk result (PartsSure (OutlastsTest state.old test.dst) (OutlastsTest state.old test.dst) to next pending.old pending.new state.new) }
+    ensures checks { (map : ℕ) → test.dst < 10 → IsAnswerCheck state.old map test.width test.cond test.dst test.src → IfErr result IsWantOfMemory }
+    ensures checked { IfOk result (PartsChecked state.old test.width test.cond test.dst test.src to next pending.old pending.new state.new) }
+    ensures sure { StandsAt Scalar state.old test.dst → IsScalarOperand state.old test.src → IfOk result (PartsTested state.old test.dst to next pending.old pending.new state.new) }
 {
     let Some(right) = operand(state, test.src) else {
         return Err(PassStop::Unproven(Obligation::Unset));
@@ -230,7 +229,7 @@ fn wait_on_side(
     requires dst { told.dst < 11 }
     ensures long { length pending.new ≡ length pending.old }
     ensures kept { OnOk result (KeepsWaiting shapes.now pending.old pending.new) }
-    ensures added { OnOk result ((f : Setting) (s : State) → f.shapes ≡ shapes.now → s.slot ≡ slot → IsOnSide f state.now told.dst told.src told.left told.right told.relation s → WaitsBoxed f pending.new s) }
+    ensures added { OnOk result (AddsWaiting shapes.now slot (λ f. IsOnSide f state.now told.dst told.src told.left told.right told.relation) pending.new) }
     ensures has { OnOk result ((x : Fact) (k : ℕ) → HasWaiting x pending.old k → (k ≡ slot → HasOnSide x state.now told.dst told.left) → HasWaiting x pending.new k) }
 {
     let Some(left) = told.left else {

@@ -7,8 +7,8 @@ ghost use Rattle.bq_bpf.specs.Runs.{start as beginning};
 ghost use Rattle.bq_verify.specs.Subjects.{judged};
 ghost use Rattle.bq_verify.specs.Refusals.{IsOutOfMemory, IsStopped, StopsNowhere};
 ghost use Rattle.bq_states.specs.Certainty.{Pointer, Has, IsPlainAt, StandsAt};
-ghost use Rattle.bq_verify.specs.Straight.{IsStraightBefore, IsStraightProgram};
-ghost use Rattle.bq_verify.specs.Sure.{IsSure};
+ghost use Rattle.bq_verify.specs.Straight.{IsStraightProgram};
+ghost use Rattle.bq_verify.specs.Sure.{IsSure, WhereSure};
 ghost use Rattle.bq_states.specs.AbstractStates.{Contains};
 ghost use Rattle.bq_verify.specs.Control.{AreHeights, AreMade, CanBePassed, IsKnown, PassesOn, RestIsSafe};
 
@@ -80,8 +80,8 @@ pub(crate) fn pass_slot(
     ensures long { length pending.new ≡ length pending.old }
     ensures passes { IfOk result (λ on. PassesOn (judged subject.now) slot (IsKnown pending.old state.old live slot) (IsKnown pending.new state.new on (slot + 1))) }
     ensures stopped { IfErr result (IsStopped (judged subject.now)) }
-    ensures accepts { IsStraightBefore (judged subject.now) (slot + 1) → IsSure subject.now.slots.now pending.old state.old live slot → IfErr result IsOutOfMemory }
-    ensures sure { IsStraightBefore (judged subject.now) (slot + 1) → IsSure subject.now.slots.now pending.old state.old live slot → IfOk result (λ on. IsSure subject.now.slots.now pending.new state.new on (slot + 1)) }
+    ensures accepts { WhereSure (judged subject.now) slot pending.old state.old live (IfErr result IsOutOfMemory) }
+    ensures sure { WhereSure (judged subject.now) slot pending.old state.old live (IfOk result (λ on. IsSure subject.now.slots.now pending.new state.new on (slot + 1))) }
 {
     if !arrive(subject.shapes, state, live, pending, slot) {
         return Ok(false);

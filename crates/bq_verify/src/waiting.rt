@@ -5,7 +5,7 @@ ghost use Rattle.bq_bpf.specs.Memory.{Setting, State};
 ghost use Rattle.bq_states.specs.Certainty.{Fact, Has};
 ghost use Rattle.bq_verify.specs.Ways.{HasIn, HasWaiting, IsSureOf};
 ghost use Rattle.bq_states.specs.AbstractStates.{Contains};
-ghost use Rattle.bq_verify.specs.Control.{IsIn, IsKnown, KeepsWaiting, WaitsBoxed};
+ghost use Rattle.bq_verify.specs.Control.{AddsWaiting, IsIn, IsKnown, KeepsWaiting};
 
 use bq_bpf::MapShape;
 use bq_states::abstract_state::AbstractState;
@@ -78,7 +78,7 @@ pub fn wait(
     requires here { slot < length pending.old }
     ensures long { length pending.new ≡ length pending.old }
     ensures kept { OnOk result (KeepsWaiting shapes.now pending.old pending.new) }
-    ensures added { OnOk result ((f : Setting) (s : State) → f.shapes ≡ shapes.now → s.slot ≡ slot → Contains f state.now s → WaitsBoxed f pending.new s) }
+    ensures added { OnOk result (AddsWaiting shapes.now slot (λ f. Contains f state.now) pending.new) }
     ensures has { OnOk result ((x : Fact) (k : ℕ) → HasWaiting x pending.old k → (k ≡ slot → Has x state.now) → HasWaiting x pending.new k) }
 {
     join(alloc, shapes, &mut pending[slot], state)

@@ -34,14 +34,14 @@ returns-clause-sure c = λ scalar operand x k waits yes_side no_side.
     }
 
 pub returns-clause-checked : goal.returns-clause-checked
-returns-clause-checked c = λ map check answer x k waits yes_side no_side.
+returns-clause-checked c = λ map tested x k waits yes_side no_side.
     let there = known_inside c.args.state.now.registers c.args.test.dst c.in-Some-known.left c.in-Some-known.ensures in
-    let left : Stands (Pointer (EntryOrNull map) 0) (Some c.in-Some-known.left) = subst (λ (v : Option AbstractValue). Stands (Pointer (EntryOrNull map) 0) v) (sym c.in-Some-known.ensures) answer in
+    let left : Stands (Pointer (EntryOrNull map) 0) (Some c.in-Some-known.left) = subst (λ (v : Option AbstractValue). Stands (Pointer (EntryOrNull map) 0) v) (sym c.in-Some-known.ensures) tested.1 in
     record {
       waiting = c.in_ok-wait_on_side.ensures.has x k waits
-          (λ same. has_on_tested x c.args.state.now c.args.test.dst map (is_found c.args.test.cond true) c.in_ok-yes.yes there (c.in_ok-yes.ensures.tested map check left) (yes_side same));
+          (λ same. has_on_tested x c.args.state.now c.args.test.dst map (is_found c.args.test.cond true) c.in_ok-yes.yes there (c.in_ok-yes.ensures.tested map tested.0 left) (yes_side same));
       transferred = λ live same.
-          c.carry_on.ensures.has x (has_on_tested x c.args.state.now c.args.test.dst map (is_found c.args.test.cond false) c.in_ok-no.no there (c.in_ok-no.ensures.tested map check left) (no_side same)) live;
+          c.carry_on.ensures.has x (has_on_tested x c.args.state.now c.args.test.dst map (is_found c.args.test.cond false) c.in_ok-no.no there (c.in_ok-no.ensures.tested map tested.0 left) (no_side same)) live;
     }
 
 pub returns-in_default-clause-accepts : goal.returns-in_default-clause-accepts
@@ -60,9 +60,9 @@ returns-in_err-yes-clause-accepts c = λ below scalar operand.
     absurd (false≢true (c.in_err-yes.ensures.accepts left (c.in-Some.ensures.scalar operand)))
 
 pub returns-in_err-yes-clause-checks : goal.returns-in_err-yes-clause-checks
-returns-in_err-yes-clause-checks c = λ map below check answer.
-    let left : Stands (Pointer (EntryOrNull map) 0) (Some c.in-Some-known.left) = subst (λ (v : Option AbstractValue). Stands (Pointer (EntryOrNull map) 0) v) (sym c.in-Some-known.ensures) answer in
-    absurd (false≢true (c.in_err-yes.ensures.checks map check left))
+returns-in_err-yes-clause-checks c = λ map below tested.
+    let left : Stands (Pointer (EntryOrNull map) 0) (Some c.in-Some-known.left) = subst (λ (v : Option AbstractValue). Stands (Pointer (EntryOrNull map) 0) v) (sym c.in-Some-known.ensures) tested.1 in
+    absurd (false≢true (c.in_err-yes.ensures.checks map tested.0 left))
 
 pub returns-in_err-yes-clause-obligations : goal.returns-in_err-yes-clause-obligations
 returns-in_err-yes-clause-obligations c =
@@ -75,9 +75,9 @@ returns-in_err-no-clause-accepts c = λ below scalar operand.
     absurd (false≢true (c.in_err-no.ensures.accepts left (c.in-Some.ensures.scalar operand)))
 
 pub returns-in_err-no-clause-checks : goal.returns-in_err-no-clause-checks
-returns-in_err-no-clause-checks c = λ map below check answer.
-    let left : Stands (Pointer (EntryOrNull map) 0) (Some c.in-Some-known.left) = subst (λ (v : Option AbstractValue). Stands (Pointer (EntryOrNull map) 0) v) (sym c.in-Some-known.ensures) answer in
-    absurd (false≢true (c.in_err-no.ensures.checks map check left))
+returns-in_err-no-clause-checks c = λ map below tested.
+    let left : Stands (Pointer (EntryOrNull map) 0) (Some c.in-Some-known.left) = subst (λ (v : Option AbstractValue). Stands (Pointer (EntryOrNull map) 0) v) (sym c.in-Some-known.ensures) tested.1 in
+    absurd (false≢true (c.in_err-no.ensures.checks map tested.0 left))
 
 pub returns-in_err-no-clause-obligations : goal.returns-in_err-no-clause-obligations
 returns-in_err-no-clause-obligations c =
@@ -90,5 +90,5 @@ returns-in_err-wait_on_side-clause-obligations c =
     rw (error.1, error.2) (λ insn reads uses. tt)
 
 pub returns-in_default-known-clause-checks : goal.returns-in_default-known-clause-checks
-returns-in_default-known-clause-checks c = λ map below check answer.
-    absurd (subst (λ (v : Option AbstractValue). Stands (Pointer (EntryOrNull map) 0) v) (sym c.in_default-known.ensures) answer)
+returns-in_default-known-clause-checks c = λ map below tested.
+    absurd (subst (λ (v : Option AbstractValue). Stands (Pointer (EntryOrNull map) 0) v) (sym c.in_default-known.ensures) tested.1)

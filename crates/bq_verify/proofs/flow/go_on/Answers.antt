@@ -166,12 +166,12 @@ returns-in-Branch-clause-sure c = λ ready.
           let tested = λ (found : Bool) (edge : IsEdge c.args.subject.now.slots.now c.args.slot k) (side : IsFoundSide c.in-Branch.cond c.in-Branch.off c.args.slot k → found ≡ true).
           has_tested x c.args.slot k c.in-Branch.width c.in-Branch.cond c.in-Branch.dst c.in-Branch.src c.in-Branch.off check.1 found c.args.state.now check.2 side
           (subst (λ (i : Insn). After x c.args.slot k i c.args.state.now) c.in-Branch.is (after edge)) in
-          sure x k waits
+          sure check.1 (check.0, check.2) x k waits
           (λ same.
           let at = subst (λ (n : ℕ). LeadsTo c.args.slot c.in-Branch.off n) (sym same) leads in
           tested (is_found c.in-Branch.cond true) (subst (λ (n : ℕ). IsEdge c.args.subject.now.slots.now c.args.slot n) (sym same) there) (differ_if_jumps c.in-Branch.cond c.in-Branch.off c.args.slot k at))
           (λ same. tested (is_found c.in-Branch.cond false) (subst (λ (n : ℕ). IsEdge c.args.subject.now.slots.now c.args.slot n) (sym same) next) (differ_if_goes_on c.in-Branch.cond c.in-Branch.off c.args.slot k same)))
-          (c.branch-alloc.ensures.checked check.1 check.0 check.2)
+          c.branch-alloc.ensures.checked
     ]
 
 pub returns-in-Branch-clause-accepts : goal.returns-in-Branch-clause-accepts
@@ -179,7 +179,7 @@ returns-in-Branch-clause-accepts c = λ ready.
     let needs = subst (λ (i : Insn). IsReady c.args.subject.now.shapes.now c.args.subject.now.context c.args.state.now i) c.in-Branch.is ready in
     elim needs.1 [
       | inl numbers ↦ c.branch-alloc.ensures.accepts needs.0 numbers.0 numbers.1
-      | inr check ↦ c.branch-alloc.ensures.checks check.1 needs.0 check.0 check.2
+      | inr check ↦ c.branch-alloc.ensures.checks check.1 needs.0 (check.0, check.2)
     ]
 
 pub transfer-requires-clause-transferred : goal.transfer-requires-clause-transferred
