@@ -5,6 +5,7 @@
 #![tactic(auto)]
 
 mod admitting;
+pub mod arguments;
 mod generations;
 pub mod laws;
 mod parts;
@@ -14,5 +15,6 @@ mod sized_core;
 mod waking;
 mod world;
 
+pub use arguments::argument_refusal;
 pub use sized_core::Core;
 pub use world::DynamicCore;

@@ -9,12 +9,13 @@ ghost use Rattle.bq_parts.specs.StandsOnce.{IsOrderly};
 ghost use Rattle.bq_parts.specs.declared.refusal.Refusal.TheVariants as no;
 ghost use Rattle.bq_core.specs.Laws.{StaysOrderly};
 
+use crate::arguments::argument_refusal;
 use crate::parts::Parts;
 use bq_bpf::Board;
 use bq_disc::RunQueue;
 use bq_disc::limits::PROCESSORS;
 use bq_installed::Scratch;
-use bq_parts::{Cpu, Event, Inbox, Lobby, Refusal, Reply, argument_refusal};
+use bq_parts::{Cpu, Event, Inbox, Lobby, Refusal, Reply};
 use std::alloc::{AllocError, Global};
 use std::marker::Model;
 

@@ -18,10 +18,11 @@ use crate::locks::Machine;
 use crate::needs::rooms_of_event;
 use crate::records::{Records, event_twice, no_calls};
 use crate::rooms::{BeginRooms, EventRooms, LoadRooms};
+use bq_core::argument_refusal;
 use bq_disc::RunQueue;
 use bq_disc::limits::{PROCESSORS, TASKS};
 use bq_history::{Naming, Receipt, Room};
-use bq_parts::{Event, Placement, Refusal, Reply, argument_refusal};
+use bq_parts::{Event, Placement, Refusal, Reply};
 use bq_recording::{CpuCell, Seat, WorkingSeat};
 use bq_shared::{
     CallRooms, Counters, Counting, NumberedCpu, PackedAnswer, Record, hold_calls, loads_room,

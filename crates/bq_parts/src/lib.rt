@@ -5,7 +5,6 @@
 //! Stands on the queues of bq_disc only by their contract, on bq_hooks for what is chosen, and on bq_installed for answers.
 #![tactic(auto)]
 
-pub mod arguments;
 mod asking;
 pub mod carried;
 pub mod cpu;
@@ -21,7 +20,6 @@ pub mod shares;
 pub mod unlinked;
 pub mod wakes;
 
-pub use arguments::argument_refusal;
 pub use carried::Carried;
 pub use cpu::Cpu;
 pub use decision::Decision;

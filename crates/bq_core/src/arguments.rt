@@ -2,10 +2,10 @@
 ghost use Rattle.std.specs.Prelude.{◌≡◌, ◌<◌, ◌≤◌, Some, None};
 ghost use Rattle.bq_parts.specs.Refusals.{argument_refusal};
 
-use crate::{Event, Refusal};
 use bq_disc::limits::{GREATEST_SLICE, LEAST_SLICE, PROCESSORS, TASKS};
 use bq_hooks::{Hook, low_bits};
 use bq_installed::Policy;
+use bq_parts::{Event, Refusal};
 use bq_weights::is_nice;
 
 /// The refusal that an event's arguments have in any world of this many processors; the first by number, where there are
