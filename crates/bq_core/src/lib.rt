@@ -5,7 +5,7 @@
 #![tactic(auto)]
 
 mod admitting;
-pub mod arguments;
+mod arguments;
 mod generations;
 pub mod laws;
 mod parts;
