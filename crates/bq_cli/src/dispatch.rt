@@ -12,8 +12,8 @@ use crate::simulate::do_simulate;
 use crate::tables::VERSION;
 use crate::timeline::do_timeline;
 use bq_console::{
-    Bounded, ErasingWriter, MOST_BYTES, Progress, ShowingReader, WordsFault, ended,
-    say_out_of_memory, waiting_input, written,
+    Bounded, ErasingWriter, MOST_BYTES, Progress, ShowingReader, WordsFault, as_texts, ended,
+    given_words, say_out_of_memory, waiting_input, written,
 };
 use bq_lines::with_first_line;
 use bq_streams::{Counted, Kept};
@@ -26,9 +26,18 @@ use std::thread::Threads;
 const EMPTY: &str = with_first_line!("bqsim: the trace is empty: ", "");
 
 /// Does what the words after the program's name ask: a command on the files that they name, or on standard input, to standard output. A
-/// fault says what is wrong with the words, and then nothing was read; or it is the help that they ask for. The version goes to standard
-/// output: it is no refusal and no help.
+/// fault says what is wrong with the words, and then no input was read; or it is the help that they ask for.
 pub fn do_command<T: Threads + Wait + Sync>(
+    rt: &HostRuntime,
+    threads: &T,
+) -> Result<ExitCode, WordsFault> {
+    let given = given_words(rt)?;
+    let words = as_texts(rt.alloc(), &given)?;
+    obey(rt, threads, words.as_slice())
+}
+
+/// Does what these words ask. The version goes to standard output: it is no refusal and no help.
+fn obey<T: Threads + Wait + Sync>(
     rt: &HostRuntime,
     threads: &T,
     words: &[&str],
