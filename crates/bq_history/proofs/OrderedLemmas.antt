@@ -4,7 +4,7 @@ use Rattle.std.specs.Prelude.{slice_index_or}
 use Rattle.std.proofs.lemmas.Bool.Decides.{eqb_tells}
 use Rattle.std.proofs.lemmas.List.{get_or_default}
 use Rattle.bq_history.specs.Whole.{count, Each}
-use Rattle.bq_history.specs.Places.{times, ArePlaced, AreFrom}
+use Rattle.bq_history.specs.Places.{times, ArePlaced, AreFrom, IsThere}
 use Rattle.bq_history.proofs.PlacingLemmas.{item_at}
 
 module _ {A : Type 0} where
@@ -25,12 +25,11 @@ module _ {A : Type 0} where
       ap (λ (z : A). z ∷ xs) first ∙ ap (λ (zs : List A). y ∷ zs) rest
 
 module _ {A B : Type 0} (place : A → ℕ) (content : A → B) (d : B) (list : List B) where
-  -- the list has the item's content at the item's place
-  abbrev pub IsThere : A → Type 0
-  IsThere x = (place x < length list) × (slice_index_or list (place x) d ≡ content x)
+  abbrev There : A → Type 0
+  There = IsThere place content d list
 
   -- its place is below the length
-  pub below : (n : ℕ) (xs : List A) → length list ≡ n → Each IsThere xs → Each (λ (x : A). place x < n) xs
+  pub below : (n : ℕ) (xs : List A) → length list ≡ n → Each There xs → Each (λ (x : A). place x < n) xs
   below n [] long each = tt
   below n (x ∷ xs) long each = (let lt = each.0.0 in omega (arith, long, lt), below n xs long each.1)
 
@@ -44,13 +43,13 @@ module _ {A B : Type 0} (place : A → ℕ) (content : A → B) (d : B) (list : 
   map_length (y ∷ ys) = let h = map_length ys in omega (arith, h)
 
   -- brought to their places, the items' contents are the list
-  pub is_list : (xs ys : List A) → Each IsThere xs → length ys ≡ length list → ArePlaced place (length ys) ys → AreFrom xs ys → map content ys ≡ list
+  pub is_list : (xs ys : List A) → Each There xs → length ys ≡ length list → ArePlaced place (length ys) ys → AreFrom xs ys → map content ys ≡ list
   is_list xs ys each long placed from = same_list (map content ys) list (map_length ys ∙ long)
       (λ k lt e.
       let here : k < length ys = omega (arith, lt, map_length ys) in
       let y = item_at ys k here in
       let w = from k here in
-      let there = each_at IsThere xs w.0 y each w.1 in
+      let there = each_at There xs w.0 y each w.1 in
       let same : slice_index_or ys k y ≡ slice_index_or xs w.0 y = w.2 y in
       let at : place (slice_index_or xs w.0 y) ≡ k = ap place (sym same) ∙ placed k here y in
       map_at ys k y e here ∙ (ap content same ∙ (sym there.1 ∙ (ap (λ (i : ℕ). slice_index_or list i d) at ∙ get_or_default list k d e (omega (arith, here, long))))))

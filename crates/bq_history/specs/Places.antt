@@ -19,6 +19,10 @@ module _ {A : Type 0} (place : A → ℕ) where
   abbrev pub ArePlaced : ℕ → List A → Type 0
   ArePlaced n items = (k : ℕ) → k < n → (d : A) → place (slice_index_or items k d) ≡ k
 
+-- the list has the item's content at the item's place
+abbrev pub IsThere : {A B : Type 0} → (A → ℕ) → (A → B) → B → List B → A → Type 0
+IsThere place content d list x = (place x < length list) × (slice_index_or list (place x) d ≡ content x)
+
 -- each of the new items is one of the old
 abbrev pub AreFrom : {A : Type 0} → List A → List A → Type 0
 AreFrom {A} old new = (k : ℕ) → k < length new → (j : ℕ) × (j < length old) × ((d : A) → slice_index_or new k d ≡ slice_index_or old j d)

@@ -1,7 +1,7 @@
 //! What is at places, taken out in the order of the places.
-ghost use Rattle.std.specs.Prelude.{◌≡◌, ◌≤◌, ◌<◌, ℕ, List, map, length, slice_index_or, vec_len, vec_capacity};
+ghost use Rattle.std.specs.Prelude.{◌≡◌, ◌≤◌, ◌<◌, ℕ, List, map, length, vec_len, vec_capacity};
 ghost use Rattle.bq_history.specs.Whole.{Each};
-ghost use Rattle.bq_history.specs.Places.{times};
+ghost use Rattle.bq_history.specs.Places.{times, IsThere};
 
 use crate::order::{Placed, in_order};
 
@@ -24,7 +24,7 @@ pub fn contents_in_order<C: Drop, T: Placed + HasContent<C> + Drop>(
     requires below { Each (λ x. T.place x < length items.items) items.items }
     requires few { (s : ℕ) → times T.place s items.items ≤ 1 }
     requires room { (vec_len room ≡ 0) × (vec_len items ≤ vec_capacity room) }
-    ensures { (list : List C) (d : C) → length list ≡ length items.items → Each (λ x. (T.place x < length list) × (slice_index_or list (T.place x) d ≡ T.content x)) items.items → result.items ≡ list }
+    ensures { (list : List C) (d : C) → length list ≡ length items.items → Each (IsThere T.place T.content d list) items.items → result.items ≡ list }
 {
     let mut items = items;
     in_order(&mut items);

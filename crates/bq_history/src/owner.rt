@@ -19,12 +19,13 @@ pub struct Unnamed<E, T, K, L: Law<E, T, K>> {
 impl<E, T, K, L: Law<E, T, K>> Model for Unnamed<E, T, K, L> {
     ghost use Rattle.std.specs.Prelude.{◌≡◌, []};
     ghost use Rattle.atomic_table.specs.Seated.{TableId};
+    ghost use Rattle.bq_history.specs.Tables.{IsOfWords};
 
     ghost Value = { TableId × K };
 
     ghost view = { λ u. (u.table.shared.table_id, u.table.shared.key) };
 
-    ghost invariant = { λ u. (u.table.shared.table_id.words ≡ 1) × (u.table.shared.table_id.slots ≡ 0) × (u.seat.table_id ≡ u.table.shared.table_id) × (u.seat.me ≡ (L.first u.table.shared.key, [])) };
+    ghost invariant = { λ u. IsOfWords 1 u.table.shared.table_id × (u.seat.table_id ≡ u.table.shared.table_id) × (u.seat.me ≡ (L.first u.table.shared.key, [])) };
 }
 
 /// What the holders of one whole share. Contracts see it as what was fixed when it was made.
@@ -35,11 +36,14 @@ pub struct Owner<E, T, K, L: Law<E, T, K>, N: Naming> {
 }
 
 impl<E, T, K, L: Law<E, T, K>, N: Naming> Model for Owner<E, T, K, L, N> {
+    ghost use Rattle.std.specs.Prelude.{◌≡◌};
+    ghost use Rattle.bq_history.specs.Tables.{IsOfWords};
+
     ghost Value = { K };
 
     ghost view = { λ o. o.table.shared.key };
 
-    ghost invariant = { λ o. (o.table.shared.table_id ≡ N.table) × (o.table.shared.table_id.words ≡ 1) × (o.table.shared.table_id.slots ≡ 0) };
+    ghost invariant = { λ o. (o.table.shared.table_id ≡ N.table) × IsOfWords 1 o.table.shared.table_id };
 }
 
 impl<E, T, K, L: Law<E, T, K>> Unnamed<E, T, K, L> {

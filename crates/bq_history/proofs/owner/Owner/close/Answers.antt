@@ -3,7 +3,7 @@ use Rattle.bq_history.proofs.MoveLemmas.{ends}
 use Rattle.bq_history.proofs.owner.Owner.close.Goals as goal
 
 pub free-requires : goal.free-requires
-free-requires g c = λ k l. absurd (omega (arith, c.close_with.ensures.counts.1, c.self.invariant.2))
+free-requires g c = λ k l. absurd (omega (arith, c.close_with.ensures.counts.1, c.self.invariant.1.1))
 
 pub returns : goal.returns
 returns g c =
