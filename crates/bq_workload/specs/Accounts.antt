@@ -47,7 +47,8 @@ charged_by processor_state now a = option_map_or (λ task. of_task (run_for (now
 
 abbrev pub charged : ℕ → ℕ → Accounts → Accounts
 charged processor now a =
-    option_map_or (λ (processor_state : ProcessorState). of_processor (λ l. record l { since = now }) processor (charged_by processor_state now a)) (slice_get a.by_processor processor) a
+    option_map_or (λ (processor_state : ProcessorState). of_processor (λ l. record l { since = now }) processor (charged_by processor_state now a))
+    (slice_get a.by_processor processor) a
 
 -- the task runs there, and has got just what its phase takes
 pub record IsDone (a : Accounts) (processor task : ℕ) (c : TaskProgress) : Type 0 where
@@ -78,7 +79,8 @@ is_same m n = false
 -- so says an answer: if another ran before, that has its time
 abbrev pub switched : ℕ → Option ℕ → ℕ → Periods → Accounts → Accounts
 switched processor run now periods a =
-    option_map_or (λ (processor_state : ProcessorState). if is_same processor_state.run run then a else taken_over processor run now periods (charged processor now a)) (slice_get a.by_processor processor) a
+    option_map_or (λ (processor_state : ProcessorState). if is_same processor_state.run run then a else taken_over processor run now periods (charged processor now a))
+    (slice_get a.by_processor processor) a
 
 -- a processor has one task less
 abbrev pub shrunk : ℕ → Accounts → Accounts

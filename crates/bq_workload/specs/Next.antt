@@ -54,7 +54,9 @@ pub record HasHome (a : Accounts) (task processor : ℕ) : Type 0 where
 
 -- each task that runs somewhere ran there last: so it runs at only one processor
 abbrev pub HaveHomes : Accounts → Type 0
-HaveHomes a = (processor task : ℕ) (processor_state : ProcessorState) → slice_get a.by_processor processor ≡ Some processor_state → processor_state.run ≡ Some task → HasHome a task processor
+HaveHomes a =
+    (processor task : ℕ) (processor_state : ProcessorState) → slice_get a.by_processor processor ≡ Some processor_state →
+    processor_state.run ≡ Some task → HasHome a task processor
 
 -- an event queue says of each thing when it comes by the accounts, in which no task runs at two processors
 pub record Agrees (end : ℕ) (a : Accounts) (event_queue : List ℕ) : Type 0 where

@@ -6,6 +6,7 @@ use Rattle.bq_workload.specs.declared.progress.TaskState.TheVariants.{Asleep}
 use Rattle.bq_workload.specs.declared.due.Due.TheVariants.{End, Wake, Tick, Pull}
 use Rattle.bq_workload.specs.declared.processor_state.ProcessorState.{ProcessorState}
 use Rattle.bq_workload.specs.declared.roster.Periods.{Periods}
+use Rattle.bq_workload.specs.declared.roster.Roster.{Roster}
 use Rattle.bq_workload.specs.Accounts.{Accounts, is_same}
 use Rattle.bq_workload.specs.Dues.{IsDropped, IsPlanned, end_of, next_multiple}
 
@@ -36,7 +37,14 @@ pub record PlansNone (periods : Periods) (processor now : ℕ) (look : Option �
 -- this task runs there, which has come as far as the tasks' progress say, or none does
 abbrev pub PlansRun : Periods → ℕ → Option ℕ → ℕ → ProcessorState → List TaskProgress → List ℕ → List ℕ → Type 0
 PlansRun periods processor None now processor_state by_task old new = PlansNone periods processor now processor_state.look old new
-PlansRun periods processor (Some task) now processor_state by_task old new = (c : TaskProgress) × (slice_get by_task task ≡ Some c) × PlansTask periods processor now processor_state.tick c old new
+PlansRun periods processor (Some task) now processor_state by_task old new =
+    (c : TaskProgress) × (slice_get by_task task ≡ Some c) × PlansTask periods processor now processor_state.tick c old new
+
+-- so plans a roster in which this task runs at a processor from now on, or none does
+abbrev pub TakeoverIsPlanned : ℕ → Option ℕ → ℕ → Roster → Roster → Type 0
+TakeoverIsPlanned processor run now old new =
+    (processor_state : ProcessorState) × (slice_get old.by_processor.items processor ≡ Some processor_state) ×
+    PlansRun old.periods processor run now processor_state new.by_task.items old.event_queue new.event_queue
 
 -- nothing changes where the same runs
 abbrev pub PlansUnless : Bool → Periods → ℕ → Option ℕ → ℕ → ProcessorState → List TaskProgress → List ℕ → List ℕ → Type 0
@@ -48,6 +56,10 @@ pub record PlansSwitch (periods : Periods) (processor : ℕ) (run : Option ℕ) 
   pub processor_state : ProcessorState
   pub at : slice_get a.by_processor processor ≡ Some processor_state
   pub plans : PlansUnless (is_same processor_state.run run) periods processor run now processor_state by_task old new
+
+-- so plans a roster after an answer, by its accounts as they stood when another task took over
+abbrev pub SwitchIsPlanned : ℕ → Option ℕ → ℕ → Accounts → Roster → Roster → Type 0
+SwitchIsPlanned processor run now a old new = PlansSwitch old.periods processor run now a new.by_task.items old.event_queue new.event_queue
 
 -- the timer of a task is put down where it sleeps by one, and else none
 abbrev pub PlansTimer : ℕ → ℕ → TaskState → ℕ → List ℕ → List ℕ → Type 0
@@ -61,3 +73,9 @@ pub record PlansProgress (end processor task : ℕ) (processor_state : Processor
   pub home : c.home ≡ processor
   pub timer : PlansTimer end task c.task_state c.timer old mid
   pub ends : IsPlanned end (End processor) (end_of processor_state.since c) mid new
+
+-- so plans a roster in which the task that runs at a processor has come so far
+abbrev pub ProgressIsPlanned : ℕ → ℕ → TaskProgress → Roster → Roster → Type 0
+ProgressIsPlanned processor task c old new =
+    (processor_state : ProcessorState) × (slice_get old.by_processor.items processor ≡ Some processor_state) ×
+    PlansProgress old.periods.end processor task processor_state c old.event_queue new.event_queue

@@ -6,7 +6,7 @@ ghost use Rattle.bq_workload.specs.Accounts.{accounts_of, charged, first_look, I
 ghost use Rattle.bq_workload.specs.Dues.{AreLooks, IsDropped, IsDue, IsPlanned, end_of, place_of, until};
 ghost use Rattle.bq_workload.specs.Minima.{AreNever, IsFirst};
 ghost use Rattle.bq_workload.specs.Next.{HaveHomes, IsAgreed, IsNext, NothingComes, Rests, StaysAgreed, runs_at};
-ghost use Rattle.bq_workload.specs.Plans.{PlansProgress, PlansTimer};
+ghost use Rattle.bq_workload.specs.Plans.{PlansTimer, ProgressIsPlanned};
 ghost use Rattle.bq_workload.specs.Strays.{IsStrayEnd, IsStrayProgress, IsStrayWake, NoneIsDone};
 
 use crate::clocks::first_look;
@@ -280,7 +280,7 @@ impl Roster {
         ensures there { OnOk result (task < length self.old.by_task.items) }
         ensures by_task { OnOk result (self.new.by_task.items ≡ slice_set self.old.by_task.items task progress) }
         ensures by_processor { self.new.by_processor ≡ self.old.by_processor }
-        ensures plans { OnOk result ((processor_state : ProcessorState) × (slice_get self.old.by_processor.items processor ≡ Some processor_state) × PlansProgress self.old.periods.end processor task processor_state progress self.old.event_queue self.new.event_queue) }
+        ensures plans { OnOk result (ProgressIsPlanned processor task progress self.old self.new) }
         ensures agrees { OnOk result (StaysAgreed self.old self.new) }
         ensures periods { self.new.periods ≡ self.old.periods }
         ensures stray { IfErr result (λ _. IsStrayProgress processor task progress (accounts_of self.old)) }
@@ -296,7 +296,7 @@ impl Roster {
         task: u16,
         progress: &TaskProgress,
     ) -> Result<(), BrokenInvariant>
-        ensures plans { OnOk result ((processor_state : ProcessorState) × (slice_get self.old.by_processor.items processor ≡ Some processor_state) × PlansProgress self.old.periods.end processor task processor_state progress.now self.old.event_queue self.new.event_queue) }
+        ensures plans { OnOk result (ProgressIsPlanned processor task progress.now self.old self.new) }
         ensures stray { IfErr result (λ _. IsStrayProgress processor task progress.now (accounts_of self.old)) }
         ensures by_task { self.new.by_task ≡ self.old.by_task }
         ensures by_processor { self.new.by_processor ≡ self.old.by_processor }

@@ -1,12 +1,11 @@
 //! Which task runs where from now on.
 ghost use Rattle.std.specs.Prelude.{◌≡◌, ◌<◌, ◌≤◌, ◌-◌, None, Some, IfErr, IfSome, OnOk, length, slice_get};
-ghost use Rattle.bq_workload.specs.declared.progress.TaskProgress.{TaskProgress};
 ghost use Rattle.bq_workload.specs.declared.processor_state.ProcessorState.{ProcessorState};
 ghost use Rattle.bq_workload.specs.TaskProgress.{moved_to, run_for};
 ghost use Rattle.bq_workload.specs.Accounts.{accounts_of, charged, entered_by, grown, left_by, of_task, passed, shrunk, switched, taken_over};
 ghost use Rattle.bq_workload.specs.Dues.{size_at};
 ghost use Rattle.bq_workload.specs.Next.{Rests, StaysAgreed};
-ghost use Rattle.bq_workload.specs.Plans.{PlansNone, PlansSwitch, PlansTask};
+ghost use Rattle.bq_workload.specs.Plans.{SwitchIsPlanned, TakeoverIsPlanned};
 ghost use Rattle.bq_workload.specs.Strays.{IsStrayCharge, IsStrayEntry, IsStrayGrowth, IsStrayLeave, IsStrayPass, IsStrayProcessor, IsStrayRun, IsStrayStart, IsStraySwitch};
 
 use crate::Due;
@@ -22,7 +21,7 @@ impl Roster {
         now: u64,
     ) -> Result<(), BrokenInvariant>
         ensures accounts { OnOk result (accounts_of self.new ≡ switched processor run now self.old.periods (accounts_of self.old)) }
-        ensures plans { OnOk result (PlansSwitch self.old.periods processor run now (accounts_of self.old) self.new.by_task.items self.old.event_queue self.new.event_queue) }
+        ensures plans { OnOk result (SwitchIsPlanned processor run now (accounts_of self.old) self.old self.new) }
         ensures agrees { OnOk result (StaysAgreed self.old self.new) }
         ensures periods { self.new.periods ≡ self.old.periods }
         ensures stray { IfErr result (λ _. IsStraySwitch self.old.periods processor run now (accounts_of self.old)) }
@@ -41,7 +40,7 @@ impl Roster {
     /// The task that runs at a processor has run until now.
     pub(crate) fn charge(&mut self, processor: u8, now: u64) -> Result<(), BrokenInvariant>
         ensures accounts { OnOk result (accounts_of self.new ≡ charged processor now (accounts_of self.old)) }
-        ensures since { OnOk result ((processor_state : ProcessorState) × (slice_get self.old.by_processor.items processor ≡ Some processor_state) × IfSome processor_state.run (λ _. processor_state.since ≤ now)) }
+        ensures since { OnOk result ((state : ProcessorState) × (slice_get self.old.by_processor.items processor ≡ Some state) × IfSome state.run (λ _. state.since ≤ now)) }
         ensures event_queue { self.new.event_queue ≡ self.old.event_queue }
         ensures periods { self.new.periods ≡ self.old.periods }
         ensures stray { IfErr result (λ _. IsStrayCharge processor now (accounts_of self.old)) }
@@ -76,7 +75,7 @@ impl Roster {
     fn start(&mut self, processor: u8, task: u16, now: u64) -> Result<(), BrokenInvariant>
         ensures accounts { OnOk result (accounts_of self.new ≡ taken_over processor (Some task) now self.old.periods (accounts_of self.old)) }
         ensures rests { OnOk result (Rests (accounts_of self.old) task) }
-        ensures plans { OnOk result ((processor_state : ProcessorState) × (slice_get self.old.by_processor.items processor ≡ Some processor_state) × (progress : TaskProgress) × (slice_get self.new.by_task.items task ≡ Some progress) × PlansTask self.old.periods processor now processor_state.tick progress self.old.event_queue self.new.event_queue) }
+        ensures plans { OnOk result (TakeoverIsPlanned processor (Some task) now self.old self.new) }
         ensures periods { self.new.periods ≡ self.old.periods }
         ensures stray { IfErr result (λ _. IsStrayStart self.old.periods processor task now (accounts_of self.old)) }
     {
@@ -109,7 +108,7 @@ impl Roster {
     fn idle(&mut self, processor: u8, now: u64) -> Result<(), BrokenInvariant>
         ensures accounts { OnOk result (accounts_of self.new ≡ taken_over processor None now self.old.periods (accounts_of self.old)) }
         ensures periods { self.new.periods ≡ self.old.periods }
-        ensures plans { OnOk result ((processor_state : ProcessorState) × (slice_get self.old.by_processor.items processor ≡ Some processor_state) × PlansNone self.old.periods processor now processor_state.look self.old.event_queue self.new.event_queue) }
+        ensures plans { OnOk result (TakeoverIsPlanned processor None now self.old self.new) }
         ensures stray { IfErr result (λ _. IsStrayProcessor processor (accounts_of self.old)) }
     {
         let mut processor_state = self.processor_state(processor)?;
@@ -131,7 +130,7 @@ impl Roster {
         now: u64,
     ) -> Result<(), BrokenInvariant>
         ensures accounts { OnOk result (accounts_of self.new ≡ left_by processor run now self.old.periods (accounts_of self.old)) }
-        ensures plans { OnOk result (PlansSwitch self.old.periods processor run now (shrunk processor (accounts_of self.old)) self.new.by_task.items self.old.event_queue self.new.event_queue) }
+        ensures plans { OnOk result (SwitchIsPlanned processor run now (shrunk processor (accounts_of self.old)) self.old self.new) }
         ensures agrees { OnOk result (StaysAgreed self.old self.new) }
         ensures periods { self.new.periods ≡ self.old.periods }
         ensures stray { IfErr result (λ _. IsStrayLeave self.old.periods processor run now (accounts_of self.old)) }
@@ -149,7 +148,7 @@ impl Roster {
         now: u64,
     ) -> Result<(), BrokenInvariant>
         ensures accounts { OnOk result (accounts_of self.new ≡ entered_by processor count run now self.old.periods (accounts_of self.old)) }
-        ensures plans { OnOk result (PlansSwitch self.old.periods processor run now (grown processor count (accounts_of self.old)) self.new.by_task.items self.old.event_queue self.new.event_queue) }
+        ensures plans { OnOk result (SwitchIsPlanned processor run now (grown processor count (accounts_of self.old)) self.old self.new) }
         ensures agrees { OnOk result (StaysAgreed self.old self.new) }
         ensures periods { self.new.periods ≡ self.old.periods }
         ensures stray { IfErr result (λ _. IsStrayEntry self.old.periods processor count run now (accounts_of self.old)) }

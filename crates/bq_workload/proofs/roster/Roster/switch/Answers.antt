@@ -22,7 +22,7 @@ returns-in-Some-clause-agrees c =
     (λ w h.
     let plans = w.1 in
     subst (λ (k : Periods). Agrees k.end (accounts_of new) new.event_queue) (sym start.periods)
-    (started-agrees mid.periods p c.in-Some.task now plans.0 plans.2 (accounts_of mid) (accounts_of new) mid.event_queue new.event_queue (charged-agreed p now c.in_ok-processor_state.processor_state old mid c.in_ok-processor_state.ensures.there charge.accounts charge.event_queue charge.periods h) plans.1 w.0.1 w.0.0 plans.3 plans.4))
+    (started-agrees mid.periods p c.in-Some.task now plans.0 plans.2.0 (accounts_of mid) (accounts_of new) mid.event_queue new.event_queue (charged-agreed p now c.in_ok-processor_state.processor_state old mid c.in_ok-processor_state.ensures.there charge.accounts charge.event_queue charge.periods h) plans.1 w.0.1 w.0.0 plans.2.1 plans.2.2))
     (both-ok _ _ c.start.result (both-ok _ _ c.start.result start.accounts start.rests) start.plans)
 
 pub returns-in-None-clause-agrees : goal.returns-in-None-clause-agrees
