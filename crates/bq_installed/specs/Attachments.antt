@@ -1,8 +1,10 @@
 -- What is attached at the hooks of a processor.
-use Rattle.std.specs.Prelude.{◌≡◌, ℕ, List, [], Option, Some, None}
+use Rattle.std.specs.Prelude.{◌≡◌, ℕ, List, [], Option, Some, None, IfSome}
+use Rattle.bq_bpf.specs.declared.board.Call.{Call as Asked}
 use Rattle.bq_hooks.specs.declared.hook.Hook.{Hook}
 use Rattle.bq_hooks.specs.declared.hook.Hook.TheVariants.{Place, Preempt, Pull}
 use Rattle.bq_verify.specs.Accepted.{Accepted}
+use Rattle.bq_installed.specs.Answers.{Answers}
 
 -- what is attached at a hook: a policy or none, its generation, and its own maps' bytes
 pub record Attached : Type 0 where
@@ -36,6 +38,10 @@ with_attached Pull ps new = record ps { pull = new }
 abbrev pub IsFor : Hook → Option Accepted → Type 0
 IsFor hook None = Unit {0}
 IsFor hook (Some policy) = policy.hook ≡ hook
+
+-- the policy that is attached, if there is one, answers r0 on a context, and leaves these maps
+abbrev pub AnswersAt : Attached → List ℕ → ℕ → ℕ → ℕ → List (List ℕ) → ℕ → List Asked → Type 0
+AnswersAt attached context now processor r0 maps' steps calls = IfSome attached.policy (λ p. Answers p context attached.maps now processor r0 maps' steps calls)
 
 -- of a policy with its maps, if there is one
 abbrev pub policy_in : Option (Accepted × List (List ℕ)) → Option Accepted

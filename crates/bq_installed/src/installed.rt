@@ -6,7 +6,7 @@ ghost use Rattle.bq_hooks.specs.Hooks.{context_length_of};
 ghost use Rattle.bq_bpf.specs.Memory.{HaveShapes};
 ghost use Rattle.bq_installed.specs.Answers.{Answers, IsWithin, fresh_maps};
 ghost use Rattle.bq_installed.specs.Standing.{IsEquipped, WasAnswered};
-ghost use Rattle.bq_installed.specs.Attachments.{nothing_attached};
+ghost use Rattle.bq_installed.specs.Attachments.{AnswersAt, nothing_attached};
 
 use crate::{Policy, Scratch};
 use bq_bpf::Board;
@@ -131,7 +131,7 @@ impl Installed {
     ) -> Done
         requires there { is_some self.old.policy ≡ true }
         requires context { IfSome self.old.policy (λ p. length context.now ≡ context_length_of p.hook p.version) }
-        ensures answers { IfSome self.old.policy (λ p. Answers p context.now self.old.maps env.now env.processor result.r0 self.new.maps result.steps scratch.new) }
+        ensures answers { AnswersAt self.old context.now env.now env.processor result.r0 self.new.maps result.steps scratch.new }
         ensures within { IfSome self.old.policy (λ p. IsWithin p result.steps scratch.new) }
         ensures shapes { IfSome self.old.policy (λ p. HaveShapes p.shapes self.new.maps) }
         ensures stays { self.new ≡ record self.old { maps = self.new.maps } }
