@@ -1,5 +1,5 @@
 -- The lags of a processor's tasks, event by event.
-use Rattle.std.specs.Prelude.{◌^◌, ◌-◌, ℕ, zero, suc, min, Bool, false, nat_le, List, Option, Some, None, slice_index_or, slice_set}
+use Rattle.std.specs.Prelude.{◌≡◌, ◌^◌, ◌-◌, ℕ, zero, suc, min, Bool, false, nat_le, List, Option, Some, None, slice_index_or, slice_set}
 use Rattle.bq_hooks.specs.declared.settled.By.{By}
 use Rattle.bq_hooks.specs.declared.settled.By.TheVariants as who
 use Rattle.bq_parts.specs.declared.event.Event.{Event}
@@ -14,7 +14,7 @@ use Rattle.bq_bounds.specs.declared.lags.Effect.{Effect}
 use Rattle.bq_bounds.specs.declared.lags.Effect.TheVariants.{Passes, Decides, Breaks}
 use Rattle.bq_bounds.specs.declared.lags.Lags.{Lags}
 use Rattle.bq_bounds.specs.declared.glance.Glance.{Glance}
-use Rattle.bq_bounds.specs.Glances.{at_most_owed}
+use Rattle.bq_bounds.specs.Glances.{IsGlance, at_most_owed}
 use Rattle.bq_bounds.specs.Lags.{beginning, stretched, most_owed}
 use Rattle.bq_bounds.specs.Watches.{greater}
 
@@ -93,3 +93,7 @@ source_forgotten e r ls = ls
 -- all processors after an event of one of them
 abbrev pub all_lags_after : ℕ → Event → Reply → ℕ → List Task → List Lags → List Lags
 all_lags_after processor e r rise xs ls = source_forgotten e r (slice_set ls processor (lags_after (effect_of e r) rise xs (lags_of ls processor)))
+
+-- where the glance is at these tasks of the processor, the new lags are the old ones after the event
+abbrev pub LagsByGlance : ℕ → Event → Reply → ℕ → Glance → List Task → List Lags → List Lags → Type 0
+LagsByGlance processor e r rise glance xs old new = IsGlance glance (lags_of old processor).stretch xs → new ≡ all_lags_after processor e r rise xs old

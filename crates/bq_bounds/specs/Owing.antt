@@ -26,4 +26,5 @@ KeepsAll (s ∷ ss) = Keeps s × KeepsAll ss
 abbrev pub EevdfOwesWithin : Type 0
 EevdfOwesWithin =
     (r : ℕ) (p : Running) (ss : List Step) (j : ℕ) (b : Task) → IsSound p → KeepsAll ss → DecidesWithin r eevdf 0 p ss →
-    (let q = after eevdf p ss in task_at j q ≡ Some b → owed (mean_at (present_at q)) b ≤ allowed (furthest (mean_at (present_at p)) (present_at p)) r (length (present_at q)) (weight_at q) b.weight)
+    (let q = after eevdf p ss in task_at j q ≡ Some b →
+    owed (mean_at (present_at q)) b ≤ allowed (furthest (mean_at (present_at p)) (present_at p)) r (length (present_at q)) (weight_at q) b.weight)

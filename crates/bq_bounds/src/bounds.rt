@@ -1,8 +1,7 @@
 //! All processors of a machine, watched.
 ghost use Rattle.std.specs.Prelude.{◌≡◌, ◌≤◌, length, IfOk, replicate, slice_get, List, IsTrue, false};
 ghost use Rattle.bq_disc.specs.Tasks.{Task};
-ghost use Rattle.bq_bounds.specs.Glances.{IsGlance};
-ghost use Rattle.bq_bounds.specs.LagWatches.{all_lags_after, effect_of, lags_of, needs_no_look, source_forgotten, unasked};
+ghost use Rattle.bq_bounds.specs.LagWatches.{LagsByGlance, all_lags_after, effect_of, lags_of, needs_no_look, source_forgotten, unasked};
 ghost use Rattle.bq_bounds.specs.Watches.{unwatched, source_disturbed, watches_after};
 
 use crate::glance::Glance;
@@ -115,7 +114,7 @@ impl Bounds {
     ) -> bool
         ensures rule { self.new.rule ≡ self.old.rule }
         ensures watches { self.new.watches ≡ self.old.watches }
-        ensures done { (xs : List Task) → IsTrue result → IsGlance glance (lags_of self.old.lags.items processor).stretch xs → self.new.lags.items ≡ all_lags_after processor event.now reply.now rise xs self.old.lags.items }
+        ensures done { (xs : List Task) → IsTrue result → LagsByGlance processor event.now reply.now rise glance xs self.old.lags.items self.new.lags.items }
         ensures left { result ≡ false → self.new.lags.items ≡ self.old.lags.items }
         ensures when { result ≡ needs_no_look (effect_of event.now reply.now) glance (lags_of self.old.lags.items processor) }
     {

@@ -1,11 +1,11 @@
 //! The event by which work spreads: a processor takes a task from the queue of another.
-ghost use Rattle.std.specs.Prelude.{◌≡◌, ◌≢◌, ◌≤◌, ◌<◌, ◌++◌, [], length, slice_index_or, slice_set};
+ghost use Rattle.std.specs.Prelude.{◌≡◌, ◌≢◌, ◌≤◌, ◌<◌, ◌++◌, [], length, slice_index_or};
 ghost use Rattle.bq_disc.specs.OneProcessor.{present_at};
 ghost use Rattle.bq_bpf.specs.Counters.{Through};
-ghost use Rattle.bq_parts.specs.Processors.{Processor, opening, HasEachOnce, HasLobbyIds};
+ghost use Rattle.bq_parts.specs.Processors.{opening, HasEachOnce, HasLobbyIds};
 ghost use Rattle.bq_parts.specs.World.{count_in};
 ghost use Rattle.bq_parts.specs.Choices.{policies};
-ghost use Rattle.bq_parts.specs.Shares.{Pulls};
+ghost use Rattle.bq_parts.specs.Shares.{PullsBetween};
 ghost use Rattle.bq_parts.specs.Steps.{WorldStep};
 ghost use Rattle.bq_parts.specs.StandsOnce.{IsOrderly};
 
@@ -57,8 +57,7 @@ fn pull_between<Q: RunQueue, B: Board>(
     requires once { HasEachOnce (present_at (slice_index_or cpus.old processor opening).running ++ present_at (slice_index_or cpus.old from opening).running) }
     requires ids { HasLobbyIds (present_at (slice_index_or cpus.old processor opening).running ++ present_at (slice_index_or cpus.old from opening).running) }
     requires unasked { scratch.old ≡ [] }
-    ensures share { (q : Processor) × (other : Processor) × Pulls (policies Q.R.discipline) processor from now (slice_index_or cpus.old processor opening) (slice_index_or cpus.old from opening) scratch.new result q other
-        × (cpus.new ≡ slice_set (slice_set cpus.old processor q) from other) }
+    ensures share { PullsBetween (policies Q.R.discipline) processor from now cpus.old scratch.new result cpus.new }
     ensures board { Through B.leads board.old scratch.new board.new }
 {
     if processor < from {

@@ -2,7 +2,7 @@
 ghost use Rattle.std.specs.Prelude.{◌≡◌, ◌≤◌, ◌<◌, List, OnErr, IfOk, IfErr, length};
 ghost use Rattle.bq_parts.specs.World.{opening_world, processor_at, count_in};
 ghost use Rattle.bq_parts.specs.Choices.{policies};
-ghost use Rattle.bq_parts.specs.Steps.{WorldStep, WorldRun, ThroughAll};
+ghost use Rattle.bq_parts.specs.Steps.{WorldStep, RunsOn};
 ghost use Rattle.bq_bpf.specs.Counters.{Through};
 ghost use Rattle.bq_bpf.specs.declared.board.Call.{Call as Asked};
 ghost use Rattle.bq_parts.specs.StandsOnce.{IsOrderly};
@@ -125,7 +125,7 @@ impl<Q: RunQueue, const P: usize> Core<Q, P> {
         events: Vec<Event>,
         board: &mut B,
     ) -> Result<Vec<Result<Reply, Refusal>>, Refusal>
-        ensures ok { IfOk result (λ answers. (calls : List (List Asked)) × WorldRun (policies Q.R.discipline) self.old events.items calls answers.items self.new × ThroughAll B.leads board.old calls board.new) }
+        ensures ok { IfOk result (λ answers. RunsOn (policies Q.R.discipline) B.leads self.old board.old events.items answers.items self.new board.new) }
         ensures err { OnErr result (self.new ≡ self.old) }
         ensures still { OnErr result (board.new ≡ board.old) }
         ensures memory { IfErr result (λ refusal. refusal ≡ no.OutOfMemory) }

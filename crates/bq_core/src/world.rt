@@ -2,7 +2,7 @@
 ghost use Rattle.std.specs.Prelude.{◌≡◌, ◌+◌, ◌≤◌, ◌<◌, List, [], Err, OnErr, IfOk, IfErr, length, vec_len, vec_capacity};
 ghost use Rattle.bq_parts.specs.World.{opening_world, processor_at, count_in};
 ghost use Rattle.bq_parts.specs.Choices.{policies};
-ghost use Rattle.bq_parts.specs.Steps.{WorldStep, WorldRun, ThroughAll};
+ghost use Rattle.bq_parts.specs.Steps.{WorldStep, RunsOn};
 ghost use Rattle.bq_bpf.specs.Counters.{Through};
 ghost use Rattle.bq_bpf.specs.declared.board.Call.{Call as Asked};
 ghost use Rattle.bq_parts.specs.StandsOnce.{IsOrderly};
@@ -130,7 +130,7 @@ impl<Q: RunQueue> DynamicCore<Q> {
         events: Vec<Event>,
         board: &mut B,
     ) -> Result<Vec<Result<Reply, Refusal>>, Refusal>
-        ensures ok { IfOk result (λ answers. (calls : List (List Asked)) × WorldRun (policies Q.R.discipline) self.old events.items calls answers.items self.new × ThroughAll B.leads board.old calls board.new) }
+        ensures ok { IfOk result (λ answers. RunsOn (policies Q.R.discipline) B.leads self.old board.old events.items answers.items self.new board.new) }
         ensures err { OnErr result (self.new ≡ self.old) }
         ensures still { OnErr result (board.new ≡ board.old) }
         ensures memory { IfErr result (λ refusal. refusal ≡ no.OutOfMemory) }
@@ -156,7 +156,7 @@ impl<Q: RunQueue> DynamicCore<Q> {
     )
         requires room { vec_len answers.old + length events.items ≤ vec_capacity answers.old }
         requires empty { answers.old.items ≡ [] }
-        ensures run { (calls : List (List Asked)) × WorldRun (policies Q.R.discipline) self.old events.items calls answers.new.items self.new × ThroughAll B.leads board.old calls board.new }
+        ensures run { RunsOn (policies Q.R.discipline) B.leads self.old board.old events.items answers.new.items self.new board.new }
         ensures orderly { IsOrderly self.new }
     {
         // To look at the parts brings to the proof what always holds of them.

@@ -45,8 +45,10 @@ halo_text left begin right end = codes "<g><path class=\"halo\" stroke-width=\"5
 
 -- the head of an arrow that ends there, down or up
 abbrev pub head_text : ℕ → ℕ → ℕ → Bool → List ℕ
-head_text colour place end true = codes "<path class=\"c" ++ (decimal colour ++ (codes " run\" d=\"M" ++ (hundredths place ++ (codes " " ++ (decimal end ++ codes "l-5 -10h10z\"/>")))))
-head_text colour place end false = codes "<path class=\"c" ++ (decimal colour ++ (codes " run\" d=\"M" ++ (hundredths place ++ (codes " " ++ (decimal end ++ codes "l-5 10h10z\"/>")))))
+head_text colour place end true =
+    codes "<path class=\"c" ++ (decimal colour ++ (codes " run\" d=\"M" ++ (hundredths place ++ (codes " " ++ (decimal end ++ codes "l-5 -10h10z\"/>")))))
+head_text colour place end false =
+    codes "<path class=\"c" ++ (decimal colour ++ (codes " run\" d=\"M" ++ (hundredths place ++ (codes " " ++ (decimal end ++ codes "l-5 10h10z\"/>")))))
 
 -- a dot
 abbrev pub dot_text : ℕ → ℕ → ℕ → List ℕ

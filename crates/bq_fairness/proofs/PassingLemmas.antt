@@ -29,7 +29,8 @@ use Rattle.bq_parts.specs.World.{World, processor_at, count_in, with_processor}
 use Rattle.bq_parts.specs.Choices.{PolicySemantics, Decision, SettlesBy, SettlesPreempt, policies}
 use Rattle.bq_parts.specs.Shares.{Ticks, Blocks, after_time}
 use Rattle.bq_parts.specs.Steps.{WorldStep}
-use Rattle.bq_fairness.specs.Passing.{after_block, DisciplinePasses, CfsPasses}
+use Rattle.bq_fairness.specs.Events.{after_block}
+use Rattle.bq_fairness.specs.Passing.{DisciplinePasses, CfsPasses}
 
 -- The discipline's own answer
 

@@ -48,5 +48,6 @@ EevdfSharesBySlices =
 abbrev pub EevdfWaitsBySlices : Type 0
 EevdfWaitsBySlices =
     (L S r : ℕ) (p : Running) (nows : List ℕ) (j : ℕ) (b : Task) →
-    IsSound p → HasRoom p → HasDeadlines p → All (λ t. (L ≤ t.v) × (t.v ≤ L + S)) (present_at p) → RisesByAtMost r eevdf p nows → IsSome p.current → task_at j p ≡ Some b → served j eevdf p nows ≡ 0 →
+    IsSound p → HasRoom p → HasDeadlines p → All (λ t. (L ≤ t.v) × (t.v ≤ L + S)) (present_at p) → RisesByAtMost r eevdf p nows →
+    IsSome p.current → task_at j p ≡ Some b → served j eevdf p nows ≡ 0 →
     1024 * elapsed eevdf p nows ≤ weight_at p * (S + vdelta_of b.slice b.weight) + 1024 * r * length (present_at p) + most_lost nows

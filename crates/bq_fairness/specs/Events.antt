@@ -1,9 +1,10 @@
 -- The events of a processor as steps: what each does by the definitions of one processor, where only the rule decides.
 use Rattle.std.specs.Prelude.{◌≡◌, ℕ, List, [], ◌∷◌, None, Some}
-use Rattle.bq_disc.specs.Tasks.{Task, with_id, without, place}
+use Rattle.bq_disc.specs.Tasks.{Task, with_id}
 use Rattle.bq_disc.specs.Queues.{HasDistinctIds}
 use Rattle.bq_disc.specs.Discipline.{Discipline, woken, pulled}
 use Rattle.bq_disc.specs.OneProcessor.{Running, present_at, marked, charge, start, decided, own_preempt, enter_all, ticked}
+use Rattle.bq_parts.specs.Moves.{with_pulled, without_task}
 use Rattle.bq_fairness.specs.Steps.{Step, Pass, Decide, Enter, Leave, Mark, after}
 
 -- some woken tasks enter at a mark, and the rule decides
@@ -11,18 +12,26 @@ abbrev pub entries : Discipline → ℕ → List Task → List Step
 entries d kept [] = Decide ∷ []
 entries d kept (t ∷ tasks) = Enter (woken d kept t) ∷ entries d kept tasks
 
+-- Block: the current task goes, and the queue's choice runs
+abbrev pub after_block : Discipline → Running → ℕ → Running
+after_block d p now = start d (record (charge d p now) { current = None })
+
+-- Drain: woken tasks enter in their order, and it is decided who runs
+abbrev pub after_drain : Discipline → Running → ℕ → List Task → Running
+after_drain d p now tasks = let e = enter_all d (charge d p now) tasks in decided d e e.current (own_preempt d e.queue e.current)
+
 -- each event is some steps at the processor
 pub record EventsAreSteps : Type 0 where
   -- Tick
   pub tick : (d : Discipline) (p : Running) (now : ℕ) → ticked d p now ≡ after d p (Pass now ∷ Decide ∷ [])
-  -- Block: the current task goes, and the queue's choice runs
-  pub block : (d : Discipline) (p : Running) (now : ℕ) (t : Task) → HasDistinctIds (present_at p) → (charge d p now).current ≡ Some t → start d (record (charge d p now) { current = None }) ≡ after d p (Pass now ∷ Leave t.id ∷ Decide ∷ [])
-  -- Drain: woken tasks enter in their order, and it is decided who runs
-  pub drain : (d : Discipline) (p : Running) (now : ℕ) (tasks : List Task) → (let e = enter_all d (charge d p now) tasks in decided d e e.current (own_preempt d e.queue e.current) ≡ after d p (Pass now ∷ entries d (charge d p now).kept tasks))
+  pub block : (d : Discipline) (p : Running) (now : ℕ) (t : Task) → HasDistinctIds (present_at p) → (charge d p now).current ≡ Some t →
+      after_block d p now ≡ after d p (Pass now ∷ Leave t.id ∷ Decide ∷ [])
+  pub drain : (d : Discipline) (p : Running) (now : ℕ) (tasks : List Task) → after_drain d p now tasks ≡ after d p (Pass now ∷ entries d (charge d p now).kept tasks)
   -- the end of a wake
   pub wake : (d : Discipline) (p : Running) (now : ℕ) → charge d p now ≡ after d p (Pass now ∷ [])
   -- Pull: a task enters; where nothing runs the queue's choice does
-  pub pull : (d : Discipline) (p : Running) (now : ℕ) (t : Task) → (let c = charge d p now in record c { queue = place (pulled d c.kept t) c.queue } ≡ after d p (Pass now ∷ Enter (pulled d c.kept t) ∷ []))
+  pub pull : (d : Discipline) (p : Running) (now : ℕ) (t : Task) → (let c = charge d p now in with_pulled d c (Some t) ≡ after d p (Pass now ∷ Enter (pulled d c.kept t) ∷ []))
   pub idle : (d : Discipline) (p : Running) → p.current ≡ None → start d p ≡ after d p (Decide ∷ [])
   -- and at the other end one leaves the queue
-  pub pulled_away : (d : Discipline) (p : Running) (id : ℕ) (t : Task) → HasDistinctIds (present_at p) → with_id id p.queue ≡ Some t → record (marked d p) { queue = without id p.queue } ≡ after d p (Mark ∷ Leave id ∷ [])
+  pub pulled_away : (d : Discipline) (p : Running) (id : ℕ) (t : Task) → HasDistinctIds (present_at p) → with_id id p.queue ≡ Some t →
+      without_task (marked d p) (Some id) ≡ after d p (Mark ∷ Leave id ∷ [])

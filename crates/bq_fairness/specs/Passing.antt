@@ -1,7 +1,7 @@
 -- What a Tick and a Block of the world leave at their processor, where only the discipline decides.
-use Rattle.std.specs.Prelude.{◌≡◌, ℕ, ◌<◌, List, Option, None, Result, Ok}
+use Rattle.std.specs.Prelude.{◌≡◌, ℕ, ◌<◌, List, Option, Result, Ok}
 use Rattle.bq_disc.specs.Discipline.{Discipline}
-use Rattle.bq_disc.specs.OneProcessor.{Running, charge, start, ticked}
+use Rattle.bq_disc.specs.OneProcessor.{Running, ticked}
 use Rattle.bq_cfs.specs.Cfs.{cfs}
 use Rattle.bq_cfs.specs.Spread.{passed, Tick as TickAt, Block as BlockAt}
 use Rattle.bq_bpf.specs.declared.board.Call.{Call as Asked}
@@ -16,10 +16,7 @@ use Rattle.bq_parts.specs.Processors.{Processor}
 use Rattle.bq_parts.specs.Choices.{policies}
 use Rattle.bq_parts.specs.Shares.{Ticks, Blocks}
 use Rattle.bq_parts.specs.Steps.{WorldStep}
-
--- its time passes, the current task goes, and the queue's choice runs
-abbrev pub after_block : Discipline → Running → ℕ → Running
-after_block d p now = start d (record (charge d p now) { current = None })
+use Rattle.bq_fairness.specs.Events.{after_block}
 
 -- under any discipline: of a Tick whose answer is the discipline's own, and of a Block that is not refused, in a world and in
 -- any parts of one
@@ -29,13 +26,17 @@ pub record DisciplinePasses : Type 0 where
   pub block_share : (d : Discipline) (p q : Processor) (processor now : ℕ) (lobby lobby' : List LobbyEntry) (reply : Reply) →
       Blocks d processor now p lobby (Ok reply) q lobby' → q.running ≡ after_block d p.running now
   pub tick : (d : Discipline) (w w' : World) (processor now : ℕ) (calls : List Asked) (run : Option ℕ) (steps : ℕ) →
-      WorldStep (policies d) w (Tick processor now) calls (Ok (Ticked run who.Discipline steps)) w' → (processor_at w' processor).running ≡ ticked d (processor_at w processor).running now
+      WorldStep (policies d) w (Tick processor now) calls (Ok (Ticked run who.Discipline steps)) w' →
+      (processor_at w' processor).running ≡ ticked d (processor_at w processor).running now
   pub block : (d : Discipline) (w w' : World) (processor now : ℕ) (calls : List Asked) (task : ℕ) (run : Option ℕ) →
-      WorldStep (policies d) w (Block processor now) calls (Ok (Went task run)) w' → (processor_at w' processor).running ≡ after_block d (processor_at w processor).running now
+      WorldStep (policies d) w (Block processor now) calls (Ok (Went task run)) w' →
+      (processor_at w' processor).running ≡ after_block d (processor_at w processor).running now
 
 -- under CFS: they are the events of its laws, and so is a Block that is refused as nothing runs
 pub record CfsPasses : Type 0 where
   pub tick : (w w' : World) (processor now : ℕ) (calls : List Asked) (run : Option ℕ) (steps : ℕ) →
-      WorldStep (policies cfs) w (Tick processor now) calls (Ok (Ticked run who.Discipline steps)) w' → (processor_at w' processor).running ≡ passed (processor_at w processor).running (TickAt now)
+      WorldStep (policies cfs) w (Tick processor now) calls (Ok (Ticked run who.Discipline steps)) w' →
+      (processor_at w' processor).running ≡ passed (processor_at w processor).running (TickAt now)
   pub block : (w w' : World) (processor now : ℕ) (calls : List Asked) (answer : Result Reply Refusal) → processor < count_in w →
-      WorldStep (policies cfs) w (Block processor now) calls answer w' → (processor_at w' processor).running ≡ passed (processor_at w processor).running (BlockAt now)
+      WorldStep (policies cfs) w (Block processor now) calls answer w' →
+      (processor_at w' processor).running ≡ passed (processor_at w processor).running (BlockAt now)

@@ -26,7 +26,8 @@ machine_words operands = option_and_then (λ w. option_and_then (λ r. option_ma
 
 abbrev pub admit_words : List (List ℕ) → Option (ℕ × ℤ × ℕ × ℕ)
 admit_words operands =
-    option_and_then (λ w. option_and_then (λ t. option_and_then (λ n. option_and_then (λ m. option_map (λ s. (t, n, m, s)) (decimal_of w.3)) (mask_of w.2)) (nice_of w.1)) (task_of w.0))
+    option_and_then
+    (λ w. option_and_then (λ t. option_and_then (λ n. option_and_then (λ m. option_map (λ s. (t, n, m, s)) (decimal_of w.3)) (mask_of w.2)) (nice_of w.1)) (task_of w.0))
     (four_of operands)
 
 -- the processor, the generation, the hook, and what spells an image

@@ -10,7 +10,8 @@ use Rattle.bq_shared.specs.declared.record.Record.{Record}
 abbrev pub IsTickAt : ℕ → Receipt Record → Type 0
 IsTickAt p r = (now : ℕ) × (r.entry.event ≡ Tick p now)
 
--- the processor's task, whose id is the processor's number, is admitted for all processors, then woken there, and then drained there; the wake ends exactly when its beginning was not refused
+-- The processor's task, whose id is the processor's number, is admitted for all processors, then woken there, and then drained
+-- there. The wake ends exactly when its beginning was not refused
 pub record IsStart (p : ℕ) (l : List (Receipt Record)) : Type 0 where
   pub admit : Receipt Record
   pub begin : Receipt Record

@@ -20,7 +20,8 @@ pub record IsSummary (d : Discipline) (processors ticks : ℕ) (s : HistorySumma
   pub is_history : IsHistory (RecordStep d) (opening_world processors) s.history world
   -- the receipts of the callers share the records out, each at its place
   pub receipts : AreReceiptsOf s.history callers
-  -- there is just one caller for each processor, whose number it has, and its receipts are those of that processor's shift: its task comes, is woken and is drained there, and then it ticks exactly as often as was asked for
+  -- There is just one caller for each processor, whose number it has, and its receipts are those of that processor's shift:
+  -- its task comes, is woken and is drained there, and then it ticks exactly as often as was asked for
   pub many : length callers ≡ processors
   pub numbers : EachOnce processors callers
   pub shifts : Each (λ (c : ℕ × List (Receipt Record)). IsShift c.0 ticks c.1) callers

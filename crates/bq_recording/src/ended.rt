@@ -1,15 +1,15 @@
 //! The locks are opened for good, and what they have becomes the history and the core.
 ghost use Rattle.std.specs.Prelude.{◌≡◌, ◌≤◌, map, length, vec_len, vec_capacity};
-ghost use Rattle.bq_history.specs.Whole.{count, Each};
+ghost use Rattle.bq_history.specs.Whole.{count};
 ghost use Rattle.bq_history.specs.Items.{part_item};
 ghost use Rattle.bq_history.specs.History.{IsHistory, EachOnce, AreReceiptsOf};
 ghost use Rattle.bq_shared.specs.Sums.{AreSumsOf};
 ghost use Rattle.bq_shared.specs.Calls.{calls_in};
-ghost use Rattle.bq_parts.specs.World.{World, opening_world, count_in};
+ghost use Rattle.bq_parts.specs.World.{World, opening_world};
 ghost use Rattle.bq_parts.specs.StandsOnce.{IsOrderly};
-ghost use Rattle.bq_shared.specs.Parts.{RecordStep, told_calls, cpu_part, inbox_part, same_part, HasPart};
+ghost use Rattle.bq_shared.specs.Parts.{RecordStep, told_calls, same_part};
 ghost use Rattle.bq_shared.specs.declared.law.WorldPart.{WorldPart as PartOf};
-ghost use Rattle.bq_recording.specs.AllParts.{all_parts};
+ghost use Rattle.bq_recording.specs.AllParts.{parts_out, IsMadeOf};
 
 use crate::closed::Closed;
 use crate::closing_room::ClosingRoom;
@@ -99,7 +99,7 @@ fn all_out<Q: RunQueue + Drop, N: Naming + Counting, const P: usize>(
 )
     requires cpus { vec_len cpus ≡ P }
     requires inboxes { vec_len inboxes ≡ P }
-    ensures { result.1 ≡ map part_item (all_parts result.0.lobby result.0.cpus.items result.0.inboxes.items (λ c. cpu_part c.number c.state) (λ i. inbox_part i.number i.state)) }
+    ensures { result.1 ≡ map part_item (parts_out result.0.lobby result.0.cpus.items result.0.inboxes.items) }
 {
     let ClosingRoom {
         numbered_cpus,
@@ -123,9 +123,9 @@ fn all_out<Q: RunQueue + Drop, N: Naming + Counting, const P: usize>(
 /// The core of the world that has these parts.
 fn core_of<Q: RunQueue + Drop, const P: usize>(contents: Contents<Q, P>, drawn: u64) -> Core<Q, P>
     requires few { P ≤ PROCESSORS }
-    requires once { (p : PartOf) → count (same_part p) (all_parts contents.lobby contents.cpus.items contents.inboxes.items (λ c. cpu_part c.number c.state) (λ i. inbox_part i.number i.state)) ≤ 1 }
-    requires world { (w : World) × (count_in w ≡ P) × (length w.inboxes ≡ P) × IsOrderly w × (w.drawn ≡ drawn) × Each (HasPart w) (all_parts contents.lobby contents.cpus.items contents.inboxes.items (λ c. cpu_part c.number c.state) (λ i. inbox_part i.number i.state)) }
-    ensures { (w : World) → count_in w ≡ P → length w.inboxes ≡ P → w.drawn ≡ drawn → Each (HasPart w) (all_parts contents.lobby contents.cpus.items contents.inboxes.items (λ c. cpu_part c.number c.state) (λ i. inbox_part i.number i.state)) → result ≡ w }
+    requires once { (p : PartOf) → count (same_part p) (parts_out contents.lobby contents.cpus.items contents.inboxes.items) ≤ 1 }
+    requires world { (w : World) × IsOrderly w × IsMadeOf P drawn (parts_out contents.lobby contents.cpus.items contents.inboxes.items) w }
+    ensures { (w : World) → IsMadeOf P drawn (parts_out contents.lobby contents.cpus.items contents.inboxes.items) w → result ≡ w }
 {
     let Contents {
         cpus,

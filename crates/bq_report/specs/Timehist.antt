@@ -14,7 +14,10 @@ use Rattle.bq_report.specs.Windows.{Shows}
 
 -- the lines above them, which name the columns
 abbrev pub head_lines : List ℕ
-head_lines = codes "           time    cpu  task                  wait time  sch delay   run time\n                                                 (msec)     (msec)     (msec)\n--------------- ------  --------------------  ---------  ---------  ---------\n"
+head_lines =
+    codes "           time    cpu  task                  wait time  sch delay   run time\n"
+    ++ (codes "                                                 (msec)     (msec)     (msec)\n"
+    ++ codes "--------------- ------  --------------------  ---------  ---------  ---------\n")
 
 -- a wake is shown where it ended
 abbrev pub IsShownWake : Window → Option Wake → Option Wake → Type 0

@@ -49,7 +49,8 @@ IsCharged = (d : Discipline) (count : ℕ) (es : List Event) (calls : List (List
     WorldRun (under_any_answers d) (opening_world count) es calls answers w →
     let past = grown [] es answers in
     IsOf count past
-    × ((processor : ℕ) → processor < count → ((processor_at w processor).running.last ≡ clock processor past) × (id_of (processor_at w processor).running.current ≡ runner processor past))
+    × ((processor : ℕ) → processor < count →
+    ((processor_at w processor).running.last ≡ clock processor past) × (id_of (processor_at w processor).running.current ≡ runner processor past))
 
 -- the figures show each processor's last reading and who runs there
 abbrev pub ShowsClocks : Type 0

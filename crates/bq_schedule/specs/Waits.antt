@@ -26,7 +26,8 @@ abbrev pub wait_begins : ℕ → History → Event → Result Reply Refusal → 
 wait_begins id past (EndWake processor now) (Ok (Placed task to by steps)) = then_if (task == id) (reading (clock processor past) now)
 wait_begins id past (Drain processor now) (Ok (Drained count run by steps)) = then_if (gives_way id (runner processor past) run) (reading (clock processor past) now)
 wait_begins id past (Tick processor now) (Ok (Ticked run by steps)) = then_if (gives_way id (runner processor past) run) (reading (clock processor past) now)
-wait_begins id past (Pull processor from now) (Ok (Pulled task run by steps)) = then_if (is_this id task || gives_way id (runner processor past) run) (reading (clock processor past) now)
+wait_begins id past (Pull processor from now) (Ok (Pulled task run by steps)) =
+    then_if (is_this id task || gives_way id (runner processor past) run) (reading (clock processor past) now)
 wait_begins id past e a = None
 
 -- since when the task waits, or has waited before it ran: 0 where it never has

@@ -23,13 +23,14 @@ impl Model for UnnamedCounters {
     ghost use Rattle.std.specs.Prelude.{◌≡◌, ℕ, []};
     ghost use Rattle.atomic_table.specs.Seated.{TableId};
     ghost use Rattle.bq_bpf.specs.declared.board.TheConstants.{COUNTERS};
+    ghost use Rattle.bq_history.specs.Tables.{IsOfWords};
     ghost use Rattle.bq_shared.specs.Sums.{opened};
 
     ghost Value = { TableId × ℕ };
 
     ghost view = { λ u. (u.table.shared.table_id, u.table.shared.key) };
 
-    ghost invariant = { λ u. (u.table.shared.table_id.words ≡ COUNTERS) × (u.table.shared.table_id.slots ≡ 0) × (u.seat.table_id ≡ u.table.shared.table_id) × (u.seat.me ≡ (opened u.table.shared.key, [])) };
+    ghost invariant = { λ u. IsOfWords COUNTERS u.table.shared.table_id × (u.seat.table_id ≡ u.table.shared.table_id) × (u.seat.me ≡ (opened u.table.shared.key, [])) };
 }
 
 /// The counters of a machine. Contracts see them as the number of seats.
@@ -42,12 +43,13 @@ pub struct Counters<N: Counting> {
 impl<N: Counting> Model for Counters<N> {
     ghost use Rattle.std.specs.Prelude.{◌≡◌, ℕ};
     ghost use Rattle.bq_bpf.specs.declared.board.TheConstants.{COUNTERS};
+    ghost use Rattle.bq_history.specs.Tables.{IsOfWords};
 
     ghost Value = { ℕ };
 
     ghost view = { λ c. c.table.shared.key };
 
-    ghost invariant = { λ c. (c.table.shared.table_id ≡ N.counters) × (c.table.shared.table_id.words ≡ COUNTERS) × (c.table.shared.table_id.slots ≡ 0) };
+    ghost invariant = { λ c. (c.table.shared.table_id ≡ N.counters) × IsOfWords COUNTERS c.table.shared.table_id };
 }
 
 impl UnnamedCounters {

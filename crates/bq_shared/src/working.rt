@@ -1,6 +1,6 @@
 //! A seat while an event is under way.
 ghost use Rattle.std.specs.Prelude.{◌≡◌, ◌+◌, ◌<◌, ◌≤◌, ◌^◌, [], ◌∷◌, ◌++◌, length, true};
-ghost use Rattle.bq_history.specs.Items.{kept_after, part_item, MayCommit};
+ghost use Rattle.bq_history.specs.Items.{kept_after, part_item, MayCommit, MayCommitCell, MayCommitCells};
 ghost use Rattle.bq_shared.specs.Sums.{spent};
 ghost use Rattle.bq_shared.specs.Calls.{account_of, ahead};
 
@@ -80,7 +80,7 @@ impl<R: TellsCalls, P, D, N: Naming + Counting> Working<R, P, D, N> {
         requires ready { draft.room.now ≡ true }
         requires same { draft.logged ≡ draft.told }
         requires told { self.old.tally ≡ ahead R.calls self.old.caller.1 (R.calls draft.told) }
-        requires may { (p : P) × (a.old.holder ≡ part_item p ∷ []) × MayCommit (M.step history.now.about) (M.opening history.now.about) M.kept M.same M.fits journal.old.1 (p ∷ []) draft.told (kept_after journal.old.1 draft.kept) (A.part a.old.content ∷ []) }
+        requires may { MayCommitCell (M.step history.now.about) (M.opening history.now.about) M.kept M.same M.fits A.part a.old journal.old.1 draft.told draft.kept }
         ensures receipt { (result.place ≡ length journal.old.0) × (result.entry ≡ draft.entry.told) }
         ensures journal { journal.new ≡ (journal.old.0 ++ draft.entry.told ∷ [], kept_after journal.old.1 draft.entry.kept) }
         ensures caller { self.new.caller ≡ (self.old.caller.0, self.old.caller.1 ++ result ∷ []) }
@@ -106,7 +106,7 @@ impl<R: TellsCalls, P, D, N: Naming + Counting> Working<R, P, D, N> {
         requires ready { draft.room.now ≡ true }
         requires same { draft.logged ≡ draft.told }
         requires told { self.old.tally ≡ ahead R.calls self.old.caller.1 (R.calls draft.told) }
-        requires may { (p : P) × (q : P) × (a.old.holder ≡ part_item p ∷ []) × (b.old.holder ≡ part_item q ∷ []) × MayCommit (M.step history.now.about) (M.opening history.now.about) M.kept M.same M.fits journal.old.1 (p ∷ q ∷ []) draft.told (kept_after journal.old.1 draft.kept) (A.part a.old.content ∷ B.part b.old.content ∷ []) }
+        requires may { MayCommitCells (M.step history.now.about) (M.opening history.now.about) M.kept M.same M.fits A.part B.part a.old b.old journal.old.1 draft.told draft.kept }
         ensures receipt { (result.place ≡ length journal.old.0) × (result.entry ≡ draft.entry.told) }
         ensures journal { journal.new ≡ (journal.old.0 ++ draft.entry.told ∷ [], kept_after journal.old.1 draft.entry.kept) }
         ensures caller { self.new.caller ≡ (self.old.caller.0, self.old.caller.1 ++ result ∷ []) }

@@ -25,6 +25,7 @@ use Rattle.bq_streams.specs.Counts.{one_more}
 use Rattle.bq_trace.specs.Feeding.{with_feeds}
 use Rattle.bq_trace.specs.Machines.{Driven, opening_machine, semantics_of, Advances}
 use Rattle.bq_trace.specs.TraceEvents.{Told, Opened, Skipped, Comes, Answered, NotHex, NotLoaded, ProcessorAsked, CounterRead, Bad}
+use Rattle.bq_trace.specs.declared.loading.Installation.{Installation}
 use Rattle.bq_trace.specs.declared.progress.Phase.{Phase}
 use Rattle.bq_trace.specs.declared.progress.Phase.TheVariants.{Waiting, Over, Running}
 use Rattle.bq_trace.specs.declared.progress.Progress.{Progress}
@@ -64,6 +65,10 @@ LoadHappens m n c hook generation image told k =
     ⊎ (((bytes : List ℕ) × (why : LoadFault) × (decode_of image ≡ Ok bytes) × IsUnloaded bytes why × (why ≢ fault.OutOfMemory) × (told ≡ (n, NotLoaded why) ∷ []) × (k ≡ m))
     ⊎ ((bytes : List ℕ) × (policy : Accepted) × (answer : Result Reply Refusal) × (decode_of image ≡ Ok bytes) × Loads bytes policy
     × Happens m n (Install c hook generation (Some policy)) answer told k))
+
+-- the same of an installation
+abbrev pub InstallationHappens : Driven → ℕ → Installation → Told → Driven → Type 0
+InstallationHappens m n i told k = LoadHappens m n i.processor i.hook i.generation i.image told k
 
 -- a line that says nothing
 abbrev pub skips : ℕ → Option (List ℕ) → Told

@@ -24,7 +24,7 @@ pub struct Installation<'a> {
 
 impl AnyCore {
     ghost use Rattle.bq_trace.specs.TraceEvents.{Gets};
-    ghost use Rattle.bq_trace.specs.Telling.{LoadHappens};
+    ghost use Rattle.bq_trace.specs.Telling.{InstallationHappens};
 
     /// Loads an image that is spelled in hex and installs its policy as an event, and tells what comes of it. What doesn't
     /// load is refused, and is no event.
@@ -35,7 +35,7 @@ impl AnyCore {
         installation: Installation<'_>,
         sink: &mut S,
     ) -> Result<(), AllocError>
-        ensures { OnOk result (Gets S.takes sink.old sink.new (λ told. LoadHappens self.old number installation.entry.processor installation.entry.hook installation.entry.generation installation.entry.image told self.new)) }
+        ensures { OnOk result (Gets S.takes sink.old sink.new (λ told. InstallationHappens self.old number installation.entry told self.new)) }
     {
         let Installation {
             processor,

@@ -1,35 +1,33 @@
 use Rattle.std.proofs.Common.{◌≡◌, rules, arith, sym, ap, subst, ◌∙◌}
 use Rattle.bq_history.specs.History.{IsHistory}
 use Rattle.bq_parts.specs.World.{World, opening_world}
-use Rattle.bq_shared.specs.Parts.{RecordStep, cpu_part, inbox_part}
-use Rattle.bq_shared.specs.declared.cells.NumberedCpu.{NumberedCpu}
-use Rattle.bq_shared.specs.declared.cells.NumberedInbox.{NumberedInbox}
-use Rattle.bq_recording.specs.AllParts.{all_parts}
+use Rattle.bq_shared.specs.Parts.{RecordStep}
+use Rattle.bq_recording.specs.AllParts.{parts_out}
 use Rattle.bq_recording.proofs.ClosingLemmas.{only_parts, once_known, world_has_parts}
 use Rattle.bq_recording.proofs.ended.close.Goals as goal
 
 pub close-log-requires-clause-parts : goal.close-log-requires-clause-parts
 close-log-requires-clause-parts g c =
     let x = c.all_out-contents.result.0 in
-    let ps = all_parts {A = NumberedCpu g.row.Q.Denot g.row.Q-R.Denot} {B = NumberedInbox} x.lobby x.cpus.items x.inboxes.items (λ i. cpu_part i.number i.state) (λ i. inbox_part i.number i.state) in
+    let ps = parts_out x.lobby x.cpus.items x.inboxes.items in
     only_parts c.all_out-contents.result.1 ps c.all_out-contents.ensures
 
 pub core_of-requires : goal.core_of-requires
 core_of-requires g c =
     let x = c.all_out-contents.result.0 in
-    let ps = all_parts {A = NumberedCpu g.row.Q.Denot g.row.Q-R.Denot} {B = NumberedInbox} x.lobby x.cpus.items x.inboxes.items (λ i. cpu_part i.number i.state) (λ i. inbox_part i.number i.state) in
+    let ps = parts_out x.lobby x.cpus.items x.inboxes.items in
     let all = c.all_out-contents.result.1 in
     let once = once_known all ps c.all_out-contents.ensures c.close-log.ensures.once in
     let k = world_has_parts g.Q.R.Discipline.discipline g.row.P c.args.locks.history.about c.close-log.result.0 all ps c.into_inner-journal.result.1 c.args.locks.about c.all_out-contents.ensures c.close-log.ensures.world in
     let s = k.2 in
-    (search rules, (omega arith, (c.args.locks.few, (once, (k.0, s.many, s.boxes, s.orderly, k.3 ∙ ap (λ j. j.drawn) (sym c.kept.ensures), k.4)))))
+    (search rules, (omega arith, (c.args.locks.few, (once, (k.0, s.orderly, s.many, s.boxes, k.3 ∙ ap (λ j. j.drawn) (sym c.kept.ensures), k.4)))))
 
 pub returns-clause-history : goal.returns-clause-history
 returns-clause-history g c =
     let x = c.all_out-contents.result.0 in
-    let ps = all_parts {A = NumberedCpu g.row.Q.Denot g.row.Q-R.Denot} {B = NumberedInbox} x.lobby x.cpus.items x.inboxes.items (λ i. cpu_part i.number i.state) (λ i. inbox_part i.number i.state) in
+    let ps = parts_out x.lobby x.cpus.items x.inboxes.items in
     let d = g.Q.R.Discipline.discipline in
     let k = world_has_parts d g.row.P c.args.locks.history.about c.close-log.result.0 c.all_out-contents.result.1 ps c.into_inner-journal.result.1 c.args.locks.about c.all_out-contents.ensures c.close-log.ensures.world in
     let s = k.2 in
-    let same : c.core_of.result ≡ k.0 = c.core_of.ensures k.0 s.many s.boxes (k.3 ∙ ap (λ j. j.drawn) (sym c.kept.ensures)) k.4 in
+    let same : c.core_of.result ≡ k.0 = c.core_of.ensures k.0 (s.many, s.boxes, k.3 ∙ ap (λ j. j.drawn) (sym c.kept.ensures), k.4) in
     subst (λ (u : World). IsHistory (RecordStep d) (opening_world g.row.P) c.close-log.result.0 u) (sym same) k.1
