@@ -3,6 +3,8 @@ use Rattle.std.specs.Prelude.{◌≡◌, ◌↔◌, ◌+◌, ◌&&◌, ℕ, Bool
 use Rattle.std.specs.declared.alloc.Global.{Global}
 use Rattle.clap.specs.Words.{Row, Text, all_of, first_of}
 use Rattle.bq_hooks.specs.Hooks.{hook_of, version_of}
+use Rattle.bq_hooks.specs.declared.hook.Hook.{Hook}
+use Rattle.bq_hooks.specs.declared.hook.Version.{Version}
 use Rattle.bq_console.specs.Words.{SaysWord}
 use Rattle.bq_words.specs.Quantities.{size_of, decimal_of}
 use Rattle.bq_policy_check.specs.Saying.{option_bytes}
@@ -38,13 +40,21 @@ IsSet flag rows set = IsTrue set ↔ (first_of flag rows ≡ Some (codes "true")
 abbrev pub AreAll : Text → List Row → List (String Global) → Type 0
 AreAll option rows words = map (λ w. string_bytes w) words ≡ unwrap_or (all_of option rows) []
 
+-- the word names the hook, or there is neither
+abbrev pub SaysHook : Option (List ℕ) → Option Hook → Type 0
+SaysHook = SaysWord (λ word hook. hook_of word ≡ Some hook)
+
+-- the word names the version, or there is neither
+abbrev pub SaysVersion : Option (List ℕ) → Option Version → Type 0
+SaysVersion = SaysWord (λ word version. version_of word ≡ Some version)
+
 -- the values of `asm`: the hook and the version that the words name, and the text of the maps as it is
 pub record AreAsmWords (rows : List Row) (w : AsmWords) : Type 0 where
   pub file : IsFirst (codes "file") rows w.file
   pub max_bytes : IsFirst (codes "max-bytes") rows w.max_bytes
-  pub hook : SaysWord (λ word hook. hook_of word ≡ Some hook) (first_of (codes "hook") rows) w.options.hook
+  pub hook : SaysHook (first_of (codes "hook") rows) w.options.hook
   pub maps : maps_text w.options ≡ first_of (codes "maps") rows
-  pub format : SaysWord (λ word version. version_of word ≡ Some version) (first_of (codes "format") rows) w.options.format
+  pub format : SaysVersion (first_of (codes "format") rows) w.options.format
 
 -- a policy's file, and what is said beside it; also the values of `import`
 pub record ArePolicyWords (rows : List Row) (w : PolicyWords) : Type 0 where

@@ -1,12 +1,10 @@
 //! A policy among the words of a command: its file, its hook, its maps and its format.
-ghost use Rattle.std.specs.Prelude.{◌≡◌, Option, Some, IfOk, IfErr};
+ghost use Rattle.std.specs.Prelude.{◌≡◌, Option, IfOk, IfErr};
 ghost use Rattle.clap.specs.Words.{found_of, rows_of};
-ghost use Rattle.bq_hooks.specs.Hooks.{hook_of, version_of};
 ghost use Rattle.bq_hooks.specs.declared.hook.Hook.{Hook as Place};
 ghost use Rattle.bq_hooks.specs.declared.hook.Version.{Version as Number};
-ghost use Rattle.bq_console.specs.Words.{SaysWord};
 ghost use Rattle.bq_policy_check.specs.Saying.{option_bytes};
-ghost use Rattle.bq_cli.specs.Words.{ArePolicyWords, name_nothing};
+ghost use Rattle.bq_cli.specs.Words.{ArePolicyWords, SaysHook, SaysVersion, name_nothing};
 
 use bq_console::{MOST_BYTES, WordsFault, refused_value, word};
 use bq_hooks::{Hook, Version, with_hooks, with_versions};
@@ -54,8 +52,8 @@ const FORMATS: &str = with_versions!("");
 
 /// The hook that a word names, if there is a word.
 pub(crate) fn hook_in(alloc: Global, word: &Option<String>) -> Result<Option<Hook>, WordsFault>
-    ensures ok { IfOk result (SaysWord (λ bytes hook. hook_of bytes ≡ Some hook) (option_bytes word.now)) }
-    ensures taken { IfErr result (λ e. (named : Option Place) → SaysWord (λ bytes hook. hook_of bytes ≡ Some hook) (option_bytes word.now) named → e ≡ WordsFault.OutOfMemory) }
+    ensures ok { IfOk result (SaysHook (option_bytes word.now)) }
+    ensures taken { IfErr result (λ e. (named : Option Place) → SaysHook (option_bytes word.now) named → e ≡ WordsFault.OutOfMemory) }
 {
     let Some(word) = word else {
         return Ok(None);
@@ -68,8 +66,8 @@ pub(crate) fn hook_in(alloc: Global, word: &Option<String>) -> Result<Option<Hoo
 
 /// The version that a word names, if there is a word.
 pub(crate) fn format_in(alloc: Global, word: &Option<String>) -> Result<Option<Version>, WordsFault>
-    ensures ok { IfOk result (SaysWord (λ bytes version. version_of bytes ≡ Some version) (option_bytes word.now)) }
-    ensures taken { IfErr result (λ e. (named : Option Number) → SaysWord (λ bytes version. version_of bytes ≡ Some version) (option_bytes word.now) named → e ≡ WordsFault.OutOfMemory) }
+    ensures ok { IfOk result (SaysVersion (option_bytes word.now)) }
+    ensures taken { IfErr result (λ e. (named : Option Number) → SaysVersion (option_bytes word.now) named → e ≡ WordsFault.OutOfMemory) }
 {
     let Some(word) = word else {
         return Ok(None);

@@ -2,7 +2,7 @@
 ghost use Rattle.std.specs.Prelude.{◌≡◌, IfOk, codes};
 ghost use Rattle.clap.specs.Words.{first_of, found_of, rows_of};
 ghost use Rattle.bq_policy_check.specs.Saying.{option_bytes};
-ghost use Rattle.bq_cli.specs.Words.{AreAll, AreRunWords, AreTellingWords};
+ghost use Rattle.bq_cli.specs.Words.{AreAll, AreRunWords, AreTellingWords, IsFirst};
 
 use crate::answer::written_answer;
 use crate::policy_words::{most_bytes, policy_words};
@@ -39,7 +39,8 @@ fn moment_words(
     alloc: Global,
     matches: &ArgMatches<'_>,
 ) -> Result<(Option<String>, Option<String>), AllocError>
-    ensures { IfOk result (λ w. (option_bytes w.0 ≡ first_of (codes "time") (rows_of (found_of matches.now))) × (option_bytes w.1 ≡ first_of (codes "processor") (rows_of (found_of matches.now)))) }
+    ensures time { IfOk result (λ w. IsFirst (codes "time") (rows_of (found_of matches.now)) w.0) }
+    ensures processor { IfOk result (λ w. IsFirst (codes "processor") (rows_of (found_of matches.now)) w.1) }
 {
     let time = word(alloc, matches, "time")?;
     let processor = word(alloc, matches, "processor")?;

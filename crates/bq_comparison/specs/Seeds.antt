@@ -25,16 +25,25 @@ abbrev pub AreRuns : List Accepted → Workload → ℕ → List Figure → ℕ 
 AreRuns policies w most figures seed [] = Unit {0}
 AreRuns policies w most figures seed (run ∷ runs) = IsRun policies (with_seed w seed) most figures run × AreRuns policies w most figures (seed + 1) runs
 
+-- a run with each of the first seeds in turn, from the workload's own on
+abbrev pub AreFirstRuns : List Accepted → Workload → ℕ → List Figure → List RunFigures → Type 0
+AreFirstRuns policies w most figures runs = AreRuns policies w most figures w.machine.seed runs
+
 -- what the runs with this many seeds, from the workload's own on, each of at most that many events, say of each figure
 pub record IsSummary (policies : List Accepted) (w : Workload) (most : ℕ) (count : ℕ) (figures : List Figure) (rows : List FigureRow) : Type 0 where
   pub runs : List RunFigures
   pub number : length runs ≡ count
-  pub runs_are : AreRuns policies w most figures w.machine.seed runs
+  pub runs_are : AreFirstRuns policies w most figures runs
   pub rows_are : AreRows runs figures rows
 
--- what came of a run with each seed from that one on: its figures, where it came to its end, and else why it did not
+-- what came of a run: its figures, where it came to its end, and else why it did not
+abbrev pub IsResult : List Accepted → Workload → ℕ → List Figure → Result RunFigures SeedsFault → Type 0
+IsResult policies w most figures result = IfOk result (IsRun policies w most figures) × IfErr result (IsNoRun policies w most)
+
+-- so it is with each seed in turn, from that one on
 abbrev pub AreResults : List Accepted → Workload → ℕ → List Figure → ℕ → List (Result RunFigures SeedsFault) → Type 0
-AreResults policies w most figures seed results = (i : ℕ) (result : Result RunFigures SeedsFault) → slice_get results i ≡ Some result → IfOk result (IsRun policies (with_seed w (seed + i)) most figures) × IfErr result (IsNoRun policies (with_seed w (seed + i)) most)
+AreResults policies w most figures seed results =
+    (i : ℕ) (result : Result RunFigures SeedsFault) → slice_get results i ≡ Some result → IsResult policies (with_seed w (seed + i)) most figures result
 
 -- each of them came to its end, and they stand behind those before
 abbrev pub Comes : List RunFigures → List (Result RunFigures SeedsFault) → List RunFigures → Type 0

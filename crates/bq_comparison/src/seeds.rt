@@ -1,7 +1,7 @@
 //! A workload run with several seeds.
 ghost use Rattle.std.specs.Prelude.{◌≡◌, ◌<◌, ◌+◌, ◌≤◌, ◌^◌, ◌⊎◌, vec_len, IfErr, IfOk, OnOk};
 ghost use Rattle.bq_comparison.specs.Faults.{HasFault, IsNoRun, IsNoSummary};
-ghost use Rattle.bq_comparison.specs.Seeds.{AreResults, AreRuns, Comes, IsRun, IsSummary};
+ghost use Rattle.bq_comparison.specs.Seeds.{AreFirstRuns, AreResults, Comes, IsRun, IsSummary};
 ghost use Rattle.bq_comparison.specs.declared.fault.SeedsFault.TheVariants.{OutOfMemory};
 ghost use Rattle.bq_simulate.specs.Simulations.{with_seed};
 
@@ -74,7 +74,7 @@ fn runs<T: Threads + Sync>(
     count: u16,
     shown: &RunsShown<'_>,
 ) -> Result<Vec<RunFigures>, SeedsFault>
-    ensures runs { IfOk result (λ runs. AreRuns experiment.now.policies.now experiment.now.workload.now experiment.now.most experiment.now.figures.now experiment.now.workload.now.machine.seed runs.items) }
+    ensures runs { IfOk result (λ runs. AreFirstRuns experiment.now.policies.now experiment.now.workload.now experiment.now.most experiment.now.figures.now runs.items) }
     ensures count { IfOk result (λ runs. vec_len runs ≡ count) }
     ensures fault { IfErr result (IsNoSummary experiment.now.policies.now experiment.now.workload.now experiment.now.most count) }
 {

@@ -41,7 +41,8 @@ pub record ReadsAt (slots : List (Option Insn)) (slot register : ℕ) : Type 0 w
 -- the trail of registers back from a slot: what made one of them for the slot, and what made for an instruction on the trail a register that it reads
 pub data IsOnTrail (slots : List (Option Insn)) (slot : ℕ) (asked : List Bool) : ℕ → ℕ → Type 0 where
   first : (register made : ℕ) → slice_index_or asked register false ≡ true → IsMaker slots register slot made → IsOnTrail slots slot asked register made
-  further : (register made later other : ℕ) → IsOnTrail slots slot asked other later → ReadsAt slots later register → IsMaker slots register later made → IsOnTrail slots slot asked register made
+  further : (register made later other : ℕ) → IsOnTrail slots slot asked other later
+      → ReadsAt slots later register → IsMaker slots register later made → IsOnTrail slots slot asked register made
 
 -- what the instruction at a slot is to the ways from it on which no later instruction writes the register before that slot
 abbrev pub IsPart : List (Option Insn) → ℕ → ℕ → ℕ → Part → Type 0

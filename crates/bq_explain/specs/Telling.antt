@@ -13,7 +13,8 @@ register_piece register text = codes " r" ++ (decimal register ++ (codes " " ++ 
 -- pieces of a line, each of which names a register of the state and tells its word
 pub data TellsRegisters : Setting → State → List ℕ → Type 0 where
   no_register : (f : Setting) (s : State) → TellsRegisters f s []
-  one_register : (f : Setting) (s : State) (before text : List ℕ) (register word : ℕ) → TellsRegisters f s before → s.register register ≡ Some word → Says f.shapes text word → TellsRegisters f s (before ++ register_piece register text)
+  one_register : (f : Setting) (s : State) (before text : List ℕ) (register word : ℕ) → TellsRegisters f s before
+      → s.register register ≡ Some word → Says f.shapes text word → TellsRegisters f s (before ++ register_piece register text)
 
 -- registers by only their names
 pub data AreNames : List ℕ → Type 0 where
@@ -24,10 +25,15 @@ pub data AreNames : List ℕ → Type 0 where
 abbrev pub NamesUnknown : List ℕ → Type 0
 NamesUnknown text = (text ≡ []) ⊎ ((names : List ℕ) × (text ≡ names ++ codes " unknown  ") × AreNames names)
 
+-- the state has each byte of the stack from the first up to the one past the last
+abbrev pub HasBytes : State → ℕ → ℕ → Type 0
+HasBytes s first past = (i : ℕ) → first ≤ i → i < past → (b : ℕ) × (s.stack i ≡ Some b)
+
 -- runs of bytes of the stack that are set in the state
 pub data TellsRuns : State → List ℕ → Type 0 where
   no_run_told : (s : State) → TellsRuns s []
-  one_run_told : (s : State) (before : List ℕ) (first past : ℕ) → TellsRuns s before → first < past → past ≤ stack_size → ((i : ℕ) → first ≤ i → i < past → (b : ℕ) × (s.stack i ≡ Some b)) → TellsRuns s (before ++ run_text first past)
+  one_run_told : (s : State) (before : List ℕ) (first past : ℕ) → TellsRuns s before
+      → first < past → past ≤ stack_size → HasBytes s first past → TellsRuns s (before ++ run_text first past)
 
 abbrev pub TellsStack : State → List ℕ → Type 0
 TellsStack s text =
@@ -44,7 +50,8 @@ kept_line slot text = codes "  the 8 bytes at stack end - " ++ (decimal (stack_s
 -- lines, each of which tells the word in eight bytes of the state's stack
 pub data TellsKept : Setting → State → List ℕ → Type 0 where
   no_kept : (f : Setting) (s : State) → TellsKept f s []
-  one_kept : (f : Setting) (s : State) (before text : List ℕ) (slot word : ℕ) → TellsKept f s before → StackHolds s slot word → Says f.shapes text word → TellsKept f s (before ++ kept_line slot text)
+  one_kept : (f : Setting) (s : State) (before text : List ℕ) (slot word : ℕ) → TellsKept f s before
+      → StackHolds s slot word → Says f.shapes text word → TellsKept f s (before ++ kept_line slot text)
 
 -- what is printed of a state holds of it: of each register whose word is reported, of the bytes of the stack, and of the words in it; beside these
 -- registers are only named

@@ -60,7 +60,8 @@ EndsAt set past = (past ≡ stack_size) ⊎ (slice_index_or set past false ≡ f
 pub data AreRuns : List Bool → ℕ → List ℕ → Type 0 where
   no_byte : (set : List Bool) → AreRuns set 0 []
   unset_byte : (set : List Bool) (before : List ℕ) (byte : ℕ) → AreRuns set byte before → slice_index_or set byte false ≡ false → AreRuns set (byte + 1) before
-  one_run : (set : List Bool) (before : List ℕ) (first past : ℕ) → AreRuns set first before → first < past → past ≤ stack_size → AreSet set first past → EndsAt set past → AreRuns set past (before ++ run_text first past)
+  one_run : (set : List Bool) (before : List ℕ) (first past : ℕ) → AreRuns set first before → first < past → past ≤ stack_size
+      → AreSet set first past → EndsAt set past → AreRuns set past (before ++ run_text first past)
 
 -- runs, or that it runs none
 abbrev pub stack_text : List ℕ → List ℕ

@@ -176,7 +176,8 @@ fn push_operands(
 ) -> Result<(), AllocError>
     requires short { length slots.now ≤ SLOTS }
     requires sound { IsSound slots.now }
-    ensures { OnOk result ((slot : ℕ) (asked : List Bool) → IsOnTrail slots.now slot asked maker.register maker.slot → AreOnTrail slots.now slot asked trail.old.items → AreOnTrail slots.now slot asked trail.new.items) }
+    ensures { OnOk result ((slot : ℕ) (asked : List Bool) → IsOnTrail slots.now slot asked maker.register maker.slot
+        → AreOnTrail slots.now slot asked trail.old.items → AreOnTrail slots.now slot asked trail.new.items) }
 {
     if maker.slot >= slots.len() {
         return Ok(());

@@ -3,11 +3,12 @@
 use Rattle.std.specs.Prelude.{◌≡◌, ℕ, ◌+◌, ◌-◌, ◌<◌, ℤ, pos, Bool, true, false, ◌&&◌, nat_lt, nat_le, List, Option, Some, map, slice_index}
 use Rattle.bq_insn.specs.declared.Insn.{Insn}
 use Rattle.bq_insn.specs.declared.Insn.TheVariants.{Imm64, MapRef, Goto, Goto32, Branch}
-use Rattle.bq_insn.specs.Slots.{slots_of}
+use Rattle.bq_insn.specs.Slots.{slots_of, spread}
 use Rattle.bq_bpf.specs.Memory.{reference}
 use Rattle.bq_bpf.specs.Steps.{LeadsTo, instruction_at}
 use Rattle.bq_bpf.specs.Instructions.{distance_of, goes_on}
 use Rattle.bq_verify.specs.Edges.{IsStart}
+use Rattle.bq_import.specs.declared.order.Ordered.{Ordered}
 
 -- a number that is the reference of one of this many maps
 abbrev pub is_reference : ℕ → ℕ → Bool
@@ -54,6 +55,10 @@ pub record IsCopyAt (maps : ℕ) (old new : List (Option Insn)) (origin : List �
 pub record IsCopy (maps : ℕ) (old new : List (Option Insn)) (origin : List ℕ) : Type 0 where
   pub first : Stands new origin 0 0
   pub each : (slot from : ℕ) → Stands new origin slot from → IsCopyAt maps old new origin slot from
+
+-- a program in order is such a copy
+abbrev pub IsOrderedCopy : ℕ → List (Option Insn) → Ordered → Type 0
+IsOrderedCopy maps old ordered = IsCopy maps old (spread ordered.insns.items) ordered.origins.items
 
 -- the slots of the first program, for those of a copy of its copy
 abbrev pub AreComposed : List ℕ → List ℕ → List ℕ → Type 0

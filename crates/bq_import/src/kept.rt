@@ -5,7 +5,7 @@ ghost use Rattle.bq_insn.specs.Laws.{AllFit};
 ghost use Rattle.bq_insn.specs.Slots.{spread};
 ghost use Rattle.bq_insn.specs.Spelling.{is_well_formed};
 ghost use Rattle.bq_verify.specs.Edges.{IsStart};
-ghost use Rattle.bq_import.specs.Copies.{AreComposed, IsCopy};
+ghost use Rattle.bq_import.specs.Copies.{AreComposed, IsOrderedCopy};
 ghost use Rattle.bq_import.specs.Faults.{AllForward, IsLinked};
 ghost use Rattle.bq_import.specs.Keeping.{AllReached, AreReached, IsKeeping};
 ghost use Rattle.bq_import.specs.declared.fault.Disorder.TheVariants.{OutOfMemory};
@@ -26,7 +26,7 @@ pub(crate) fn kept(alloc: Global, old: &[Option<Insn>], maps: usize) -> Result<O
     requires forward { AllForward old.now }
     requires first { IsStart old.now 0 }
     requires few { maps ≤ 8 }
-    ensures copy { IfOk result (λ kept. IsCopy maps old.now (spread kept.insns.items) kept.origins.items) }
+    ensures copy { IfOk result (IsOrderedCopy maps old.now) }
     ensures long { IfOk result (λ kept. length kept.origins.items ≡ length (spread kept.insns.items)) }
     ensures reached { IfOk result (λ kept. AllReached (spread kept.insns.items)) }
     ensures well_formed { IfOk result (λ kept. is_well_formed kept.insns.items ≡ true) }

@@ -5,7 +5,7 @@ ghost use Rattle.bq_insn.specs.Slots.{spread};
 ghost use Rattle.bq_insn.specs.Spelling.{is_well_formed};
 ghost use Rattle.bq_insn.specs.Laws.{AllFit};
 ghost use Rattle.bq_verify.specs.Edges.{IsStart};
-ghost use Rattle.bq_import.specs.Copies.{IsCopy};
+ghost use Rattle.bq_import.specs.Copies.{IsOrderedCopy};
 ghost use Rattle.bq_import.specs.Backward.{IsBuilt, IsFront, insns_of};
 ghost use Rattle.bq_import.specs.Faults.{AllForward, IsDisorder, IsLinked, IsSearchFault};
 ghost use Rattle.bq_import.specs.Keeping.{AllReached};
@@ -46,7 +46,7 @@ pub fn order(alloc: Global, insns: &[Insn], maps: usize) -> Result<Ordered, Diso
     requires whole { is_well_formed insns.now ≡ true }
     requires numbers { AllFit insns.now }
     requires few { maps ≤ 8 }
-    ensures copy { IfOk result (λ ordered. IsCopy maps (spread insns.now) (spread ordered.insns.items) ordered.origins.items) }
+    ensures copy { IfOk result (IsOrderedCopy maps (spread insns.now)) }
     ensures well_formed { IfOk result (λ ordered. is_well_formed ordered.insns.items ≡ true) }
     ensures numbers { IfOk result (λ ordered. AllFit ordered.insns.items) }
     ensures reached { IfOk result (λ ordered. AllReached (spread ordered.insns.items)) }
@@ -60,7 +60,7 @@ pub fn order(alloc: Global, insns: &[Insn], maps: usize) -> Result<Ordered, Diso
 fn order_slots(alloc: Global, slots: &[Option<Insn>], maps: usize) -> Result<Ordered, Disorder>
     requires program { (insns : List Insn) × (slots.now ≡ spread insns) × (is_well_formed insns ≡ true) × AllFit insns }
     requires few { maps ≤ 8 }
-    ensures copy { IfOk result (λ ordered. IsCopy maps slots.now (spread ordered.insns.items) ordered.origins.items) }
+    ensures copy { IfOk result (IsOrderedCopy maps slots.now) }
     ensures well_formed { IfOk result (λ ordered. is_well_formed ordered.insns.items ≡ true) }
     ensures numbers { IfOk result (λ ordered. AllFit ordered.insns.items) }
     ensures reached { IfOk result (λ ordered. AllReached (spread ordered.insns.items)) }
@@ -76,10 +76,10 @@ fn order_slots(alloc: Global, slots: &[Option<Insn>], maps: usize) -> Result<Ord
 
 /// A copy of the copy with only what control comes to.
 fn kept_of(alloc: Global, searched: &Ordered) -> Result<Ordered, Disorder>
-    requires copy { (maps : ℕ) × (old : List (Option Insn)) × IsCopy maps old (spread searched.now.insns.items) searched.now.origins.items }
+    requires copy { (maps : ℕ) × (old : List (Option Insn)) × IsOrderedCopy maps old searched.now }
     requires well_formed { is_well_formed searched.now.insns.items ≡ true }
     requires numbers { AllFit searched.now.insns.items }
-    ensures copy { IfOk result (λ kept. (maps : ℕ) (old : List (Option Insn)) → IsCopy maps old (spread searched.now.insns.items) searched.now.origins.items → IsCopy maps old (spread kept.insns.items) kept.origins.items) }
+    ensures copy { IfOk result (λ kept. (maps : ℕ) (old : List (Option Insn)) → IsOrderedCopy maps old searched.now → IsOrderedCopy maps old kept) }
     ensures well_formed { IfOk result (λ kept. is_well_formed kept.insns.items ≡ true) }
     ensures numbers { IfOk result (λ kept. AllFit kept.insns.items) }
     ensures reached { IfOk result (λ kept. AllReached (spread kept.insns.items)) }
@@ -97,7 +97,7 @@ fn searched(alloc: Global, slots: &[Option<Insn>], maps: usize) -> Result<Ordere
     requires first { IsStart slots.now 0 }
     requires few { maps ≤ 8 }
     requires back { AllForward slots.now → ⊥ }
-    ensures copy { IfOk result (λ ordered. IsCopy maps slots.now (spread ordered.insns.items) ordered.origins.items) }
+    ensures copy { IfOk result (IsOrderedCopy maps slots.now) }
     ensures well_formed { IfOk result (λ ordered. is_well_formed ordered.insns.items ≡ true) }
     ensures numbers { IfOk result (λ ordered. AllFit ordered.insns.items) }
     ensures disorder { IfErr result (IsDisorder slots.now) }

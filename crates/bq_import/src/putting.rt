@@ -90,7 +90,8 @@ impl Backward {
         requires start { IsStart old.now slot }
         requires ready { IsReady old.now places.now slot }
         ensures ok { OnOk result (IsLengthened maps old.now self.old.slots.items self.old.origins.items self.new.slots.items self.new.origins.items slot) }
-        ensures grown { OnOk result ((most : ℕ) → Suffices old.now self.old.slots.items self.old.origins.items slot most → length self.new.slots.items ≤ length self.old.slots.items + most) }
+        ensures grown { OnOk result ((most : ℕ) → Suffices old.now self.old.slots.items self.old.origins.items slot most
+            → length self.new.slots.items ≤ length self.old.slots.items + most) }
         ensures full { IfErr result (λ e. (most : ℕ) → Suffices old.now self.old.slots.items self.old.origins.items slot most → IsFull (length self.old.slots.items + most) e) }
     {
         let last = self.run_end(old, places, slot);

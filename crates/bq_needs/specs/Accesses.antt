@@ -7,6 +7,7 @@ use Rattle.bq_ranges.specs.Within.{Within}
 use Rattle.bq_ranges.specs.declared.range.Range.{Range}
 use Rattle.bq_hooks.specs.Hooks.{hook_word, version_number}
 use Rattle.bq_verify.specs.Subjects.{context_of}
+use Rattle.bq_verify.specs.declared.policy_form.PolicyForm.{PolicyForm}
 use Rattle.bq_bpf.specs.Memory.{stack_size}
 use Rattle.bq_states.specs.AbstractStates.{bound_of, size_of_shape}
 use Rattle.bq_states.specs.declared.abstract_state.ValueKind.{ValueKind}
@@ -81,13 +82,18 @@ Lacks p state a k lack.ReadsUnset = (k.kind ≡ kind.Stack) × (a.writes ≡ fal
 Lacks p state a k (lack.BeyondValue map size) = (k.kind ≡ kind.Entry map) × (size_of_shape (slice_get p.form.shapes.items map) ≡ Some size) × GoesBeyond a k.offset size
 Lacks p state a k lack.InNoMap = (map : ℕ) × (k.kind ≡ kind.Entry map) × (size_of_shape (slice_get p.form.shapes.items map) ≡ None)
 
+-- how many bytes the context has
+abbrev pub length_text : PolicyForm → List ℕ
+length_text form = codes ", has " ++ (decimal (context_of form) ++ codes " bytes")
+
+-- what is said of an access that lacks that
 abbrev pub lack_text : PolicySource → Lack → List ℕ
 lack_text p lack.Number = codes "a number is no address"
 lack_text p lack.Answer = codes "test it first"
 lack_text p lack.MovedAnswer = codes "an answer to which a number was added can't be tested"
 lack_text p lack.Reference = codes "the reference of a map is no address of its values"
 lack_text p lack.WritesContext = codes "the context is only read"
-lack_text p lack.BeyondContext = codes "the context of " ++ (hook_word p.form.hook ++ (codes ", version " ++ (decimal (version_number p.form.version) ++ (codes ", has " ++ (decimal (context_of p.form) ++ codes " bytes")))))
+lack_text p lack.BeyondContext = codes "the context of " ++ (hook_word p.form.hook ++ (codes ", version " ++ (decimal (version_number p.form.version) ++ length_text p.form)))
 lack_text p lack.BeyondStack = codes "the stack has the 512 bytes below r10"
 lack_text p lack.ReadsUnset = codes "on some way that leads here not all of these bytes are known to be written"
 lack_text p (lack.BeyondValue map size) = codes "a value of map " ++ (decimal map ++ (codes " has " ++ (decimal size ++ codes " bytes, and an access stays in one")))

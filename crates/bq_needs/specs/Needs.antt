@@ -62,6 +62,14 @@ is_unknown state insn r = reads insn r && is_none (known_in state r)
 abbrev pub AreUnknown : AbstractState → Insn → List Bool → Type 0
 AreUnknown state insn registers = (r : ℕ) → r < 11 → slice_index_or registers r false ≡ is_unknown state insn r
 
+-- the need names the registers that are read and of which nothing is known
+abbrev pub IsUnknownNeed : AbstractState → Insn → Need → Type 0
+IsUnknownNeed state insn named = (registers : List Bool) × (named ≡ need.Unknown registers) × AreUnknown state insn registers
+
+-- if the instruction works on the register, and something is known of it, it is a number
+abbrev pub WorksOnNumber : AbstractState → Insn → ℕ → Type 0
+WorksOnNumber state insn r = (k : AbstractValue) → works_on insn r ≡ true → known_in state r ≡ Some k → k.kind ≡ Number
+
 -- the instruction works on the register, of which that is known, and it is no number
 pub record IsPointerWorkedOn (state : AbstractState) (insn : Insn) (r : ℕ) (k : AbstractValue) : Type 0 where
   pub below : r < 11
@@ -74,23 +82,31 @@ pub record IsFirstPointer (state : AbstractState) (insn : Insn) (r : ℕ) (k : A
   pub pointer : IsPointerWorkedOn state insn r k
   pub least : AreNumbersBelow r state insn
 
+-- the need names the first pointer that is worked on
+abbrev pub IsPointerNeed : AbstractState → Insn → Need → Type 0
+IsPointerNeed state insn named = (pointer : Pointer) × (named ≡ need.Number pointer) × IsFirstPointer state insn pointer.register pointer.known
+
 -- an access by a register of which nothing is known, or by one of which that is known, and what the access lacks
 abbrev pub IsAccessNeed : PolicySource → AbstractState → Insn → Need → Type 0
 IsAccessNeed p state insn (need.Address a) = (access_of insn ≡ Some a) × (known_in state a.register ≡ None)
 IsAccessNeed p state insn (need.Access a k lack) = (access_of insn ≡ Some a) × (known_in state a.register ≡ Some k) × Lacks p state a k lack
 IsAccessNeed p state insn other = ⊥
 
+-- the need names an argument that is not what the helper wants
+abbrev pub IsHelperNeed : PolicySource → AbstractState → ℤ → Need → Type 0
+IsHelperNeed p state helper named = (a : Wanted) × (named ≡ need.Argument helper a) × IsBad p state helper a
+
 -- the number that is no map's, or an argument that is not what the helper wants
 abbrev pub IsArgumentNeed : PolicySource → AbstractState → Insn → Need → Type 0
 IsArgumentNeed p state (MapRef dst index) named = named ≡ need.Map index
-IsArgumentNeed p state (Call helper) named = (a : Wanted) × (named ≡ need.Argument helper a) × IsBad p state helper a
+IsArgumentNeed p state (Call helper) named = IsHelperNeed p state helper named
 IsArgumentNeed p state insn named = ⊥
 
 -- the need is of the cause, and says how the abstract state is
 abbrev pub Names : PolicySource → AbstractState → Insn → Cause → Need → Type 0
-Names p state insn (State Unset) named = (registers : List Bool) × (named ≡ need.Unknown registers) × AreUnknown state insn registers
+Names p state insn (State Unset) named = IsUnknownNeed state insn named
 Names p state insn (State Access) named = IsAccessNeed p state insn named
-Names p state insn (State PointerUse) named = (pointer : Pointer) × (named ≡ need.Number pointer) × IsFirstPointer state insn pointer.register pointer.known
+Names p state insn (State PointerUse) named = IsPointerNeed state insn named
 Names p state insn (State Argument) named = IsArgumentNeed p state insn named
 Names p state insn (State Answer) named = named ≡ need.Answer (known_in state 0)
 Names p state insn other named = ⊥

@@ -31,6 +31,9 @@ pub data Says : List MapShape → List ℕ → ℕ → Type 0 where
   context : (shapes : List MapShape) (text : List ℕ) (word : ℕ) → TellsPlace text context_base word → Says shapes (codes "context" ++ text) word
   stack_begin : (shapes : List MapShape) (text : List ℕ) (word : ℕ) → TellsPlace text stack_base word → Says shapes (codes "stack begin" ++ text) word
   stack_end : (shapes : List MapShape) (text : List ℕ) (word : ℕ) → TellsPlace text (stack_base + stack_size) word → Says shapes (codes "stack end" ++ text) word
-  entry : (shapes : List MapShape) (name text : List ℕ) (map base word : ℕ) → TellsMap shapes name map → IsEntryOf shapes map base → TellsPlace text base word → Says shapes (codes "entry of " ++ (name ++ text)) word
-  entry_or_null : (shapes : List MapShape) (name text : List ℕ) (map base word : ℕ) → TellsMap shapes name map → (base ≡ 0) ⊎ IsEntryOf shapes map base → TellsPlace text base word → Says shapes (codes "entry of " ++ (name ++ (codes " or null" ++ (text ++ codes ", not tested")))) word
-  map_reference : (shapes : List MapShape) (name text : List ℕ) (map word : ℕ) → TellsMap shapes name map → map < length shapes → TellsPlace text (reference map) word → Says shapes (name ++ text) word
+  entry : (shapes : List MapShape) (name text : List ℕ) (map base word : ℕ) → TellsMap shapes name map
+      → IsEntryOf shapes map base → TellsPlace text base word → Says shapes (codes "entry of " ++ (name ++ text)) word
+  entry_or_null : (shapes : List MapShape) (name text : List ℕ) (map base word : ℕ) → TellsMap shapes name map
+      → (base ≡ 0) ⊎ IsEntryOf shapes map base → TellsPlace text base word → Says shapes (codes "entry of " ++ (name ++ (codes " or null" ++ (text ++ codes ", not tested")))) word
+  map_reference : (shapes : List MapShape) (name text : List ℕ) (map word : ℕ) → TellsMap shapes name map
+      → map < length shapes → TellsPlace text (reference map) word → Says shapes (name ++ text) word

@@ -29,13 +29,17 @@ abbrev pub names_below : ℕ → List Bool → List ℕ
 names_below zero registers = []
 names_below (suc n) registers = names_below n registers ++ name_text n (length (names_below n registers) == 0) (slice_index_or registers n false)
 
+-- nothing is known of it
+abbrev pub unknown_here : List ℕ
+unknown_here = codes ", of which nothing is known here"
+
 -- the registers that are read and of which nothing is known
 abbrev pub unknown_text : List Bool → List ℕ
-unknown_text registers = codes "reads" ++ (names_below 11 registers ++ codes ", of which nothing is known here")
+unknown_text registers = codes "reads" ++ (names_below 11 registers ++ unknown_here)
 
 -- an access by a register of which nothing is known
 abbrev pub address_text : Accessed → List ℕ
-address_text a = verb a.writes ++ (codes " " ++ (decimal a.bytes ++ (codes " " ++ (noun a.bytes ++ (codes " at r" ++ (decimal a.register ++ codes ", of which nothing is known here"))))))
+address_text a = verb a.writes ++ (codes " " ++ (decimal a.bytes ++ (codes " " ++ (noun a.bytes ++ (codes " at r" ++ (decimal a.register ++ unknown_here))))))
 
 -- an access and where it begins
 abbrev pub TellsAccess : List MapShape → Accessed → AbstractValue → List ℕ → Type 0
@@ -82,10 +86,14 @@ abbrev pub here_text : List MapShape → ℕ → Option AbstractValue → List �
 here_text shapes r None = codes "nothing is known of r" ++ decimal r
 here_text shapes r (Some k) = codes "r" ++ (decimal r ++ (codes " is " ++ known_text shapes k))
 
+-- so it is with the register in an abstract state
+abbrev pub register_here : List MapShape → AbstractState → ℕ → List ℕ
+register_here shapes state r = here_text shapes r (known_in state r)
+
 -- what a helper needs an argument to be, and what is known of it
 abbrev pub argument_text : List MapShape → AbstractState → ℤ → Wanted → List ℕ
 argument_text shapes state helper a =
-    codes "calls helper " ++ (signed_decimal helper ++ (codes ", which wants " ++ (wanted_text a ++ (codes "; here " ++ here_text shapes (register_of a) (known_in state (register_of a))))))
+    codes "calls helper " ++ (signed_decimal helper ++ (codes ", which wants " ++ (wanted_text a ++ (codes "; here " ++ register_here shapes state (register_of a)))))
 
 -- what is known of register 0 at an EXIT
 abbrev pub answer_text : List MapShape → Option AbstractValue → List ℕ

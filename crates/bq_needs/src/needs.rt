@@ -1,12 +1,9 @@
 //! What an instruction needs and the abstract state before it does not give, for causes of what is known of the states.
-ghost use Rattle.std.specs.Prelude.{◌≡◌, ◌↔◌, ◌<◌, ℕ, Bool, List, Some, false, true, IfSome, IsTrue, MatchOption, slice_index_or};
+ghost use Rattle.std.specs.Prelude.{◌≡◌, ◌↔◌, ◌<◌, ℕ, false, true, IfSome, IsTrue, MatchOption, slice_index_or};
 ghost use Rattle.bq_states.specs.Certainty.{Scalar, StandsAt};
-ghost use Rattle.bq_needs.specs.Arguments.{GivesHelper, IsBad};
-ghost use Rattle.bq_needs.specs.Needs.{AreGoodArguments, AreKnown, AreNumbers, AreUnknown, IsFirstPointer, IsGoodAccess, IsMap, IsMet, IsNeed, IsPointerWorkedOn, Lacking, is_unknown};
-ghost use Rattle.bq_needs.specs.Operands.{known_in, works_on};
-ghost use Rattle.bq_states.specs.declared.abstract_state.AbstractValue.{AbstractValue as Shown};
-ghost use Rattle.bq_needs.specs.declared.arguments.Argument.{Argument as Wanted};
-ghost use Rattle.bq_needs.specs.declared.needs.Pointer.{Pointer as Worked};
+ghost use Rattle.bq_needs.specs.Arguments.{GivesHelper};
+ghost use Rattle.bq_needs.specs.Needs.{AreGoodArguments, AreKnown, AreNumbers, AreUnknown, IsFirstPointer, IsGoodAccess, IsHelperNeed, IsMap, IsMet, IsNeed, IsPointerNeed, IsPointerWorkedOn, IsUnknownNeed, Lacking, WorksOnNumber, is_unknown};
+ghost use Rattle.bq_needs.specs.Operands.{known_in};
 
 use crate::accesses::{Lack, lack_of};
 use crate::arguments::{Argument, bad_argument};
@@ -79,7 +76,7 @@ fn lacking(policy: &PolicySource, state: &AbstractState, insn: Insn, cause: Caus
 
 /// The registers that the instruction reads and of which nothing is known, if there are any.
 fn unknown_need(state: &AbstractState, insn: Insn) -> Option<Need>
-    ensures { MatchOption result (AreKnown state.now insn) (λ need. ((registers : List Bool) × (need ≡ Need.Unknown registers) × AreUnknown state.now insn registers) × ¬ (AreKnown state.now insn)) }
+    ensures { MatchOption result (AreKnown state.now insn) (λ need. IsUnknownNeed state.now insn need × ¬ (AreKnown state.now insn)) }
 {
     let registers = unknown_registers(state, insn);
     if has_one(&registers) {
@@ -141,7 +138,7 @@ fn access_need(policy: &PolicySource, state: &AbstractState, insn: Insn) -> Opti
 
 /// A pointer that the instruction works on, if it works on one.
 fn pointer_need(state: &AbstractState, insn: Insn) -> Option<Need>
-    ensures { MatchOption result (AreNumbers state.now insn) (λ need. ((pointer : Worked) × (need ≡ Need.Number pointer) × IsFirstPointer state.now insn pointer.register pointer.known) × ¬ (AreNumbers state.now insn)) }
+    ensures { MatchOption result (AreNumbers state.now insn) (λ need. IsPointerNeed state.now insn need × ¬ (AreNumbers state.now insn)) }
 {
     let Some(pointer) = pointer_worked_on(state, insn) else {
         return None;
@@ -165,7 +162,7 @@ fn pointer_worked_on(state: &AbstractState, insn: Insn) -> Option<Pointer>
 fn as_pointer(state: &AbstractState, insn: Insn, register: u8) -> Option<Pointer>
     requires { register < 11 }
     ensures register { IfSome result (λ pointer. pointer.register ≡ register) }
-    ensures pointer { MatchOption result ((k : Shown) → works_on insn register ≡ true → known_in state.now register ≡ Some k → k.kind ≡ ValueKind.Number) (λ pointer. IsPointerWorkedOn state.now insn pointer.register pointer.known) }
+    ensures pointer { MatchOption result (WorksOnNumber state.now insn register) (λ pointer. IsPointerWorkedOn state.now insn pointer.register pointer.known) }
 {
     if !works_on(insn, register) {
         return None;
@@ -218,7 +215,7 @@ fn is_map(policy: &PolicySource, index: i32) -> bool
 
 /// The argument of the helper that is not shown to be what it wants, if there is one.
 fn call_need(policy: &PolicySource, state: &AbstractState, helper: i32) -> Option<Need>
-    ensures { MatchOption result (GivesHelper policy.now state.now helper) (λ need. (argument : Wanted) × (need ≡ Need.Argument helper argument) × IsBad policy.now state.now helper argument) }
+    ensures { MatchOption result (GivesHelper policy.now state.now helper) (IsHelperNeed policy.now state.now helper) }
 {
     let Some(argument) = bad_argument(policy, state, helper) else {
         return None;

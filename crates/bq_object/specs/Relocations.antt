@@ -32,7 +32,8 @@ IsWithin symbol at = (symbol.at ≤ at) × (at < symbol.at + symbol.long)
 -- no relocation of the section changes the function
 abbrev pub IsSectionClear : List ℕ → Section → Symbol → Type 0
 IsSectionClear file section symbol =
-    IsOf section symbol → (entries : List ℕ) (index at kind : ℕ) → AreBytesOf file section entries → IsRelocation entries (entry_size section.kind) index at kind → IsWithin symbol at → ⊥
+    IsOf section symbol → (entries : List ℕ) (index at kind : ℕ) → AreBytesOf file section entries
+    → IsRelocation entries (entry_size section.kind) index at kind → IsWithin symbol at → ⊥
 
 -- no relocation of any section does
 abbrev pub AreClear : List ℕ → List ℕ → Symbol → Type 0

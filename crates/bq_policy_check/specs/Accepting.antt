@@ -1,5 +1,7 @@
 -- The image of a policy that `check` accepts.
-use Rattle.std.specs.Prelude.{◌≡◌, ◌≢◌, ℕ, true, false, List, ◌⊎◌}
+use Rattle.std.specs.Prelude.{◌≡◌, ◌≢◌, ℕ, true, false, List, ◌⊎◌, MatchOption, Option}
+use Rattle.std.specs.declared.alloc.Global.{Global}
+use Rattle.std.specs.declared.vec.Vec.{Vec}
 use Rattle.bq_explain.specs.declared.limits.Limits.{Limits}
 use Rattle.bq_explain.specs.declared.verdict.Verdict.{Verdict}
 use Rattle.bq_explain.specs.Verdicts.{IsVerdict, is_accepted}
@@ -33,6 +35,10 @@ pub record IsNotAccepted (bytes : List ℕ) (h : Head) (l : Limits) : Type 0 whe
 -- the file is no policy, or one that is not accepted
 abbrev pub HasNoImage : List ℕ → Head → Limits → Type 0
 HasNoImage bytes h l = ((named : PolicyFault) × IsPolicyFault bytes h named × (named ≢ OutOfMemory)) ⊎ IsNotAccepted bytes h l
+
+-- what is found: the image by that head and those limits, or that there is none
+abbrev pub IsFoundUnder : List ℕ → Head → Limits → Option (Vec ℕ Global) → Type 0
+IsFoundUnder bytes h l found = MatchOption found (HasNoImage bytes h l) (λ image. IsImageUnder bytes h l image.items)
 
 -- the image by the head and the limits that the words say
 pub record IsAcceptedImage (w : CheckWords) (bytes image : List ℕ) : Type 0 where

@@ -1,6 +1,6 @@
 //! The image of a policy that `check` accepts.
 ghost use Rattle.std.specs.Prelude.{IfOk, MatchOption};
-ghost use Rattle.bq_policy_check.specs.Accepting.{HasNoImage, IsAcceptedImage, IsImageUnder, IsNoImage};
+ghost use Rattle.bq_policy_check.specs.Accepting.{IsAcceptedImage, IsFoundUnder, IsNoImage};
 
 use crate::checking::{Terms, terms_of};
 use crate::words::CheckWords;
@@ -26,7 +26,7 @@ pub fn accepted_image(
 
 /// The same, by what the words say beside the file, and their limits.
 fn image_under(alloc: Global, terms: &Terms, bytes: &[u8]) -> Result<Option<Vec<u8>>, AllocError>
-    ensures { IfOk result (λ found. MatchOption found (HasNoImage bytes.now terms.now.head terms.now.limits) (λ image. IsImageUnder bytes.now terms.now.head terms.now.limits image.items)) }
+    ensures { IfOk result (IsFoundUnder bytes.now terms.now.head terms.now.limits) }
 {
     let policy = match read_policy(alloc, bytes, &terms.head) {
         Ok(policy) => policy,

@@ -1,5 +1,5 @@
 -- What a policy's file is, and why a file is no policy.
-use Rattle.std.specs.Prelude.{◌≡◌, ◌≢◌, ℕ, ◌+◌, ◌&&◌, nat_le, List, [], ◌∷◌, Option, Some, None, option_map, unwrap_or, if◌then◌else◌, nat_eq}
+use Rattle.std.specs.Prelude.{◌≡◌, ◌≢◌, ℕ, ◌+◌, ◌&&◌, nat_le, Bool, List, [], ◌∷◌, MatchBool, Option, Some, None, option_map, unwrap_or, if◌then◌else◌, nat_eq}
 use Rattle.std.specs.List.{starts_with}
 use Rattle.std.proofs.Common.{Global}
 use Rattle.std.specs.declared.vec.Vec.{Vec}
@@ -58,6 +58,10 @@ Agree _ _ = Unit {0}
 abbrev pub Differ : {A : Type 0} → Option A → Option A → Type 0
 Differ (Some a) (Some b) = a ≢ b
 Differ _ _ = ⊥
+
+-- the answer says whether they differ
+abbrev pub TellsDifference : {A : Type 0} → Option A → Option A → Bool → Type 0
+TellsDifference a b differs = MatchBool differs (Differ a b) (Agree a b)
 
 abbrev pub shapes_in : Option (Vec MapShape Global) → Option (List MapShape)
 shapes_in maps = option_map (λ shapes. shapes.items) maps

@@ -17,9 +17,9 @@ use Rattle.bq_policy_file.specs.Heads.{HasKey, IsBadLine, IsNoValue, Names}
 
 -- nothing was said of the key, and then the value is, and nothing else
 abbrev pub TakesValue : Head → Head → Key → List ℕ → Type 0
-TakesValue old new key.Hook word = (value : Hook) × (old.hook ≡ None) × (hook_of word ≡ Some value) × (new.hook ≡ Some value) × (new.maps ≡ old.maps) × (new.format ≡ old.format)
-TakesValue old new key.Maps word = (value : Vec MapShape Global) × (old.maps ≡ None) × Names word value × (new.hook ≡ old.hook) × (new.maps ≡ Some value) × (new.format ≡ old.format)
-TakesValue old new key.Format word = (value : Version) × (old.format ≡ None) × (version_of word ≡ Some value) × (new.hook ≡ old.hook) × (new.maps ≡ old.maps) × (new.format ≡ Some value)
+TakesValue old new key.Hook word = (v : Hook) × (old.hook ≡ None) × (hook_of word ≡ Some v) × (new.hook ≡ Some v) × (new.maps ≡ old.maps) × (new.format ≡ old.format)
+TakesValue old new key.Maps word = (v : Vec MapShape Global) × (old.maps ≡ None) × Names word v × (new.hook ≡ old.hook) × (new.maps ≡ Some v) × (new.format ≡ old.format)
+TakesValue old new key.Format word = (v : Version) × (old.format ≡ None) × (version_of word ≡ Some v) × (new.hook ≡ old.hook) × (new.maps ≡ old.maps) × (new.format ≡ Some v)
 
 -- why the value of the key is not taken
 abbrev pub IsBadValue : Head → Key → List ℕ → HeadCause → Type 0

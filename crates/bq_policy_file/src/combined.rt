@@ -1,6 +1,6 @@
 //! What was asked for and what a file says, together.
-ghost use Rattle.std.specs.Prelude.{◌≡◌, option_map, IfOk, IfErr, MatchBool, MatchOption};
-ghost use Rattle.bq_policy_file.specs.Files.{Agree, Agrees, Differ, DiffersIn, CombineTo, shapes_in};
+ghost use Rattle.std.specs.Prelude.{◌≡◌, option_map, IfOk, IfErr, MatchOption};
+ghost use Rattle.bq_policy_file.specs.Files.{Agrees, CombineTo, DiffersIn, TellsDifference, shapes_in};
 ghost use Rattle.bq_policy_file.specs.Combining.{IsUncombinable};
 
 use crate::fault::PolicyFault;
@@ -58,7 +58,7 @@ pub(crate) fn difference(
 }
 
 fn hooks_differ(given: Option<Hook>, said: Option<Hook>) -> bool
-    ensures { MatchBool result (Differ given said) (Agree given said) }
+    ensures { TellsDifference given said result }
 {
     match (given, said) {
         (Some(asked), Some(hook)) => asked != hook,
@@ -67,7 +67,7 @@ fn hooks_differ(given: Option<Hook>, said: Option<Hook>) -> bool
 }
 
 fn formats_differ(given: Option<Version>, said: Option<Version>) -> bool
-    ensures { MatchBool result (Differ given said) (Agree given said) }
+    ensures { TellsDifference given said result }
 {
     match (given, said) {
         (Some(asked), Some(version)) => asked != version,
@@ -76,7 +76,7 @@ fn formats_differ(given: Option<Version>, said: Option<Version>) -> bool
 }
 
 fn maps_differ(given: Option<&[MapShape]>, said: Option<&[MapShape]>) -> bool
-    ensures { MatchBool result (Differ (option_map (λ b. b.now) given.entry) (option_map (λ b. b.now) said.entry)) (Agree (option_map (λ b. b.now) given.entry) (option_map (λ b. b.now) said.entry)) }
+    ensures { TellsDifference (option_map (λ b. b.now) given.entry) (option_map (λ b. b.now) said.entry) result }
 {
     match (given, said) {
         (Some(asked), Some(shapes)) => !same_shapes(asked, shapes),

@@ -2,10 +2,12 @@
 use Rattle.std.specs.Prelude.{◌≡◌, ℕ, zero, suc, ◌≤◌, List, length}
 use Rattle.bq_bpf.specs.declared.board.Call.{Call as Asked}
 use Rattle.bq_bpf.specs.Counters.{Counts, Through}
+use Rattle.bq_bpf.specs.Memory.{Setting}
 use Rattle.bq_hooks.specs.Hooks.{context_length_of}
 use Rattle.bq_bpf.specs.Runs.{RunFrom, start}
 use Rattle.bq_verify.specs.Accepted.{Accepted}
 use Rattle.bq_interp.specs.Progress.{setting_of}
+use Rattle.bq_interp.specs.declared.runs.Ran.{Ran}
 use Rattle.bq_policy_run.specs.declared.inputs.Inputs.{Inputs}
 
 -- what a run finds, and what it leaves: the bytes of the maps, and the counters
@@ -23,10 +25,20 @@ pub record Fits (program : Accepted) (inputs : Inputs) : Type 0 where
 
 -- the machine's run from these maps, on that context, at that time and on that processor, gives this answer after this many instructions,
 -- within the budget, and leaves these maps; its calls of counters are these, and lead from those counters to these
-pub record IsRun (program : Accepted) (context : List ℕ) (now processor : ℕ) (before : PersistentState) (steps : ℕ) (calls : List Asked) (answer : ℕ) (after : PersistentState) : Type 0 where
+pub record IsRun (program : Accepted) (context : List ℕ) (now processor : ℕ)
+    (before : PersistentState) (steps : ℕ) (calls : List Asked) (answer : ℕ) (after : PersistentState) : Type 0 where
   pub runs : RunFrom (setting_of program context now processor) (start before.maps) steps calls answer after.maps
   pub counted : Through Counts before.counters calls after.counters
   pub within : steps ≤ program.budget
+
+-- the run of the program on the inputs, which leaves them so
+abbrev pub IsRunOn : Accepted → Inputs → Ran → Inputs → Type 0
+IsRunOn program old ran new =
+    IsRun program old.context.items old.env.now old.env.processor (kept_in old) ran.steps ran.calls.items ran.r0 (kept_in new)
+
+-- what it has of the machine
+abbrev pub setting_on : Accepted → Inputs → Setting
+setting_on program inputs = setting_of program inputs.context.items inputs.env.now inputs.env.processor
 
 -- a run leads from these maps and counters to those
 abbrev pub LeadsFrom : Accepted → List ℕ → ℕ → ℕ → PersistentState → PersistentState → Type 0
@@ -35,4 +47,5 @@ LeadsFrom program context now processor before after = (steps : ℕ) × (calls :
 -- this many runs, one after another, lead there
 abbrev pub AreRuns : Accepted → List ℕ → ℕ → ℕ → ℕ → PersistentState → PersistentState → Type 0
 AreRuns program context now processor zero before after = after ≡ before
-AreRuns program context now processor (suc n) before after = (between : PersistentState) × AreRuns program context now processor n before between × LeadsFrom program context now processor between after
+AreRuns program context now processor (suc n) before after =
+    (between : PersistentState) × AreRuns program context now processor n before between × LeadsFrom program context now processor between after

@@ -1,10 +1,9 @@
 //! Runs, and what came of them.
 ghost use Rattle.std.specs.Prelude.{◌≡◌, ◌<◌, ◌↔◌, [], length, IfNone, IfOk, IfSome, IsTrue};
-ghost use Rattle.bq_interp.specs.Progress.{setting_of};
 ghost use Rattle.bq_hooks.specs.Hooks.{context_length_of};
 ghost use Rattle.bq_interp.specs.Snapshots.{AreSnapshots};
 ghost use Rattle.bq_bpf.specs.Runs.{start};
-ghost use Rattle.bq_policy_run.specs.Runs.{AreRuns, Fits, IsRun, kept_in};
+ghost use Rattle.bq_policy_run.specs.Runs.{AreRuns, Fits, IsRunOn, kept_in, setting_on};
 
 use crate::inputs::Inputs;
 use bq_bpf::same_shapes;
@@ -27,7 +26,7 @@ fn fits(verified: &Verified, inputs: &Inputs) -> bool
 /// The one run of the program on the inputs, whose maps and counters it leaves as the run does. None where the context has
 /// not the length of the program's hook and version, or the maps are of other shapes: then all is left as it was.
 pub fn run_once(verified: &Verified, inputs: &mut Inputs) -> Option<RunOutcome>
-    ensures run { IfSome result (λ r. IsRun verified.now inputs.old.context.items inputs.old.env.now inputs.old.env.processor (kept_in inputs.old) r.steps r.calls.items r.r0 (kept_in inputs.new)) }
+    ensures run { IfSome result (λ r. IsRunOn verified.now inputs.old r inputs.new) }
     ensures fits { IfSome result (λ _. Fits verified.now inputs.old) }
     ensures none { IfNone result (¬ Fits verified.now inputs.old) }
     ensures left { IfNone result (inputs.new ≡ inputs.old) }
@@ -77,8 +76,8 @@ pub fn trace_once(
     snapshots: &mut Vec<Snapshot>,
 ) -> Result<Option<RunOutcome>, AllocError>
     requires { snapshots.old.items ≡ [] }
-    ensures run { IfOk result (λ o. IfSome o (λ r. IsRun verified.now inputs.old.context.items inputs.old.env.now inputs.old.env.processor (kept_in inputs.old) r.steps r.calls.items r.r0 (kept_in inputs.new))) }
-    ensures snapshots { IfOk result (λ o. IfSome o (λ r. AreSnapshots (setting_of verified.now inputs.old.context.items inputs.old.env.now inputs.old.env.processor) (start inputs.old.maps.bytes) r.calls.items 0 snapshots.new.items)) }
+    ensures run { IfOk result (λ o. IfSome o (λ r. IsRunOn verified.now inputs.old r inputs.new)) }
+    ensures snapshots { IfOk result (λ o. IfSome o (λ r. AreSnapshots (setting_on verified.now inputs.old) (start inputs.old.maps.bytes) r.calls.items 0 snapshots.new.items)) }
     ensures each { IfOk result (λ o. IfSome o (λ r. length snapshots.new.items ≡ r.steps)) }
     ensures whole { IfOk result (λ o. IfSome o (λ _. length inputs.old.context.items ≡ context_length_of verified.now.hook verified.now.version)) }
     ensures none { IfOk result (λ o. IfNone o (¬ Fits verified.now inputs.old)) }

@@ -191,7 +191,8 @@ fn told(
     behind: &Behind,
 ) -> Result<String, AllocError>
     requires { length inputs.now.context.items ≡ context_length_of verified.now.hook verified.now.version }
-    ensures { IfOk result (λ text. TellsRun verified.now inputs.now.context.items ran.now.r0 ran.now.steps (string_bytes behind.now.executed.now) (string_bytes behind.now.changes.now) (string_bytes behind.now.line.now) (string_bytes text)) }
+    ensures { IfOk result (λ text. TellsRun verified.now inputs.now.context.items ran.now.r0 ran.now.steps
+        (string_bytes behind.now.executed.now) (string_bytes behind.now.changes.now) (string_bytes behind.now.line.now) (string_bytes text)) }
 {
     let r0 = ran.r0;
     let word = word_text(alloc, verified.hook(), inputs.context.as_slice(), r0)?;

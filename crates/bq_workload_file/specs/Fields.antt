@@ -1,6 +1,6 @@
 -- What the values of a workload's keys stand for.
-use Rattle.std.specs.Prelude.{ℕ, length, ◌&&◌, ◌==◌, nat_le, nat_lt, ℤ, pos, negsuc, List, Option, Some, None, option_map, option_and_then, if◌then◌else◌, bit_and}
-use Rattle.toml.specs.Data.{Data, as_str, as_integer}
+use Rattle.std.specs.Prelude.{ℕ, length, ◌&&◌, ◌==◌, nat_le, nat_lt, ℤ, pos, negsuc, List, Option, Some, None, codes, option_map, option_and_then, if◌then◌else◌, bit_and}
+use Rattle.toml.specs.Data.{Data, Members, as_integer, as_str, get_member}
 use Rattle.bq_weights.specs.VirtualTime.{is_nice}
 use Rattle.bq_workload.specs.declared.limits.TheConstants.{LONGEST_NAME}
 use Rattle.bq_words.specs.declared.rule.Rule.{Rule}
@@ -56,3 +56,7 @@ size_in d = option_and_then size_numbered (number_in 1 64 d)
 -- a text with something in it, and with at most this many bytes
 abbrev pub name_of : Data → Option (List ℕ)
 name_of d = option_and_then (λ s. if nat_lt 0 (length s) && nat_le (length s) LONGEST_NAME then Some s else None) (as_str d)
+
+-- the name in a table
+abbrev pub name_at : Members → Option (List ℕ)
+name_at ms = option_and_then name_of (get_member (codes "name") ms)

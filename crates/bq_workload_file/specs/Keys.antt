@@ -1,5 +1,6 @@
 -- The keys that mean something in the tables of a document.
-use Rattle.std.specs.Prelude.{ℕ, Bool, List, [], ◌∷◌, Option, Some, None, codes, if◌then◌else◌}
+use Rattle.std.specs.Prelude.{◌≡◌, ℕ, Bool, List, [], ◌∷◌, Option, Some, None, Result, codes, if◌then◌else◌, option_and_then}
+use Rattle.std.specs.Result.{result_err}
 use Rattle.std.specs.List.{list_any}
 use Rattle.std.specs.Str.{bytes_eq}
 use Rattle.toml.specs.Data.{Members, no_members, member}
@@ -39,3 +40,7 @@ unknown_key why = None
 abbrev pub unknown_there : Trouble → Option (List ℕ)
 unknown_there (At place why) = unknown_key why
 unknown_there OutOfMemory = None
+
+-- a table is refused for this key, which means nothing
+abbrev pub IsRefusedFor : {T : Type 0} → List ℕ → Result T Trouble → Type 0
+IsRefusedFor key result = option_and_then unknown_there (result_err result) ≡ Some key

@@ -19,7 +19,7 @@ use Rattle.bq_workload.specs.declared.workload.Workload.{Workload}
 use Rattle.bq_workload_file.specs.declared.changes.Changes.{Changes}
 use Rattle.bq_workload_file.specs.declared.fault.Fault.{Fault}
 use Rattle.bq_workload_file.specs.declared.fault.Fault.TheVariants.{Syntax, Meaning, OutOfMemory}
-use Rattle.bq_workload_file.specs.Fields.{or_default, span_in, number_in, rule_in, size_in, loops_of, nice_of, mask_of, name_of}
+use Rattle.bq_workload_file.specs.Fields.{or_default, span_in, number_in, rule_in, size_in, loops_of, nice_of, mask_of, name_at}
 use Rattle.bq_workload_file.specs.Keys.{document_keys, first_unknown, machine_keys, task_keys}
 use Rattle.bq_workload_file.specs.Lengths.{length_of}
 use Rattle.bq_workload_file.specs.Actions.{actions_of, named_at}
@@ -61,6 +61,10 @@ doing names None run sleep = short_of run sleep
 doing names (Some list) None None = option_and_then (actions_of names []) (as_array list)
 doing names (Some list) run sleep = None
 
+-- so it is with the tasks of a kind, by its table
+abbrev pub actions_in : List (String Global) → Members → Option (List Action)
+actions_in names ms = doing names (get_member (codes "do") ms) (get_member (codes "run") ms) (get_member (codes "sleep") ms)
+
 -- the numbers of a kind, on a machine with all these processors
 pub record HasNumbers (all : ℕ) (ms : Members) (count : ℕ) (nice : ℤ) (mask slice start : ℕ) (loops : Option ℕ) : Type 0 where
   pub count_is : or_default 1 (number_in 1 1024) (get_member (codes "count") ms) ≡ Some count
@@ -73,9 +77,9 @@ pub record HasNumbers (all : ℕ) (ms : Members) (count : ℕ) (nice : ℤ) (mas
 -- the kind of tasks that a table describes, each of whose keys means something
 pub record IsKind (names : List (String Global)) (all : ℕ) (ms : Members) (k : TaskKind) : Type 0 where
   pub known : first_unknown task_keys ms ≡ None
-  pub name : option_and_then name_of (get_member (codes "name") ms) ≡ Some (string_bytes k.name)
+  pub name : name_at ms ≡ Some (string_bytes k.name)
   pub numbers : HasNumbers all ms k.count k.nice k.mask k.slice k.start k.loops
-  pub actions : doing names (get_member (codes "do") ms) (get_member (codes "run") ms) (get_member (codes "sleep") ms) ≡ Some k.actions.items
+  pub actions : actions_in names ms ≡ Some k.actions.items
   pub takes_time : list_any takes_time k.actions.items ≡ true
 
 -- each table describes its kind
@@ -86,7 +90,7 @@ AreKinds names all other kinds = ⊥
 
 -- the name that a task's table has
 abbrev pub name_in : Data → Option (List ℕ)
-name_in d = option_and_then (λ ms. option_and_then name_of (get_member (codes "name") ms)) (as_table d)
+name_in d = option_and_then name_at (as_table d)
 
 -- each table has its name
 abbrev pub AreNames : Items → List (String Global) → Type 0

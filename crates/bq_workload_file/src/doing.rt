@@ -1,9 +1,9 @@
 //! What the tasks of a kind do.
-ghost use Rattle.std.specs.Prelude.{◌≡◌, [], Some, IfOk, codes, option_map, option_and_then};
-ghost use Rattle.toml.specs.Data.{as_array, get_member};
+ghost use Rattle.std.specs.Prelude.{◌≡◌, [], Some, IfOk, option_map, option_and_then};
+ghost use Rattle.toml.specs.Data.{as_array};
 ghost use Rattle.toml.specs.View.{view, table_view};
 ghost use Rattle.bq_workload_file.specs.Actions.{actions_of};
-ghost use Rattle.bq_workload_file.specs.Workloads.{doing, short_of};
+ghost use Rattle.bq_workload_file.specs.Workloads.{actions_in, short_of};
 
 use crate::actions::{actions, phase};
 use crate::blame::{Location, Trouble};
@@ -20,7 +20,7 @@ pub(crate) fn all_actions<'a>(
     place: Location<'a>,
     names: &'a [String],
 ) -> Result<Vec<Action>, Trouble<'a>>
-    ensures { IfOk result (λ v. doing names.now (get_member (codes "do") (table_view table.now)) (get_member (codes "run") (table_view table.now)) (get_member (codes "sleep") (table_view table.now)) ≡ Some v.items) }
+    ensures { IfOk result (λ v. actions_in names.now (table_view table.now) ≡ Some v.items) }
 {
     let run = at(table, "run");
     let sleep = at(table, "sleep");

@@ -4,7 +4,7 @@ ghost use Rattle.std.specs.Result.{result_ok};
 ghost use Rattle.toml.specs.Data.{as_str, get_member};
 ghost use Rattle.toml.specs.View.{view, table_view};
 ghost use Rattle.bq_words.specs.ProcessorSets.{processors_of};
-ghost use Rattle.bq_workload_file.specs.Fields.{within, span_in, number_in, or_default, nice_of, rule_in, size_in, name_of, mask_of, loops_of};
+ghost use Rattle.bq_workload_file.specs.Fields.{within, span_in, number_in, or_default, nice_of, rule_in, size_in, name_at, mask_of, loops_of};
 
 use crate::tables::at;
 use crate::why::{Range, Wanted, Why};
@@ -231,7 +231,7 @@ fn size_given(value: &Value) -> Option<ProcessorCount>
 
 /// The name of a task.
 pub(crate) fn name(table: &Table) -> Result<&str, Why<'_>>
-    ensures { option_map (λ s. s.now) (result_ok result) ≡ option_and_then name_of (get_member (codes "name") (table_view table.now)) }
+    ensures { option_map (λ s. s.now) (result_ok result) ≡ name_at (table_view table.now) }
 {
     let value = match at(table, "name") {
         None => return Err(Why::Missing("name")),

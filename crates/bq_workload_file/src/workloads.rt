@@ -1,12 +1,11 @@
 //! Whole workloads.
-ghost use Rattle.std.specs.Prelude.{◌≡◌, ◌<◌, ◌≤◌, ℕ, true, List, [], Some, None, IfErr, IfOk, IfSome, IsSome, length, option_and_then, sum_by};
-ghost use Rattle.std.specs.Result.{result_err};
+ghost use Rattle.std.specs.Prelude.{◌≡◌, ◌<◌, ◌≤◌, ℕ, true, List, [], Some, None, IfErr, IfOk, IfSome, IsSome, length, sum_by};
 ghost use Rattle.toml.specs.Data.{as_table};
 ghost use Rattle.toml.specs.Parse.{parse_document};
 ghost use Rattle.toml.specs.View.{view, items_view, table_view};
 ghost use Rattle.bq_workload.specs.Lengths.{is_long};
 ghost use Rattle.bq_workload.specs.Soundness.{first_flaw};
-ghost use Rattle.bq_workload_file.specs.Keys.{document_keys, first_unknown, unknown_there};
+ghost use Rattle.bq_workload_file.specs.Keys.{IsRefusedFor, document_keys, first_unknown};
 ghost use Rattle.bq_workload_file.specs.Workloads.{AreKinds, AreNames, AreOthers, Describes, IsMachine, IsReadFault, tasks_of};
 
 use crate::actions;
@@ -73,7 +72,7 @@ fn told(alloc: Global, trouble: &Trouble<'_>) -> Fault
 /// The machine of a document, and the tables of its tasks.
 fn outline(document: &Table) -> Result<(Setup, &[Value]), Trouble<'_>>
     ensures known { IfOk result (λ _. first_unknown document_keys (table_view document.now) ≡ None) }
-    ensures unknown { (key : List ℕ) → first_unknown document_keys (table_view document.now) ≡ Some key → option_and_then unknown_there (result_err result) ≡ Some key }
+    ensures unknown { (key : List ℕ) → first_unknown document_keys (table_view document.now) ≡ Some key → IsRefusedFor key result }
     ensures machine { IfOk result (λ p. IsMachine (table_view document.now) p.0) }
     ensures tasks { IfOk result (λ p. tasks_of (table_view document.now) ≡ Some (items_view p.1.now)) }
     ensures some { IfOk result (λ p. 0 < length p.1.now) }
