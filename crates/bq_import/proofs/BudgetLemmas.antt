@@ -1,7 +1,7 @@
 -- What is kept for the slots that were begun, and what the copy may have in all.
 use Rattle.std.proofs.Common.{◌≡◌, ℕ, ◌+◌, ◌-◌, ◌<◌, ◌≤◌, ◌⊎◌, inl, inr, Bool, true, false, List, [], ◌∷◌, ◌++◌, reverse, length, take, get_or, Option, Some, None, refl, arith, sym, ap, ◌∙◌, subst}
 use Rattle.std.specs.Prelude.{if◌then◌else◌, slice_index, slice_set, sum_by}
-use Rattle.std.proofs.lemmas.List.{get_or-append-add, get_or-set_other, get_or-set_same, get_or-take, get_or_append_left, length-append, length-take, reverse-append, reverse-reverse, take_all, take_more}
+use Rattle.std.proofs.lemmas.List.{get_or-append-add, get_or-set_other, get_or-set_same, length-append, reverse-append, reverse-reverse, take_all, take_more}
 use Rattle.std.proofs.lemmas.List.Sums.{sum_by-cons, sum_by-le-sum_by}
 use Rattle.bq_insn.specs.declared.Insn.{Insn}
 use Rattle.bq_insn.specs.Slots.{slots_of}
@@ -12,7 +12,7 @@ use Rattle.bq_verify.specs.Edges.{IsEdge}
 use Rattle.bq_import.specs.declared.fault.Disorder.{Disorder}
 use Rattle.bq_import.specs.declared.fault.Disorder.TheVariants.{Outside, Ends, Loop, Long, OutOfMemory}
 use Rattle.bq_import.specs.Backward.{IsFront}
-use Rattle.bq_import.specs.Budgets.{AreKeptFor, HasBudget, IsBottom, IsKept, waiting}
+use Rattle.bq_import.specs.Budgets.{AreKeptFor, HasBudget, IsKept, waiting}
 use Rattle.bq_import.specs.Faults.{IsFull, IsLinked, IsSearchFault}
 use Rattle.bq_import.specs.Lengths.{IsIn, IsLanding, run_at, width_at, width_of}
 use Rattle.bq_import.specs.Orders.{HasLongOrder}
@@ -238,33 +238,6 @@ nothing_written old back origins places opens stack nothing empty = record {
   is_kept = subst (λ (s : List ℕ). IsKept old back origins places (reverse s) 0) (sym empty) tt;
   fits = λ landings has. let all = all_wait old opens landings in let none : length back ≡ 0 = ap length nothing in omega (arith, all, none);
 }
-
--- the first slot that was begun stays the first one
-pub bottom_open : (stack : List ℕ) (slot root : ℕ) → IsBottom stack root → IsBottom (stack ++ slot ∷ []) root
-bottom_open stack slot root bottom = record {
-  long = let long = bottom.long in let more = length-append stack (slot ∷ []) in omega (arith, long, more);
-  is = get_or_append_left stack (slot ∷ []) 0 0 bottom.long ∙ bottom.is;
-}
-
--- the first slot that was begun is left last
-pub bottom_left : (stack : List ℕ) (slot root : ℕ) → IsTop stack slot → IsBottom stack root → IsBottom (take (length stack - 1) stack) root ⊎ ((take (length stack - 1) stack ≡ []) × (slot ≡ root))
-bottom_left stack slot root top bottom = elim (equal_or_not top.below 0) [
-  | inl none ↦
-      let long = top.long in
-      let zero_is : length stack - 1 ≡ 0 = omega (arith, long, none) in
-      inr (ap (λ (n : ℕ). take n stack) zero_is, sym top.slot_is ∙ (ap (λ (n : ℕ). slice_index stack n) none ∙ bottom.is))
-  | inr some ↦
-      let long = top.long in
-      let least = length-take (length stack - 1) stack in
-      inl (record {
-        long = omega (arith, long, least, some);
-        is = get_or-take (length stack - 1) stack 0 0 (omega (arith, long, some)) ∙ bottom.is;
-      })
-]
-
--- a slot that was begun as the only one is the first
-pub bottom_alone : (stack : List ℕ) (slot : ℕ) → stack ≡ [] → IsBottom (stack ++ slot ∷ []) slot
-bottom_alone stack slot empty = subst (λ (s : List ℕ). IsBottom (s ++ slot ∷ []) slot) (sym empty) (record { long = omega arith; is = refl })
 
 -- one slot is in front
 pub front_same : (back : List (Option Insn)) (origins : List ℕ) (a b : ℕ) → IsFront back origins a → IsFront back origins b → a ≡ b

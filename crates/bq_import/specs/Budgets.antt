@@ -1,5 +1,5 @@
 -- How many slots the search may still write: those of a run for each slot that a jump leads to.
-use Rattle.std.specs.Prelude.{◌≡◌, ℕ, ◌+◌, ◌<◌, ◌≤◌, ◌⊎◌, Bool, List, [], ◌∷◌, reverse, length, sum_by, slice_index, Option, if◌then◌else◌}
+use Rattle.std.specs.Prelude.{◌≡◌, ℕ, ◌+◌, ◌≤◌, ◌⊎◌, Bool, List, [], ◌∷◌, reverse, length, sum_by, Option, if◌then◌else◌}
 use Rattle.bq_insn.specs.declared.Insn.{Insn}
 use Rattle.bq_import.specs.Lengths.{HasLandings, run_at, width_at}
 use Rattle.bq_import.specs.Search.{IsLastOf, IsReady, Suffices, is_open}
@@ -39,8 +39,3 @@ pub record HasBudget (old back : List (Option Insn)) (origins : List ℕ) (place
   pub kept : ℕ
   pub is_kept : IsKept old back origins places (reverse stack) kept
   pub fits : (landings : List ℕ) → HasLandings old landings → length back + kept + sum_by (waiting old opens) landings ≤ extra + sum_by (run_at old) landings
-
--- the slot was begun first, of those that are not done
-pub record IsBottom (stack : List ℕ) (slot : ℕ) : Type 0 where
-  pub long : 0 < length stack
-  pub is : slice_index stack 0 ≡ slot

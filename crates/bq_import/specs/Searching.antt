@@ -1,9 +1,8 @@
 -- A search on its way, and one that has come to its end.
-use Rattle.std.specs.Prelude.{◌≡◌, ℕ, ◌<◌, ◌⊎◌, [], List, Option}
+use Rattle.std.specs.Prelude.{◌≡◌, ℕ, ◌<◌, [], List, Option}
 use Rattle.bq_insn.specs.declared.Insn.{Insn}
 use Rattle.bq_import.specs.declared.search.Search.{Search}
-use Rattle.bq_import.specs.Backward.{IsFront}
-use Rattle.bq_import.specs.Budgets.{HasBudget, IsBottom}
+use Rattle.bq_import.specs.Budgets.{HasBudget}
 use Rattle.bq_import.specs.Search.{IsSearching, KeepsOpen, left_of}
 
 abbrev pub IsAt : ℕ → List (Option Insn) → Search → Type 0
@@ -14,15 +13,10 @@ pub record IsDoneWith (maps : ℕ) (old : List (Option Insn)) (search : Search) 
   pub at : IsAt maps old search
   pub none : search.stack.items ≡ []
 
--- nothing is left that was begun, and this slot stands in front
-abbrev pub EndsWith : Search → ℕ → Type 0
-EndsWith search root = (search.stack.items ≡ []) × IsFront search.copy.slots.items search.copy.origins.items root
-
 -- the search went on by one slot
 pub record WentOn (maps : ℕ) (old : List (Option Insn)) (before after : Search) : Type 0 where
   pub at : IsAt maps old after
   pub keeps : KeepsOpen before.opens.items after.opens.items
-  pub bottom : (root : ℕ) → IsBottom before.stack.items root → IsBottom after.stack.items root ⊎ EndsWith after root
   pub less : left_of after.opens.items after.stack.items < left_of before.opens.items before.stack.items
 
 -- the search writes no more than all runs from landings and this many slots

@@ -1,5 +1,5 @@
 //! A program in an order in which every jump goes forward.
-ghost use Rattle.std.specs.Prelude.{◌≡◌, ◌≤◌, ◌<◌, ◌⊎◌, ℕ, List, Option, length, true, filter_map, reverse, OnOk, IfOk, IfErr};
+ghost use Rattle.std.specs.Prelude.{◌≡◌, ◌≤◌, ◌<◌, ℕ, List, Option, length, true, filter_map, reverse, OnOk, IfOk, IfErr};
 ghost use Rattle.bq_insn.specs.declared.Insn.{Insn};
 ghost use Rattle.bq_insn.specs.Slots.{spread};
 ghost use Rattle.bq_insn.specs.Spelling.{is_well_formed};
@@ -10,7 +10,7 @@ ghost use Rattle.bq_import.specs.Backward.{IsBuilt, IsFront, insns_of};
 ghost use Rattle.bq_import.specs.Faults.{AllForward, IsDisorder, IsLinked, IsSearchFault};
 ghost use Rattle.bq_import.specs.Keeping.{AllReached};
 ghost use Rattle.bq_import.specs.declared.fault.Disorder.TheVariants.{OutOfMemory};
-ghost use Rattle.bq_import.specs.Search.{AreLandings, IsDone};
+ghost use Rattle.bq_import.specs.Search.{AreLandings};
 ghost use Rattle.bq_import.specs.Searching.{IsDoneWith, IsWithin};
 
 use crate::backward::Backward;
@@ -110,7 +110,8 @@ fn searched(alloc: Global, slots: &[Option<Insn>], maps: usize) -> Result<Ordere
 }
 
 impl Search {
-    /// Puts all in place: what jumps lead to, from the last to the first, and then the first instruction in front.
+    /// Puts all in place: what jumps lead to, from the last to the first, and then the first instruction. That comes to stand in front, as control
+    /// comes from it to all others.
     fn run(&mut self, old: &[Option<Insn>], maps: usize, landings: &[bool]) -> Result<(), Disorder>
         requires linked { IsLinked old.now }
         requires few { maps ≤ 8 }
@@ -126,7 +127,7 @@ impl Search {
             self.visit_landing(old, maps, landings, slot)?;
         }
         self.visit(old, maps, 0)?;
-        self.begin_with_first(old, maps)
+        Ok(())
     }
 
     /// Puts the slot in place, if a jump leads there.
@@ -154,25 +155,6 @@ impl Search {
             return Ok(());
         };
         self.visit(old, maps, slot)
-    }
-
-    /// Puts the first instruction in front, again if it stands elsewhere.
-    fn begin_with_first(&mut self, old: &[Option<Insn>], maps: usize) -> Result<(), Disorder>
-        requires linked { IsLinked old.now }
-        requires few { maps ≤ 8 }
-        requires first { IsStart old.now 0 }
-        requires at { IsDoneWith maps old.now self.old }
-        requires done { IsDone self.old.places.items 0 }
-        requires within { IsFront self.old.copy.slots.items self.old.copy.origins.items 0 ⊎ IsWithin old.now self.old 0 }
-        ensures built { OnOk result (IsBuilt maps old.now self.new.copy.slots.items self.new.copy.origins.items) }
-        ensures front { OnOk result (IsFront self.new.copy.slots.items self.new.copy.origins.items 0) }
-        ensures err { IfErr result (IsSearchFault old.now) }
-    {
-        let Some(_) = self.copy.missing_front(Some(0)) else {
-            return Ok(());
-        };
-        self.copy.place(old, maps, self.places.as_slice(), 0)?;
-        Ok(())
     }
 }
 

@@ -18,7 +18,7 @@ use bq_verify::edges::{Targets, instruction};
 
 impl Backward {
     /// What has to stand in front of the next instruction and does not.
-    pub fn missing_front(&self, next: Option<usize>) -> Option<usize>
+    fn missing_front(&self, next: Option<usize>) -> Option<usize>
         requires { (maps : ℕ) × (old : List (Option Insn)) × IsBuilt maps old self.now.slots.items self.now.origins.items }
         ensures some { IfSome result (λ n. (next ≡ Some n) × ¬ IsFront self.now.slots.items self.now.origins.items n) }
         ensures none { IfNone result ((n : ℕ) → next ≡ Some n → IsFront self.now.slots.items self.now.origins.items n) }

@@ -1,10 +1,9 @@
 //! The search that puts each slot in place after all to which control may go from it, and finds a loop where that cannot be.
-ghost use Rattle.std.specs.Prelude.{◌≡◌, ◌<◌, ◌≤◌, ◌+◌, ◌++◌, ◌∷◌, ◌⊎◌, [], ℕ, true, false, Option, length, OnOk, IfOk, IfErr, IfSome, IfNone, Some, None, slice_index_or};
+ghost use Rattle.std.specs.Prelude.{◌≡◌, ◌<◌, ◌≤◌, ◌+◌, ◌⊎◌, ℕ, true, false, Option, length, OnOk, IfOk, IfErr, IfSome, IfNone, Some, None, slice_index_or};
 ghost use Rattle.bq_insn.specs.declared.Insn.{Insn};
 ghost use Rattle.bq_verify.specs.Edges.{IsEdge, IsStart};
 ghost use Rattle.bq_verify.specs.Passes.{IsOf};
 ghost use Rattle.bq_verify.specs.Paths.{Path};
-ghost use Rattle.bq_import.specs.Backward.{IsFront};
 ghost use Rattle.bq_import.specs.Faults.{IsSearchFault, IsLinked};
 ghost use Rattle.bq_import.specs.Lengths.{IsLanding, run_at};
 ghost use Rattle.bq_import.specs.Search.{IsDone, IsLastOf, IsMissing, IsReady, IsTop, place_at, is_open};
@@ -56,8 +55,6 @@ impl Search {
         ensures ok { OnOk result (IsDoneWith maps old.now self.new) }
         ensures root { OnOk result (IsDone self.new.places.items root) }
         ensures landing { OnOk result (IsLanding old.now root → IsWithin old.now self.new 0) }
-        ensures again { OnOk result (is_open self.old.opens.items root ≡ true → IsWithin old.now self.new 0) }
-        ensures front { OnOk result (is_open self.old.opens.items root ≡ false → IsFront self.new.copy.slots.items self.new.copy.origins.items root) }
         ensures err { IfErr result (IsSearchFault old.now) }
     {
         if self.is_open(root) {
@@ -148,7 +145,6 @@ impl Search {
         requires edge { (top : ℕ) → IsTop self.old.stack.items top → IsEdge old.now top slot × (place_at self.old.places.items slot ≡ None) }
         ensures ok { OnOk result (WentOn maps old.now self.old self.new) }
         ensures opened { OnOk result (is_open self.new.opens.items slot ≡ true) }
-        ensures top { OnOk result (self.new.stack.items ≡ self.old.stack.items ++ (slot ∷ [])) }
         ensures landing { OnOk result (IsLanding old.now slot → KeepsBudget old.now self.old self.new) }
         ensures next { OnOk result ((top : ℕ) → IsTop self.old.stack.items top → IsLastOf old.now self.old.places.items top slot → KeepsBudget old.now self.old self.new) }
         ensures more { OnOk result ((extra : ℕ) → IsWithin old.now self.old extra → IsWithin old.now self.new (extra + run_at old.now slot)) }

@@ -1,14 +1,13 @@
-use Rattle.std.proofs.Common.{◌≡◌, ◌<◌, ◌+◌, ◌-◌, inl, inr, ℕ, arith, List, Some, length, take, subst, sym, ap, ◌∙◌}
+use Rattle.std.proofs.Common.{◌≡◌, ◌<◌, ◌+◌, ◌-◌, ℕ, arith, List, Some, length, take, subst, sym, ap, ◌∙◌}
 use Rattle.std.specs.Prelude.{slice_set}
 use Rattle.std.proofs.lemmas.Result.{err_from_is_err_and}
-use Rattle.bq_import.specs.Backward.{IsFront}
-use Rattle.bq_import.specs.Budgets.{HasBudget, IsBottom}
+use Rattle.bq_import.specs.Budgets.{HasBudget}
 use Rattle.bq_import.specs.Lengths.{run_at}
 use Rattle.bq_import.specs.Orders.{share}
 use Rattle.bq_import.specs.Search.{IsSearching, left_of}
 use Rattle.bq_verify.specs.Edges.{IsStart}
 use Rattle.bq_verify.proofs.EdgeLemmas.{start_inside}
-use Rattle.bq_import.proofs.BudgetLemmas.{bottom_left, full_within, kept_top, left_budget, suffices}
+use Rattle.bq_import.proofs.BudgetLemmas.{full_within, kept_top, left_budget, suffices}
 use Rattle.bq_import.proofs.ForwardLemmas.{counted_more, share_suffices, too_long}
 use Rattle.bq_import.proofs.StackLemmas.{after_leave, less_leave, now_set, still_set, top_comes, top_starts, top_undone}
 use Rattle.bq_import.proofs.search.Search.leave.Goals as goal
@@ -58,10 +57,6 @@ returns-clause-ok c =
       at = subst (λ (n : ℕ). IsSearching c.args.maps old back' origins' (slice_set places c.args.slot (Some (n - 1))) opens c.pop.new.self.items) (sym count)
           (subst (λ (s : List ℕ). IsSearching c.args.maps old back' origins' (slice_set places c.args.slot (Some (length back' - 1))) opens s) (sym stack_is) at);
       keeps = λ s e. e;
-      bottom = λ root bottom. elim (bottom_left stack c.args.slot root c.requires.top bottom) [
-        | inl stays ↦ inl (subst (λ (s : List ℕ). IsBottom s root) (sym stack_is) stays)
-        | inr (empty, same) ↦ inr (stack_is ∙ empty, subst (λ (n : ℕ). IsFront back' origins' n) same more.front)
-      ];
       less = subst (λ (s : List ℕ). left_of opens s < left_of opens stack) (sym stack_is) less;
     }
 

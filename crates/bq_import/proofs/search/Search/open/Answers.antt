@@ -1,10 +1,10 @@
-use Rattle.std.proofs.Common.{◌≡◌, ◌<◌, ◌+◌, ◌++◌, [], ◌∷◌, ℕ, List, length, true, inl, subst, sym, arith}
+use Rattle.std.proofs.Common.{◌≡◌, ◌<◌, ◌+◌, ◌++◌, [], ◌∷◌, ℕ, List, length, true, subst, sym, arith}
 use Rattle.std.specs.Prelude.{slice_set}
 use Rattle.bq_verify.proofs.EdgeLemmas.{start_inside}
-use Rattle.bq_import.specs.Budgets.{HasBudget, IsBottom}
+use Rattle.bq_import.specs.Budgets.{HasBudget}
 use Rattle.bq_import.specs.Lengths.{run_at}
 use Rattle.bq_import.specs.Search.{IsSearching, left_of}
-use Rattle.bq_import.proofs.BudgetLemmas.{begun_landing, begun_more, begun_next, bottom_open}
+use Rattle.bq_import.proofs.BudgetLemmas.{begun_landing, begun_more, begun_next}
 use Rattle.bq_import.proofs.StackLemmas.{after_open, keeps_open, less_open}
 use Rattle.bq_import.proofs.search.Search.open.Goals as goal
 
@@ -22,7 +22,6 @@ returns-clause-ok c =
       at = subst (λ (s : List ℕ). IsSearching c.args.maps old back origins places (slice_set opens c.args.slot true) s) (sym stack_is)
           (after_open c.args.maps old back origins places opens stack c.requires.at c.args.slot c.requires.start c.requires.new (λ top is. (c.requires.edge top is).0) c.requires.reached);
       keeps = keeps_open c.args.maps old back origins places opens stack c.requires.at c.args.slot c.requires.start c.requires.new (λ top is. (c.requires.edge top is).0);
-      bottom = λ root bottom. inl (subst (λ (s : List ℕ). IsBottom s root) (sym stack_is) (bottom_open stack c.args.slot root bottom));
       less = subst (λ (s : List ℕ). left_of (slice_set opens c.args.slot true) s < left_of opens stack) (sym stack_is)
           (less_open c.args.maps old back origins places opens stack c.requires.at c.args.slot c.requires.start c.requires.new (λ top is. (c.requires.edge top is).0));
     }

@@ -1,9 +1,7 @@
-use Rattle.std.proofs.Common.{◌≡◌, ◌+◌, inl, inr, ℕ, List, ap, arith, length, rules, subst, sym}
-use Rattle.bq_import.specs.Budgets.{IsBottom}
+use Rattle.std.proofs.Common.{◌≡◌, ◌+◌, inl, inr, ℕ, ap, arith, subst}
 use Rattle.bq_import.specs.Lengths.{run_at}
-use Rattle.bq_import.specs.Search.{IsTop}
 use Rattle.bq_import.specs.Searching.{IsWithin}
-use Rattle.bq_import.proofs.BudgetLemmas.{bottom_alone, budget_more}
+use Rattle.bq_import.proofs.BudgetLemmas.{budget_more}
 use Rattle.bq_import.proofs.search.Search.visit.Goals as goal
 
 pub loop-slot-init : goal.loop-slot-init
@@ -23,24 +21,15 @@ loop-slot-init c =
             subst (λ (n : ℕ). IsWithin c.args.old.now c.open.new.self n) all (opened.more 0 c.requires.within)
       ],
       λ landing. opened.landing landing 0 c.requires.within,
-      inl (subst (λ (s : List ℕ). IsBottom s c.args.root) (sym opened.top) (bottom_alone c.args.self.now.stack.items root c.requires.done.none)),
     )
 
 pub loop-slot-preserved : goal.loop-slot-preserved
 loop-slot-preserved c =
     let before = c.loop-slot.invariant in
     let went = c.in_ok-advance.ensures.ok in
-    let within = c.in_ok-advance.ensures.within in
-    let top : IsTop c.loop-slot.self.stack.items c.in-Some.slot = search rules in (
+    let within = c.in_ok-advance.ensures.within in (
       went.at,
       went.keeps c.args.root before.1,
       within (run_at c.args.old.now 0) before.2,
       λ landing. within 0 (before.3 landing),
-      elim before.4 [
-        | inl bottom ↦ went.bottom c.args.root bottom
-        | inr ended ↦
-            let none : length c.loop-slot.self.stack.items ≡ 0 = ap length ended.0 in
-            let long = top.long in
-            absurd (omega (arith, none, long))
-      ],
     )
