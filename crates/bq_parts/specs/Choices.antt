@@ -16,9 +16,10 @@ use Rattle.bq_hooks.specs.declared.settled.By.{By}
 use Rattle.bq_hooks.specs.declared.settled.By.TheVariants as who
 use Rattle.bq_hooks.specs.Contexts.{PlaceFacts, place_bytes_first, place_bytes_second, preempt_bytes, pull_bytes, as_number, or_nobody}
 use Rattle.bq_hooks.specs.OwnPlace.{own_place}
-use Rattle.bq_hooks.specs.Permitted.{may_place, may_preempt, may_pull}
+use Rattle.bq_hooks.specs.Permitted.{may_place, may_preempt, may_pull, task_numbered}
 use Rattle.bq_hooks.specs.Settled.{settled as chosen}
 use Rattle.bq_parts.specs.declared.carried.Carried.{Carried}
+use Rattle.bq_parts.specs.declared.decision.Decision.{Decision as Decided}
 use Rattle.bq_parts.specs.Processors.{Processor, size_of}
 
 -- what the world runs under: the discipline, and how a policy answers. `Answers policy context maps now processor r0 left steps calls`: on
@@ -40,22 +41,27 @@ pub record Decision : Type 0 where
   pub calls : List Asked
   pub attached : Attached
 
+-- what a processor decided, where its choice is of that number, with these calls, and with what is installed at the hook afterwards
+abbrev pub decision_of : {T : Type 0} → (T → ℕ) → Decided T → List Asked → Attached → Decision
+decision_of number d calls attached = record { choice = number d.choice; by = d.by; steps = d.steps; calls = calls; attached = attached }
+
 -- no policy was asked
 abbrev pub unasked : ℕ → Attached → Decision
 unasked own attached = record { choice = own; by = who.Discipline; steps = 0; calls = []; attached = attached }
 
--- a policy settles it: it answers r0. That is the choice if permitted; otherwise the discipline's own choice is
-pub record PolicySettles (s : PolicySemantics) (policy : Accepted) (context : Version → List ℕ) (attached : Attached) (now processor : ℕ) (permitted : ℕ → Bool) (own : ℕ) (settled : Decision) : Type 0 where
-  pub r0 : ℕ
-  pub maps : List (List ℕ)
-  pub answers : s.Answers policy (context policy.version) attached.maps now processor r0 maps settled.steps settled.calls
-  pub choice : settled.choice ≡ (chosen permitted (Some r0) own).choice
-  pub by : settled.by ≡ (chosen permitted (Some r0) own).by
-  -- either way the maps stay as the policy left them, in their shapes
-  pub leaves : settled.attached ≡ record attached { maps = maps }
-  pub shapes : HaveShapes policy.shapes maps
-  -- it answers within its budget, with sixteen calls of counters at most
-  pub within : IsWithin policy settled.steps settled.calls
+module _ (s : PolicySemantics) (policy : Accepted) where
+  -- a policy settles it: it answers r0. That is the choice if permitted; otherwise the discipline's own choice is
+  pub record PolicySettles (context : Version → List ℕ) (attached : Attached) (now processor : ℕ) (permitted : ℕ → Bool) (own : ℕ) (settled : Decision) : Type 0 where
+    pub r0 : ℕ
+    pub maps : List (List ℕ)
+    pub answers : s.Answers policy (context policy.version) attached.maps now processor r0 maps settled.steps settled.calls
+    pub choice : settled.choice ≡ (chosen permitted (Some r0) own).choice
+    pub by : settled.by ≡ (chosen permitted (Some r0) own).by
+    -- either way the maps stay as the policy left them, in their shapes
+    pub leaves : settled.attached ≡ record attached { maps = maps }
+    pub shapes : HaveShapes policy.shapes maps
+    -- it answers within its budget, with sixteen calls of counters at most
+    pub within : IsWithin policy settled.steps settled.calls
 
 -- the policy that is installed settles it; where none is, the own choice stands
 abbrev pub SettlesBy : PolicySemantics → Option Accepted → (Version → List ℕ) → Attached → ℕ → ℕ → (ℕ → Bool) → ℕ → Decision → Type 0
@@ -97,6 +103,11 @@ SettlesPull s processor from p other settled =
     let own = own_pull processor p other in
     let context = pull_bytes (record { puller = processor; source = from; puller_size = size_of p; source_size = size_of other; movable = movable_to processor queue; own = own }) in
     Settles s (λ version. context) p.hooks.pull p.running.last processor (may_pull processor queue) (or_nobody own) settled
+
+-- a task is pulled, or none: it is that of the number that was chosen
+abbrev pub SettlesPulled : PolicySemantics → ℕ → ℕ → Processor → Processor → Decided (Option ℕ) → List Asked → Attached → Type 0
+SettlesPulled s processor from p other d calls attached =
+    (choice : ℕ) × SettlesPull s processor from p other (decision_of (λ task. choice) d calls attached) × (d.choice ≡ task_numbered choice)
 
 -- Decide: who runs after a preemption was settled, and what is installed at the hook
 abbrev pub decided_by : PolicySemantics → Processor → Decision → Processor

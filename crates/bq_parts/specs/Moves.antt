@@ -35,3 +35,7 @@ with_pulled d p (Some t) = record p { queue = place (pulled d p.kept t) p.queue 
 abbrev pub started_if_idle : Discipline → Running → Option Task → Running
 started_if_idle d p None = start d p
 started_if_idle d p (Some t) = p
+
+-- a task of another processor enters, if there is one; where nothing ran, the queue's choice runs
+abbrev pub after_pull : Discipline → Running → Running → Option ℕ → Running
+after_pull d p other task = started_if_idle d (with_pulled d p (taken_from other task)) p.current

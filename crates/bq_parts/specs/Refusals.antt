@@ -43,14 +43,17 @@ is_for h (Some p) = same_hook h p.hook
 abbrev pub no_processor : ℕ → ℕ → Bool × Refusal
 no_processor count processor = (nat_le count processor, no.NoProcessor)
 
+abbrev pub no_task : ℕ → Bool × Refusal
+no_task id = (nat_le 1024 id, no.NoTask)
+
 -- an argument that no world of this many processors takes
 abbrev pub argument_refusal : ℕ → Event → Option Refusal
 argument_refusal count (Admit id nice mask slice) =
-    first_refusal ((nat_le 1024 id, no.NoTask) ∷ (mask % 2 ^ count == 0, no.EmptyMask) ∷ (not (is_nice nice), no.Nice) ∷ (nat_lt slice LEAST_SLICE || nat_lt GREATEST_SLICE slice, no.Slice) ∷ [])
-argument_refusal count (Retire id) = first_refusal ((nat_le 1024 id, no.NoTask) ∷ [])
+    first_refusal (no_task id ∷ (mask % 2 ^ count == 0, no.EmptyMask) ∷ (not (is_nice nice), no.Nice) ∷ (nat_lt slice LEAST_SLICE || nat_lt GREATEST_SLICE slice, no.Slice) ∷ [])
+argument_refusal count (Retire id) = first_refusal (no_task id ∷ [])
 argument_refusal count Draw = None
 argument_refusal count (Install processor h g policy) = first_refusal (no_processor count processor ∷ (not (is_for h policy), no.WrongHook) ∷ [])
-argument_refusal count (BeginWake processor id) = first_refusal (no_processor count processor ∷ (nat_le 1024 id, no.NoTask) ∷ [])
+argument_refusal count (BeginWake processor id) = first_refusal (no_processor count processor ∷ no_task id ∷ [])
 argument_refusal count (EndWake processor now) = first_refusal (no_processor count processor ∷ [])
 argument_refusal count (Drain processor now) = first_refusal (no_processor count processor ∷ [])
 argument_refusal count (Tick processor now) = first_refusal (no_processor count processor ∷ [])

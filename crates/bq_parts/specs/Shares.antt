@@ -10,7 +10,7 @@ use Rattle.bq_parts.specs.declared.reply.Reply.{Reply}
 use Rattle.bq_parts.specs.declared.reply.Reply.TheVariants.{Admitted, Retired, Begun, Installed, Drained, Ticked, Blocked as Went, Pulled as Moved}
 use Rattle.bq_parts.specs.declared.refusal.Refusal.{Refusal}
 use Rattle.bq_parts.specs.declared.refusal.Refusal.TheVariants as no
-use Rattle.bq_parts.specs.Processors.{Processor}
+use Rattle.bq_parts.specs.Processors.{Processor, opening}
 use Rattle.bq_parts.specs.declared.carried.Carried.{Carried}
 use Rattle.bq_parts.specs.declared.wakes.Placement.{Placement}
 use Rattle.bq_parts.specs.Refusals.{is_absent, retire_refusal, begin_refusal, install_refusal}
@@ -19,7 +19,7 @@ use Rattle.bq_installed.specs.Attachments.{Attached, at_hook, with_attached}
 use Rattle.bq_installed.specs.Standing.{MayStand}
 use Rattle.bq_hooks.specs.Permitted.{task_numbered}
 use Rattle.bq_parts.specs.Choices.{PolicySemantics, Decision, SettlesPlace, SettlesPreempt, SettlesPull, decided_by}
-use Rattle.bq_parts.specs.Moves.{after_leaving, as_it_leaves, taken_from, without_task, with_pulled, started_if_idle}
+use Rattle.bq_parts.specs.Moves.{after_leaving, after_pull, as_it_leaves, without_task}
 
 -- a processor after its time has passed
 abbrev pub after_time : Discipline → ℕ → Processor → Processor
@@ -113,7 +113,7 @@ Installs h drawn p new (Err e) q = (install_refusal (at_hook h p.hooks).generati
 abbrev pub pulled_by : PolicySemantics → Processor → Processor → Decision → Processor
 pulled_by s p other settled =
     record p {
-      running = started_if_idle s.discipline (with_pulled s.discipline p.running (taken_from other.running (task_numbered settled.choice))) p.running.current;
+      running = after_pull s.discipline p.running other.running (task_numbered settled.choice);
       hooks = record p.hooks { pull = settled.attached };
     }
 
@@ -125,3 +125,10 @@ pub record Pulls (s : PolicySemantics) (processor from now : ℕ) (p other : Pro
   pub replies : r ≡ Moved (task_numbered settled.choice) (id_of q.running.current) settled.by settled.steps
   pub here : q ≡ pulled_by s (after_time s.discipline now p) (remarked s.discipline other) settled
   pub there : other' ≡ record (remarked s.discipline other) { running = without_task (remarked s.discipline other).running (task_numbered settled.choice) }
+
+-- the same, where the two are at their places among some processors
+abbrev pub PullsBetween : PolicySemantics → ℕ → ℕ → ℕ → List Processor → List Asked → Reply → List Processor → Type 0
+PullsBetween s processor from now cpus calls r cpus' =
+    (q : Processor) × (other : Processor)
+    × Pulls s processor from now (slice_index_or cpus processor opening) (slice_index_or cpus from opening) calls r q other
+    × (cpus' ≡ slice_set (slice_set cpus processor q) from other)

@@ -76,3 +76,7 @@ WorldRun s w es more answers w' = ⊥
 abbrev pub ThroughAll : {B : Type 0} → (B → Asked → B → Type 0) → B → List (List Asked) → B → Type 0
 ThroughAll leads old [] new = new ≡ old
 ThroughAll {B} leads old (calls ∷ more) new = (mid : B) × Through leads old calls mid × ThroughAll leads mid more new
+
+-- the events lead from the one world to the other with these answers, and from the one board to the other
+abbrev pub RunsOn : {B : Type 0} → PolicySemantics → (B → Asked → B → Type 0) → World → B → List Event → List (Result Reply Refusal) → World → B → Type 0
+RunsOn s leads w board es answers w' board' = (calls : List (List Asked)) × WorldRun s w es calls answers w' × ThroughAll leads board calls board'

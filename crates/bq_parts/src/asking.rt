@@ -1,16 +1,16 @@
 //! The choices of a processor: its policies' where they are permitted, and else the discipline's own.
-ghost use Rattle.std.specs.Prelude.{◌≡◌, ◌≤◌, ◌<◌, ◌^◌, ℕ, [], length, Some, IfSome};
+ghost use Rattle.std.specs.Prelude.{◌≡◌, ◌≤◌, ◌<◌, ◌^◌, [], length, Some, IfSome};
 ghost use Rattle.std.specs.Option.{option_map};
 ghost use Rattle.bq_bpf.specs.Counters.{Through};
 ghost use Rattle.bq_bpf.specs.Memory.{HaveShapes};
-ghost use Rattle.bq_installed.specs.Answers.{Answers, IsWithin};
+ghost use Rattle.bq_installed.specs.Answers.{IsWithin};
+ghost use Rattle.bq_installed.specs.Attachments.{AnswersAt};
 ghost use Rattle.bq_hooks.specs.Contexts.{as_number};
 ghost use Rattle.bq_hooks.specs.OwnPlace.{HasPlace};
-ghost use Rattle.bq_hooks.specs.Permitted.{task_numbered};
 ghost use Rattle.bq_disc.specs.Queues.{HasDistinctIds};
 ghost use Rattle.bq_disc.specs.OneProcessor.{present_at};
 ghost use Rattle.bq_parts.specs.Processors.{HasEachOnce, HasLobbyIds, size_of};
-ghost use Rattle.bq_parts.specs.Choices.{policies, place_bytes, SettlesPlace, SettlesPreempt, SettlesPull, decided_by};
+ghost use Rattle.bq_parts.specs.Choices.{policies, place_bytes, SettlesPlace, SettlesPreempt, SettlesPulled, decided_by, decision_of};
 
 use crate::{Carried, Cpu, Decision};
 use bq_bpf::Board;
@@ -73,7 +73,7 @@ impl<Q: RunQueue> Cpu<Q> {
         requires few { count ≤ PROCESSORS }
         requires usable { HasPlace count carried.now.task }
         requires unasked { scratch.old ≡ [] }
-        ensures settled { SettlesPlace (policies Q.R.discipline) count processor self.old carried.now (record { choice = result.choice; by = result.by; steps = result.steps; calls = scratch.new; attached = self.new.hooks.place }) }
+        ensures settled { SettlesPlace (policies Q.R.discipline) count processor self.old carried.now (decision_of (λ number. number) result scratch.new self.new.hooks.place) }
         ensures rest { self.new ≡ record self.old { hooks = record self.old.hooks { place = self.new.hooks.place } } }
         ensures board { Through B.leads board.old scratch.new board.new }
     {
@@ -103,7 +103,7 @@ impl<Q: RunQueue> Cpu<Q> {
         board: &mut B,
     ) -> Done
         requires version { Some version ≡ option_map (λ p. p.version) self.old.hooks.place.policy }
-        ensures answers { IfSome self.old.hooks.place.policy (λ p. Answers p (place_bytes facts.now version) self.old.hooks.place.maps self.old.running.last processor result.r0 self.new.hooks.place.maps result.steps scratch.new) }
+        ensures answers { AnswersAt self.old.hooks.place (place_bytes facts.now version) self.old.running.last processor result.r0 self.new.hooks.place.maps result.steps scratch.new }
         ensures within { IfSome self.old.hooks.place.policy (λ p. IsWithin p result.steps scratch.new) }
         ensures shapes { IfSome self.old.hooks.place.policy (λ p. HaveShapes p.shapes self.new.hooks.place.maps) }
         ensures rest { self.new ≡ record self.old { hooks = record self.old.hooks { place = record self.old.hooks.place { maps = self.new.hooks.place.maps } } } }
@@ -134,7 +134,7 @@ impl<Q: RunQueue> Cpu<Q> {
         requires distinct { HasDistinctIds self.old.running.queue }
         requires few { length self.old.running.queue < 2 ^ 32 }
         requires unasked { scratch.old ≡ [] }
-        ensures settled { SettlesPreempt (policies Q.R.discipline) processor self.old self.old.running.current (record { choice = as_number result.choice; by = result.by; steps = result.steps; calls = scratch.new; attached = self.new.hooks.preempt }) }
+        ensures settled { SettlesPreempt (policies Q.R.discipline) processor self.old self.old.running.current (decision_of as_number result scratch.new self.new.hooks.preempt) }
         ensures rest { self.new ≡ record self.old { hooks = record self.old.hooks { preempt = self.new.hooks.preempt } } }
         ensures board { Through B.leads board.old scratch.new board.new }
     {
@@ -168,8 +168,8 @@ impl<Q: RunQueue> Cpu<Q> {
         requires once { HasEachOnce (present_at self.old.running) }
         requires ids { HasLobbyIds (present_at self.old.running) }
         requires unasked { scratch.old ≡ [] }
-        ensures settled { SettlesPreempt (policies Q.R.discipline) processor self.old self.old.running.current (record { choice = as_number result.choice; by = result.by; steps = result.steps; calls = scratch.new; attached = self.new.hooks.preempt }) }
-        ensures decided { self.new ≡ decided_by (policies Q.R.discipline) self.old (record { choice = as_number result.choice; by = result.by; steps = result.steps; calls = scratch.new; attached = self.new.hooks.preempt }) }
+        ensures settled { SettlesPreempt (policies Q.R.discipline) processor self.old self.old.running.current (decision_of as_number result scratch.new self.new.hooks.preempt) }
+        ensures decided { self.new ≡ decided_by (policies Q.R.discipline) self.old (decision_of as_number result scratch.new self.new.hooks.preempt) }
         ensures board { Through B.leads board.old scratch.new board.new }
     {
         let preempted = self.choose_preempt(processor, scratch, board);
@@ -195,7 +195,7 @@ impl<Q: RunQueue> Cpu<Q> {
         requires few_from { size_of source.now ≤ TASKS }
         requires distinct { HasDistinctIds source.now.running.queue }
         requires unasked { scratch.old ≡ [] }
-        ensures settled { (choice : ℕ) × SettlesPull (policies Q.R.discipline) processor from self.old source.now (record { choice = choice; by = result.by; steps = result.steps; calls = scratch.new; attached = self.new.hooks.pull }) × (result.choice ≡ task_numbered choice) }
+        ensures settled { SettlesPulled (policies Q.R.discipline) processor from self.old source.now result scratch.new self.new.hooks.pull }
         ensures rest { self.new ≡ record self.old { hooks = record self.old.hooks { pull = self.new.hooks.pull } } }
         ensures board { Through B.leads board.old scratch.new board.new }
     {

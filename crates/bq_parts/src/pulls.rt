@@ -5,7 +5,7 @@ ghost use Rattle.bq_disc.specs.OneProcessor.{present_at};
 ghost use Rattle.bq_bpf.specs.Counters.{Through};
 ghost use Rattle.bq_parts.specs.Processors.{HasEachOnce, HasLobbyIds};
 ghost use Rattle.bq_parts.specs.Choices.{policies};
-ghost use Rattle.bq_parts.specs.Moves.{taken_from, without_task, with_pulled, started_if_idle};
+ghost use Rattle.bq_parts.specs.Moves.{after_pull, taken_from, without_task};
 ghost use Rattle.bq_parts.specs.Shares.{Pulls};
 
 use crate::{Cpu, Reply};
@@ -49,7 +49,7 @@ impl<Q: RunQueue> Cpu<Q> {
     fn take_task(&mut self, source: &mut Cpu<Q>, task: Option<u16>) -> Option<u16>
         requires fresh { IfSome (taken_from source.old.running task) (λ t. with_id t.id self.old.running.queue ≡ None) }
         ensures run { result ≡ id_of self.new.running.current }
-        ensures here { self.new ≡ record self.old { running = started_if_idle Q.R.discipline (with_pulled Q.R.discipline self.old.running (taken_from source.old.running task)) self.old.running.current } }
+        ensures here { self.new ≡ record self.old { running = after_pull Q.R.discipline self.old.running source.old.running task } }
         ensures there { source.new ≡ record source.old { running = without_task source.old.running task } }
     {
         let given = source.give(task);
