@@ -1,5 +1,5 @@
 -- The comments that name tasks: each is a line of a trace that says nothing.
-use Rattle.std.proofs.Common.{◌≡◌, ◌+◌, ◌-◌, ◌*◌, ◌^◌, ◌<◌, ◌≤◌, ℕ, zero, suc, None, Bool, true, false, cond, ltb, List, [], ◌∷◌, ◌++◌, String, Global, length, map, take, get_or, refl, sym, ap, ◌∙◌, arith, codes, decimal, string_bytes}
+use Rattle.std.proofs.Common.{◌≡◌, ◌+◌, ◌-◌, ◌*◌, ◌^◌, ◌<◌, ◌≤◌, ℕ, zero, suc, None, Bool, true, false, cond, ltb, List, [], ◌∷◌, ◌++◌, String, Global, length, map, take, get_or, refl, sym, ap, ◌∙◌, arith, codes, decimal, string_bytes, subst}
 use Rattle.std.specs.Prelude.{◌==◌, filter}
 use Rattle.std.specs.List.{AllByRecursion, list_all, range_with_len}
 use Rattle.std.specs.Str.{IsUtf8, chars, chars_after, continuation_len, lead_bits}
@@ -17,6 +17,9 @@ use Rattle.bq_workload.specs.declared.workload.Workload.{Workload}
 use Rattle.bq_workload.specs.Kinds.{tasks_in}
 use Rattle.bq_workload.specs.Soundness.{first_flaw}
 use Rattle.bq_workload.proofs.SoundLemmas.{sound-few, sound-named}
+use Rattle.bq_report.specs.Names.{Learns, NamedTasks}
+use Rattle.bq_timeline.specs.Comments.{Rests}
+use Rattle.bq_timeline.specs.declared.viewer.Viewer.{Viewer}
 use Rattle.bq_lines.specs.Bytes.{is_allowed}
 use Rattle.bq_lines.specs.Lines.{reading_of, reading_of_words}
 use Rattle.bq_lines.specs.declared.command.LineReading.TheVariants as says
@@ -26,36 +29,45 @@ use Rattle.bq_simulate.proofs.PlainWordLemmas.{allowed-spaced}
 use Rattle.bq_simulate.specs.Retelling.{IsComment}
 use Rattle.bq_simulate.specs.Texts.{ByHook, told_lines}
 use Rattle.bq_words.specs.Words.{is_space, words}
-use Rattle.bq_experiment.specs.Names.{comment_of, comments_from, comments_of, name_in, names_in, names_of, plain_name, plain_of}
+use Rattle.bq_experiment.specs.Names.{LearnsAll, comment_by, comment_of, comments_by, comments_from, comments_of, name_in, names_in, names_of, plain_name, plain_of}
 use Rattle.bq_experiment.specs.Traces.{skipped}
 
 -- the comments of some tasks, and of those behind them
-comments_from-append : (task : ℕ) (xs ys : List (List ℕ)) → comments_from task (xs ++ ys) ≡ comments_from task xs ++ comments_from (task + length xs) ys
-comments_from-append task [] ys = ap (λ n. comments_from n ys) (omega arith)
-comments_from-append task (x ∷ xs) ys =
+comments_by-append : (spell : List ℕ → List ℕ) (task : ℕ) (xs ys : List (List ℕ)) → comments_by spell task (xs ++ ys) ≡ comments_by spell task xs ++ comments_by spell (task + length xs) ys
+comments_by-append spell task [] ys = ap (λ n. comments_by spell n ys) (omega arith)
+comments_by-append spell task (x ∷ xs) ys =
     let behind : (task + 1) + length xs ≡ task + length (x ∷ xs) = omega arith in
-    ap (λ l. comment_of task x ∷ l) (comments_from-append (task + 1) xs ys) ∙ ap (λ n. comment_of task x ∷ (comments_from (task + 1) xs ++ comments_from n ys)) behind
+    ap (λ l. comment_by spell task x ∷ l) (comments_by-append spell (task + 1) xs ys) ∙ ap (λ n. comment_by spell task x ∷ (comments_by spell (task + 1) xs ++ comments_by spell n ys)) behind
 
 -- there is one for each
-pub length-comments_from : (task : ℕ) (names : List (List ℕ)) → length (comments_from task names) ≡ length names
-length-comments_from task [] = refl
-length-comments_from task (name ∷ names) = let h = length-comments_from (task + 1) names in omega arith
+pub length-comments_by : (spell : List ℕ → List ℕ) (task : ℕ) (names : List (List ℕ)) → length (comments_by spell task names) ≡ length names
+length-comments_by spell task [] = refl
+length-comments_by spell task (name ∷ names) = let h = length-comments_by spell (task + 1) names in omega arith
 
 -- one task more is named
-comments-more : (names : List (String Global)) (task : ℕ) (name : String Global) → task < length names
-    → comments_from 0 (map string_bytes (take (task + 1) names)) ≡ comments_from 0 (map string_bytes (take task names)) ++ comment_of task (string_bytes (get_or names task name)) ∷ []
-comments-more names task name low =
+pub comments-more : (spell : List ℕ → List ℕ) (names : List (String Global)) (task : ℕ) (name : String Global) → task < length names
+    → comments_by spell 0 (map string_bytes (take (task + 1) names)) ≡ comments_by spell 0 (map string_bytes (take task names)) ++ comment_by spell task (string_bytes (get_or names task name)) ∷ []
+comments-more spell names task name low =
     let before = map string_bytes (take task names) in
     let so_far : 0 + length before ≡ task = simp (length-map, length-take) (omega arith) in
-    ap (comments_from 0) (map_more string_bytes names task name low) ∙ comments_from-append 0 before (string_bytes (get_or names task name) ∷ [])
-    ∙ ap (λ n. comments_from 0 before ++ comment_of n (string_bytes (get_or names task name)) ∷ []) so_far
+    ap (comments_by spell 0) (map_more string_bytes names task name low) ∙ comments_by-append spell 0 before (string_bytes (get_or names task name) ∷ [])
+    ∙ ap (λ n. comments_by spell 0 before ++ comment_by spell n (string_bytes (get_or names task name)) ∷ []) so_far
 
 -- one more comment is reported
 pub told-more : (names : List (String Global)) (task : ℕ) (name : String Global) (line : List ℕ) → task < length names → line ≡ comment_of task (string_bytes (get_or names task name))
     → map skipped (comments_from 0 (map string_bytes (take task names))) ++ skipped line ∷ [] ≡ map skipped (comments_from 0 (map string_bytes (take (task + 1) names)))
 told-more names task name line low is =
     let before = comments_from 0 (map string_bytes (take task names)) in
-    ap (λ l. map skipped before ++ skipped l ∷ []) is ∙ sym (ap (map skipped) (comments-more names task name low) ∙ map-append skipped before (comment_of task (string_bytes (get_or names task name)) ∷ []))
+    ap (λ l. map skipped before ++ skipped l ∷ []) is ∙ sym (ap (map skipped) (comments-more plain_name names task name low) ∙ map-append skipped before (comment_of task (string_bytes (get_or names task name)) ∷ []))
+
+-- one comment more is learnt from
+pub learns_more : (xs : List (List ℕ)) (comment : List ℕ) (old mid new : NamedTasks) → LearnsAll xs old mid → Learns comment mid new → LearnsAll (xs ++ comment ∷ []) old new
+learns_more [] comment old mid new h k = (new, subst (λ (n : NamedTasks). Learns comment n new) h k, refl)
+learns_more (x ∷ xs) comment old mid new h k = (h.0, h.1, learns_more xs comment h.0 mid new h.2 k)
+
+-- what a viewer keeps it keeps on
+pub rests_on : (a b c : Viewer) → Rests a b → Rests b c → Rests a c
+rests_on a b c h k = record { schedule = k.schedule ∙ h.schedule; troubles = k.troubles ∙ h.troubles; asked = k.asked ∙ h.asked }
 
 -- a text has no more characters than bytes
 chars_after_short : (n c : ℕ) (bs : List ℕ) → length (chars_after n c bs) ≤ length bs + 1

@@ -1,10 +1,13 @@
 -- The names of a workload's tasks, and the comments of a trace that tell them.
-use Rattle.std.specs.Prelude.{ℕ, ◌+◌, ◌==◌, ◌||◌, List, [], ◌∷◌, ◌++◌, map, flat_map, chars, codes, if◌then◌else◌, string_bytes}
+use Rattle.std.specs.Prelude.{◌≡◌, ℕ, ◌+◌, ◌==◌, ◌||◌, List, [], ◌∷◌, ◌++◌, map, flat_map, chars, codes, if◌then◌else◌, string_bytes}
 use Rattle.std.specs.Char.{is_ascii_graphic}
 use Rattle.std.specs.Fmt.{decimal}
 use Rattle.std.specs.List.{range_with_len}
+use Rattle.std.proofs.Math.Utf8.{encodes}
 use Rattle.bq_workload.specs.declared.workload.TaskKind.{TaskKind}
 use Rattle.bq_workload.specs.declared.workload.Workload.{Workload}
+use Rattle.bq_report.specs.Names.{Learns, NamedTasks}
+use Rattle.bq_timeline.specs.Called.{shown_letter}
 
 -- the name of a task, by its number among those of its kind: the kind's, with that number where the kind has several
 abbrev pub name_in : TaskKind → ℕ → List ℕ
@@ -26,15 +29,35 @@ plain_of letter = if is_ascii_graphic letter || letter == 32 then letter else 63
 abbrev pub plain_name : List ℕ → List ℕ
 plain_name name = map plain_of (chars name)
 
--- the comment that names a task
-abbrev pub comment_of : ℕ → List ℕ → List ℕ
-comment_of task name = codes "# task " ++ (decimal task ++ (codes " " ++ plain_name name))
+-- a name as a form shows it: a control character stands as `?`
+abbrev pub shown_name : List ℕ → List ℕ
+shown_name name = encodes (map shown_letter (chars name))
+
+-- the comment that names a task, with its name spelled so
+abbrev pub comment_by : (List ℕ → List ℕ) → ℕ → List ℕ → List ℕ
+comment_by spell task name = codes "# task " ++ (decimal task ++ (codes " " ++ spell name))
 
 -- the comments that name tasks, numbered from this one on
-abbrev pub comments_from : ℕ → List (List ℕ) → List (List ℕ)
-comments_from task [] = []
-comments_from task (name ∷ names) = comment_of task name ∷ comments_from (task + 1) names
+abbrev pub comments_by : (List ℕ → List ℕ) → ℕ → List (List ℕ) → List (List ℕ)
+comments_by spell task [] = []
+comments_by spell task (name ∷ names) = comment_by spell task name ∷ comments_by spell (task + 1) names
 
--- the comments that name all tasks of a workload, in order
+-- the comment of a trace that names a task
+abbrev pub comment_of : ℕ → List ℕ → List ℕ
+comment_of = comment_by plain_name
+
+abbrev pub comments_from : ℕ → List (List ℕ) → List (List ℕ)
+comments_from = comments_by plain_name
+
+-- the comments of a trace that name all tasks of a workload, in order
 abbrev pub comments_of : Workload → List (List ℕ)
 comments_of w = comments_from 0 (names_of w.tasks.items)
+
+-- those that name them to a viewer
+abbrev pub shown_comments : Workload → List (List ℕ)
+shown_comments w = comments_by shown_name 0 (names_of w.tasks.items)
+
+-- names are learnt from these comments, one after another
+abbrev pub LearnsAll : List (List ℕ) → NamedTasks → NamedTasks → Type 0
+LearnsAll [] old new = new ≡ old
+LearnsAll (comment ∷ more) old new = (mid : NamedTasks) × Learns comment old mid × LearnsAll more mid new

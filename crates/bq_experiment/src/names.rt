@@ -1,11 +1,13 @@
 //! The names of a workload's tasks.
 ghost use Rattle.std.specs.Prelude.{◌≡◌, ◌<◌, ◌++◌, map, length, IfOk, OnOk, string_bytes};
+ghost use Rattle.bq_timeline.specs.Called.{shown_letter};
+ghost use Rattle.bq_timeline.specs.Comments.{Rests};
 ghost use Rattle.bq_trace.specs.TraceEvents.{TakesAll};
-ghost use Rattle.bq_experiment.specs.Names.{comments_of, name_in, names_in, names_of, plain_name, plain_of};
+ghost use Rattle.bq_experiment.specs.Names.{LearnsAll, comments_of, name_in, names_in, names_of, plain_name, plain_of, shown_comments, shown_name};
 ghost use Rattle.bq_experiment.specs.Traces.{skipped};
 
 use bq_report::Names;
-use bq_timeline::screen::Screen;
+use bq_timeline::viewer::Viewer;
 use bq_trace::{Sink, TraceEvent};
 use bq_workload::{TaskKind, Workload};
 use std::alloc::{AllocError, Global};
@@ -62,15 +64,21 @@ pub fn tell_names<S: Sink>(
     Ok(names.len() as u64)
 }
 
-/// Names each task on a screen, as the comments of a trace do; but a name that is not ASCII is shown as it is. How many tasks that are.
+/// Tells a viewer the name of each task, as the comments of a trace do; but a name that is not ASCII is shown as it is. How many tasks
+/// that are.
 pub(crate) fn show_names(
     alloc: Global,
     workload: &Workload,
-    screen: &mut Screen,
-) -> Result<u64, AllocError> {
+    viewer: &mut Viewer,
+) -> Result<u64, AllocError>
+    ensures rest { Rests viewer.old viewer.new }
+    ensures names { OnOk result (LearnsAll (shown_comments workload.now) viewer.old.screen.names viewer.new.screen.names) }
+    ensures lines { IfOk result (λ lines. lines ≡ length (shown_comments workload.now)) }
+{
     let comments = shown_comments(alloc, workload)?;
-    for comment in &comments {
-        screen.comment(comment.as_bytes())?;
+    'comments: for comment in &comments {
+        let line = comment.as_bytes();
+        viewer.take(0, &TraceEvent::Skipped { line })?;
     }
     Ok(comments.len() as u64)
 }
@@ -84,19 +92,24 @@ pub fn workload_names(alloc: Global, workload: &Workload) -> Result<Names, Alloc
     Ok(names)
 }
 
-/// The comments that name the tasks on a screen, a task a comment.
-fn shown_comments(alloc: Global, workload: &Workload) -> Result<Vec<String>, AllocError> {
+/// The comments that name the tasks to a viewer, a task a comment.
+fn shown_comments(alloc: Global, workload: &Workload) -> Result<Vec<String>, AllocError>
+    ensures { IfOk result (λ comments. map string_bytes comments.items ≡ shown_comments workload.now) }
+{
     let names = task_names(alloc, workload)?;
     let mut comments = Vec::new(alloc);
-    for (task, name) in names.iter().enumerate() {
+    'names: for (task, name) in names.iter().enumerate() {
         let name = shown_name(alloc, name.as_str())?;
-        comments.push(format!(in alloc; "# task {task} {name}")?)?;
+        let comment = format!(in alloc; "# task {task} {name}")?;
+        comments.push(comment)?;
     }
     Ok(comments)
 }
 
 /// The name as a form shows it: a control character stands as `?`.
-pub fn shown_name(alloc: Global, name: &str) -> Result<String, AllocError> {
+pub fn shown_name(alloc: Global, name: &str) -> Result<String, AllocError>
+    ensures { IfOk result (λ text. string_bytes text ≡ shown_name name.now) }
+{
     let mut text = String::new(alloc);
     for letter in name.chars() {
         text.push(shown_letter(letter))?;
@@ -104,7 +117,9 @@ pub fn shown_name(alloc: Global, name: &str) -> Result<String, AllocError> {
     Ok(text)
 }
 
-fn shown_letter(letter: char) -> char {
+fn shown_letter(letter: char) -> char
+    ensures { result ≡ shown_letter letter }
+{
     match letter {
         '\u{0}'..='\u{1f}' | '\u{7f}'..='\u{9f}' => '?',
         other => other,

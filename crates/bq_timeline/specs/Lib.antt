@@ -1,5 +1,6 @@
 pub mod Beginning
 pub mod Called
+pub mod Comments
 pub mod Notes
 pub mod Settings
 pub mod Shown

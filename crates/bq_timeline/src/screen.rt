@@ -164,7 +164,7 @@ impl Screen {
     }
 
     /// A comment may name a task.
-    pub fn comment(&mut self, line: &[u8]) -> Result<(), AllocError>
+    pub(crate) fn comment(&mut self, line: &[u8]) -> Result<(), AllocError>
         ensures learned { OnOk result (Learns line.now self.old.names self.new.names) }
         ensures asked { self.new.asked ≡ self.old.asked }
     {

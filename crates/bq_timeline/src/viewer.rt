@@ -4,6 +4,8 @@ ghost use Rattle.bq_timeline.specs.Notes.{absent_notes, last_notes};
 ghost use Rattle.bq_report.specs.Names.{name_of};
 ghost use Rattle.bq_timeline.specs.Beginning.{BeginsWith, Ends};
 ghost use Rattle.bq_timeline.specs.Timelines.{Keeps};
+ghost use Rattle.bq_timeline.specs.Comments.{Hears, IsSkipped, Rests};
+ghost use Rattle.bq_trace.specs.Borrowed.{event_of};
 ghost use Rattle.std.specs.Prelude.{◌≡◌, ◌++◌, ℕ, OnOk, string_bytes};
 
 use crate::screen::Screen;
@@ -97,7 +99,13 @@ impl Viewer {
 impl Sink for Viewer {
     ghost takes = { λ old n traced new. Keeps old traced new };
 
-    fn take(&mut self, number: u64, event: &TraceEvent<'_>) -> Result<(), AllocError> {
+    fn take(&mut self, number: u64, event: &TraceEvent<'_>) -> Result<(), AllocError>
+        ensures kept { OnOk result (Keeps self.old (event_of event.now) self.new) }
+
+        // A comment changes only the names, also where memory runs out.
+        ensures rest { IsSkipped (event_of event.now) → Rests self.old self.new }
+        ensures heard { OnOk result (Hears (event_of event.now) self.old.screen.names self.new.screen.names) }
+    {
         match event {
             TraceEvent::Opened { rule, size } => {
                 let schedule = Schedule::new(self.alloc, size.processors())?;

@@ -5,7 +5,7 @@ use Rattle.bq_trace.specs.TraceEvents.{Told, TakesAll}
 use Rattle.bq_trace.proofs.TakingLemmas.{TakesAll-append}
 use Rattle.bq_experiment.specs.Names.{comment_of, comments_from, names_of, plain_name}
 use Rattle.bq_experiment.specs.Traces.{skipped}
-use Rattle.bq_experiment.proofs.NameLemmas.{length-comments_from, told-more}
+use Rattle.bq_experiment.proofs.NameLemmas.{length-comments_by, told-more}
 use Rattle.bq_experiment.proofs.names.tell_names.Goals as goal
 
 pub names-preserved : goal.names-preserved
@@ -34,4 +34,4 @@ returns-clause-lines g c =
     let all = c.deref-name-items.result.now in
     let names : map string_bytes all ≡ names_of c.args.workload.now.tasks.items = ap (λ (l : List (String Global)). map string_bytes l) c.deref-name-items.ensures.value ∙ c.in_ok-names.ensures in
     c.len.ensures ∙ sym c.deref-name-items.ensures.len ∙ sym (length-map all string_bytes) ∙ ap (λ (l : List (List ℕ)). length l) names
-    ∙ sym (length-comments_from 0 (names_of c.args.workload.now.tasks.items))
+    ∙ sym (length-comments_by plain_name 0 (names_of c.args.workload.now.tasks.items))
