@@ -14,7 +14,8 @@ abbrev pub IsPassedOn : {S : Type 0} → (S → List ℕ) → (S → S → Type 
 IsPassedOn pending Clears old was new now = ((new ≡ old) × (now ≡ was)) ⊎ Empties pending Clears old was new now
 
 -- the sink takes an event, and then its text is passed on or kept
-pub record TakesAndPasses {S : Type 0} (takes : S → ℕ → TraceEvent → S → Type 0) (pending : S → List ℕ) (Clears : S → S → Type 0) (old : S) (was : Option (List ℕ)) (n : ℕ) (traced : TraceEvent) (new : S) (now : Option (List ℕ)) : Type 0 where
+pub record TakesAndPasses {S : Type 0} (takes : S → ℕ → TraceEvent → S → Type 0) (pending : S → List ℕ) (Clears : S → S → Type 0)
+    (old : S) (was : Option (List ℕ)) (n : ℕ) (traced : TraceEvent) (new : S) (now : Option (List ℕ)) : Type 0 where
   pub mid : S
   pub taken : takes old n traced mid
   pub passed : IsPassedOn pending Clears mid was new now

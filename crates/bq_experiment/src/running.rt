@@ -62,7 +62,8 @@ pub fn run_as<W: Write + Drop, E: Write + Drop>(
     most: u64,
     streams: Streams<'_, W, E>,
 ) -> Ran<W>
-    ensures written { IfOk result.outcome (λ notes. IsWritten shown workload.now policies.now most (W.contents streams.entry.output) (W.contents (inner_of result.output)) (string_bytes notes)) }
+    ensures written { IfOk result.outcome (λ notes. IsWritten shown workload.now policies.now most
+        (W.contents streams.entry.output) (W.contents (inner_of result.output)) (string_bytes notes)) }
 
     // After a run that came to its end no write has failed: the first failure ends a run.
     ensures writes { OnOk result.outcome (failures_of result.output ≡ 0) }
@@ -108,7 +109,8 @@ fn as_trace<W: Write + Drop, E: Write + Drop>(
     most: u64,
     streams: Streams<'_, W, E>,
 ) -> Ran<W>
-    ensures written { IfOk result.outcome (λ notes. IsWritten shown_as.Trace workload.now policies.now most (W.contents streams.entry.output) (W.contents (inner_of result.output)) (string_bytes notes)) }
+    ensures written { IfOk result.outcome (λ notes. IsWritten shown_as.Trace workload.now policies.now most
+        (W.contents streams.entry.output) (W.contents (inner_of result.output)) (string_bytes notes)) }
     ensures writes { OnOk result.outcome (failures_of result.output ≡ 0) }
     ensures fault { IfErr result.outcome (λ e. IsRunFault policies.now.loaded workload.now most e (failures_of result.output)) }
 {
@@ -135,7 +137,8 @@ fn write_trace<W: Write, E: Write>(
     requires empty { string_bytes run.old.sink.sink.text ≡ [] }
     requires images { image_at run.old.sink.sink.images ≡ image_for policies.now.images }
     requires over { run.old.is_over ≡ false }
-    ensures written { OnOk result (WritesTrace workload.now policies.now.loaded (image_for policies.now.images) run.old.left (W.contents (inner_of run.old.sink.output)) (W.contents (inner_of run.new.sink.output))) }
+    ensures written { OnOk result (WritesTrace workload.now policies.now.loaded (image_for policies.now.images) run.old.left
+        (W.contents (inner_of run.old.sink.output)) (W.contents (inner_of run.new.sink.output))) }
     ensures writes { OnOk result (failures_of run.new.sink.output ≡ 0) }
     ensures fault { IfErr result (λ e. IsRunFault policies.now.loaded workload.now run.old.left e (failures_of run.new.sink.output)) }
 {
@@ -158,7 +161,8 @@ fn simulate_before<S: Sink + Enough>(
 ) -> Result<(), SimulateFault>
     ensures told { OnOk result (Gets S.takes sink.old sink.new (IsNamed workload.now (IsSimulation policies.now.loaded workload.now))) }
     ensures wants { OnOk result (S.sated sink.new ≡ false) }
-    ensures enough { IfErr result (λ e. e ≡ why.Enough → (first_flaw workload.now ≡ None) × HasEnough S.takes S.sated (IsNamed workload.now (IsFollowed true policies.now.loaded workload.now)) sink.old sink.new) }
+    ensures enough { IfErr result (λ e. e ≡ why.Enough → (first_flaw workload.now ≡ None)
+        × HasEnough S.takes S.sated (IsNamed workload.now (IsFollowed true policies.now.loaded workload.now)) sink.old sink.new) }
     ensures sound { OnOk result (first_flaw workload.now ≡ None) }
     ensures of_images { OnOk result (AreOfTheirImages policies.now) }
     ensures flaw { IfErr result (TellsNoOther workload.now) }
