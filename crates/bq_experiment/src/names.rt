@@ -1,12 +1,12 @@
 //! The names of a workload's tasks.
 ghost use Rattle.std.specs.Prelude.{◌≡◌, ◌<◌, ◌++◌, map, length, IfOk, OnOk, string_bytes};
-ghost use Rattle.bq_timeline.specs.Called.{shown_letter};
 ghost use Rattle.bq_timeline.specs.Comments.{Rests};
 ghost use Rattle.bq_trace.specs.TraceEvents.{TakesAll};
 ghost use Rattle.bq_experiment.specs.Names.{LearnsAll, comments_of, name_in, names_in, names_of, plain_name, plain_of, shown_comments, shown_name};
 ghost use Rattle.bq_experiment.specs.Traces.{skipped};
 
 use bq_report::Names;
+use bq_timeline::called::shown_letter;
 use bq_timeline::viewer::Viewer;
 use bq_trace::{Sink, TraceEvent};
 use bq_workload::{TaskKind, Workload};
@@ -100,8 +100,8 @@ fn shown_comments(alloc: Global, workload: &Workload) -> Result<Vec<String>, All
     let mut comments = Vec::new(alloc);
     'names: for (task, name) in names.iter().enumerate() {
         let name = shown_name(alloc, name.as_str())?;
-        let comment = format!(in alloc; "# task {task} {name}")?;
-        comments.push(comment)?;
+        let line = format!(in alloc; "# task {task} {name}")?;
+        comments.push(line)?;
     }
     Ok(comments)
 }
@@ -115,15 +115,6 @@ pub fn shown_name(alloc: Global, name: &str) -> Result<String, AllocError>
         text.push(shown_letter(letter))?;
     }
     Ok(text)
-}
-
-fn shown_letter(letter: char) -> char
-    ensures { result ≡ shown_letter letter }
-{
-    match letter {
-        '\u{0}'..='\u{1f}' | '\u{7f}'..='\u{9f}' => '?',
-        other => other,
-    }
 }
 
 /// The name as a line of a trace can have it: a character that is no printable ASCII stands as `?`.

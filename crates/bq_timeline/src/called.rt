@@ -80,7 +80,8 @@ fn quoted(alloc: Global, name: &str) -> Result<String, AllocError>
     Ok(text)
 }
 
-fn shown_letter(letter: char) -> char
+/// The letter as a message shows it: `?` for a control character.
+pub fn shown_letter(letter: char) -> char
     ensures { result ≡ shown_letter letter }
 {
     match letter {

@@ -10,11 +10,11 @@ names-preserved c =
     let all = c.deref-name-items.result.now in
     let task = c.names.task-counter in
     let name = c.name-item.result in
-    let comment = c.in_ok-comment.comment in
+    let comment = c.in_ok-line.line in
     let before = comments_by shown_name 0 (map string_bytes (take task all)) in
     let shown = c.in_ok-name.ensures ∙ ap shown_name (c.as_str.ensures.value ∙ ap (λ (s : String Global). string_bytes s) c.name-item.is) in
     let line : string_bytes comment ≡ comment_by shown_name task (string_bytes (get_or all task name)) =
-    c.in_ok-comment.ensures.ok ∙ ap (λ (n : List ℕ). codes "# task " ++ (decimal task ++ (codes " " ++ n))) shown in
+    c.in_ok-line.ensures.ok ∙ ap (λ (n : List ℕ). codes "# task " ++ (decimal task ++ (codes " " ++ n))) shown in
     ap (λ (l : List (String Global)). map string_bytes l) c.in_ok-push.ensures.items ∙ map_push string_bytes c.names.comments.items comment
     ∙ ap (λ (l : List (List ℕ)). l ++ string_bytes comment ∷ []) c.names.invariant ∙ ap (λ (l : List ℕ). before ++ l ∷ []) line ∙ sym (comments-more shown_name all task name c.names-test.true)
 
