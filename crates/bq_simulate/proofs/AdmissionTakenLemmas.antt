@@ -113,9 +113,11 @@ admit_kept d w v a c kind calls r h few asleep low step =
 
 -- so an admission is taken
 pub admissions_are_taken : AdmissionsAreTaken
-admissions_are_taken d w a number home kind h few numbers first =
+admissions_are_taken d w a number home kind h may =
     let n : ℕ = length a.by_task in
-    let its = numbers_of kind numbers in
+    let few = may.few in
+    let first = may.first in
+    let its = numbers_of kind may.numbers in
     let absent = subst (λ o. StandsAs o (entry w n)) (ap state_of (slice_get_past a.by_task n (omega arith))) (h.mirrors.tasks n) in
     record {
       taken =

@@ -60,7 +60,7 @@ pub calls_fail_for_memory : CallsFailForMemory
 calls_fail_for_memory = record {
   draws = λ d. for_memory d Draw tt refl;
   installs = λ d a processor generation policy h low newer drawn. for_memory d (Install processor policy.hook generation (Some policy)) tt (installs_are_taken (discipline_of d.machine.rule) any_periods (world_of d) a processor generation policy h low newer drawn).taken;
-  admissions = λ d a home kind h few numbers first. for_memory d (Admit _ kind.nice kind.mask kind.slice) tt (admissions_are_taken (discipline_of d.machine.rule) (world_of d) a 0 home kind h few numbers first).taken;
+  admissions = λ d a home kind h may. for_memory d (Admit _ kind.nice kind.mask kind.slice) tt (admissions_are_taken (discipline_of d.machine.rule) (world_of d) a 0 home kind h may).taken;
   ticks = λ d a processor now ready low. for_memory d (Tick processor now) ready.reading (ticks_are_taken (discipline_of d.machine.rule) any_periods (world_of d) a processor now ready.agrees low).taken;
   blocks = λ d a processor task now h reading low runs. for_memory d (Block processor now) reading (blocks_are_taken (discipline_of d.machine.rule) any_periods (world_of d) a processor task now h low runs).taken;
   pulls = λ d a processor from now ready low there apart. for_memory d (Pull processor from now) ready.reading (pulls_are_taken (discipline_of d.machine.rule) any_periods (world_of d) a processor from now ready.agrees low there apart).taken;

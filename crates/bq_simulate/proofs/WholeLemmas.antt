@@ -15,7 +15,7 @@ use Rattle.bq_simulate.specs.declared.simulation.Simulation.{Simulation}
 use Rattle.bq_workload.specs.Bounds.{most_steps, steps_at_once}
 use Rattle.bq_simulate.specs.Chronicles.{Book, Deed, Lives, after_deeds}
 use Rattle.bq_workload.specs.Next.{IsAgreed, NothingComes}
-use Rattle.bq_simulate.specs.Simulations.{Begins, Goes, HasFirsts, IsFollowed, IsSimulation, IsTooLong, Lived, LivedFrom, Proceeds, ProceedsBy, Runs, RunsOn, RunsOut, book_of, opening_book, periods_of}
+use Rattle.bq_simulate.specs.Simulations.{Begins, Goes, HasFirsts, IsFollowed, IsSimulation, IsTooLong, Lived, LivedFrom, Proceeds, ProceedsBy, ProceedsIn, ProceedsOut, Runs, RunsOn, RunsOut, book_of, opening_book, periods_of}
 use Rattle.bq_simulate.specs.Steps.{AreAllAdmitted, AreAllMet, AreInstalled, AreMet, Opens}
 use Rattle.bq_simulate.proofs.DeedLemmas.{Goes-join, Goes-weaker, Lives-append, drives-of-lives}
 use Rattle.bq_simulate.proofs.OrderLemmas.{book-after}
@@ -110,13 +110,6 @@ begun takes b c Are w d s t new lived =
       lives = subst P new.driver (subst Q opens (subst R new.periods (subst T new.seed met.tells.holds)));
     }
 
--- policies are installed and tasks admitted, and then some things come due, or just that many
-abbrev Proceed : List Accepted → Workload → By
-Proceed policies w seed periods = Proceeds policies (processors_in w.machine.size) w.tasks.items seed periods (most_steps w) w.machine.duration
-
-abbrev ProceedBy : List Accepted → Workload → By
-ProceedBy policies w seed periods = ProceedsBy policies (processors_in w.machine.size) w.tasks.items seed periods (most_steps w) w.machine.duration
-
 -- what is reported of the opening machine, and then of the deeds by which it goes on
 told-begun : {S : Type 0} (takes : S → ℕ → TraceEvent → S → Type 0) (a b c : S) (Are : By) (w : Workload) (d : Driver) (s t : Simulation) (Holds : Told → Type 0)
     → (first : Gets takes a b (λ told. Starts w.machine.rule w.machine.size told d)) → (begun : Begun takes Are w d b s c t) → Holds (first.told ++ begun.goes.tells.told) → Gets takes a c Holds
@@ -128,7 +121,7 @@ told-begun takes a b c Are w d s t Holds first begun holds = record {
 
 -- how it begins, by the deeds that open it and some that come due
 abbrev beginning : {S : Type 0} (takes : S → ℕ → TraceEvent → S → Type 0) (a b c : S) (Are : By) (policies : List Accepted) (w : Workload) (d : Driver) (s t : Simulation)
-    → (first : Gets takes a b (λ told. Starts w.machine.rule w.machine.size told d)) → (begun : Begun takes Are w d b s c t) → Proceed policies w w.machine.seed (periods_of w.machine) (opening_book w.machine) begun.goes.deeds → Begins policies w (first.told ++ begun.goes.tells.told)
+    → (first : Gets takes a b (λ told. Starts w.machine.rule w.machine.size told d)) → (begun : Begun takes Are w d b s c t) → ProceedsIn policies w w.machine.seed (periods_of w.machine) (opening_book w.machine) begun.goes.deeds → Begins policies w (first.told ++ begun.goes.tells.told)
 beginning takes a b c Are policies w d s t first begun proceeds =
     let kinds = w.tasks.items in
     let machine = w.machine in
@@ -149,8 +142,8 @@ beginning takes a b c Are policies w d s t first begun proceeds =
 
 -- some of what comes due is met
 begins-of : {S : Type 0} (takes : S → ℕ → TraceEvent → S → Type 0) (a b c : S) (policies : List Accepted) (w : Workload) (d : Driver) (s t : Simulation)
-    → Gets takes a b (λ told. Starts w.machine.rule w.machine.size told d) → Begun takes (Proceed policies w) w d b s c t → Gets takes a c (Begins policies w)
-begins-of takes a b c policies w d s t first begun = told-begun takes a b c (Proceed policies w) w d s t (Begins policies w) first begun (beginning takes a b c (Proceed policies w) policies w d s t first begun begun.are)
+    → Gets takes a b (λ told. Starts w.machine.rule w.machine.size told d) → Begun takes (ProceedsIn policies w) w d b s c t → Gets takes a c (Begins policies w)
+begins-of takes a b c policies w d s t first begun = told-begun takes a b c (ProceedsIn policies w) w d s t (Begins policies w) first begun (beginning takes a b c (ProceedsIn policies w) policies w d s t first begun begun.are)
 
 all-of-64-bits : (duration at_once : ℕ) → 2 ^ 64 ≤ (duration + 1) * at_once → min ((duration + 1) * at_once) (2 ^ 64 - 1) ≡ 2 ^ 64 - 1
 all-of-64-bits duration at_once large = omega (arith, large)
@@ -159,9 +152,9 @@ all-of-64-bits duration at_once large = omega (arith, large)
 pub too-long-of : {S : Type 0} (takes : S → ℕ → TraceEvent → S → Type 0) (a b c : S) (policies : List Accepted) (w : Workload) (d : Driver) (s t : Simulation)
     → Gets takes a b (λ told. Starts w.machine.rule w.machine.size told d) → IsNew w d s → 2 ^ 64 ≤ (w.machine.duration + 1) * steps_at_once w → RunsOut takes policies w b s c t → Gets takes a c (IsTooLong policies w)
 too-long-of takes a b c policies w d s t first new large runs =
-    let begun = begun takes b c (ProceedBy policies w) w d s t new runs in
+    let begun = begun takes b c (ProceedsOut policies w) w d s t new runs in
     let many = begun.are.1 ∙ all-of-64-bits w.machine.duration (steps_at_once w) large in
-    told-begun takes a b c (ProceedBy policies w) w d s t (IsTooLong policies w) first begun (record { begins = beginning takes a b c (ProceedBy policies w) policies w d s t first begun begun.are.0; many = many })
+    told-begun takes a b c (ProceedsOut policies w) w d s t (IsTooLong policies w) first begun (record { begins = beginning takes a b c (ProceedsOut policies w) policies w d s t first begun begun.are.0; many = many })
 
 -- what is reported of the opening machine, and then of all deeds to the end
 simulation-of : {S : Type 0} (takes : S → ℕ → TraceEvent → S → Type 0) (a b c : S) (policies : List Accepted) (w : Workload) (d : Driver) (s t : Simulation)
@@ -171,7 +164,7 @@ simulation-of takes a b c policies w d s t first new runs =
     let kinds = w.tasks.items in
     let machine = w.machine in
     let ended = runs.ended in
-    let begun = begun takes b runs.sink (Proceed policies w) w d s ended new runs.proceeds in
+    let begun = begun takes b runs.sink (ProceedsIn policies w) w d s ended new runs.proceeds in
     let met = begun.goes in
     let ticks = runs.ticks met.after met.streams met.firsts in
     let stood = book_of ended met.after in
@@ -215,11 +208,11 @@ simulation-of takes a b c policies w d s t first new runs =
 -- the same, where the sink may have enough before
 pub followed-of : {S : Type 0} (takes : S → ℕ → TraceEvent → S → Type 0) (sated : S → Bool) (a b c : S) (policies : List Accepted) (w : Workload) (d : Driver) (s t : Simulation)
     → Gets takes a b (λ told. Starts w.machine.rule w.machine.size told d) → IsNew w d s
-    → RunsOn takes sated policies w.tasks.items (most_steps w) w.machine.duration (processors_in w.machine.size) b s c t → Gets takes a c (IsFollowed (sated c) policies w)
+    → RunsOn takes sated policies w b s c t → Gets takes a c (IsFollowed (sated c) policies w)
 followed-of takes sated a b c policies w d s t first new runs =
     elim runs [
       | inl whole ↦ let g = simulation-of takes a b c policies w d s t first new whole in record { told = g.told; taken = g.taken; holds = inl g.holds }
-      | inr part ↦ let g = begins-of takes a b c policies w d s t first (begun takes b c (Proceed policies w) w d s t new part.1) in record { told = g.told; taken = g.taken; holds = inr (part.0, g.holds) }
+      | inr part ↦ let g = begins-of takes a b c policies w d s t first (begun takes b c (ProceedsIn policies w) w d s t new part.1) in record { told = g.told; taken = g.taken; holds = inr (part.0, g.holds) }
     ]
 
 -- a sink that has not enough got all of it

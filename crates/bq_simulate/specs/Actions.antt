@@ -14,6 +14,7 @@ use Rattle.bq_workload.specs.declared.progress.TaskState.{TaskState}
 use Rattle.bq_workload.specs.declared.progress.TaskState.TheVariants.{Asleep, Waiting, Over}
 use Rattle.bq_workload.specs.TaskProgress.{advanced, begun}
 use Rattle.bq_workload.specs.Kinds.{count_of}
+use Rattle.bq_simulate.specs.declared.acting.Doing.{Doing}
 
 -- the action at which a task of this kind stands; none where it has done all as often as it is to
 abbrev pub action_at : TaskKind → TaskProgress → Option Action
@@ -79,6 +80,10 @@ aim_of kinds c action = None
 
 abbrev pub aimed : List TaskKind → TaskProgress → Option ℕ
 aimed kinds c = aim_of kinds c (next_action kinds c)
+
+-- the task to which the wake comes of one that does this
+abbrev pub aim_in : List TaskKind → Doing → Option ℕ
+aim_in kinds doing = aim_of kinds doing.before doing.action
 
 -- the kind of a task, by their numbers: its tasks follow those of the kinds before it
 pub record IsOfKind (kinds : List TaskKind) (task number : ℕ) : Type 0 where

@@ -19,7 +19,6 @@ use Rattle.bq_workload.specs.declared.workload.Workload.{Workload}
 use Rattle.bq_workload.specs.declared.processor_state.ProcessorState.{ProcessorState}
 use Rattle.bq_workload.specs.Accounts.{Accounts, beaten, looked, switched}
 use Rattle.bq_workload.specs.Next.{IsNext}
-use Rattle.bq_workload.specs.Soundness.{IsFirstAllowed, has_numbers}
 use Rattle.bq_workload.specs.TaskProgress.{fresh}
 use Rattle.bq_verify.specs.Accepted.{Accepted}
 use Rattle.bq_simulate.specs.Agreement.{AgreesBut, AgreesWith, IsAnswerTo, IsOnTime, IsReadable, can_run, run_at}
@@ -30,7 +29,7 @@ use Rattle.bq_simulate.specs.declared.driver.Driver.{Driver}
 use Rattle.bq_simulate.specs.Chronicles.{Book, Deed, Lives, after_event, is_busy}
 use Rattle.bq_simulate.specs.Drives.{IsDriveFault, IsWakeFault, Places, count_entered, placed_at, reading_of}
 use Rattle.bq_simulate.specs.Simulations.{Begins, IsSimulation}
-use Rattle.bq_simulate.specs.Steps.{Meet}
+use Rattle.bq_simulate.specs.Steps.{IsAdmissible, Meet}
 
 -- an event is not refused, and however it is done this holds of its answer and of the world that it leaves
 pub record IsTaken (d : Discipline) (w : World) (event : Event) (Leaves : Reply → World → Type 0) : Type 0 where
@@ -43,13 +42,14 @@ IsKept d periods w a event = IsTaken d w event (λ r v. AgreesWith v (after_even
 
 -- A tick of any processor is taken.
 abbrev pub TicksAreTaken : Type 0
-TicksAreTaken = (d : Discipline) (periods : Periods) (w : World) (a : Accounts) (processor now : ℕ) → AgreesWith w a → processor < count_in w → IsKept d periods w a (Tick processor now)
+TicksAreTaken =
+    (d : Discipline) (periods : Periods) (w : World) (a : Accounts) (processor now : ℕ) → AgreesWith w a → processor < count_in w → IsKept d periods w a (Tick processor now)
 
 -- A block is taken of the task that runs at a processor, once its state says that it sleeps.
 abbrev pub BlocksAreTaken : Type 0
 BlocksAreTaken =
-    (d : Discipline) (periods : Periods) (w : World) (a : Accounts) (processor task now : ℕ) → AgreesBut task w a → processor < count_in w → run_at a.by_processor processor ≡ Some task →
-    IsKept d periods w a (Block processor now)
+    (d : Discipline) (periods : Periods) (w : World) (a : Accounts) (processor task now : ℕ) → AgreesBut task w a → processor < count_in w →
+    run_at a.by_processor processor ≡ Some task → IsKept d periods w a (Block processor now)
 
 -- A pull of one processor from another is taken.
 abbrev pub PullsAreTaken : Type 0
@@ -65,7 +65,8 @@ DrawsAreTaken = (d : Discipline) (periods : Periods) (w : World) (a : Accounts) 
 abbrev pub InstallsAreTaken : Type 0
 InstallsAreTaken =
     (d : Discipline) (periods : Periods) (w : World) (a : Accounts) (processor generation : ℕ) (policy : Accepted) → AgreesWith w a → processor < count_in w →
-    (at_hook policy.hook (processor_at w processor).hooks).generation < generation → generation ≤ w.drawn → IsKept d periods w a (Install processor policy.hook generation (Some policy))
+    (at_hook policy.hook (processor_at w processor).hooks).generation < generation → generation ≤ w.drawn →
+    IsKept d periods w a (Install processor policy.hook generation (Some policy))
 
 -- one task more
 abbrev pub with_task : TaskProgress → Accounts → Accounts
@@ -74,7 +75,7 @@ with_task c a = record a { by_task = a.by_task ++ c ∷ [] }
 -- The next task of a kind whose numbers are in their ranges is admitted, and is there: its home is the first processor that it may use.
 abbrev pub AdmissionsAreTaken : Type 0
 AdmissionsAreTaken =
-    (d : Discipline) (w : World) (a : Accounts) (number home : ℕ) (kind : TaskKind) → AgreesWith w a → length a.by_task < 1024 → has_numbers kind ≡ true → IsFirstAllowed (count_in w) kind.mask home →
+    (d : Discipline) (w : World) (a : Accounts) (number home : ℕ) (kind : TaskKind) → AgreesWith w a → IsAdmissible (count_in w) (length a.by_task) home kind →
     IsTaken d w (Admit (length a.by_task) kind.nice kind.mask kind.slice) (λ r v. AgreesWith v (with_task (fresh number home kind.start) a))
 
 -- the processor on which a task was placed takes in just that
@@ -85,7 +86,8 @@ IsTakenIn d periods a now placed w =
 -- A wake of a task that sleeps is taken: it begins, it ends, and the task is taken in where it was placed.
 abbrev pub WakesAreTaken : Type 0
 WakesAreTaken =
-    (d : Discipline) (periods : Periods) (w : World) (a : Accounts) (from task now : ℕ) (c : TaskProgress) → AgreesWith w a → from < count_in w → slice_get a.by_task task ≡ Some c → can_run c.task_state ≡ false →
+    (d : Discipline) (periods : Periods) (w : World) (a : Accounts) (from task now : ℕ) (c : TaskProgress) → AgreesWith w a → from < count_in w →
+    slice_get a.by_task task ≡ Some c → can_run c.task_state ≡ false →
     IsTaken d w (BeginWake from task) (λ begun v. IsTaken d v (EndWake from now) (IsTakenIn d periods (after_event periods (BeginWake from task) begun a) now))
 
 -- the machine's world and what is kept of it agree
@@ -95,7 +97,8 @@ Agree d b = AgreesWith d.machine.world b.accounts
 -- They agree after each thing that is met, if they did before.
 abbrev pub MeetingsAgree : Type 0
 MeetingsAgree =
-    (kinds : List TaskKind) (seed : ℕ) (periods : Periods) (d e : Driver) (b c : Book) (due : Due) (now : ℕ) (deeds : List Deed) (told : Told) → Meet due now deeds → Lives kinds seed periods d b deeds told e c → Agree d b → Agree e c
+    (kinds : List TaskKind) (seed : ℕ) (periods : Periods) (d e : Driver) (b c : Book) (due : Due) (now : ℕ) (deeds : List Deed) (told : Told) →
+    Meet due now deeds → Lives kinds seed periods d b deeds told e c → Agree d b → Agree e c
 
 -- So they agree at the end of each simulation, and wherever one has been followed to.
 pub record SimulationsAgree : Type 0 where
@@ -104,7 +107,8 @@ pub record SimulationsAgree : Type 0 where
 
 -- An event whose reading can be given, and which is not refused, fails only if memory is wanted.
 abbrev pub OnlyMemoryIsWanted : Type 0
-OnlyMemoryIsWanted = (d : Driver) (event : Event) (why : DriveFault) → IsReadable d.now (reading_of event) → refusal d.machine.world event ≡ None → IsDriveFault d event why → why ≡ OutOfMemory
+OnlyMemoryIsWanted =
+    (d : Driver) (event : Event) (why : DriveFault) → IsReadable d.now (reading_of event) → refusal d.machine.world event ≡ None → IsDriveFault d event why → why ≡ OutOfMemory
 
 -- an event of a driver fails only if memory is wanted
 abbrev pub FailsForMemory : Driver → Event → Type 0
@@ -119,19 +123,20 @@ pub record IsReady (d : Driver) (a : Accounts) (now : ℕ) : Type 0 where
 pub record CallsFailForMemory : Type 0 where
   pub draws : (d : Driver) → FailsForMemory d Draw
   pub installs : (d : Driver) (a : Accounts) (processor generation : ℕ) (policy : Accepted) → AgreesWith d.machine.world a → processor < count_in d.machine.world →
-      (at_hook policy.hook (processor_at d.machine.world processor).hooks).generation < generation → generation ≤ d.machine.world.drawn → FailsForMemory d (Install processor policy.hook generation (Some policy))
-  pub admissions : (d : Driver) (a : Accounts) (home : ℕ) (kind : TaskKind) → AgreesWith d.machine.world a → length a.by_task < 1024 → has_numbers kind ≡ true →
-      IsFirstAllowed (count_in d.machine.world) kind.mask home → FailsForMemory d (Admit (length a.by_task) kind.nice kind.mask kind.slice)
+      (at_hook policy.hook (processor_at d.machine.world processor).hooks).generation < generation → generation ≤ d.machine.world.drawn →
+      FailsForMemory d (Install processor policy.hook generation (Some policy))
+  pub admissions : (d : Driver) (a : Accounts) (home : ℕ) (kind : TaskKind) → AgreesWith d.machine.world a →
+      IsAdmissible (count_in d.machine.world) (length a.by_task) home kind → FailsForMemory d (Admit (length a.by_task) kind.nice kind.mask kind.slice)
   pub ticks : (d : Driver) (a : Accounts) (processor now : ℕ) → IsReady d a now → processor < count_in d.machine.world → FailsForMemory d (Tick processor now)
   pub blocks : (d : Driver) (a : Accounts) (processor task now : ℕ) → AgreesBut task d.machine.world a → IsReadable d.now (Some now) → processor < count_in d.machine.world →
       run_at a.by_processor processor ≡ Some task → FailsForMemory d (Block processor now)
   pub pulls : (d : Driver) (a : Accounts) (processor from now : ℕ) → IsReady d a now → processor < count_in d.machine.world → from < count_in d.machine.world → processor ≢ from →
       FailsForMemory d (Pull processor from now)
-  pub wakes : (d : Driver) (a : Accounts) (from task now : ℕ) (c : TaskProgress) (why : DriveFault) → IsReady d a now → from < count_in d.machine.world → slice_get a.by_task task ≡ Some c →
-      can_run c.task_state ≡ false → IsWakeFault d from task now why → why ≡ OutOfMemory
+  pub wakes : (d : Driver) (a : Accounts) (from task now : ℕ) (c : TaskProgress) (why : DriveFault) → IsReady d a now →
+      from < count_in d.machine.world → slice_get a.by_task task ≡ Some c → can_run c.task_state ≡ false → IsWakeFault d from task now why → why ≡ OutOfMemory
   -- where a wake has placed its task it can be taken in
-  pub drains : (d e : Driver) (a : Accounts) (from task to now : ℕ) (c : TaskProgress) (told : Told) → IsReady d a now → from < count_in d.machine.world → slice_get a.by_task task ≡ Some c →
-      can_run c.task_state ≡ false → Places d from task now to told e → FailsForMemory e (Drain to now)
+  pub drains : (d e : Driver) (a : Accounts) (from task to now : ℕ) (c : TaskProgress) (told : Told) → IsReady d a now →
+      from < count_in d.machine.world → slice_get a.by_task task ≡ Some c → can_run c.task_state ≡ false → Places d from task now to told e → FailsForMemory e (Drain to now)
 
 -- Each answer is of its event's kind.
 abbrev pub AnswersFit : Type 0
@@ -160,5 +165,6 @@ TasksRunAlone = (w : World) (a : Accounts) (processor : ℕ) → AgreesWith w a 
 -- Nothing is past after a thing that is met, if nothing was before, and world and accounts agreed.
 abbrev pub MeetingsAreOnTime : Type 0
 MeetingsAreOnTime =
-    (kinds : List TaskKind) (seed : ℕ) (periods : Periods) (d e : Driver) (b c : Book) (due : Due) (now : ℕ) (deeds : List Deed) (told : Told) → 1 ≤ periods.tick → 1 ≤ periods.balance → now < 2 ^ 48 →
-    Meet due now deeds → Lives kinds seed periods d b deeds told e c → Agree d b → IsOnTime now b.accounts → IsOnTime now c.accounts
+    (kinds : List TaskKind) (seed : ℕ) (periods : Periods) (d e : Driver) (b c : Book) (due : Due) (now : ℕ) (deeds : List Deed) (told : Told) →
+    1 ≤ periods.tick → 1 ≤ periods.balance → now < 2 ^ 48 → Meet due now deeds →
+    Lives kinds seed periods d b deeds told e c → Agree d b → IsOnTime now b.accounts → IsOnTime now c.accounts

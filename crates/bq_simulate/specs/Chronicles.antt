@@ -67,13 +67,17 @@ pub record Book : Type 0 where
   pub accounts : Accounts
   pub drawn : List ℕ
 
+-- a task that was pulled, if one was, has gone from one queue to another
+abbrev pub pulled : ℕ → ℕ → Option ℕ → Accounts → Accounts
+pulled from to task a = option_map_or (λ _. passed from to a) task a
+
 -- where the answer says that another runs now, what ran before has its time; who is woken has no phase yet
 abbrev pub after_event : Periods → Event → Reply → Accounts → Accounts
 after_event periods (BeginWake c task) reply a = of_task woken task a
 after_event periods (Drain c now) reply a = entered_by c (count_entered reply) (runs_now reply) now periods a
 after_event periods (Tick c now) reply a = switched c (runs_now reply) now periods a
 after_event periods (Block c now) reply a = left_by c (runs_now reply) now periods a
-after_event periods (Pull c from now) reply a = switched c (runs_now reply) now periods (option_map_or (λ task. passed from c a) (task_pulled reply) a)
+after_event periods (Pull c from now) reply a = switched c (runs_now reply) now periods (pulled from c (task_pulled reply) a)
 after_event periods event reply a = a
 
 abbrev pub after_answer : Periods → Event → Reply → Book → Book
@@ -116,7 +120,8 @@ after_look periods processor now b = record b { accounts = looked processor now 
 abbrev pub after_deed : List TaskKind → ℕ → Periods → Deed → Book → Book
 after_deed kinds seed periods (Happens event reply) b = after_answer periods event reply b
 after_deed kinds seed periods (Joins kind home) b = joined kinds kind home b
-after_deed kinds seed periods (Acts processor task now action aim) b = option_map_or (λ c. after_act kinds seed processor task now c b) (slice_get (charged processor now b.accounts).by_task task) b
+after_deed kinds seed periods (Acts processor task now action aim) b =
+    option_map_or (λ c. after_act kinds seed processor task now c b) (slice_get (charged processor now b.accounts).by_task task) b
 after_deed kinds seed periods (Rings task now) b = b
 after_deed kinds seed periods (Reaches task) b = b
 after_deed kinds seed periods (Misses task) b = b
@@ -137,7 +142,8 @@ Lives kinds seed periods d b [] told e f = (told ≡ []) × (e ≡ d) × (f ≡ 
 Lives kinds seed periods d b (Happens event reply ∷ deeds) told e f =
     IsDue event b.accounts × (mid : Driver) × (first : Told) × (more : Told)
     × Does d event reply first mid × Lives kinds seed periods mid (after_answer periods event reply b) deeds more e f × (told ≡ first ++ more)
-Lives kinds seed periods d b (Joins kind home ∷ deeds) told e f = IsOfKind kinds (length b.accounts.by_task) kind × Lives kinds seed periods d (joined kinds kind home b) deeds told e f
+Lives kinds seed periods d b (Joins kind home ∷ deeds) told e f =
+    IsOfKind kinds (length b.accounts.by_task) kind × Lives kinds seed periods d (joined kinds kind home b) deeds told e f
 Lives kinds seed periods d b (Acts processor task now action aim ∷ deeds) told e f =
     (c : TaskProgress) × IsDone (charged processor now b.accounts) processor task c × (action ≡ next_action kinds c) × (aim ≡ aimed kinds c)
     × Lives kinds seed periods d (after_act kinds seed processor task now c b) deeds told e f
@@ -147,7 +153,8 @@ Lives kinds seed periods d b (Reaches task ∷ deeds) told e f =
     (c : TaskProgress) × (slice_get b.accounts.by_task task ≡ Some c) × (c.task_state ≡ Waiting) × Lives kinds seed periods d b deeds told e f
 Lives kinds seed periods d b (Misses task ∷ deeds) told e f =
     (c : TaskProgress) × (slice_get b.accounts.by_task task ≡ Some c) × (c.task_state ≢ Waiting) × Lives kinds seed periods d b deeds told e f
-Lives kinds seed periods d b (Beats processor now ∷ deeds) told e f = TicksAt b.accounts processor now × Lives kinds seed periods d (after_beat periods processor now b) deeds told e f
+Lives kinds seed periods d b (Beats processor now ∷ deeds) told e f =
+    TicksAt b.accounts processor now × Lives kinds seed periods d (after_beat periods processor now b) deeds told e f
 Lives kinds seed periods d b (Looks processor now source ∷ deeds) told e f =
     LooksAt b.accounts processor now × IsSource b.accounts.by_processor processor source × Lives kinds seed periods d (after_look periods processor now b) deeds told e f
 

@@ -66,8 +66,12 @@ abbrev pub IsUntouched : {S : Type 0} → DriveFault → Driver → Driver → S
 IsUntouched Reading d e old new = (e ≡ d) × (new ≡ old)
 IsUntouched fault d e old new = Unit {0}
 
+-- how a sink takes an event of the line of this number
+abbrev pub Takes : Type 0 → Type 1
+Takes S = S → ℕ → TraceEvent → S → Type 0
+
 -- a sink gets what comes of it
-abbrev pub Did : {S : Type 0} → (S → ℕ → TraceEvent → S → Type 0) → S → Driver → Event → Reply → S → Driver → Type 0
+abbrev pub Did : {S : Type 0} → Takes S → S → Driver → Event → Reply → S → Driver → Type 0
 Did takes old d event reply new e = Gets takes old new (λ told. Does d event reply told e)
 
 -- who runs at the event's processor now, as an answer says
@@ -93,6 +97,16 @@ abbrev pub placed_at : Reply → Option ℕ
 placed_at (Placed task to by steps) = Some to
 placed_at reply = None
 
+-- a sink gets what comes of a drain, whose answer says that this many tasks entered the queue and that this one runs there now, or none
+abbrev pub TookIn : {S : Type 0} → Takes S → S → Driver → ℕ → ℕ → ℕ → Option ℕ → S → Driver → Type 0
+TookIn takes old d processor now count run new e =
+    (reply : Reply) × (runs_now reply ≡ run) × (count_entered reply ≡ count) × Did takes old d (Drain processor now) reply new e
+
+-- a sink gets what comes of a pull, whose answer says that this task was taken, or none, and that this one runs there now, or none
+abbrev pub TookFrom : {S : Type 0} → Takes S → S → Driver → ℕ → ℕ → ℕ → Option ℕ → Option ℕ → S → Driver → Type 0
+TookFrom takes old d processor from now task run new e =
+    (reply : Reply) × (runs_now reply ≡ run) × (task_pulled reply ≡ task) × Did takes old d (Pull processor from now) reply new e
+
 -- a wake from a processor begins and ends there, and its answer says that the task was placed on this one
 pub record Places (d : Driver) (from task now to : ℕ) (told : Told) (e : Driver) : Type 0 where
   pub begun : Reply
@@ -113,9 +127,9 @@ Drives d (event ∷ events) told e =
     × Does d event reply first mid × Drives mid events more e × (told ≡ first ++ more)
 
 -- a sink gets what comes of them
-abbrev pub Drove : {S : Type 0} → (S → ℕ → TraceEvent → S → Type 0) → S → Driver → List Event → S → Driver → Type 0
+abbrev pub Drove : {S : Type 0} → Takes S → S → Driver → List Event → S → Driver → Type 0
 Drove takes old d events new e = Gets takes old new (λ told. Drives d events told e)
 
 -- a sink gets what comes of some events
-abbrev pub Went : {S : Type 0} → (S → ℕ → TraceEvent → S → Type 0) → S → Driver → S → Driver → Type 0
+abbrev pub Went : {S : Type 0} → Takes S → S → Driver → S → Driver → Type 0
 Went takes old d new e = (events : List Event) × Drove takes old d events new e

@@ -31,37 +31,46 @@ Leads w d b deeds told e c = Lives w.tasks.items w.machine.seed (periods_of w.ma
 
 -- Whatever is done, each task stands at an action of its kind, if each did before.
 abbrev pub StandingIsKept : Type 0
-StandingIsKept = (w : Workload) (d e : Driver) (b c : Book) (deeds : List Deed) (told : Told) → first_flaw w ≡ None → Leads w d b deeds told e c → StandAtActions w.tasks.items b → StandAtActions w.tasks.items c
+StandingIsKept =
+    (w : Workload) (d e : Driver) (b c : Book) (deeds : List Deed) (told : Told) → first_flaw w ≡ None → Leads w d b deeds told e c →
+    StandAtActions w.tasks.items b → StandAtActions w.tasks.items c
 
 -- All is kept, of a workload that can be followed: at instant 0 once it has opened, from there until the next thing comes, and when that is met.
 pub record AllIsKept : Type 0 where
-  pub opened : (policies : List Accepted) (w : Workload) (d e : Driver) (b : Book) (deeds : List Deed) (first told : Told) → first_flaw w ≡ None → Starts w.machine.rule w.machine.size first d →
-      Opens policies (processors_in w.machine.size) w.tasks.items deeds → Leads w d (opening_book w.machine) deeds told e b → IsKept w.tasks.items 0 e b
+  pub opened : (policies : List Accepted) (w : Workload) (d e : Driver) (b : Book) (deeds : List Deed) (first told : Told) → first_flaw w ≡ None →
+      Starts w.machine.rule w.machine.size first d → Opens policies (processors_in w.machine.size) w.tasks.items deeds →
+      Leads w d (opening_book w.machine) deeds told e b → IsKept w.tasks.items 0 e b
   pub comes : (w : Workload) (d : Driver) (b : Book) (due : Due) (now time : ℕ) → first_flaw w ≡ None → IsKept w.tasks.items now d b → IsNext w.machine.duration b.accounts due time →
       (now ≤ time) × (time ≤ w.machine.duration) × IsKept w.tasks.items time d b
-  pub met : (w : Workload) (d e : Driver) (b c : Book) (due : Due) (now : ℕ) (deeds : List Deed) (told : Told) → first_flaw w ≡ None → now ≤ w.machine.duration → Meet due now deeds →
-      Leads w d b deeds told e c → IsKept w.tasks.items now d b → IsKept w.tasks.items now e c
+  pub met : (w : Workload) (d e : Driver) (b c : Book) (due : Due) (now : ℕ) (deeds : List Deed) (told : Told) → first_flaw w ≡ None →
+      now ≤ w.machine.duration → Meet due now deeds → Leads w d b deeds told e c → IsKept w.tasks.items now d b → IsKept w.tasks.items now e c
 
 -- So wherever a simulation has been followed to, all is kept at some instant until its end.
 abbrev pub BeginningsAreKept : Type 0
 BeginningsAreKept =
-    (policies : List Accepted) (w : Workload) (told : Told) → first_flaw w ≡ None → (s : Begins policies w told) → (now : ℕ) × (now ≤ w.machine.duration) × IsKept w.tasks.items now s.closing s.book
+    (policies : List Accepted) (w : Workload) (told : Told) → first_flaw w ≡ None → (s : Begins policies w told) →
+    (now : ℕ) × (now ≤ w.machine.duration) × IsKept w.tasks.items now s.closing s.book
 
 -- A number that is drawn, unless all were, is newer than each generation that stands at a hook; where it is installed at one processor
 -- after another, it is so at those that are left.
 pub record GenerationsAreNewer : Type 0 where
   pub opened : (count : ℕ) → WereDrawn (opening_world count)
-  pub drawn : (d : Discipline) (w v : World) (calls : List Asked) (generation : ℕ) → w.drawn < 2 ^ 64 - 1 → WereDrawn w → WorldStep (policies d) w Draw calls (Ok (Drawn generation)) v →
-      (v.drawn ≡ w.drawn + 1) × WereDrawn v × IsNewerFrom 0 generation v
-  pub installed : (d : Discipline) (w v : World) (calls : List Asked) (r : Reply) (processor generation : ℕ) (hook : Hook) (policy : Option Accepted) → IsNewerFrom processor generation w → WereDrawn w →
-      WorldStep (policies d) w (Install processor hook generation policy) calls (Ok r) v → (v.drawn ≡ w.drawn) × WereDrawn v × IsNewerFrom (processor + 1) generation v
+  pub drawn : (d : Discipline) (w v : World) (calls : List Asked) (generation : ℕ) → w.drawn < 2 ^ 64 - 1 → WereDrawn w →
+      WorldStep (policies d) w Draw calls (Ok (Drawn generation)) v → (v.drawn ≡ w.drawn + 1) × WereDrawn v × IsNewerFrom 0 generation v
+  pub installed : (d : Discipline) (w v : World) (calls : List Asked) (r : Reply) (processor generation : ℕ) (hook : Hook) (policy : Option Accepted) →
+      IsNewerFrom processor generation w → WereDrawn w → WorldStep (policies d) w (Install processor hook generation policy) calls (Ok r) v →
+      (v.drawn ≡ w.drawn) × WereDrawn v × IsNewerFrom (processor + 1) generation v
 
 -- At no instant may as many things still come as are counted for one, and each thing that is the next and is met takes one of them at least.
 pub record FewComeAtOnce : Type 0 where
-  pub few : (w : Workload) (now : ℕ) (d : Driver) (b : Book) → first_flaw w ≡ None → IsKept w.tasks.items now d b → length b.accounts.by_processor ≡ processors_in w.machine.size → left_at w.tasks.items now b.accounts < steps_at_once w
-  pub met : (w : Workload) (d e : Driver) (b c : Book) (due : Due) (now : ℕ) (deeds : List Deed) (told : Told) → first_flaw w ≡ None → now ≤ w.machine.duration → IsNext w.machine.duration b.accounts due now → Meet due now deeds →
-      Leads w d b deeds told e c → IsKept w.tasks.items now d b → left_at w.tasks.items now c.accounts < left_at w.tasks.items now b.accounts
+  pub few : (w : Workload) (now : ℕ) (d : Driver) (b : Book) → first_flaw w ≡ None → IsKept w.tasks.items now d b →
+      length b.accounts.by_processor ≡ processors_in w.machine.size → left_at w.tasks.items now b.accounts < steps_at_once w
+  pub met : (w : Workload) (d e : Driver) (b c : Book) (due : Due) (now : ℕ) (deeds : List Deed) (told : Told) → first_flaw w ≡ None →
+      now ≤ w.machine.duration → IsNext w.machine.duration b.accounts due now → Meet due now deeds → Leads w d b deeds told e c → IsKept w.tasks.items now d b →
+      left_at w.tasks.items now c.accounts < left_at w.tasks.items now b.accounts
 
 -- So wherever a simulation has been followed to, fewer things have come than are counted for all instants until its end.
 abbrev pub FewComeUntilTheEnd : Type 0
-FewComeUntilTheEnd = (policies : List Accepted) (w : Workload) (told : Told) → first_flaw w ≡ None → (s : Begins policies w told) → length s.proceeds.meets.steps < (w.machine.duration + 1) * steps_at_once w
+FewComeUntilTheEnd =
+    (policies : List Accepted) (w : Workload) (told : Told) → first_flaw w ≡ None → (s : Begins policies w told) →
+    length s.proceeds.meets.steps < (w.machine.duration + 1) * steps_at_once w

@@ -1,5 +1,5 @@
 -- A simulation that goes well: what its calls stand on, so that they fail only for want of memory.
-use Rattle.std.specs.Prelude.{◌≡◌, ◌⊎◌, ◌<◌, ◌≤◌, ◌+◌, ◌*◌, ◌^◌, ℕ, true, List, Option, None, Some, length, slice_get}
+use Rattle.std.specs.Prelude.{◌≡◌, ◌≢◌, ◌⊎◌, ◌<◌, ◌≤◌, ◌+◌, ◌*◌, ◌^◌, ℕ, true, List, Option, None, Some, length, slice_get}
 use Rattle.bq_parts.specs.World.{World, count_in}
 use Rattle.bq_words.specs.Sizes.{processors_in}
 use Rattle.bq_workload.specs.declared.action.Action.{Action}
@@ -7,18 +7,21 @@ use Rattle.bq_workload.specs.declared.action.Action.TheVariants.{Run, Wake}
 use Rattle.bq_workload.specs.declared.progress.TaskProgress.{TaskProgress}
 use Rattle.bq_workload.specs.declared.workload.TaskKind.{TaskKind}
 use Rattle.bq_workload.specs.declared.workload.Workload.{Workload}
-use Rattle.bq_workload.specs.Accounts.{accounts_of}
+use Rattle.bq_workload.specs.declared.roster.Periods.{Periods}
+use Rattle.bq_workload.specs.Accounts.{Accounts, accounts_of}
 use Rattle.bq_workload.specs.Bounds.{steps_at_once}
 use Rattle.bq_workload.specs.Kinds.{count_of}
 use Rattle.bq_workload.specs.Next.{IsAgreed}
 use Rattle.bq_workload.specs.Soundness.{first_flaw}
+use Rattle.bq_workload.specs.Strays.{IsStrayPass, IsStraySwitch}
 use Rattle.bq_simulate.specs.declared.driver.Driver.{Driver}
 use Rattle.bq_simulate.specs.declared.fault.SimulateFault.{SimulateFault}
 use Rattle.bq_simulate.specs.declared.fault.SimulateFault.TheVariants.{Endless, Enough, OutOfMemory}
 use Rattle.bq_simulate.specs.declared.simulation.Simulation.{Simulation}
+use Rattle.bq_simulate.specs.Actions.{first_of}
 use Rattle.bq_simulate.specs.Agreement.{AgreesBut, AgreesWith, IsOnTime, run_at}
-use Rattle.bq_simulate.specs.Chronicles.{Book, is_busy}
-use Rattle.bq_simulate.specs.Kept.{HasAllFirsts, IsKept, StandAtActions, WereDrawn}
+use Rattle.bq_simulate.specs.Chronicles.{Book, is_busy, pulled}
+use Rattle.bq_simulate.specs.Kept.{HasAllFirsts, IsKept, IsNewerFrom, StandAtActions, WereDrawn}
 use Rattle.bq_simulate.specs.Simulations.{HasDrawn, HasFirsts, book_of, periods_of}
 
 -- The simulation of a workload that can be followed has come to an instant until its end, and all is kept: by its machine, its accounts,
@@ -64,9 +67,18 @@ CanFollow w (Some (Run asked)) c processor now s = Unit {0}
 CanFollow w (Some (Wake kind)) c processor now s = GoesWell w now s × (is_busy (accounts_of s.roster) processor ≡ true) × (c.woken < count_of w.tasks.items kind)
 CanFollow w action c processor now s = FallsAsleep w now processor s
 
+-- two processors, both of which a simulation has
+abbrev pub HasBoth : ℕ → ℕ → Simulation → Type 0
+HasBoth processor other s = (processor < length s.roster.by_processor.items) × (other < length s.roster.by_processor.items) × (processor ≢ other)
+
 -- a task is of no kind, or its action wakes the tasks of none
 abbrev pub IsStrayAction : List TaskKind → TaskProgress → Option Action → Type 0
 IsStrayAction kinds c action = (slice_get kinds c.kind ≡ None) ⊎ ((number : ℕ) × (action ≡ Some (Wake number)) × (slice_get kinds number ≡ None))
+
+-- what came of a pull is not kept: a task was taken and does not pass, or the switch fails
+abbrev pub IsStrayPull : Periods → ℕ → ℕ → Option ℕ → Option ℕ → ℕ → Accounts → Type 0
+IsStrayPull periods processor from task run now a =
+    ((task ≢ None) × IsStrayPass from processor a) ⊎ IsStraySwitch periods processor run now (pulled from processor task a)
 
 -- A simulation that opens, at instant 0, with this many processors and so many tasks so far: the accounts agree with the machine's world,
 -- and nothing of them is past.
@@ -89,10 +101,18 @@ pub record OpensWell (w : Workload) (tasks : ℕ) (s : Simulation) : Type 0 wher
   pub counted : s.counts.tasks ≡ tasks
   pub agreed : IsAgreed s.roster
 
+-- all tasks of the kinds before this one are there so far
+abbrev pub OpensBefore : Workload → ℕ → Simulation → Type 0
+OpensBefore w number s = OpensWell w (first_of w.tasks.items number) s
+
 -- so many generations were drawn, and each that stands at a hook is one of them
 pub record HasGenerations (count : ℕ) (w : World) : Type 0 where
   pub many : w.drawn ≡ count
   pub were : WereDrawn w
+
+-- in its machine so many generations were drawn, and this one is newer than each that stands at a hook
+abbrev pub HasNewer : ℕ → ℕ → Simulation → Type 0
+HasNewer count generation s = HasGenerations count s.driver.machine.world × IsNewerFrom 0 generation s.driver.machine.world
 
 -- nothing of it was done yet: there are no tasks and no kinds, and no generation was drawn
 pub record StartsWell (w : Workload) (s : Simulation) : Type 0 where
@@ -110,6 +130,10 @@ IsEndless w why = (why ≡ Endless) × (2 ^ 64 ≤ (w.machine.duration + 1) * st
 
 abbrev pub EndsEarly : Workload → SimulateFault → Type 0
 EndsEarly w why = (why ≡ OutOfMemory) ⊎ IsEndless w why
+
+-- a fault says that there is no end only where this holds
+abbrev pub IfEndless : Type 0 → SimulateFault → Type 0
+IfEndless Holds why = why ≡ Endless → Holds
 
 -- or that the sink has enough
 abbrev pub IsCutOff : Workload → SimulateFault → Type 0

@@ -9,16 +9,16 @@ use Rattle.bq_workload.specs.declared.workload.Workload.{Workload}
 use Rattle.bq_workload.specs.Streams.{stream_of_task, after_draw, after_draws}
 pub use Rattle.bq_verify.specs.Accepted.{Accepted}
 use Rattle.bq_words.specs.Sizes.{processors_in}
-use Rattle.bq_trace.specs.TraceEvents.{TraceEvent, Told, Gets}
+use Rattle.bq_trace.specs.TraceEvents.{Told, Gets}
 use Rattle.bq_simulate.specs.declared.driver.Driver.{Driver}
-use Rattle.bq_simulate.specs.Drives.{Starts, Drives}
+use Rattle.bq_simulate.specs.Drives.{Starts, Drives, Takes}
 use Rattle.bq_workload.specs.Accounts.{accounts_of, is_over, opening}
 use Rattle.bq_simulate.specs.declared.simulation.Simulation.{Simulation}
-use Rattle.bq_simulate.specs.Actions.{first_of, next_length}
+use Rattle.bq_simulate.specs.Actions.{IsOfKind, first_of, next_length, start_of}
 use Rattle.bq_workload.specs.Bounds.{most_steps}
 use Rattle.bq_workload.specs.Next.{IsAgreed, NothingComes, StaysAgreed}
 use Rattle.bq_simulate.specs.Chronicles.{Book, Deed, Lives, after_deeds, events_of}
-use Rattle.bq_simulate.specs.Steps.{AreJust, AreMet, Opens, all_processors, last_ticks}
+use Rattle.bq_simulate.specs.Steps.{AreAllMet, AreJust, AreMet, IsJoin, Opens, all_processors, last_ticks}
 
 -- the same workload with another seed
 abbrev pub with_seed : Workload → ℕ → Workload
@@ -43,7 +43,16 @@ pub record Proceeds (policies : List Accepted) (processors : ℕ) (kinds : List 
 
 -- just this many come due so
 abbrev pub ProceedsBy : List Accepted → ℕ → List TaskKind → ℕ → Periods → ℕ → ℕ → Book → List Deed → Type 0
-ProceedsBy policies processors kinds seed periods count end b deeds = (proceeds : Proceeds policies processors kinds seed periods count end b deeds) × (length proceeds.meets.steps ≡ count)
+ProceedsBy policies processors kinds seed periods count end b deeds =
+    (proceeds : Proceeds policies processors kinds seed periods count end b deeds) × (length proceeds.meets.steps ≡ count)
+
+-- what opens the simulation of a workload and then comes due in it until its end, as many things at most as its bound counts
+abbrev pub ProceedsIn : List Accepted → Workload → ℕ → Periods → Book → List Deed → Type 0
+ProceedsIn policies w seed periods = Proceeds policies (processors_in w.machine.size) w.tasks.items seed periods (most_steps w) w.machine.duration
+
+-- just as many as it counts
+abbrev pub ProceedsOut : List Accepted → Workload → ℕ → Periods → Book → List Deed → Type 0
+ProceedsOut policies w seed periods = ProceedsBy policies (processors_in w.machine.size) w.tasks.items seed periods (most_steps w) w.machine.duration
 
 -- when nothing comes any more, and no timer, no end of a phase, no tick and no look for a task is left until the end, each processor that
 -- runs something ticks then, by number, and nothing else is done
@@ -51,7 +60,7 @@ pub record Ends (policies : List Accepted) (w : Workload) (d : Driver) (deeds : 
   pub until : List Deed
   pub last : List Deed
   pub whole : deeds ≡ until ++ last
-  pub proceeds : Proceeds policies (processors_in w.machine.size) w.tasks.items w.machine.seed (periods_of w.machine) (most_steps w) w.machine.duration (opening_book w.machine) until
+  pub proceeds : ProceedsIn policies w w.machine.seed (periods_of w.machine) (opening_book w.machine) until
   pub told : Told
   pub driver : Driver
   pub book : Book
@@ -95,7 +104,7 @@ pub record Begins (policies : List Accepted) (w : Workload) (told : Told) : Type
   pub drives : Drives opening (events_of deeds) more closing
   pub lives : Lives w.tasks.items w.machine.seed (periods_of w.machine) opening (opening_book w.machine) deeds more closing book
   pub whole : told ≡ first ++ more
-  pub proceeds : Proceeds policies (processors_in w.machine.size) w.tasks.items w.machine.seed (periods_of w.machine) (most_steps w) w.machine.duration (opening_book w.machine) deeds
+  pub proceeds : ProceedsIn policies w w.machine.seed (periods_of w.machine) (opening_book w.machine) deeds
 
 -- A simulation that is too long: it begins, and then 2 ^ 64 - 1 things come due, one after another, as many as 64 bits count.
 pub record IsTooLong (policies : List Accepted) (w : Workload) (told : Told) : Type 0 where
@@ -107,7 +116,7 @@ abbrev pub IsFollowed : Bool → List Accepted → Workload → Told → Type 0
 IsFollowed enough policies w told = IsSimulation policies w told ⊎ ((enough ≡ true) × Begins policies w told)
 
 -- a sink has enough, and got events of which this holds
-abbrev pub HasEnough : {S : Type 0} → (S → ℕ → TraceEvent → S → Type 0) → (S → Bool) → (Told → Type 0) → S → S → Type 0
+abbrev pub HasEnough : {S : Type 0} → Takes S → (S → Bool) → (Told → Type 0) → S → S → Type 0
 HasEnough takes sated Holds old new = (sated new ≡ true) × Gets takes old new Holds
 
 -- the streams of the tasks from this number on, each after this many draws
@@ -130,7 +139,8 @@ abbrev pub book_of : Simulation → List ℕ → Book
 book_of s drawn = record { accounts = accounts_of s.roster; drawn = drawn }
 
 -- a simulation, whose streams have given this many lengths, goes on by some deeds of which this holds, and which are reported to a sink
-pub record Goes {S : Type 0} (takes : S → ℕ → TraceEvent → S → Type 0) (kinds : List TaskKind) (Are : List Deed → Type 0) (old : S) (s : Simulation) (drawn : List ℕ) (new : S) (t : Simulation) : Type 0 where
+pub record Goes {S : Type 0} (takes : Takes S) (kinds : List TaskKind) (Are : List Deed → Type 0)
+    (old : S) (s : Simulation) (drawn : List ℕ) (new : S) (t : Simulation) : Type 0 where
   pub deeds : List Deed
   pub after : List ℕ
   pub periods : t.roster.periods ≡ s.roster.periods
@@ -142,15 +152,15 @@ pub record Goes {S : Type 0} (takes : S → ℕ → TraceEvent → S → Type 0)
   pub tells : Gets takes old new (λ told. Lives kinds s.seed s.roster.periods s.driver (book_of s drawn) deeds told t.driver (book_of t after))
   pub are : Are deeds
 
-abbrev pub Lived : {S : Type 0} → (S → ℕ → TraceEvent → S → Type 0) → List TaskKind → (List Deed → Type 0) → S → Simulation → S → Simulation → Type 0
+abbrev pub Lived : {S : Type 0} → Takes S → List TaskKind → (List Deed → Type 0) → S → Simulation → S → Simulation → Type 0
 Lived takes kinds Are old s new t = (drawn : List ℕ) → HasDrawn s drawn → HasFirsts kinds s → Goes takes kinds Are old s drawn new t
 
 -- from accounts with which its event queue agrees it goes on by deeds of which this holds, by what was kept
-abbrev pub LivedFrom : {S : Type 0} → (S → ℕ → TraceEvent → S → Type 0) → List TaskKind → (Book → List Deed → Type 0) → S → Simulation → S → Simulation → Type 0
+abbrev pub LivedFrom : {S : Type 0} → Takes S → List TaskKind → (Book → List Deed → Type 0) → S → Simulation → S → Simulation → Type 0
 LivedFrom takes kinds Are old s new t = (drawn : List ℕ) → HasDrawn s drawn → HasFirsts kinds s → IsAgreed s.roster → Goes takes kinds (Are (book_of s drawn)) old s drawn new t
 
 -- only events: what tasks do has no part in it
-abbrev pub Befell : {S : Type 0} → (S → ℕ → TraceEvent → S → Type 0) → (List Deed → Type 0) → S → Simulation → S → Simulation → Type 0
+abbrev pub Befell : {S : Type 0} → Takes S → (List Deed → Type 0) → S → Simulation → S → Simulation → Type 0
 Befell takes Are old s new t = (kinds : List TaskKind) → Lived takes kinds Are old s new t
 
 -- it goes on by deeds of which nothing is reported
@@ -169,8 +179,15 @@ pub record GoesUntold (kinds : List TaskKind) (Are : List Deed → Type 0) (s : 
 abbrev pub Silent : List TaskKind → (List Deed → Type 0) → Simulation → Simulation → Type 0
 Silent kinds Are s t = (drawn : List ℕ) → HasDrawn s drawn → HasFirsts kinds s → GoesUntold kinds Are s drawn t
 
+-- one more task is there, with this home, of a kind that starts then: if it is the next of its kind, and each task has a stream
+abbrev pub JoinsNext : ℕ → ℕ → ℕ → Simulation → Simulation → Type 0
+JoinsNext kind home start s t =
+    (kinds : List TaskKind) → IsOfKind kinds (length s.roster.by_task.items) kind → start ≡ start_of kinds kind →
+    length s.streams.items ≡ length s.roster.by_task.items → Silent kinds (IsJoin kind home) s t
+
 -- a simulation goes on until no timer, no end of a phase, no tick and no look is left, and then to its end
-pub record Runs {S : Type 0} (takes : S → ℕ → TraceEvent → S → Type 0) (policies : List Accepted) (kinds : List TaskKind) (most end processors : ℕ) (old : S) (s : Simulation) (new : S) (t : Simulation) : Type 0 where
+pub record Runs {S : Type 0} (takes : Takes S) (policies : List Accepted) (kinds : List TaskKind) (most end processors : ℕ)
+    (old : S) (s : Simulation) (new : S) (t : Simulation) : Type 0 where
   pub sink : S
   pub ended : Simulation
   pub proceeds : LivedFrom takes kinds (Proceeds policies processors kinds s.seed s.roster.periods most end) old s sink ended
@@ -178,15 +195,27 @@ pub record Runs {S : Type 0} (takes : S → ℕ → TraceEvent → S → Type 0)
   pub over : is_over end (accounts_of ended.roster) ≡ true
   pub ticks : Lived takes kinds (AreJust (last_ticks end (all_processors processors) (accounts_of ended.roster))) sink ended new t
 
+-- the simulation of a workload is opened, and goes on by some of what comes due in it until its end
+abbrev pub HasProceeded : {S : Type 0} → Takes S → List Accepted → Workload → S → Simulation → S → Simulation → Type 0
+HasProceeded takes policies w old s new t = LivedFrom takes w.tasks.items (ProceedsIn policies w s.seed s.roster.periods) old s new t
+
 -- it goes on to its end, or until the sink has enough
-abbrev pub RunsOn : {S : Type 0} → (S → ℕ → TraceEvent → S → Type 0) → (S → Bool) → List Accepted → List TaskKind → ℕ → ℕ → ℕ → S → Simulation → S → Simulation → Type 0
-RunsOn takes sated policies kinds most end processors old s new t =
-    Runs takes policies kinds most end processors old s new t
-    ⊎ ((sated new ≡ true) × LivedFrom takes kinds (Proceeds policies processors kinds s.seed s.roster.periods most end) old s new t)
+abbrev pub RunsOn : {S : Type 0} → Takes S → (S → Bool) → List Accepted → Workload → S → Simulation → S → Simulation → Type 0
+RunsOn takes sated policies w old s new t =
+    Runs takes policies w.tasks.items (most_steps w) w.machine.duration (processors_in w.machine.size) old s new t
+    ⊎ ((sated new ≡ true) × HasProceeded takes policies w old s new t)
 
 -- it goes on until just as many things have come due as are counted for all instants until its end, as far as 64 bits count
-abbrev pub RunsOut : {S : Type 0} → (S → ℕ → TraceEvent → S → Type 0) → List Accepted → Workload → S → Simulation → S → Simulation → Type 0
-RunsOut takes policies w old s new t = LivedFrom takes w.tasks.items (ProceedsBy policies (processors_in w.machine.size) w.tasks.items s.seed s.roster.periods (most_steps w) w.machine.duration) old s new t
+abbrev pub RunsOut : {S : Type 0} → Takes S → List Accepted → Workload → S → Simulation → S → Simulation → Type 0
+RunsOut takes policies w old s new t = LivedFrom takes w.tasks.items (ProceedsOut policies w s.seed s.roster.periods) old s new t
+
+-- it goes on by what comes due until its end, this many things at most
+abbrev pub GoesOn : {S : Type 0} → Takes S → Workload → ℕ → S → Simulation → S → Simulation → Type 0
+GoesOn takes w most old s new t = LivedFrom takes w.tasks.items (AreMet w.tasks.items s.seed s.roster.periods most w.machine.duration) old s new t
+
+-- it goes on until just this many have come due
+abbrev pub GoesOut : {S : Type 0} → Takes S → Workload → ℕ → S → Simulation → S → Simulation → Type 0
+GoesOut takes w count old s new t = LivedFrom takes w.tasks.items (AreAllMet w.tasks.items s.seed s.roster.periods count w.machine.duration) old s new t
 
 -- what stays beside the machine and the accounts, and that the event queue agrees with them
 pub record Stays (s t : Simulation) : Type 0 where

@@ -6,6 +6,7 @@ use Rattle.std.specs.Int.RustNames.{FitsSigned}
 use Rattle.std.specs.List.{join_with_byte}
 use Rattle.hex.specs.Hex.{encode_lower}
 use Rattle.bq_hooks.specs.Hooks.{hook_word}
+use Rattle.bq_hooks.specs.declared.hook.Hook.{Hook}
 use Rattle.bq_parts.specs.declared.event.Event.{Event}
 use Rattle.bq_parts.specs.declared.event.Event.TheVariants.{Admit, Retire, Draw, Install, BeginWake, EndWake, Drain, Tick, Block, Pull}
 use Rattle.bq_lines.specs.Keywords.{keyword_of_event, keyword_word}
@@ -47,6 +48,10 @@ asking_line image event = spaced_words (event_words image event)
 -- the line that asks for a machine
 abbrev pub machine_line : Rule → ProcessorCount → List ℕ
 machine_line rule size = spaced_words (keyword_word keywords.Machine ∷ rule_word rule ∷ decimal (processors_in size) ∷ [])
+
+-- the line that asks for an install of this image
+abbrev pub install_line : ℕ → ℕ → Hook → Option (List ℕ) → List ℕ
+install_line processor generation hook image = spaced_words (keyword_word keywords.Install ∷ decimal processor ∷ decimal generation ∷ hook_word hook ∷ image_word image ∷ [])
 
 -- each number of the event fits its type
 abbrev pub HasFittingNumbers : Event → Type 0

@@ -1,20 +1,23 @@
 -- What comes due in a simulation, and what is done then.
-use Rattle.std.specs.Prelude.{◌≡◌, ◌≢◌, ◌⊎◌, ◌≤◌, ◌+◌, ℕ, zero, suc, List, [], ◌∷◌, ◌++◌, Option, None, Some, length, map, filter, slice_get}
+use Rattle.std.specs.Prelude.{◌≡◌, ◌≢◌, ◌⊎◌, ◌<◌, ◌≤◌, ◌+◌, ℕ, true, zero, suc, List, [], ◌∷◌, ◌++◌, Option, None, Some, length, map, filter, slice_get}
 use Rattle.std.specs.List.{flat_map, range_with_len}
 use Rattle.bq_workload.specs.declared.action.Action.{Action}
 use Rattle.bq_workload.specs.declared.action.Action.TheVariants.{Run, Wake}
 use Rattle.bq_workload.specs.declared.due.Due.{Due}
 use Rattle.bq_workload.specs.declared.workload.TaskKind.{TaskKind}
+use Rattle.bq_workload.specs.declared.workload.Workload.{Workload}
 use Rattle.bq_workload.specs.declared.due.Due.TheVariants as due
 use Rattle.bq_parts.specs.declared.event.Event.{Event}
 use Rattle.bq_parts.specs.declared.event.Event.TheVariants.{Admit, Draw, Install, BeginWake, EndWake, Drain, Tick, Block, Pull}
 use Rattle.bq_parts.specs.declared.reply.Reply.{Reply}
 use Rattle.bq_parts.specs.declared.reply.Reply.TheVariants.{Drawn}
 use Rattle.bq_verify.specs.Accepted.{Accepted}
+use Rattle.bq_words.specs.Sizes.{processors_in}
 use Rattle.bq_workload.specs.Accounts.{Accounts}
 use Rattle.bq_workload.specs.declared.roster.Periods.{Periods}
 use Rattle.bq_workload.specs.Next.{IsNext}
-use Rattle.bq_workload.specs.Soundness.{IsFirstAllowed}
+use Rattle.bq_workload.specs.Soundness.{IsFirstAllowed, has_numbers}
+use Rattle.bq_simulate.specs.Actions.{first_of}
 use Rattle.bq_simulate.specs.Chronicles.{Acts, Beats, Book, Deed, Happens, Joins, Looks, Misses, Reaches, Rings, after_deeds, is_busy}
 use Rattle.bq_simulate.specs.Drives.{placed_at}
 
@@ -45,6 +48,12 @@ AreInstalled processors (policy ∷ policies) deeds =
 abbrev pub IsJoin : ℕ → ℕ → List Deed → Type 0
 IsJoin number home deeds = deeds ≡ Joins number home ∷ []
 
+-- where there are so many processors a task of this kind may be admitted as this one, and has this home
+pub record IsAdmissible (processors task home : ℕ) (kind : TaskKind) : Type 0 where
+  pub few : task < 1024
+  pub numbers : has_numbers kind ≡ true
+  pub first : IsFirstAllowed processors kind.mask home
+
 -- a task of a kind is admitted as its kind says, and is there; its home is the first processor that it may use
 abbrev pub IsAdmission : ℕ → ℕ → TaskKind → ℕ → List Deed → Type 0
 IsAdmission processors number kind task deeds =
@@ -72,6 +81,14 @@ pub record Opens (policies : List Accepted) (processors : ℕ) (kinds : List Tas
   pub whole : deeds ≡ installs ++ admissions
   pub installed : AreInstalled processors policies installs
   pub admitted : AreAllAdmitted processors 0 0 kinds admissions
+
+-- the tasks of a workload are admitted, kind by kind
+abbrev pub AreAdmissions : Workload → List Deed → Type 0
+AreAdmissions w = AreAllAdmitted (processors_in w.machine.size) 0 0 w.tasks.items
+
+-- the tasks of its kind of this number are admitted, after those of the kinds before
+abbrev pub AreKindAdmissions : Workload → ℕ → TaskKind → List Deed → Type 0
+AreKindAdmissions w number kind = AreAdmitted (processors_in w.machine.size) number kind (first_of w.tasks.items number) kind.count
 
 -- a task is woken from a processor, and the one on which the answer says that it was placed takes it in at the same instant
 abbrev pub AreWake : ℕ → ℕ → ℕ → List Deed → Type 0

@@ -6,7 +6,7 @@ ghost use Rattle.bq_workload.specs.Kinds.{count_of};
 ghost use Rattle.bq_workload.specs.Lengths.{is_length};
 ghost use Rattle.bq_workload.specs.declared.workload.TaskKind.{TaskKind};
 ghost use Rattle.bq_workload.specs.declared.workload.Workload.{Workload};
-ghost use Rattle.bq_simulate.specs.Actions.{acted, action_at, actions_of, asleep_for, advanced_in, aim_of, asked_by, first_of, next_action, resting, woken_one_in};
+ghost use Rattle.bq_simulate.specs.Actions.{acted, action_at, actions_of, asleep_for, advanced_in, aim_in, asked_by, first_of, next_action, resting, woken_one_in};
 ghost use Rattle.bq_workload.specs.Accounts.{accounts_of};
 ghost use Rattle.bq_workload.specs.Next.{IsNext};
 ghost use Rattle.bq_simulate.specs.Chronicles.{is_busy};
@@ -178,7 +178,7 @@ impl Simulation {
         processor: u8,
         now: u64,
     ) -> Result<Doing, BrokenInvariant>
-        ensures acts { IfOk result (λ doing. Silent workload.now.tasks.items (IsAct processor doing.task now doing.action (aim_of workload.now.tasks.items doing.before doing.action)) self.old self.new) }
+        ensures acts { IfOk result (λ doing. Silent workload.now.tasks.items (IsAct processor doing.task now doing.action (aim_in workload.now.tasks.items doing)) self.old self.new) }
         ensures ends { GoesWell workload.now now self.old → IsNext workload.now.machine.duration (accounts_of self.old.roster) (Due.End processor) now → IfErr result (λ _. ⊥) }
     {
         let (task, before) = self.roster.end_phase(processor, now)?;
@@ -221,7 +221,7 @@ impl Simulation {
         now: u64,
         sink: &mut S,
     ) -> Result<(), SimulateFault>
-        ensures lived { OnOk result ((kinds : List TaskKind) → Lived S.takes kinds (Follow doing.now.action (aim_of kinds doing.now.before doing.now.action) processor now) sink.old self.old sink.new self.new) }
+        ensures lived { OnOk result ((kinds : List TaskKind) → Lived S.takes kinds (Follow doing.now.action (aim_in kinds doing.now) processor now) sink.old self.old sink.new self.new) }
         ensures ends { (w : Workload) → CanFollow w doing.now.action doing.now.before processor now self.old → IfErr result WantsMemory }
     {
         match doing.action {

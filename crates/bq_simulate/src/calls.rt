@@ -3,7 +3,7 @@ ghost use Rattle.std.specs.Prelude.{◌≡◌, ◌∷◌, [], IfErr, IfOk, OnOk,
 ghost use Rattle.bq_parts.specs.declared.event.Event.TheVariants.{Admit, Draw, Install, EndWake, Drain, Tick, Block, Pull};
 ghost use Rattle.bq_parts.specs.declared.reply.Reply.{Reply};
 ghost use Rattle.bq_parts.specs.declared.reply.Reply.TheVariants.{Drawn};
-ghost use Rattle.bq_simulate.specs.Drives.{count_entered, Did, Drove, IsDriveFault, IsWakeFault, Places, placed_at, runs_now, task_pulled};
+ghost use Rattle.bq_simulate.specs.Drives.{Did, Drove, IsDriveFault, IsWakeFault, Places, TookFrom, TookIn, placed_at, runs_now};
 ghost use Rattle.bq_trace.specs.TraceEvents.{Gets};
 
 use crate::drive_fault::DriveFault;
@@ -97,7 +97,7 @@ impl Driver {
         now: u64,
         sink: &mut S,
     ) -> Result<Entered, DriveFault>
-        ensures does { IfOk result (λ entered. (reply : Reply) × (runs_now reply ≡ entered.run) × (count_entered reply ≡ entered.count) × Did S.takes sink.old self.old (Drain processor now) reply sink.new self.new) }
+        ensures does { IfOk result (λ entered. TookIn S.takes sink.old self.old processor now entered.count entered.run sink.new self.new) }
         ensures fault { IfErr result (λ fault. IsDriveFault self.old (Drain processor now) fault) }
     {
         match self.perform(alloc, Event::Drain { processor, now }, sink)? {
@@ -149,7 +149,7 @@ impl Driver {
         now: u64,
         sink: &mut S,
     ) -> Result<Moved, DriveFault>
-        ensures does { IfOk result (λ moved. (reply : Reply) × (runs_now reply ≡ moved.run) × (task_pulled reply ≡ moved.task) × Did S.takes sink.old self.old (Pull processor from now) reply sink.new self.new) }
+        ensures does { IfOk result (λ moved. TookFrom S.takes sink.old self.old processor from now moved.task moved.run sink.new self.new) }
         ensures fault { IfErr result (λ fault. IsDriveFault self.old (Pull processor from now) fault) }
     {
         let event = Event::Pull {

@@ -1,16 +1,15 @@
 //! A simulation from its beginning to its end.
 ghost use Rattle.std.specs.Prelude.{◌≡◌, ◌≢◌, ◌≤◌, None, false, true, [], ◌∷◌, OnOk, IfOk, IfErr, length, slice_get};
 ghost use Rattle.bq_workload.specs.Accounts.{accounts_of};
-ghost use Rattle.bq_words.specs.Sizes.{processors_in};
 ghost use Rattle.bq_workload.specs.Bounds.{most_steps};
 ghost use Rattle.bq_workload.specs.Kinds.{tasks_in};
 ghost use Rattle.bq_workload.specs.Next.{IsAgreed, NothingComes};
 ghost use Rattle.bq_workload.specs.Soundness.{first_flaw};
 ghost use Rattle.bq_workload.specs.declared.workload.Workload.{Workload};
 ghost use Rattle.bq_simulate.specs.Faults.{flaw_told};
-ghost use Rattle.bq_simulate.specs.Order.{EndsEarly, GoesWell, HasGoneWell, HasProcessors, IsCutOff, StartsWell, WantsMemory};
-ghost use Rattle.bq_simulate.specs.Simulations.{Befell, HasEnough, IsFollowed, IsSimulation, IsTooLong, LivedFrom, Proceeds, RunsOn, RunsOut, opening_book, periods_of, with_seed};
-ghost use Rattle.bq_simulate.specs.Steps.{AreAllMet, AreJust, AreMet, KeepsOthers, all_processors, last_ticks};
+ghost use Rattle.bq_simulate.specs.Order.{EndsEarly, GoesWell, HasGoneWell, HasProcessors, IfEndless, IsCutOff, StartsWell, WantsMemory};
+ghost use Rattle.bq_simulate.specs.Simulations.{Befell, GoesOn, GoesOut, HasEnough, HasProceeded, IsFollowed, IsSimulation, IsTooLong, RunsOn, RunsOut, opening_book, periods_of, with_seed};
+ghost use Rattle.bq_simulate.specs.Steps.{AreJust, KeepsOthers, all_processors, last_ticks};
 ghost use Rattle.bq_simulate.specs.declared.fault.SimulateFault.TheVariants as why;
 ghost use Rattle.bq_trace.specs.TraceEvents.{Gets};
 
@@ -48,7 +47,7 @@ pub fn simulate<S: Sink + Enough>(
     ensures flaw { IfErr result (λ fault. flaw_told fault ≡ first_flaw workload.now) }
     ensures untold { first_flaw workload.now ≢ None → sink.new ≡ sink.old }
     ensures ends { first_flaw workload.now ≡ None → IfErr result (IsCutOff workload.now) }
-    ensures endless { IfErr result (λ fault. fault ≡ why.Endless → Gets S.takes sink.old sink.new (IsTooLong policies.now workload.now)) }
+    ensures endless { IfErr result (IfEndless (Gets S.takes sink.old sink.new (IsTooLong policies.now workload.now))) }
 {
     simulate_seed(alloc, workload, workload.machine.seed, policies, sink)
 }
@@ -69,7 +68,7 @@ pub fn simulate_seed<S: Sink + Enough>(
     ensures flaw { IfErr result (λ fault. flaw_told fault ≡ first_flaw workload.now) }
     ensures untold { first_flaw workload.now ≢ None → sink.new ≡ sink.old }
     ensures ends { first_flaw workload.now ≡ None → IfErr result (IsCutOff workload.now) }
-    ensures endless { IfErr result (λ fault. fault ≡ why.Endless → Gets S.takes sink.old sink.new (IsTooLong policies.now (with_seed workload.now seed))) }
+    ensures endless { IfErr result (IfEndless (Gets S.takes sink.old sink.new (IsTooLong policies.now (with_seed workload.now seed)))) }
 {
     soundness(workload).map_err(SimulateFault::Unsound)?;
     let counts = match follow(alloc, workload, seed, policies, sink) {
@@ -93,7 +92,7 @@ fn follow<S: Sink + Enough>(
     ensures told { OnOk result (Gets S.takes sink.old sink.new (IsFollowed (S.sated sink.new) policies.now (with_seed workload.now seed))) }
     ensures tasks { IfOk result (λ counts. counts.tasks ≡ tasks_in workload.now.tasks.items) }
     ensures ends { first_flaw workload.now ≡ None → IfErr result (EndsEarly workload.now) }
-    ensures endless { first_flaw workload.now ≡ None → IfErr result (λ fault. fault ≡ why.Endless → Gets S.takes sink.old sink.new (IsTooLong policies.now (with_seed workload.now seed))) }
+    ensures endless { first_flaw workload.now ≡ None → IfErr result (IfEndless (Gets S.takes sink.old sink.new (IsTooLong policies.now (with_seed workload.now seed)))) }
 {
     let machine = &workload.machine;
     let driver = Driver::new(alloc, machine.rule, machine.size, sink)?;
@@ -152,9 +151,9 @@ impl Simulation {
         requires tasks { length self.old.roster.by_task.items ≡ 0 }
         requires streams { length self.old.streams.items ≡ 0 }
         ensures tasks { IfOk result (λ counts. counts.tasks ≡ tasks_in workload.now.tasks.items) }
-        ensures runs { OnOk result (RunsOn S.takes S.sated policies.now workload.now.tasks.items (most_steps workload.now) workload.now.machine.duration (processors_in workload.now.machine.size) sink.old self.old sink.new self.new) }
+        ensures runs { OnOk result (RunsOn S.takes S.sated policies.now workload.now sink.old self.old sink.new self.new) }
         ensures ends { StartsWell workload.now self.old → IfErr result (EndsEarly workload.now) }
-        ensures endless { StartsWell workload.now self.old → IfErr result (λ fault. fault ≡ why.Endless → RunsOut S.takes policies.now workload.now sink.old self.old sink.new self.new) }
+        ensures endless { StartsWell workload.now self.old → IfErr result (IfEndless (RunsOut S.takes policies.now workload.now sink.old self.old sink.new self.new)) }
     {
         let tasks = self.proceed(alloc, workload, policies, sink)?;
         if sink.has_enough() {
@@ -180,10 +179,10 @@ impl Simulation {
         requires streams { length self.old.streams.items ≡ 0 }
         ensures tasks { IfOk result (λ tasks. tasks ≡ tasks_in workload.now.tasks.items) }
         ensures none { OnOk result (S.sated sink.new ≡ false → IsAgreed self.new.roster → NothingComes self.new.roster.periods.end (accounts_of self.new.roster)) }
-        ensures lived { OnOk result (LivedFrom S.takes workload.now.tasks.items (Proceeds policies.now (processors_in workload.now.machine.size) workload.now.tasks.items self.old.seed self.old.roster.periods (most_steps workload.now) workload.now.machine.duration) sink.old self.old sink.new self.new) }
+        ensures lived { OnOk result (HasProceeded S.takes policies.now workload.now sink.old self.old sink.new self.new) }
         ensures well { OnOk result (StartsWell workload.now self.old → HasGoneWell workload.now self.new) }
         ensures ends { StartsWell workload.now self.old → IfErr result (EndsEarly workload.now) }
-        ensures endless { StartsWell workload.now self.old → IfErr result (λ fault. fault ≡ why.Endless → RunsOut S.takes policies.now workload.now sink.old self.old sink.new self.new) }
+        ensures endless { StartsWell workload.now self.old → IfErr result (IfEndless (RunsOut S.takes policies.now workload.now sink.old self.old sink.new self.new)) }
     {
         let processors = workload.machine.size.processors();
         self.install(alloc, processors, policies, sink)?;
@@ -213,10 +212,10 @@ impl Simulation {
         sink: &mut S,
     ) -> Result<(), SimulateFault>
         ensures none { OnOk result (S.sated sink.new ≡ false → IsAgreed self.new.roster → NothingComes self.new.roster.periods.end (accounts_of self.new.roster)) }
-        ensures lived { OnOk result (LivedFrom S.takes workload.now.tasks.items (AreMet workload.now.tasks.items self.old.seed self.old.roster.periods most workload.now.machine.duration) sink.old self.old sink.new self.new) }
+        ensures lived { OnOk result (GoesOn S.takes workload.now most sink.old self.old sink.new self.new) }
         ensures well { OnOk result (GoesWell workload.now 0 self.old → HasGoneWell workload.now self.new) }
         ensures ends { GoesWell workload.now 0 self.old → HasProcessors workload.now self.old → most ≡ most_steps workload.now → IfErr result (EndsEarly workload.now) }
-        ensures endless { GoesWell workload.now 0 self.old → IfErr result (λ fault. fault ≡ why.Endless → LivedFrom S.takes workload.now.tasks.items (AreAllMet workload.now.tasks.items self.old.seed self.old.roster.periods most workload.now.machine.duration) sink.old self.old sink.new self.new) }
+        ensures endless { GoesWell workload.now 0 self.old → IfErr result (IfEndless (GoesOut S.takes workload.now most sink.old self.old sink.new self.new)) }
     {
         let end = workload.machine.duration;
         let mut last: u64 = 0;

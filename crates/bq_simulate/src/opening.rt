@@ -2,14 +2,13 @@
 ghost use Rattle.std.specs.Prelude.{◌≡◌, ◌≢◌, ◌+◌, ◌<◌, ℕ, true, [], ◌∷◌, IfErr, IfOk, OnOk, Some, List, length, slice_get};
 ghost use Rattle.bq_parts.specs.declared.event.Event.TheVariants.{Admit};
 ghost use Rattle.bq_workload.specs.Kinds.{tasks_in};
-ghost use Rattle.bq_workload.specs.Soundness.{IsFirstAllowed, has_numbers};
 ghost use Rattle.bq_workload.specs.declared.workload.TaskKind.{TaskKind};
 ghost use Rattle.bq_workload.specs.declared.workload.Workload.{Workload};
-ghost use Rattle.bq_simulate.specs.Actions.{IsOfKind, first_of, start_of};
-ghost use Rattle.bq_simulate.specs.Kept.{HasAllFirsts, IsNewerFrom, WereDrawn};
-ghost use Rattle.bq_simulate.specs.Order.{HasGenerations, OpensWell, StartsWell, WantsMemory};
-ghost use Rattle.bq_simulate.specs.Simulations.{Befell, Lived, Same, Silent};
-ghost use Rattle.bq_simulate.specs.Steps.{AreAdmitted, AreAllAdmitted, AreInstalled, AreJust, IsJoin, installs_of};
+ghost use Rattle.bq_simulate.specs.Actions.{first_of};
+ghost use Rattle.bq_simulate.specs.Kept.{HasAllFirsts};
+ghost use Rattle.bq_simulate.specs.Order.{HasGenerations, HasNewer, OpensBefore, OpensWell, StartsWell, WantsMemory};
+ghost use Rattle.bq_simulate.specs.Simulations.{Befell, JoinsNext, Lived, Same, Silent};
+ghost use Rattle.bq_simulate.specs.Steps.{AreAdmissions, AreInstalled, AreJust, AreKindAdmissions, IsAdmissible, installs_of};
 ghost use Rattle.bq_words.specs.Sizes.{processors_in};
 
 use crate::fault::SimulateFault;
@@ -55,8 +54,8 @@ impl Simulation {
         ensures streams { self.new.streams ≡ self.old.streams }
         ensures firsts { self.new.firsts ≡ self.old.firsts }
         ensures counts { self.new.counts ≡ self.old.counts }
-        ensures generations { OnOk result ((count : ℕ) → HasGenerations count self.old.driver.machine.world → IsNewerFrom 0 generation self.old.driver.machine.world → HasGenerations count self.new.driver.machine.world) }
-        ensures ends { (w : Workload) → OpensWell w 0 self.old → WereDrawn self.old.driver.machine.world → IsNewerFrom 0 generation self.old.driver.machine.world → processors ≡ processors_in w.machine.size → IfErr result WantsMemory }
+        ensures generations { OnOk result ((count : ℕ) → HasNewer count generation self.old → HasGenerations count self.new.driver.machine.world) }
+        ensures ends { (w : Workload) (count : ℕ) → OpensWell w 0 self.old → HasNewer count generation self.old → processors ≡ processors_in w.machine.size → IfErr result WantsMemory }
     {
         'processors: for processor in 0..processors {
             let copy = policy.clone()?;
@@ -75,7 +74,7 @@ impl Simulation {
     ) -> Result<(), SimulateFault>
         requires tasks { length self.old.roster.by_task.items ≡ 0 }
         requires streams { length self.old.streams.items ≡ 0 }
-        ensures lived { OnOk result (Lived S.takes workload.now.tasks.items (AreAllAdmitted (processors_in workload.now.machine.size) 0 0 workload.now.tasks.items) sink.old self.old sink.new self.new) }
+        ensures lived { OnOk result (Lived S.takes workload.now.tasks.items (AreAdmissions workload.now) sink.old self.old sink.new self.new) }
         ensures streams { OnOk result (length self.new.streams.items ≡ tasks_in workload.now.tasks.items) }
         ensures firsts { OnOk result (length self.old.firsts.items ≡ 0 → HasAllFirsts workload.now.tasks.items self.new) }
         ensures well { OnOk result (OpensWell workload.now 0 self.old → OpensWell workload.now (tasks_in workload.now.tasks.items) self.new) }
@@ -100,12 +99,12 @@ impl Simulation {
         requires kind { slice_get workload.now.tasks.items number ≡ Some kind.now }
         requires first { length self.old.roster.by_task.items ≡ first_of workload.now.tasks.items number }
         requires streams { length self.old.streams.items ≡ first_of workload.now.tasks.items number }
-        ensures lived { OnOk result (Lived S.takes workload.now.tasks.items (AreAdmitted (processors_in workload.now.machine.size) number kind.now (first_of workload.now.tasks.items number) kind.now.count) sink.old self.old sink.new self.new) }
+        ensures lived { OnOk result (Lived S.takes workload.now.tasks.items (AreKindAdmissions workload.now number kind.now) sink.old self.old sink.new self.new) }
         ensures tasks { OnOk result (length self.new.roster.by_task.items ≡ length self.old.roster.by_task.items + kind.now.count) }
         ensures streams { OnOk result (length self.new.streams.items ≡ length self.old.streams.items + kind.now.count) }
         ensures firsts { OnOk result (self.new.firsts ≡ self.old.firsts) }
-        ensures well { OnOk result (OpensWell workload.now (first_of workload.now.tasks.items number) self.old → OpensWell workload.now (first_of workload.now.tasks.items number + kind.now.count) self.new) }
-        ensures ends { OpensWell workload.now (first_of workload.now.tasks.items number) self.old → IfErr result WantsMemory }
+        ensures well { OnOk result (OpensBefore workload.now number self.old → OpensWell workload.now (first_of workload.now.tasks.items number + kind.now.count) self.new) }
+        ensures ends { OpensBefore workload.now number self.old → IfErr result WantsMemory }
     {
         let processors = workload.machine.size.processors();
         let home = first_of_mask(kind.mask, processors).ok_or(SimulateFault::BrokenInvariant)?;
@@ -161,7 +160,7 @@ impl Simulation {
     /// One more task of a kind, with a stream of its own; its first wake is at the start of its kind, from this processor, and
     /// its timer is put down.
     fn join(&mut self, task: u16, kind: usize, home: u8, start: u64) -> Result<(), SimulateFault>
-        ensures silent { OnOk result ((kinds : List TaskKind) → IsOfKind kinds (length self.old.roster.by_task.items) kind → start ≡ start_of kinds kind → length self.old.streams.items ≡ length self.old.roster.by_task.items → Silent kinds (IsJoin kind home) self.old self.new) }
+        ensures silent { OnOk result (JoinsNext kind home start self.old self.new) }
         ensures number { OnOk result (task ≡ length self.old.streams.items) }
         ensures streams { OnOk result (length self.new.streams.items ≡ length self.old.streams.items + 1) }
         ensures tasks { OnOk result (length self.new.roster.by_task.items ≡ length self.old.roster.by_task.items + 1) }
@@ -191,7 +190,7 @@ impl Simulation {
         ensures streams { self.new.streams ≡ self.old.streams }
         ensures firsts { self.new.firsts ≡ self.old.firsts }
         ensures counts { self.new.counts ≡ self.old.counts }
-        ensures ends { (w : Workload) (home : ℕ) → OpensWell w task self.old → task < 1024 → has_numbers kind.now ≡ true → IsFirstAllowed (processors_in w.machine.size) kind.now.mask home → IfErr result WantsMemory }
+        ensures ends { (w : Workload) (home : ℕ) → OpensWell w task self.old → IsAdmissible (processors_in w.machine.size) task home kind.now → IfErr result WantsMemory }
     {
         self.driver
             .admit(alloc, task, kind.nice, kind.mask, kind.slice, sink)?;

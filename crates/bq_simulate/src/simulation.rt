@@ -1,15 +1,14 @@
 //! A simulation on its way.
-ghost use Rattle.std.specs.Prelude.{◌≡◌, ◌≢◌, ◌<◌, ◌⊎◌, ℕ, true, false, [], ◌∷◌, IfOk, IfErr, None, OnOk, length, slice_get};
+ghost use Rattle.std.specs.Prelude.{◌≡◌, ◌≢◌, ◌⊎◌, ℕ, true, false, [], ◌∷◌, IfOk, IfErr, None, OnOk, slice_get};
 ghost use Rattle.bq_parts.specs.declared.event.Event.TheVariants.{BeginWake, EndWake, Drain, Pull, Tick};
 ghost use Rattle.bq_simulate.specs.Drives.{Drove};
-ghost use Rattle.std.specs.Option.{option_map_or};
-ghost use Rattle.bq_workload.specs.Accounts.{accounts_of, passed, switched};
+ghost use Rattle.bq_workload.specs.Accounts.{accounts_of, switched};
 ghost use Rattle.bq_workload.specs.Next.{IsNext, StaysAgreed};
-ghost use Rattle.bq_workload.specs.Strays.{IsStrayPass, IsStraySwitch};
-ghost use Rattle.bq_simulate.specs.Chronicles.{IsWoken, is_busy};
+ghost use Rattle.bq_workload.specs.Strays.{IsStrayPass};
+ghost use Rattle.bq_simulate.specs.Chronicles.{IsWoken, is_busy, pulled};
 ghost use Rattle.bq_workload.specs.Lengths.{is_length};
 ghost use Rattle.bq_workload.specs.declared.workload.Workload.{Workload};
-ghost use Rattle.bq_simulate.specs.Order.{GoesWell, WantsMemory};
+ghost use Rattle.bq_simulate.specs.Order.{GoesWell, HasBoth, IsStrayPull, WantsMemory};
 ghost use Rattle.bq_simulate.specs.Simulations.{Befell, Draws, Lived};
 ghost use Rattle.bq_simulate.specs.Steps.{AreJust, AreWake, KeepsOthers, Meet};
 
@@ -160,7 +159,7 @@ impl Simulation {
         sink: &mut S,
     ) -> Result<(), SimulateFault>
         ensures befell { OnOk result (Befell S.takes (AreJust (Pull processor from now ∷ [])) sink.old self.old sink.new self.new) }
-        ensures ends { (w : Workload) → GoesWell w now self.old → processor < length self.old.roster.by_processor.items → from < length self.old.roster.by_processor.items → processor ≢ from → IfErr result WantsMemory }
+        ensures ends { (w : Workload) → GoesWell w now self.old → HasBoth processor from self.old → IfErr result WantsMemory }
     {
         let moved = self.driver.pull(alloc, processor, from, now, sink)?;
         keep_pull(&mut self.roster, processor, from, moved, now)?;
@@ -190,10 +189,10 @@ fn keep_pull(
     moved: Moved,
     now: u64,
 ) -> Result<(), BrokenInvariant>
-    ensures accounts { OnOk result (accounts_of roster.new ≡ switched processor moved.run now roster.old.periods (option_map_or (λ task. passed from processor (accounts_of roster.old)) moved.task (accounts_of roster.old))) }
+    ensures accounts { OnOk result (accounts_of roster.new ≡ switched processor moved.run now roster.old.periods (pulled from processor moved.task (accounts_of roster.old))) }
     ensures agrees { OnOk result (StaysAgreed roster.old roster.new) }
     ensures periods { roster.new.periods ≡ roster.old.periods }
-    ensures stray { IfErr result (λ _. ((moved.task ≢ None) × IsStrayPass from processor (accounts_of roster.old)) ⊎ IsStraySwitch roster.old.periods processor moved.run now (option_map_or (λ task. passed from processor (accounts_of roster.old)) moved.task (accounts_of roster.old))) }
+    ensures stray { IfErr result (λ _. IsStrayPull roster.old.periods processor from moved.task moved.run now (accounts_of roster.old)) }
 {
     pass_where_taken(roster, moved.task, from, processor)?;
     roster.switch(processor, moved.run, now)
@@ -206,7 +205,7 @@ fn pass_where_taken(
     from: u8,
     to: u8,
 ) -> Result<(), BrokenInvariant>
-    ensures accounts { OnOk result (accounts_of roster.new ≡ option_map_or (λ task. passed from to (accounts_of roster.old)) taken (accounts_of roster.old)) }
+    ensures accounts { OnOk result (accounts_of roster.new ≡ pulled from to taken (accounts_of roster.old)) }
     ensures agrees { OnOk result (StaysAgreed roster.old roster.new) }
     ensures periods { roster.new.periods ≡ roster.old.periods }
     ensures stray { IfErr result (λ _. (taken ≢ None) × IsStrayPass from to (accounts_of roster.old)) }

@@ -102,7 +102,7 @@ returns-in_err-admit_one-clause-ends g c = λ opens.
     let few : task < 1024 = few_before w number kind task count opens.sound c.requires.kind here c.tasks-test.true in
     let numbers = (admissible_kind w number kind opens.sound c.requires.kind).numbers in
     let well = opens-well g.S.Sink.takes _ _ _ w first (first + count) _ _ (tasks-open w c.args.self.now.seed number kind first count) here c.tasks.invariant.lived opens in
-    let wants = c.in_err-admit_one.ensures.ends w home (subst (λ (n : ℕ). OpensWell w n c.tasks.self) (sym here) well) few numbers mine in
+    let wants = c.in_err-admit_one.ensures.ends w home (subst (λ (n : ℕ). OpensWell w n c.tasks.self) (sym here) well) (record { few = few; numbers = numbers; first = mine }) in
     err-by c.from_residual-in_err-admit_one.result c.from_residual-in_err-admit_one.ensures.1 (λ e is. is ∙ wants)
 
 pub returns-in_err-join-clause-ends : goal.returns-in_err-join-clause-ends

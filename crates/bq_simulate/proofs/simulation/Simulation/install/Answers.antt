@@ -40,7 +40,7 @@ policies-preserved g c =
       counts = c.in_ok-install_one.ensures.counts ∙ c.policies.invariant.counts;
       generations = λ none.
           let newer = drawn-newer number generation _ _ _ early (c.policies.invariant.generations none) c.in_ok-generation.ensures.does.holds in
-          c.in_ok-install_one.ensures.generations (number + 1) newer.0 newer.1;
+          c.in_ok-install_one.ensures.generations (number + 1) newer;
     }
 
 pub policies-init : goal.policies-init
@@ -70,5 +70,5 @@ returns-in_err-install_one-clause-ends g c = λ w starts all.
     let drawn = Lived-event takes (IsDrawn generation) _ _ _ _ Draw (Drawn generation) refl tt (record { agrees = λ h. h; periods = refl; seed = refl; streams = refl; firsts = refl }) c.in_ok-generation.ensures.does refl in
     let well = opens-well takes (IsDrawn generation) _ _ w 0 0 _ _ (draw-opens w c.policies.self.seed 0 generation) before.counted (drawn w.tasks.items) before in
     let newer = drawn-newer number generation _ _ _ early (c.policies.invariant.generations starts.generations) c.in_ok-generation.ensures.does.holds in
-    let wants = c.in_err-install_one.ensures.ends w well newer.0.were newer.1 all in
+    let wants = c.in_err-install_one.ensures.ends w (number + 1) well newer all in
     err-by c.from_residual-in_err-install_one.result c.from_residual-in_err-install_one.ensures.1 (λ e is. is ∙ wants)

@@ -53,16 +53,15 @@ returns-clause-befell g c =
     λ kinds. Lived-weaker g.S.Sink.takes kinds (installs c.processors.processor) (installs c.args.processors) (λ xs are. subst (λ (n : ℕ). installs n xs) all are) _ _ _ _ (c.processors.invariant.befell kinds)
 
 pub returns-clause-generations : goal.returns-clause-generations
-returns-clause-generations g c = λ count drawn newer. (c.processors.invariant.generations count drawn newer).0
+returns-clause-generations g c = λ count newer. (c.processors.invariant.generations count newer.0 newer.1).0
 
 pub returns-in_err-install-clause-ends : goal.returns-in_err-install-clause-ends
-returns-in_err-install-clause-ends g c = λ w opens were newer all.
+returns-in_err-install-clause-ends g c = λ w drawn opens newer all.
     let policy = c.args.policy.now in
     let count = c.processors.processor in
     let generation = c.args.generation in
     let here = c.processors.self in
-    let world = c.args.self.now.driver.machine.world in
-    let left = (c.processors.invariant.generations world.drawn (record { many = refl; were = were }) newer).1 in
+    let left = (c.processors.invariant.generations drawn newer.0 newer.1).1 in
     let well = opens-well g.S.Sink.takes _ _ _ w 0 0 _ _ (installs-open w c.args.self.now.seed 0 count generation policy) (ap (λ k. k.tasks) c.processors.invariant.counts ∙ opens.counted) (c.processors.invariant.befell w.tasks.items) opens in
     let low : count < count_in here.driver.machine.world = omega (arith, c.processors-test.true, all, well.opening.processors_there) in
     let fails : FailsForMemory here.driver (Install count policy.hook generation (Some policy)) = calls_fail_for_memory.installs here.driver (accounts_of here.roster) count generation policy well.opening.agree low (left.newer count policy.hook (omega arith)) left.drawn in

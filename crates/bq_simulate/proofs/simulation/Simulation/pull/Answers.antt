@@ -52,4 +52,4 @@ returns-in-Some-clause-ends g c =
     let other = pulls_from was.roster.by_processor.items processor c.in-Some.from source in
     let many = ap (λ (a : Accounts). length a.by_processor) looks.accounts ∙ changed_at-length _ was.roster.by_processor.items processor in
     let there = slice_get_within was.roster.by_processor.items processor looks.due.processor_state looks.due.at in
-    λ w well next. c.pull_from.ensures.ends w (well_looked w c.args.now was here processor well looks.periods looks.accounts looks.agrees) (omega (arith, there, many)) (omega (arith, other.0, many)) other.1
+    λ w well next. c.pull_from.ensures.ends w (well_looked w c.args.now was here processor well looks.periods looks.accounts looks.agrees) (omega (arith, there, many), omega (arith, other.0, many), other.1)

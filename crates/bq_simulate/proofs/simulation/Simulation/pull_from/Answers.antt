@@ -1,9 +1,9 @@
 use Rattle.std.proofs.Common.{[], ◌∷◌, ℕ, inl, inr, Option, refl, ap, sym, ◌∙◌}
 use Rattle.std.proofs.lemmas.Result.{err_from_is_err_and}
-use Rattle.std.specs.Option.{option_map_or}
 use Rattle.bq_parts.specs.declared.event.Event.TheVariants.{Pull}
+use Rattle.bq_simulate.specs.Chronicles.{pulled}
 use Rattle.bq_simulate.specs.Drives.{runs_now}
-use Rattle.bq_workload.specs.Accounts.{Accounts, accounts_of, passed, switched}
+use Rattle.bq_workload.specs.Accounts.{Accounts, accounts_of, switched}
 use Rattle.bq_simulate.specs.Steps.{AreJust}
 use Rattle.bq_simulate.proofs.DeedLemmas.{Lived-event}
 use Rattle.bq_simulate.proofs.WellStepLemmas.{pull_fails, pull_passes, pull_switches}
@@ -14,7 +14,7 @@ returns-clause-befell g c =
     let said = c.in_ok-moved.ensures.does in
     let was = c.args.self.now.roster in
     let event = Pull c.args.processor c.args.from c.args.now in
-    let moved : Option ℕ → Accounts = λ o. option_map_or (λ (task : ℕ). passed c.args.from c.args.processor (accounts_of was)) o (accounts_of was) in
+    let moved : Option ℕ → Accounts = λ o. pulled c.args.from c.args.processor o (accounts_of was) in
     let runs = ap (λ (r : Option ℕ). switched c.args.processor r c.args.now was.periods (moved c.in_ok-moved.moved.task)) (sym said.1) in
     let takes = ap (λ (o : Option ℕ). switched c.args.processor (runs_now said.0) c.args.now was.periods (moved o)) (sym said.2) in
     Lived-event g.S.Sink.takes (AreJust (event ∷ [])) _ _ _ _ event said.0 (said.0, [], refl, refl) tt (record { agrees = c.in_ok-keep_pull.ensures.agrees; periods = c.in_ok-keep_pull.ensures.periods; seed = refl; streams = refl; firsts = refl }) said.3 (c.in_ok-keep_pull.ensures.accounts ∙ runs ∙ takes)
@@ -23,7 +23,7 @@ returns-clause-befell g c =
 pub returns-in_err-moved-clause-ends : goal.returns-in_err-moved-clause-ends
 returns-in_err-moved-clause-ends g c =
     let p = err_from_is_err_and c.from_residual.result c.from_residual.ensures.1 in
-    λ w well low there apart. rw p.1 (p.2 (pull_fails w c.args.now c.args.self.now c.args.processor c.args.from well low there apart c.in_err-moved.field-0.0 c.in_err-moved.ensures.fault))
+    λ w well two. rw p.1 (p.2 (pull_fails w c.args.now c.args.self.now c.args.processor c.args.from well two.0 two.1 two.2 c.in_err-moved.field-0.0 c.in_err-moved.ensures.fault))
 
 -- and what came of it can be kept
 pub returns-in_err-keep_pull-clause-ends : goal.returns-in_err-keep_pull-clause-ends
@@ -32,7 +32,7 @@ returns-in_err-keep_pull-clause-ends g c =
     let was = c.args.self.now in
     let here = c.pull.new.self in
     let now = c.args.now in
-    λ w well low there apart. elim c.in_err-keep_pull.ensures.stray [
-      | inl astray ↦ absurd (pull_passes w now was here c.args.processor c.args.from c.in_ok-moved.moved.task said.0 said.3.told well low apart said.2 said.3.holds astray.0 astray.1)
-      | inr astray ↦ absurd (pull_switches w now was here c.args.processor c.args.from c.in_ok-moved.moved.task c.in_ok-moved.moved.run said.0 said.3.told well low said.1 said.2 said.3.holds astray)
+    λ w well two. elim c.in_err-keep_pull.ensures.stray [
+      | inl astray ↦ absurd (pull_passes w now was here c.args.processor c.args.from c.in_ok-moved.moved.task said.0 said.3.told well two.0 two.2 said.2 said.3.holds astray.0 astray.1)
+      | inr astray ↦ absurd (pull_switches w now was here c.args.processor c.args.from c.in_ok-moved.moved.task c.in_ok-moved.moved.run said.0 said.3.told well two.0 said.1 said.2 said.3.holds astray)
     ]

@@ -1,12 +1,10 @@
 use Rattle.std.proofs.Common.{ℕ, List, inl, inr, subst, sym, ◌∙◌, true≢false, arith}
 use Rattle.bq_workload.specs.declared.roster.Periods.{Periods}
 use Rattle.bq_workload.specs.Accounts.{accounts_of}
-use Rattle.bq_workload.specs.Bounds.{most_steps}
 use Rattle.bq_workload.specs.Next.{NothingComes}
-use Rattle.bq_words.specs.Sizes.{processors_in}
 use Rattle.bq_simulate.specs.Chronicles.{Deed}
 use Rattle.bq_simulate.specs.Order.{EndsEarly}
-use Rattle.bq_simulate.specs.Simulations.{Proceeds}
+use Rattle.bq_simulate.specs.Simulations.{ProceedsIn}
 use Rattle.bq_simulate.specs.Steps.{AreJust, all_processors, last_ticks}
 use Rattle.bq_simulate.proofs.DeedLemmas.{Lived-weaker}
 use Rattle.bq_simulate.proofs.EndWellLemmas.{ended-well, keep_phases}
@@ -55,7 +53,7 @@ returns-in_err-finish-clause-ends g c = λ starts.
     let gone = c.in_ok-tasks.ensures.well starts in
     let none = c.in_ok-tasks.ensures.none (sym c.has_enough.ensures ∙ c.if-has_enough.false) gone.well.agreed in
     let was = c.args.self.now in
-    let there = processors-there g.S.Sink.takes (Proceeds c.args.policies.now (processors_in w.machine.size) w.tasks.items was.seed was.roster.periods (most_steps w) w.machine.duration) _ _ w 0 _ _ c.in_ok-tasks.ensures.lived starts.opens in
+    let there = processors-there g.S.Sink.takes (ProceedsIn c.args.policies.now w was.seed was.roster.periods) _ _ w 0 _ _ c.in_ok-tasks.ensures.lived starts.opens in
     let many = gone.well.kept.agrees.mirrors.processors.many in
     let wants = c.in_err-finish.ensures.ends w (ended-well w ended none gone) (omega (arith, c.processors-processors.ensures, there, many)) in
     err-by c.from_residual-in_err-finish.result c.from_residual-in_err-finish.ensures.1 (λ e is. inl (is ∙ wants))
@@ -70,7 +68,7 @@ returns-in_err-finish-clause-endless g c = λ starts.
     let gone = c.in_ok-tasks.ensures.well starts in
     let none = c.in_ok-tasks.ensures.none (sym c.has_enough.ensures ∙ c.if-has_enough.false) gone.well.agreed in
     let was = c.args.self.now in
-    let there = processors-there g.S.Sink.takes (Proceeds c.args.policies.now (processors_in w.machine.size) w.tasks.items was.seed was.roster.periods (most_steps w) w.machine.duration) _ _ w 0 _ _ c.in_ok-tasks.ensures.lived starts.opens in
+    let there = processors-there g.S.Sink.takes (ProceedsIn c.args.policies.now w was.seed was.roster.periods) _ _ w 0 _ _ c.in_ok-tasks.ensures.lived starts.opens in
     let many = gone.well.kept.agrees.mirrors.processors.many in
     let wants = c.in_err-finish.ensures.ends w (ended-well w ended none gone) (omega (arith, c.processors-processors.ensures, there, many)) in
     err-by c.from_residual-in_err-finish.result c.from_residual-in_err-finish.ensures.1 (λ e is ends. absurd (wants-no-end (sym (is ∙ wants) ∙ ends)))
