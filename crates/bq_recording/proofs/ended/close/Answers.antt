@@ -20,7 +20,7 @@ core_of-requires g c =
     let once = once_known all ps c.all_out-contents.ensures c.close-log.ensures.once in
     let k = world_has_parts g.Q.R.Discipline.discipline g.row.P c.args.locks.history.about c.close-log.result.0 all ps c.into_inner-journal.result.1 c.args.locks.about c.all_out-contents.ensures c.close-log.ensures.world in
     let s = k.2 in
-    (search rules, (omega arith, (c.args.locks.few, (once, (k.0, s.orderly, s.many, s.boxes, k.3 ∙ ap (λ j. j.drawn) (sym c.kept.ensures), k.4)))))
+    (search rules, (omega arith, (c.args.locks.few, (once, (k.0, s.orderly, (s.many, s.boxes, k.3 ∙ ap (λ j. j.drawn) (sym c.kept.ensures), k.4))))))
 
 pub returns-clause-history : goal.returns-clause-history
 returns-clause-history g c =
