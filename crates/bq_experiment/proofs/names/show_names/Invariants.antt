@@ -7,5 +7,5 @@ use Rattle.bq_experiment.proofs.names.show_names.Given as goal
 abbrev pub invariant-comments : goal.invariant-comments
 invariant-comments l = record {
   rest : Rests l.initial.viewer l.viewer;
-  names : LearnsAll (map string_bytes (take l.comment-index l.comments.items)) l.initial.viewer.screen.names l.viewer.screen.names;
+  names : LearnsAll (map string_bytes (take l.comment-index l.comment-items)) l.initial.viewer.screen.names l.viewer.screen.names;
 }
