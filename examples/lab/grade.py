@@ -1,32 +1,46 @@
 #!/usr/bin/env python3
-"""Grades a policy of docs/LAB.md: examples/lab/grade.py POLICY [BQSIM], from the top of the repository. Exit status 1: not passed."""
+"""Grades a policy of docs/LAB.md: grade.py [--switches] POLICY [BQSIM]. With --switches it asks for fewer switches too. Exit status 1: not passed."""
 import json
+import pathlib
 import subprocess
 import sys
 
-if len(sys.argv) not in (2, 3):
+ROOT = pathlib.Path(__file__).resolve().parents[2]
+WORDS = [word for word in sys.argv[1:] if word != "--switches"]
+FEWER = len(WORDS) < len(sys.argv) - 1
+if len(WORDS) not in (1, 2):
     sys.exit(__doc__)
-POLICY, BQSIM = sys.argv[1], sys.argv[2] if len(sys.argv) > 2 else "./bqsim"
+POLICY, BQSIM = WORDS[0], WORDS[1] if len(WORDS) > 1 else ROOT / "bqsim"
 
 
 def tasks(workload, policy):
-    words = [BQSIM, "simulate", workload, "--discipline", "cfs", "--preempt", policy, "--as", "json"]
+    words = [BQSIM, "simulate", ROOT / workload, "--discipline", "cfs", "--preempt", policy, "--as", "json"]
     done = subprocess.run(words, capture_output=True, text=True)
     if done.returncode:
         sys.exit(f"not passed: {done.stderr.strip()}")
     return {task["name"]: task for task in json.loads(done.stdout)["tasks"]}
 
 
+def ms(time):
+    return f"{time // 1000 / 1000:.3f} ms"
+
+
 def missing():
     rule, mine = (tasks("examples/lab/editor.toml", policy)["editor"] for policy in ("none", POLICY))
-    late = mine["latency"]["p95"]
-    if late is None or late > rule["latency"]["p95"] / 10:
-        yield f"95 % of the editor's wakes wait up to {late} ns; wanted is a tenth of the rule's {rule['latency']['p95']}"
+    late, most = mine["latency"]["p95"], rule["latency"]["p95"] // 10
+    if late is None:
+        yield "the editor never runs after a wake"
+    elif late > most:
+        yield f"95 % of the editor's wakes wait up to {ms(late)}; wanted: up to {ms(most)}, a tenth of the rule's"
     if mine["cpu"] < rule["cpu"]:
-        yield f"the editor runs for {mine['cpu']} ns; wanted is the rule's {rule['cpu']}"
-    for task in tasks("workloads/nice_values.toml", POLICY).values():
+        yield f"the editor runs for {ms(mine['cpu'])}; wanted: the rule's {ms(rule['cpu'])}"
+    rule, mine = (list(tasks("workloads/nice_values.toml", policy).values()) for policy in ("none", POLICY))
+    for task in mine:
         if task["cpu"] < task["fair"] * 0.9:
-            yield f"{task['name']} runs for {task['cpu']} ns in nice_values; wanted is 90 % of its fair {task['fair']}"
+            yield f"{task['name']} of nice_values runs for {ms(task['cpu'])}; wanted: 90 % of its fair {ms(task['fair'])}"
+    switches, made = (sum(task["counts"]["switches"] for task in each) for each in (mine, rule))
+    if FEWER and switches > made * 8 // 10:
+        yield f"nice_values has {switches} switches; wanted: up to {made * 8 // 10}, 80 % of the rule's"
 
 
 found = list(missing())
