@@ -1,6 +1,7 @@
 -- One charge, as the laws of fairness see it.
 use Rattle.std.specs.Prelude.{ℕ, ◌+◌, ◌-◌, ◌^◌, min, List, Option, Some, None, find}
 use Rattle.std.specs.Option.{option_map}
+use Rattle.bq_cfs.specs.declared.discipline.TheConstants.{GRANULARITY}
 use Rattle.bq_weights.specs.VirtualTime.{vdelta_of, advance_of}
 use Rattle.bq_disc.specs.Tasks.{Task}
 use Rattle.bq_disc.specs.Queues.{follows}
@@ -20,5 +21,5 @@ charge_from base allowance v weight rise since = record { difference = advance_o
 
 -- under CFS beyond the least that waits, by the granularity; under EEVDF ahead of the mean
 abbrev pub charge_of : Rule → RunningTask → ℕ → ℕ → ℕ → Option Charge
-charge_of Cfs s rise since mean = option_map (λ least. charge_from least 1000000 s.v s.weight rise since) s.least
+charge_of Cfs s rise since mean = option_map (λ least. charge_from least GRANULARITY s.v s.weight rise since) s.least
 charge_of Eevdf s rise since mean = Some (charge_from mean 0 s.v s.weight rise since)

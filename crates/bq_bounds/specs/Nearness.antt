@@ -1,6 +1,7 @@
 -- What is measured stays within its bound, and the greatest is kept.
 use Rattle.std.specs.Prelude.{◌≡◌, ℕ, ◌+◌, ◌-◌, ◌^◌, ◌≤◌, List, ◌∷◌, map, Contains, Some, IfSome}
 use Rattle.std.specs.List.{AllByRecursion}
+use Rattle.bq_cfs.specs.declared.discipline.TheConstants.{GRANULARITY}
 use Rattle.bq_weights.specs.VirtualTime.{IsWeight, vdelta_of}
 use Rattle.bq_disc.specs.Tasks.{Task}
 use Rattle.bq_disc.specs.Queues.{HasDistinctIds}
@@ -26,7 +27,7 @@ abbrev pub CfsStaysNear : Type 0
 CfsStaysNear =
     (p : Running) (nows : List ℕ) (j : ℕ) (a b u : Task) → HasDistinctIds (present_at p) → IsWeight a.weight →
     (stepped cfs p Decide).current ≡ Some a → task_at j p ≡ Some b → (runs_on cfs p nows).current ≡ Some u →
-    (u.weight ≡ a.weight) × (u.v ≤ b.v + (1000000 + vdelta_of (risen_since cfs p nows) a.weight))
+    (u.weight ≡ a.weight) × (u.v ≤ b.v + (GRANULARITY + vdelta_of (risen_since cfs p nows) a.weight))
 
 -- EEVDF: the task that runs is ahead of the mean, which the last reading has computed, by no more than what that rise takes
 abbrev pub EevdfStaysNear : Type 0

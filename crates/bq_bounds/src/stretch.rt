@@ -98,7 +98,7 @@ impl Stretch {
 
     /// What one of some tasks is owed, and what it may be.
     fn lag(&self, group: &Group, task: &Entity) -> Charge
-        requires count { group.now.count ≤ 1024 }
+        requires count { group.now.count ≤ TASKS }
         requires least { 1 ≤ group.now.weight }
         requires most { group.now.weight ≤ 2 ^ 27 }
         ensures { result ≡ lag_by self.now group.now.mean group.now.count group.now.weight task.now }
@@ -113,7 +113,7 @@ impl Stretch {
 
     /// What a task of this weight may be owed.
     fn allowed(&self, group: &Group, weight: u32) -> u64
-        requires count { group.now.count ≤ 1024 }
+        requires count { group.now.count ≤ TASKS }
         requires weight { IsWeight weight }
         requires least { 1 ≤ group.now.weight }
         requires most { group.now.weight ≤ 2 ^ 27 }

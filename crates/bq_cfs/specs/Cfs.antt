@@ -1,6 +1,7 @@
 -- The completely fair scheduler: the task of least virtual runtime runs.
 use Rattle.std.specs.Prelude.{ℕ, ◌≤◌, ◌+◌, min, max, ℤ, pos, negsuc, false, nat_lt, List, Option}
 use Rattle.std.specs.Option.{option_map_or}
+use Rattle.bq_cfs.specs.declared.discipline.TheConstants.{GRANULARITY}
 use Rattle.bq_weights.specs.VirtualTime.{shift_of}
 use Rattle.bq_disc.specs.Tasks.{Task, first_by, runs_before}
 use Rattle.bq_disc.specs.Discipline.{Discipline}
@@ -16,7 +17,7 @@ least xs = first_by runs_before xs
 abbrev pub cfs : Discipline
 cfs = record {
   choice = λ xs. least xs;
-  wants_preempt = λ current queue. option_map_or (λ (t : Task). nat_lt (t.v + 1000000) current.v) (least queue) false;
+  wants_preempt = λ current queue. option_map_or (λ (t : Task). nat_lt (t.v + GRANULARITY) current.v) (least queue) false;
   mark = λ old xs. option_map_or (λ (t : Task). max old t.v) (least xs) old;
   wake = λ mark rel slice weight. shift_of mark (held_above rel);
   deadline = λ v slice weight. 0;

@@ -2,6 +2,7 @@
 -- who gives way.
 use Rattle.std.specs.Prelude.{ℕ, ◌+◌, ◌≤◌, ◌^◌, max, List, [], ◌∷◌, Option, Some, None, All, IfSome}
 use Rattle.std.specs.Option.{option_map_or}
+use Rattle.bq_cfs.specs.declared.discipline.TheConstants.{GRANULARITY}
 use Rattle.bq_weights.specs.VirtualTime.{IsWeight, vdelta_of}
 use Rattle.bq_disc.specs.Tasks.{Task}
 use Rattle.bq_disc.specs.Queues.{HasDistinctIds}
@@ -17,7 +18,7 @@ pub record IsSound (p : Running) : Type 0 where
 
 -- the greater of V and 1,000,000 beyond the least v of some tasks
 abbrev pub bound : ℕ → List Task → ℕ
-bound V xs = option_map_or (λ (t : Task). max V (t.v + 1000000)) (least xs) V
+bound V xs = option_map_or (λ (t : Task). max V (t.v + GRANULARITY)) (least xs) V
 
 -- the task that runs is not beyond the bound, and no task present is beyond it by more than time d takes at the least weight
 pub record IsWithin (V d : ℕ) (p : Running) : Type 0 where

@@ -1,5 +1,6 @@
 //! A task as the disciplines see it.
 ghost use Rattle.std.specs.Prelude.{◌≡◌, ◌<◌, ◌≤◌, ◌^◌, Option, Some, None, pos};
+ghost use Rattle.bq_disc.specs.declared.limits.TheConstants.{GREATEST_SLICE, LEAST_SLICE};
 ghost use Rattle.bq_weights.specs.VirtualTime.{IsWeight};
 ghost use Rattle.bq_disc.specs.Tasks.{runs_before};
 ghost use Rattle.bq_disc.specs.Dues.{due_of};
@@ -27,6 +28,7 @@ pub struct Entity {
 impl Model for Entity {
     ghost use Rattle.std.specs.Prelude.{◌≤◌, ◌^◌};
     ghost use Rattle.bq_weights.specs.VirtualTime.{IsWeight};
+    ghost use Rattle.bq_disc.specs.declared.limits.TheConstants.{GREATEST_SLICE, LEAST_SLICE};
     ghost use Rattle.bq_disc.specs.Tasks.{Task, coded_task};
 
     ghost Value = { Task };
@@ -35,7 +37,7 @@ impl Model for Entity {
 
     ghost view = { λ e. record { id = e.id; weight = e.weight; mask = e.mask; slice = e.slice; v = e.v; deadline = e.deadline; rel = e.rel; prev = e.prev } };
 
-    ghost invariant = { λ e. IsWeight e.weight × (100000 ≤ e.slice) × (e.slice ≤ 100000000) × (e.v ≤ 2 ^ 62) × (e.deadline ≤ 2 ^ 62) };
+    ghost invariant = { λ e. IsWeight e.weight × (LEAST_SLICE ≤ e.slice) × (e.slice ≤ GREATEST_SLICE) × (e.v ≤ 2 ^ 62) × (e.deadline ≤ 2 ^ 62) };
 
     ghost inverse = { λ t. record { id = t.id; weight = t.weight; mask = t.mask; slice = t.slice; v = t.v; deadline = t.deadline; rel = t.rel; prev = t.prev } };
 }
@@ -44,8 +46,8 @@ impl Entity {
     /// A new task, which has not run.
     pub fn new(id: u16, weight: u32, mask: u64, slice: u64) -> Entity
         requires weight { IsWeight weight }
-        requires slice_low { 100000 ≤ slice }
-        requires slice_high { slice ≤ 100000000 }
+        requires slice_low { LEAST_SLICE ≤ slice }
+        requires slice_high { slice ≤ GREATEST_SLICE }
         ensures { result ≡ record { id = id; weight = weight; mask = mask; slice = slice; v = 0; deadline = 0; rel = pos 0; prev = None } }
     {
         Entity {
@@ -85,8 +87,8 @@ impl Entity {
     /// The time that it asks for at once, from 100,000 to 100,000,000 nanoseconds.
     pub fn slice(&self) -> u64
         ensures value { result ≡ self.now.slice }
-        ensures low { 100000 ≤ result }
-        ensures high { result ≤ 100000000 }
+        ensures low { LEAST_SLICE ≤ result }
+        ensures high { result ≤ GREATEST_SLICE }
     {
         self.slice
     }

@@ -1,6 +1,7 @@
 //! A task that can be linked into a queue.
 ghost use Rattle.std.specs.Prelude.{◌≡◌, ◌≤◌, None, pos, IfSome, IfNone, [], ◌∷◌, ◌++◌};
 ghost use Rattle.std.specs.Option.{option_map, option_to_list};
+ghost use Rattle.bq_disc.specs.declared.limits.TheConstants.{GREATEST_SLICE, LEAST_SLICE};
 ghost use Rattle.bq_weights.specs.VirtualTime.{IsWeight};
 ghost use Rattle.bq_disc.specs.Chains.{task_of, IsLone, chain, chain_behind, IsStraightBehind};
 
@@ -27,8 +28,8 @@ impl Node {
     /// A new task, linked to none.
     pub fn new(id: u16, weight: u32, mask: u64, slice: u64) -> Node
         requires weight { IsWeight weight }
-        requires slice_low { 100000 ≤ slice }
-        requires slice_high { slice ≤ 100000000 }
+        requires slice_low { LEAST_SLICE ≤ slice }
+        requires slice_high { slice ≤ GREATEST_SLICE }
         ensures task { task_of result ≡ record { id = id; weight = weight; mask = mask; slice = slice; v = 0; deadline = 0; rel = pos 0; prev = None } }
         ensures lone { IsLone result }
     {

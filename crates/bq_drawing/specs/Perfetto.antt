@@ -1,6 +1,7 @@
 -- The trace as a whole: which events a change has, and what they say.
 use Rattle.std.specs.Prelude.{◌≡◌, ℕ, ◌-◌, ◌≤◌, Bool, true, ◌==◌, List, [], ◌++◌, Option, Some, None, is_some, codes, if◌then◌else◌}
 use Rattle.std.specs.Option.{SomeIff, option_map}
+use Rattle.bq_disc.specs.declared.limits.TheConstants.{PROCESSORS}
 use Rattle.serde_json.specs.Written.{compact_text}
 use Rattle.bq_hooks.specs.Hooks.{hook_word}
 use Rattle.bq_schedule.specs.declared.change.Change.{Change}
@@ -175,4 +176,4 @@ IsPerfettoRunner w names s h processor text =
 -- the end: the runs that go on, by their processors, and what stands behind all events
 abbrev pub IsPerfettoTail : Window → NamedTasks → Figures → Past → List ℕ → Type 0
 IsPerfettoTail w names s h text =
-    (runs : List ℕ) × AreParts (IsPerfettoRunner w names s h) 64 runs × (text ≡ runs ++ codes "\n]}\n")
+    (runs : List ℕ) × AreParts (IsPerfettoRunner w names s h) PROCESSORS runs × (text ≡ runs ++ codes "\n]}\n")

@@ -1,5 +1,6 @@
 -- The whole text of a picture.
 use Rattle.std.specs.Prelude.{◌≡◌, ℕ, ◌<◌, ◌≤◌, ◌⊎◌, List, ◌++◌, Option, codes, flat_map}
+use Rattle.bq_disc.specs.declared.limits.TheConstants.{PROCESSORS, TASKS}
 use Rattle.bq_schedule.specs.Figures.{Figures}
 use Rattle.bq_report.specs.declared.extent.Extent.{Extent}
 use Rattle.bq_report.specs.declared.window.Window.{Window}
@@ -22,7 +23,7 @@ use Rattle.bq_drawing.specs.Titles.{axis_step}
 pub record IsDrawing (w : Window) (s : Setting) (title : List ℕ) (rule : Option Rule) (held : Held) (height : ℕ) (text : List ℕ) : Type 0 where
   pub placed : List PlacedRow
   pub edge : ℕ
-  pub are_placed : ArePlaced w s held.rows 64 placed edge
+  pub are_placed : ArePlaced w s held.rows PROCESSORS placed edge
   pub is_high : height ≡ picture_height s held placed edge
   pub whole : text ≡ heading_text s title rule
       ++ (axis_text s (axis_step s.extent) rows_edge edge
@@ -59,7 +60,7 @@ pub record IsPictureOf (w : Window) (look : Look) (rule : Option Rule) (s : Figu
   pub running : Held
   pub held : Held
   pub extent : Extent
-  pub holds_runs : HoldsRunners w s 64 old running
-  pub holds_waits : HoldsWaiting w s 1024 running held
+  pub holds_runs : HoldsRunners w s PROCESSORS old running
+  pub holds_waits : HoldsWaiting w s TASKS running held
   pub drawn_over : IsDrawnOver w s extent
   pub whole : IsPicture w look (drawn_in extent tasks names) rule held text

@@ -2,6 +2,7 @@
 use Rattle.std.specs.Prelude.{◌≡◌, ℕ, ◌⊎◌, List, [], ◌++◌, Some, flat_map, string_bytes}
 use Rattle.std.specs.BTreeMap.{Updates, get}
 use Rattle.std.specs.Ordering.{nat_cmp}
+use Rattle.bq_disc.specs.declared.limits.TheConstants.{PROCESSORS}
 use Rattle.bq_parts.specs.Counts.{counted}
 use Rattle.bq_report.specs.declared.window.Window.{Window}
 use Rattle.bq_drawing.specs.declared.drawing.WrittenRows.{WrittenRows}
@@ -53,5 +54,5 @@ key_beside links written = record {
 
 -- all rows are written, and the lines between them
 pub record AreDrawn (w : Window) (s : Setting) (held : Held) (written : WrittenRows) : Type 0 where
-  pub are_written : AreWritten w s held.rows 64 written
+  pub are_written : AreWritten w s held.rows PROCESSORS written
   pub lines : string_bytes written.links ≡ links_text s are_written.placed held.links

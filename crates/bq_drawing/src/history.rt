@@ -59,7 +59,7 @@ impl History {
 
     /// Nothing has been told, of this many processors and of every task.
     pub fn of(alloc: Global, processors: usize) -> Result<History, AllocError>
-        ensures { IfOk result (λ h. h ≡ untold processors 1024) }
+        ensures { IfOk result (λ h. h ≡ untold processors TASKS) }
     {
         let mut ends = Vec::with_capacity(alloc, processors)?;
         let mut counts = Vec::with_capacity(alloc, processors)?;

@@ -1,5 +1,6 @@
 //! The trace format that ui.perfetto.dev and chrome://tracing open.
 ghost use Rattle.std.specs.Prelude.{◌≡◌, ◌↔◌, ◌++◌, ℕ, List, Option, IfOk, IsTrue, OnOk, codes, length, option_map, string_bytes};
+ghost use Rattle.bq_disc.specs.declared.limits.TheConstants.{TASKS};
 ghost use Rattle.serde_json.specs.View.{view};
 ghost use Rattle.serde_json.specs.Written.{compact_text};
 ghost use Rattle.bq_schedule.specs.declared.slice.Slice.{Slice};
@@ -473,7 +474,7 @@ impl ScheduleForm for Perfetto {
         text: &mut String,
     ) -> Result<(), AllocError>
         ensures head { OnOk result (Adds (IsPerfettoHead (length schedule.now.processors)) (string_bytes text.old) (string_bytes text.new)) }
-        ensures history { OnOk result (self.new ≡ record self.old { history = untold (length schedule.now.processors) 1024 }) }
+        ensures history { OnOk result (self.new ≡ record self.old { history = untold (length schedule.now.processors) TASKS }) }
         ensures window { self.new.window ≡ self.old.window }
     {
         self.history = History::of(self.alloc, schedule.processors())?;

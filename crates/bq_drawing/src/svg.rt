@@ -212,7 +212,7 @@ impl Svg {
 
     /// Holds the waits that are not over, as far as they are shown.
     fn hold_waiting(&mut self, schedule: &Schedule) -> Result<(), AllocError>
-        ensures waits { OnOk result (HoldsWaiting self.old.window schedule.now 1024 self.old.drawing self.new.drawing) }
+        ensures waits { OnOk result (HoldsWaiting self.old.window schedule.now TASKS self.old.drawing self.new.drawing) }
         ensures same { self.new ≡ record self.old { drawing = self.new.drawing } }
     {
         for id in 0..TASKS {

@@ -1,5 +1,6 @@
 -- CFS is fair: what two tasks are served, each scaled by its weight, stays near.
 use Rattle.std.specs.Prelude.{◌≡◌, ℕ, ◌+◌, ◌*◌, ◌≤◌, max, List, length, Some, All, IsSome}
+use Rattle.bq_cfs.specs.declared.discipline.TheConstants.{GRANULARITY}
 use Rattle.bq_weights.specs.VirtualTime.{vdelta_of}
 use Rattle.bq_disc.specs.Tasks.{Task}
 use Rattle.bq_disc.specs.OneProcessor.{Running, present_at}
@@ -14,25 +15,25 @@ abbrev pub CfsServesInProportion : Type 0
 CfsServesInProportion =
     (r : ℕ) (p : Running) (nows : List ℕ) (i j : ℕ) (a b : Task) →
     IsSound p → HasRoom p → RisesByAtMost r cfs p nows → task_at i p ≡ Some a → task_at j p ≡ Some b →
-    a.v + served i cfs p nows ≤ served j cfs p nows + max a.v (b.v + 1000000) + vdelta_of r a.weight
+    a.v + served i cfs p nows ≤ served j cfs p nows + max a.v (b.v + GRANULARITY) + vdelta_of r a.weight
 
 -- So what any two are served differs by at most what lay between them at the start, the granularity, and one rise
 abbrev pub CfsServesWithin : Type 0
 CfsServesWithin =
     (S r : ℕ) (p : Running) (nows : List ℕ) (i j : ℕ) (a b : Task) →
     IsSound p → HasRoom p → RisesByAtMost r cfs p nows → task_at i p ≡ Some a → task_at j p ≡ Some b → b.v ≤ a.v + S →
-    served i cfs p nows ≤ served j cfs p nows + S + 1000000 + vdelta_of r a.weight
+    served i cfs p nows ≤ served j cfs p nows + S + GRANULARITY + vdelta_of r a.weight
 
 -- Service by share: what a task is served, times the weights of all, is at least what is booked, except for a bound
 abbrev pub CfsServesItsShare : Type 0
 CfsServesItsShare =
     (V r : ℕ) (p : Running) (nows : List ℕ) (j : ℕ) (b : Task) →
     IsSound p → HasRoom p → All (λ t. t.v ≤ V) (present_at p) → RisesByAtMost r cfs p nows → task_at j p ≡ Some b →
-    weighted_v_at p + booked cfs p nows ≤ weight_at p * (served j cfs p nows + max V (b.v + 1000000)) + 1024 * r * length (present_at p)
+    weighted_v_at p + booked cfs p nows ≤ weight_at p * (served j cfs p nows + max V (b.v + GRANULARITY)) + 1024 * r * length (present_at p)
 
 -- Bounded waiting: as long as a task is served nothing, the clock rises by no more than this
 abbrev pub CfsWaiting : Type 0
 CfsWaiting =
     (L S r : ℕ) (p : Running) (nows : List ℕ) (j : ℕ) (b : Task) →
     IsSound p → HasRoom p → All (λ t. (L ≤ t.v) × (t.v ≤ L + S)) (present_at p) → RisesByAtMost r cfs p nows → IsSome p.current → task_at j p ≡ Some b → served j cfs p nows ≡ 0 →
-    1024 * elapsed cfs p nows ≤ weight_at p * (S + 1000000) + 1024 * r * length (present_at p) + most_lost nows
+    1024 * elapsed cfs p nows ≤ weight_at p * (S + GRANULARITY) + 1024 * r * length (present_at p) + most_lost nows

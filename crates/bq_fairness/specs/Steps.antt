@@ -2,6 +2,7 @@
 -- decides, a task enters the queue, a task leaves, the mark is computed again. So a Tick is the first two; a Block has a Leave
 -- between them, and a Drain its entries; the end of a wake and a pull pass time and decide nothing (specs/Events).
 use Rattle.std.specs.Prelude.{◌≡◌, ℕ, ◌+◌, ◌≤◌, ◌^◌, max, Bool, false, ◌==◌, if◌then◌else◌, List, [], ◌∷◌, Option, None, Some}
+use Rattle.bq_cfs.specs.declared.discipline.TheConstants.{GRANULARITY}
 use Rattle.bq_weights.specs.VirtualTime.{IsWeight, vdelta_of}
 use Rattle.bq_disc.specs.Tasks.{Task, has_id, place, without}
 use Rattle.bq_disc.specs.Discipline.{Discipline}
@@ -115,7 +116,7 @@ CfsServesThroughout =
     (r : ℕ) (p : Running) (ss : List Step) (i j : ℕ) (a b : Task) →
     IsSound p → HasRoom p → EachEntersNew cfs p ss → DecidesWithin r cfs 0 p ss →
     task_at i p ≡ Some a → task_at j p ≡ Some b → StaysThroughout i ss → StaysThroughout j ss →
-    a.v + served_by i cfs p ss ≤ served_by j cfs p ss + max a.v (b.v + 1000000) + vdelta_of r a.weight
+    a.v + served_by i cfs p ss ≤ served_by j cfs p ss + max a.v (b.v + GRANULARITY) + vdelta_of r a.weight
 
 -- EEVDF: so too, by one slice of b's in place of 1,000,000
 abbrev pub EevdfServesThroughout : Type 0

@@ -1,6 +1,7 @@
 -- Fairness in the world. Whatever has happened since the opening, and whatever policies do elsewhere: two tasks that stay at a
 -- processor where only the discipline decides are served in proportion to their weights from then on.
 use Rattle.std.specs.Prelude.{◌≡◌, ℕ, ◌+◌, ◌<◌, ◌≤◌, max, List, Some, Result}
+use Rattle.bq_cfs.specs.declared.discipline.TheConstants.{GRANULARITY}
 use Rattle.bq_weights.specs.VirtualTime.{vdelta_of}
 use Rattle.bq_disc.specs.Tasks.{Task}
 use Rattle.bq_cfs.specs.Cfs.{cfs}
@@ -25,7 +26,7 @@ CfsWorldServes =
     HasRoom (running_at w at) → DecidesWithin r cfs 0 (running_at w at) ss → StaysThroughout i ss → StaysThroughout j ss →
     task_at i (running_at w at) ≡ Some a → task_at j (running_at w at) ≡ Some b →
     (u : Task) × (t : Task) × (task_at i (running_at w' at) ≡ Some u) × (task_at j (running_at w' at) ≡ Some t)
-    × (u.v + b.v ≤ t.v + max a.v (b.v + 1000000) + vdelta_of r a.weight)
+    × (u.v + b.v ≤ t.v + max a.v (b.v + GRANULARITY) + vdelta_of r a.weight)
 
 -- EEVDF: so too, by one slice of b's in place of 1,000,000
 abbrev pub EevdfWorldServes : Type 0

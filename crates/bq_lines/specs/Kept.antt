@@ -1,6 +1,7 @@
 -- What is kept of a line that has begun.
 use Rattle.std.specs.Prelude.{◌≡◌, ℕ, false, ◌==◌, nat_lt, List, length, Option, Some, None, if◌then◌else◌}
 use Rattle.std.specs.List.{All}
+use Rattle.bq_lines.specs.declared.lines.TheConstants.{LONGEST}
 
 -- no byte of it ends a line
 abbrev pub IsOneLine : List ℕ → Type 0
@@ -17,4 +18,4 @@ pub record StandsFor (kept : Option (List ℕ)) (line : List ℕ) : Type 0 where
 
 -- what is heard of a line: nothing where it is too long
 abbrev pub heard : List ℕ → Option (List ℕ)
-heard line = if nat_lt 131072 (length line) then None else Some line
+heard line = if nat_lt LONGEST (length line) then None else Some line

@@ -2,6 +2,7 @@
 use Rattle.std.specs.Prelude.{ℕ, ℤ, not, ◌||◌, nat_lt, List, [], ◌∷◌, length, Option, Some, None, if◌then◌else◌, codes, nat_eq, option_map, option_and_then}
 use Rattle.std.specs.List.{list_all, starts_with}
 use Rattle.std.specs.Str.{bytes_eq}
+use Rattle.bq_lines.specs.declared.lines.TheConstants.{LONGEST}
 use Rattle.bq_words.specs.Words.{words, one_of, two_of, three_of, four_of}
 use Rattle.bq_parts.specs.declared.event.Event.TheVariants.{Admit, Retire, Draw, Install, BeginWake, EndWake, Drain, Tick, Block, Pull}
 use Rattle.bq_hooks.specs.Hooks.{hook_of}
@@ -137,7 +138,7 @@ reading_of_words (name ∷ operands) = if starts_with nat_eq name (codes "#") th
 
 -- a line that is too long or has a byte that is not allowed is bad, whatever it says
 unfoldable pub reading_of : List ℕ → LineReading
-reading_of line = if nat_lt 131072 (length line) || not (list_all is_allowed line) then Bad else reading_of_words (words line)
+reading_of line = if nat_lt LONGEST (length line) || not (list_all is_allowed line) then Bad else reading_of_words (words line)
 
 -- what is said by what is heard of a line
 abbrev pub reading_heard : Option (List ℕ) → LineReading

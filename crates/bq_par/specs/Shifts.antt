@@ -1,6 +1,7 @@
 -- What one thread of a parallel run does: the shift of its processor.
 use Rattle.std.specs.Prelude.{◌≡◌, ◌↔◌, ℕ, ◌-◌, ◌^◌, pos, List, [], ◌∷◌, ◌++◌, length, Option, IfSome, IsOk, IsSome}
 use Rattle.std.specs.Option.{option_to_list}
+use Rattle.bq_disc.specs.declared.limits.TheConstants.{DEFAULT_SLICE}
 use Rattle.bq_history.specs.Whole.{Each}
 use Rattle.bq_history.specs.declared.shared_state.Receipt.{Receipt}
 use Rattle.bq_parts.specs.declared.event.Event.TheVariants.{Admit, BeginWake, EndWake, Drain, Tick}
@@ -18,7 +19,7 @@ pub record IsStart (p : ℕ) (l : List (Receipt Record)) : Type 0 where
   pub end : Option (Receipt Record)
   pub drain : Receipt Record
   pub whole : l ≡ admit ∷ begin ∷ (option_to_list end ++ drain ∷ [])
-  pub admitted : admit.entry.event ≡ Admit p (pos 0) (2 ^ 64 - 1) 3000000
+  pub admitted : admit.entry.event ≡ Admit p (pos 0) (2 ^ 64 - 1) DEFAULT_SLICE
   pub begun : begin.entry.event ≡ BeginWake p p
   pub woken : IfSome end (λ (r : Receipt Record). (now : ℕ) × (r.entry.event ≡ EndWake p now))
   pub ended : IsSome end ↔ IsOk begin.entry.reply

@@ -1,6 +1,7 @@
 -- A processor as the world sees it: who runs and waits there, the task in its hand, and what is installed at its hooks.
 use Rattle.std.specs.Prelude.{◌≡◌, ℕ, ◌+◌, ◌≤◌, List, [], ◌∷◌, ◌++◌, length, Option, None, if◌then◌else◌}
 use Rattle.std.specs.Option.{option_map, option_to_list}
+use Rattle.bq_disc.specs.declared.limits.TheConstants.{TASKS}
 use Rattle.bq_disc.specs.Tasks.{Task, has_id}
 use Rattle.bq_disc.specs.OneProcessor.{Running, at_rest, present_at}
 use Rattle.bq_installed.specs.Attachments.{Attachments, none_attached}
@@ -43,4 +44,4 @@ HasEachOnce xs = (id : ℕ) → count_of id xs ≤ 1
 
 -- each id is one of the lobby
 abbrev pub HasLobbyIds : List Task → Type 0
-HasLobbyIds xs = (id : ℕ) → 1024 ≤ id → count_of id xs ≡ 0
+HasLobbyIds xs = (id : ℕ) → TASKS ≤ id → count_of id xs ≡ 0

@@ -1,7 +1,7 @@
 -- Which events are refused, and why: by their arguments, or by what the world holds. The first that holds is named.
 use Rattle.std.specs.Prelude.{ℕ, ◌%◌, ◌^◌, Bool, true, false, not, ◌==◌, ◌||◌, ◌&&◌, nat_lt, nat_le, List, [], ◌∷◌, Option, Some, None, if◌then◌else◌, is_some, is_none}
 use Rattle.bq_weights.specs.VirtualTime.{is_nice}
-use Rattle.bq_disc.specs.declared.limits.TheConstants.{GREATEST_SLICE, LEAST_SLICE}
+use Rattle.bq_disc.specs.declared.limits.TheConstants.{GREATEST_SLICE, LEAST_SLICE, TASKS}
 use Rattle.bq_parts.specs.declared.carried.Carried.{Carried}
 use Rattle.bq_parts.specs.declared.lobby_entry.LobbyEntry.{LobbyEntry}
 use Rattle.bq_parts.specs.declared.lobby_entry.LobbyEntry.TheVariants.{Absent, Blocked, Away}
@@ -44,7 +44,7 @@ abbrev pub no_processor : ℕ → ℕ → Bool × Refusal
 no_processor count processor = (nat_le count processor, no.NoProcessor)
 
 abbrev pub no_task : ℕ → Bool × Refusal
-no_task id = (nat_le 1024 id, no.NoTask)
+no_task id = (nat_le TASKS id, no.NoTask)
 
 -- an argument that no world of this many processors takes
 abbrev pub argument_refusal : ℕ → Event → Option Refusal

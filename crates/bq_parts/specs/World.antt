@@ -1,5 +1,6 @@
 -- The world: processors with their inboxes, the lobby of the tasks that sleep, and the numbers drawn.
 use Rattle.std.specs.Prelude.{ℕ, List, [], ◌∷◌, length, replicate, slice_index_or, slice_set}
+use Rattle.bq_disc.specs.declared.limits.TheConstants.{TASKS}
 use Rattle.bq_disc.specs.Tasks.{Task}
 use Rattle.bq_parts.specs.declared.lobby_entry.LobbyEntry.{LobbyEntry}
 use Rattle.bq_parts.specs.declared.lobby_entry.LobbyEntry.TheVariants.{Absent}
@@ -15,7 +16,7 @@ pub record World : Type 0 where
 
 -- nothing is admitted, drawn or installed
 abbrev pub opening_world : ℕ → World
-opening_world count = record { processors = replicate count opening; inboxes = replicate count []; lobby = replicate 1024 Absent; drawn = 0 }
+opening_world count = record { processors = replicate count opening; inboxes = replicate count []; lobby = replicate TASKS Absent; drawn = 0 }
 
 abbrev pub count_in : World → ℕ
 count_in w = length w.processors

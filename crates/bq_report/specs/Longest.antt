@@ -1,5 +1,6 @@
 -- Who runs longest between two moments.
 use Rattle.std.specs.Prelude.{ℕ, ◌<◌, ◌≤◌, ◌-◌, ◌==◌, max, min, List, sum_by, if◌then◌else◌}
+use Rattle.bq_disc.specs.declared.limits.TheConstants.{TASKS}
 use Rattle.bq_schedule.specs.declared.slice.Slice.{Slice}
 
 -- how long a run lasts between two moments
@@ -19,4 +20,4 @@ pub record IsFirstGreatest (n : ℕ) (number : ℕ → ℕ) (place : ℕ) : Type
 
 -- the task runs, and no other runs longer; of equal ones it is the one of the least number
 abbrev pub IsLongest : ℕ → ℕ → List Slice → ℕ → Type 0
-IsLongest from to runs task = IsFirstGreatest 1024 (time_of from to runs) task
+IsLongest from to runs task = IsFirstGreatest TASKS (time_of from to runs) task

@@ -3,6 +3,7 @@ use Rattle.std.specs.Prelude.{◌≡◌, ◌↔◌, ℕ, zero, suc, ◌+◌, ◌
 use Rattle.std.specs.Fmt.{decimal, format_spec, styled_decimal, styled_text}
 use Rattle.std.specs.Int.{div_ceil}
 use Rattle.std.specs.Option.{SomeIff}
+use Rattle.bq_disc.specs.declared.limits.TheConstants.{TASKS}
 use Rattle.bq_schedule.specs.declared.slice.Slice.{Slice}
 use Rattle.bq_schedule.specs.Figures.{Figures, processor_of}
 use Rattle.bq_report.specs.declared.amounts.Unit.{Unit}
@@ -84,7 +85,7 @@ moment_at g column = min (g.extent.from + column * g.step) g.extent.to
 
 -- no task runs between two moments, of these runs
 abbrev pub RunsNone : ℕ → ℕ → List Slice → Type 0
-RunsNone from to runs = (task : ℕ) → task < 1024 → time_of from to runs task ≡ 0
+RunsNone from to runs = (task : ℕ) → task < TASKS → time_of from to runs task ≡ 0
 
 -- what stands between two moments: the shown task that ran longest; where none ran, that others did; or that none did
 abbrev pub IsColumn : Row → ℕ → ℕ → Column → Type 0

@@ -1,6 +1,7 @@
 -- The report and its figures as JSON, each as a whole: which tasks and processors have a part in it, and what the part says.
 use Rattle.std.specs.Prelude.{◌≡◌, ℕ, zero, suc, ◌<◌, ◌⊎◌, Bool, true, false, List, [], ◌∷◌, ◌++◌, length, if◌then◌else◌, IsTrue, IsPermutation, IsSorted, codes}
 use Rattle.std.specs.Ordering.{nat_cmp}
+use Rattle.bq_disc.specs.declared.limits.TheConstants.{PROCESSORS, TASKS}
 use Rattle.serde_json.specs.Data.{Data}
 use Rattle.serde_json.specs.Written.{compact_text}
 use Rattle.bq_schedule.specs.declared.figures.ProcessorFigures.{ProcessorFigures}
@@ -105,7 +106,7 @@ hook_head_unless has_head = if has_head then [] else hook_head
 
 -- the table of the policies that were asked
 abbrev pub IsHookTable : Window → Figures → List ℕ → Type 0
-IsHookTable w s text = (lines : List ℕ) × AreParts (AreHookLines w s) 64 lines × (text ≡ under_hook_head lines)
+IsHookTable w s text = (lines : List ℕ) × AreParts (AreHookLines w s) PROCESSORS lines × (text ≡ under_hook_head lines)
 
 -- the report: the tables of tasks, of their latencies, of processors and of policies; the wakes that did nothing stand behind the second
 pub record IsReport (w : Window) (names : NamedTasks) (s : Figures) (latencies : Tasks) (missed : ℕ) (text : List ℕ) : Type 0 where
@@ -113,9 +114,9 @@ pub record IsReport (w : Window) (names : NamedTasks) (s : Figures) (latencies :
   pub second : List ℕ
   pub third : List ℕ
   pub last : List ℕ
-  pub tasks : IsTable task_head (IsTaskLine w names s) 1024 first
-  pub waits : IsTable latency_head (λ id. IsLatencyLine w names s (latencies_of latencies id) id) 1024 second
-  pub processors : IsTable processor_head (IsProcessorLine w s) 64 third
+  pub tasks : IsTable task_head (IsTaskLine w names s) TASKS first
+  pub waits : IsTable latency_head (λ id. IsLatencyLine w names s (latencies_of latencies id) id) TASKS second
+  pub processors : IsTable processor_head (IsProcessorLine w s) PROCESSORS third
   pub policies : IsHookTable w s last
   pub whole : text ≡ first ++ (codes "\n" ++ (second ++ (missed_line missed ++ (codes "\n" ++ (third ++ last)))))
 
@@ -148,6 +149,6 @@ AreElements Is count text = (objects : List Data) × AreParts Is count objects �
 pub record IsJsonReport (w : Window) (names : NamedTasks) (s : Figures) (latencies : Tasks) (missed : ℕ) (text : List ℕ) : Type 0 where
   pub first : List ℕ
   pub second : List ℕ
-  pub tasks : AreElements (λ id. IsTaskObject w names s (latencies_of latencies id) id) 1024 first
-  pub processors : AreElements (IsProcessorObject w s) 64 second
+  pub tasks : AreElements (λ id. IsTaskObject w names s (latencies_of latencies id) id) TASKS first
+  pub processors : AreElements (IsProcessorObject w s) PROCESSORS second
   pub whole : text ≡ codes "{\"schema\":1,\"tasks\":[" ++ (first ++ (codes "\n],\"processors\":[" ++ (second ++ (codes "\n]" ++ (missed_member missed ++ codes "}\n")))))

@@ -1,13 +1,14 @@
 -- What is shown of a schedule.
 use Rattle.std.specs.Prelude.{◌≡◌, ℕ, ◌<◌, ◌≤◌, max, min, ◌⊎◌, [], Contains, Option, Some, None, IsTrue}
 use Rattle.std.specs.Option.{SomeIff}
+use Rattle.bq_disc.specs.declared.limits.TheConstants.{PROCESSORS}
 use Rattle.bq_disc.specs.Masks.{allows}
 use Rattle.bq_schedule.specs.declared.slice.Slice.{Slice}
 use Rattle.bq_report.specs.declared.window.Window.{Window}
 
 -- a processor is among some that are given by bits
 pub record IsIn (processors p : ℕ) : Type 0 where
-  pub is_number : p < 64
+  pub is_number : p < PROCESSORS
   pub is_chosen : IsTrue (allows processors p)
 
 -- a processor is shown

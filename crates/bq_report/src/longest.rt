@@ -23,7 +23,7 @@ pub fn longest_in(
 
 /// How long each task ran from one moment to another, of these runs, at the place of its number.
 fn times_in(alloc: Global, runs: &[Slice], from: u64, to: u64) -> Result<Vec<u128>, AllocError>
-    ensures length { IfOk result (λ v. vec_len v ≡ 1024) }
+    ensures length { IfOk result (λ v. vec_len v ≡ TASKS) }
     ensures times { IfOk result (λ v. (task : ℕ) → task < TASKS → slice_index v.items task ≡ time_of from to runs.now task) }
 {
     let mut times = vec![in alloc; 0u128; TASKS as usize]?;
@@ -40,8 +40,8 @@ fn times_in(alloc: Global, runs: &[Slice], from: u64, to: u64) -> Result<Vec<u12
 
 /// The place of the greatest time, of equal ones the first. `None` where all are 0.
 fn greatest(times: &[u128]) -> Option<u16>
-    requires { length times.now ≡ 1024 }
-    ensures greatest { IfSome result (IsFirstGreatest 1024 (λ task. slice_index times.now task)) }
+    requires { length times.now ≡ TASKS }
+    ensures greatest { IfSome result (IsFirstGreatest TASKS (λ task. slice_index times.now task)) }
     ensures none { IfNone result ((task : ℕ) → task < TASKS → slice_index times.now task ≡ 0) }
 {
     let mut greatest = None;

@@ -54,7 +54,7 @@ fn write_tasks(
     names: &Names,
     text: &mut String,
 ) -> Result<(), AllocError>
-    ensures { OnOk result (Adds (IsTable task_head (IsTaskLine window.now names.now schedule.now) 1024)
+    ensures { OnOk result (Adds (IsTable task_head (IsTaskLine window.now names.now schedule.now) TASKS)
         (string_bytes text.old) (string_bytes text.new)) }
 {
     text.push_str(TASK_HEAD)?;
@@ -91,7 +91,7 @@ fn write_latencies(
     text: &mut String,
 ) -> Result<(), AllocError>
     ensures { OnOk result (Adds
-        (IsTable latency_head (λ id. IsLatencyLine window.now names.now schedule.now (latencies_of latencies.old id) id) 1024)
+        (IsTable latency_head (λ id. IsLatencyLine window.now names.now schedule.now (latencies_of latencies.old id) id) TASKS)
         (string_bytes text.old) (string_bytes text.new)) }
 {
     text.push_str(LATENCY_HEAD)?;

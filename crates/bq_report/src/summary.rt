@@ -64,7 +64,7 @@ fn write_tasks(
     text: &mut String,
 ) -> Result<(), AllocError>
     ensures { OnOk result (Adds
-        (AreElements (λ id. IsTaskObject window.now names.now schedule.now (latencies_of latencies.old id) id) 1024)
+        (AreElements (λ id. IsTaskObject window.now names.now schedule.now (latencies_of latencies.old id) id) TASKS)
         (string_bytes text.old) (string_bytes text.new)) }
 {
     let mut is_first = true;

@@ -1,5 +1,6 @@
 -- The figures of all processors and tasks.
 use Rattle.std.specs.Prelude.{ℕ, pos, false, List, replicate, slice_index_or, slice_set, None}
+use Rattle.bq_disc.specs.declared.limits.TheConstants.{TASKS}
 use Rattle.bq_schedule.specs.declared.figures.TaskFigures.{TaskFigures}
 use Rattle.bq_schedule.specs.declared.figures.ProcessorFigures.{ProcessorFigures}
 use Rattle.bq_schedule.specs.declared.figures.HookFigures.{HookFigures}
@@ -58,7 +59,7 @@ unknown = record {
 
 -- nothing has happened yet
 abbrev pub opening : ℕ → Figures
-opening count = record { processors = replicate count unread; tasks = replicate 1024 unknown; refused = 0 }
+opening count = record { processors = replicate count unread; tasks = replicate TASKS unknown; refused = 0 }
 
 abbrev pub processor_of : Figures → ℕ → ProcessorFigures
 processor_of s processor = slice_index_or s.processors processor unread

@@ -1,6 +1,7 @@
 -- The laws of schedules.
 use Rattle.std.specs.Prelude.{◌≡◌, ℕ, ◌+◌, ◌-◌, ◌*◌, ◌^◌, ◌<◌, ◌≤◌, min, true, All, List, [], ◌∷◌, ◌++◌, map, Option, Some, None, IfSome, IsSomeAnd, Result, option_to_list, ◌==◌, if◌then◌else◌}
 use Rattle.std.specs.Option.{option_map}
+use Rattle.bq_disc.specs.declared.limits.TheConstants.{TASKS}
 use Rattle.bq_disc.specs.Tasks.{id_of}
 use Rattle.bq_disc.specs.Discipline.{Discipline}
 use Rattle.bq_bpf.specs.declared.board.Call.{Call as Asked}
@@ -66,7 +67,7 @@ TellsSlices = (count : ℕ) (past : History) (m : Moment) → IsOf count (m ∷ 
 -- the time of a task is the sum of its slices, and that of a processor the sum of its slices
 abbrev pub AddsUpSlices : Type 0
 AddsUpSlices = (count : ℕ) (past : History) → count ≤ 255 → IsOf count past →
-    ((id : ℕ) → id < 1024 → (task_of (figures count past) id).time ≡ time_in (is_of id) (slices past))
+    ((id : ℕ) → id < TASKS → (task_of (figures count past) id).time ≡ time_in (is_of id) (slices past))
     × ((processor : ℕ) → processor < count → (processor_of (figures count past) processor).busy ≡ time_in (is_at processor) (slices past))
 
 -- the slices of a processor do not overlap, and end by its last reading
@@ -87,7 +88,7 @@ FillsWindow = (count : ℕ) (past : History) (processor : ℕ) → count ≤ 255
 -- A start is reported where its task begins to run, and with it the distance from the end of its last wake, where it has not run
 -- since that: so a wake has at most one latency, the distance to its task's first run
 abbrev pub TellsLatencies : Type 0
-TellsLatencies = (count : ℕ) (past : History) (m : Moment) (start : Start) → IsOf count (m ∷ past) → start.task < 1024 →
+TellsLatencies = (count : ℕ) (past : History) (m : Moment) (start : Start) → IsOf count (m ∷ past) → start.task < TASKS →
     (change (figures count past) m.event m.answer).start ≡ Some start →
     (begins start.task past (sight_of m.event m.answer) ≡ true)
     × (start.at ≡ clock start.processor (m ∷ past))
@@ -153,10 +154,10 @@ EndsStarts = (count : ℕ) (past : History) (processor : ℕ) → IsOf count pas
 abbrev pub TellsWaits : Type 0
 TellsWaits = (count : ℕ) (past : History) (m : Moment) → IsOf count (m ∷ past) →
     let told = change (figures count past) m.event m.answer in
-    IfSome told.start (λ s. s.task < 1024 → s.waited ≡ s.at - waits_since s.task (m ∷ past))
-    × IfSome told.pull (λ p. p.task < 1024 → p.waited ≡ p.at - waits_since p.task past)
+    IfSome told.start (λ s. s.task < TASKS → s.waited ≡ s.at - waits_since s.task (m ∷ past))
+    × IfSome told.pull (λ p. p.task < TASKS → p.waited ≡ p.at - waits_since p.task past)
 
 -- how long a task has waited in all is the sum of what its pulls and starts tell, up to the greatest number of 64 bits
 abbrev pub AddsUpWaits : Type 0
-AddsUpWaits = (count : ℕ) (past : History) (id : ℕ) → IsOf count past → id < 1024 →
+AddsUpWaits = (count : ℕ) (past : History) (id : ℕ) → IsOf count past → id < TASKS →
     (task_of (figures count past) id).waited ≡ min (waits_told count id past) (2 ^ 64 - 1)

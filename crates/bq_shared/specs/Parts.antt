@@ -1,5 +1,6 @@
 -- The parts of the world, and what the journal keeps of it.
 use Rattle.std.specs.Prelude.{◌≡◌, ◌≢◌, ◌<◌, ℕ, zero, suc, ◌+◌, Bool, true, false, eqb, List, [], ◌∷◌, ◌++◌, length, replicate, None, Some, Result, Ok, Err, IfErr, slice_set, slice_index, ◌-◌, ◌^◌, min}
+use Rattle.bq_disc.specs.declared.limits.TheConstants.{TASKS}
 use Rattle.bq_bpf.specs.declared.board.Call.{Call as Asked}
 use Rattle.bq_disc.specs.Tasks.{Task}
 use Rattle.bq_disc.specs.Discipline.{Discipline}
@@ -88,4 +89,4 @@ inboxes_from c zero = []
 inboxes_from c (suc n) = part.Inbox c [] ∷ inboxes_from (c + 1) n
 
 abbrev pub first_parts : ℕ → List WorldPart
-first_parts n = part.Lobby (replicate 1024 Absent) ∷ (cpus_from 0 n ++ inboxes_from 0 n)
+first_parts n = part.Lobby (replicate TASKS Absent) ∷ (cpus_from 0 n ++ inboxes_from 0 n)

@@ -2,6 +2,7 @@
 -- that the loop gives it, no reading falls, and nothing that comes due is missed.
 use Rattle.std.specs.Prelude.{◌≡◌, ◌≢◌, ℕ, ◌+◌, ◌-◌, ◌<◌, ◌≤◌, ◌^◌, Bool, true, false, List, [], Option, Some, None, length, slice_get}
 use Rattle.std.specs.Option.{option_map_or}
+use Rattle.bq_disc.specs.declared.limits.TheConstants.{TASKS}
 use Rattle.bq_disc.specs.Tasks.{id_of}
 use Rattle.bq_parts.specs.declared.lobby_entry.LobbyEntry.{LobbyEntry}
 use Rattle.bq_parts.specs.declared.event.Event.{Event}
@@ -72,7 +73,7 @@ HaveProcessors count a = (task : ℕ) (c : TaskProgress) → slice_get a.by_task
 -- Accounts agree with a world in order, in which no task is on its way.
 pub record AgreesWith (w : World) (a : Accounts) : Type 0 where
   pub orderly : IsOrderly w
-  pub entries : length w.lobby ≡ 1024
+  pub entries : length w.lobby ≡ TASKS
   pub settled : IsSettled w
   pub mirrors : Mirrors w a
   pub homes : HaveProcessors (count_in w) a
@@ -80,7 +81,7 @@ pub record AgreesWith (w : World) (a : Accounts) : Type 0 where
 -- The same while a task goes to sleep.
 pub record AgreesBut (task : ℕ) (w : World) (a : Accounts) : Type 0 where
   pub orderly : IsOrderly w
-  pub entries : length w.lobby ≡ 1024
+  pub entries : length w.lobby ≡ TASKS
   pub settled : IsSettled w
   pub mirrors : MirrorsBut task w a
   pub homes : HaveProcessors (count_in w) a

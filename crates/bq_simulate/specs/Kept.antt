@@ -1,5 +1,6 @@
 -- What is kept of a simulation between two things that come due, so that whatever comes next can be done.
 use Rattle.std.specs.Prelude.{◌≡◌, ℕ, ◌<◌, ◌≤◌, List, Some, length, slice_get}
+use Rattle.bq_disc.specs.declared.limits.TheConstants.{PROCESSORS}
 use Rattle.bq_hooks.specs.declared.hook.Hook.{Hook}
 use Rattle.bq_installed.specs.Attachments.{at_hook}
 use Rattle.bq_parts.specs.World.{World, count_in, processor_at}
@@ -32,7 +33,7 @@ pub record IsKept (kinds : List TaskKind) (now : ℕ) (d : Driver) (b : Book) : 
   pub read : d.now ≤ now
   pub standing : StandAtActions kinds b
   pub all : length b.accounts.by_task ≡ tasks_in kinds
-  pub few : count_in d.machine.world ≤ 64
+  pub few : count_in d.machine.world ≤ PROCESSORS
 
 -- of each kind the first task is kept
 abbrev pub HasAllFirsts : List TaskKind → Simulation → Type 0

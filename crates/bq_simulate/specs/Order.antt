@@ -1,5 +1,6 @@
 -- A simulation that goes well: what its calls stand on, so that they fail only for want of memory.
 use Rattle.std.specs.Prelude.{◌≡◌, ◌≢◌, ◌⊎◌, ◌<◌, ◌≤◌, ◌+◌, ◌*◌, ◌^◌, ℕ, true, List, Option, None, Some, length, slice_get}
+use Rattle.bq_disc.specs.declared.limits.TheConstants.{PROCESSORS}
 use Rattle.bq_parts.specs.World.{World, count_in}
 use Rattle.bq_words.specs.Sizes.{processors_in}
 use Rattle.bq_workload.specs.declared.action.Action.{Action}
@@ -52,7 +53,7 @@ pub record FallsAsleep (w : Workload) (now processor : ℕ) (s : Simulation) : T
   pub sound : first_flaw w ≡ None
   pub until : now ≤ w.machine.duration
   pub periods : s.roster.periods ≡ periods_of w.machine
-  pub few : count_in s.driver.machine.world ≤ 64
+  pub few : count_in s.driver.machine.world ≤ PROCESSORS
   pub read : s.driver.now ≤ now
   pub on_time : IsOnTime now (accounts_of s.roster)
   pub task : ℕ

@@ -1,6 +1,7 @@
 -- What comes due in a simulation, and what is done then.
 use Rattle.std.specs.Prelude.{◌≡◌, ◌≢◌, ◌⊎◌, ◌<◌, ◌≤◌, ◌+◌, ℕ, true, zero, suc, List, [], ◌∷◌, ◌++◌, Option, None, Some, length, map, filter, slice_get}
 use Rattle.std.specs.List.{flat_map, range_with_len}
+use Rattle.bq_disc.specs.declared.limits.TheConstants.{TASKS}
 use Rattle.bq_workload.specs.declared.action.Action.{Action}
 use Rattle.bq_workload.specs.declared.action.Action.TheVariants.{Run, Wake}
 use Rattle.bq_workload.specs.declared.due.Due.{Due}
@@ -50,7 +51,7 @@ IsJoin number home deeds = deeds ≡ Joins number home ∷ []
 
 -- where there are so many processors a task of this kind may be admitted as this one, and has this home
 pub record IsAdmissible (processors task home : ℕ) (kind : TaskKind) : Type 0 where
-  pub few : task < 1024
+  pub few : task < TASKS
   pub numbers : has_numbers kind ≡ true
   pub first : IsFirstAllowed processors kind.mask home
 

@@ -1,5 +1,6 @@
 //! How a simulation begins: policies are installed, and tasks are admitted.
 ghost use Rattle.std.specs.Prelude.{◌≡◌, ◌≢◌, ◌+◌, ◌<◌, ℕ, true, [], ◌∷◌, IfErr, IfOk, OnOk, Some, List, length, slice_get};
+ghost use Rattle.bq_disc.specs.declared.limits.TheConstants.{TASKS};
 ghost use Rattle.bq_parts.specs.declared.event.Event.TheVariants.{Admit};
 ghost use Rattle.bq_workload.specs.Kinds.{tasks_in};
 ghost use Rattle.bq_workload.specs.declared.workload.TaskKind.{TaskKind};
@@ -152,7 +153,7 @@ impl Simulation {
     fn count_task(&mut self, task: u16)
         ensures same { Same self.old self.new }
         ensures by_task { self.new.roster.by_task ≡ self.old.roster.by_task }
-        ensures counted { task < 1024 → self.new.counts.tasks ≡ task + 1 }
+        ensures counted { task < TASKS → self.new.counts.tasks ≡ task + 1 }
     {
         self.counts.tasks = task.saturating_add(1);
     }
@@ -165,7 +166,7 @@ impl Simulation {
         ensures streams { OnOk result (length self.new.streams.items ≡ length self.old.streams.items + 1) }
         ensures tasks { OnOk result (length self.new.roster.by_task.items ≡ length self.old.roster.by_task.items + 1) }
         ensures firsts { self.new.firsts ≡ self.old.firsts }
-        ensures ends { task ≡ length self.old.streams.items → task < 1024 → IfErr result WantsMemory }
+        ensures ends { task ≡ length self.old.streams.items → task < TASKS → IfErr result WantsMemory }
     {
         if self.streams.len() != usize::from(task) {
             return Err(SimulateFault::BrokenInvariant);

@@ -4,6 +4,7 @@ use Rattle.std.specs.Global.{Global}
 use Rattle.std.specs.List.{flat_map}
 use Rattle.std.specs.Str.{bytes_eq, chars}
 use Rattle.std.proofs.Math.Utf8.{encodes}
+use Rattle.bq_disc.specs.declared.limits.TheConstants.{TASKS}
 use Rattle.bq_report.specs.Names.{NamedTasks, name_of}
 
 -- it is the name, if there is one
@@ -18,7 +19,7 @@ called_below named name (suc task) = called_below named name task ++ (if is_name
 
 -- the tasks that have the name, of the 1,024 that there can be
 abbrev pub tasks_called : NamedTasks → List ℕ → List ℕ
-tasks_called named name = called_below named name 1024
+tasks_called named name = called_below named name TASKS
 
 -- the tasks that have these names, name after name
 abbrev pub all_called : NamedTasks → List (String Global) → List ℕ

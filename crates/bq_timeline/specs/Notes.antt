@@ -2,6 +2,7 @@
 use Rattle.std.specs.Prelude.{ℕ, zero, suc, ◌==◌, ◌%◌, ◌^◌, nat_lt, ◌&&◌, not, Bool, List, [], ◌++◌, length, Option, Some, None, if◌then◌else◌, codes}
 use Rattle.std.specs.Fmt.{decimal}
 use Rattle.std.specs.List.{list_any}
+use Rattle.bq_disc.specs.declared.limits.TheConstants.{PROCESSORS, TASKS}
 use Rattle.bq_schedule.specs.Figures.{Figures, task_of}
 use Rattle.bq_schedule.specs.Runnable.{undrained}
 
@@ -22,7 +23,7 @@ lacks_tasks s tasks = nat_lt 0 (length tasks) && not (list_any (λ id. (task_of 
 
 -- none of the processors that are named by bits is one of this many
 abbrev pub lacks_processors : ℕ → ℕ → Bool
-lacks_processors count processors = nat_lt count 64 && (processors % 2 ^ count == 0)
+lacks_processors count processors = nat_lt count PROCESSORS && (processors % 2 ^ count == 0)
 
 -- the note on tasks that are named, where the trace has none of them
 abbrev pub tasks_note : Figures → List ℕ → List ℕ
@@ -49,4 +50,4 @@ trouble_note n = if n == 0 then [] else codes "lines bad or refused: " ++ (decim
 -- the last notes, at the schedule of the whole trace
 abbrev pub last_notes : Option Figures → ℕ → List ℕ
 last_notes None n = unmade_note n ++ trouble_note n
-last_notes (Some s) n = waiting_notes s 1024 ++ trouble_note n
+last_notes (Some s) n = waiting_notes s TASKS ++ trouble_note n

@@ -404,7 +404,7 @@ fn note_unmade(notes: &mut String, troubles: u64) -> Result<(), AllocError>
 
 /// Notes each task that was placed on a processor which was never drained after.
 fn note_waiting(notes: &mut String, schedule: &Schedule) -> Result<(), AllocError>
-    ensures { OnOk result (string_bytes notes.new ≡ string_bytes notes.old ++ waiting_notes schedule.now 1024) }
+    ensures { OnOk result (string_bytes notes.new ≡ string_bytes notes.old ++ waiting_notes schedule.now TASKS) }
 {
     for task in 0..TASKS {
         note_task(notes, task, schedule.undrained(task))?;

@@ -4,6 +4,7 @@ use Rattle.std.specs.Option.{option_map}
 use Rattle.std.specs.List.{AllByRecursion}
 use Rattle.std.specs.declared.boxed.Box.{Box}
 use Rattle.std.specs.declared.alloc.Global.{Global}
+use Rattle.bq_disc.specs.declared.limits.TheConstants.{TASKS}
 use Rattle.bq_disc.specs.Tasks.{Task, comes_before}
 use Rattle.bq_disc.specs.Queues.{HasDistinctIds, HasSmallIds, follows, key_of}
 use Rattle.bq_disc.specs.Rising.{IsRising}
@@ -12,7 +13,7 @@ use Rattle.bq_disc.specs.declared.node.Node.{Node}
 
 -- a table has each task's v at its id, as far as the table goes
 abbrev pub Knows : List ℕ → List Task → Type 0
-Knows times xs = AllByRecursion (λ (t : Task). t.id < 1024 → slice_index times t.id ≡ t.v) xs
+Knows times xs = AllByRecursion (λ (t : Task). t.id < TASKS → slice_index times t.id ≡ t.v) xs
 
 -- the key of the first task
 abbrev pub first_key : List Task → Option (ℕ × ℕ)

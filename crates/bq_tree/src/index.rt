@@ -47,7 +47,7 @@ impl<S: Summary> Model for Tree<S> {
 impl<S: Summary> Tree<S> {
     /// How many levels the tree has.
     pub fn height(&self) -> u8
-        ensures low { length self.now ≤ 1024 → result ≤ 14 }
+        ensures low { length self.now ≤ TASKS → result ≤ 14 }
         ensures high { length self.now < 2 ^ result }
     {
         balance::height(&self.root)

@@ -1,5 +1,6 @@
 -- What a pull sees, and which part of the rule decides it.
 use Rattle.std.specs.Prelude.{◌≡◌, ◌≤◌, ◌+◌, ◌==◌, nat_le, ℕ, if◌then◌else◌, length, take}
+use Rattle.bq_disc.specs.declared.limits.TheConstants.{TASKS}
 use Rattle.bq_disc.specs.OneProcessor.{Running, present_at}
 use Rattle.bq_disc.specs.Movable.{movable_to, ids}
 use Rattle.bq_why.specs.declared.pulling.PullSight.{PullSight}
@@ -9,10 +10,10 @@ use Rattle.bq_why.specs.declared.pulling.OwnPull.TheVariants.{TooFew, NoneMayGo,
 -- a pull sees how many tasks run or wait at the puller and at the other processor, how many of the other's queue may go, and the
 -- first eight of these by falling (v, id)
 pub record Sees (puller : ℕ) (here there : Running) (sight : PullSight) : Type 0 where
-  pub size : length (present_at here) ≤ 1024 → sight.size ≡ length (present_at here)
-  pub other_size : length (present_at there) ≤ 1024 → sight.other_size ≡ length (present_at there)
-  pub count : length there.queue ≤ 1024 → sight.movable.count ≡ length (movable_to puller there.queue)
-  pub first : length there.queue ≤ 1024 → sight.movable.first.items ≡ take 8 (ids (movable_to puller there.queue))
+  pub size : length (present_at here) ≤ TASKS → sight.size ≡ length (present_at here)
+  pub other_size : length (present_at there) ≤ TASKS → sight.other_size ≡ length (present_at there)
+  pub count : length there.queue ≤ TASKS → sight.movable.count ≡ length (movable_to puller there.queue)
+  pub first : length there.queue ≤ TASKS → sight.movable.first.items ≡ take 8 (ids (movable_to puller there.queue))
 
 -- why the discipline takes what it takes: two tasks more are there, or fewer, by the sizes of the puller and the other; and some may
 -- go, or none

@@ -1,5 +1,6 @@
 -- Why the task that runs does so.
 use Rattle.std.specs.Prelude.{ℕ, ◌+◌, ◌-◌, ◌==◌, nat_lt, if◌then◌else◌, List, Option, Some, None}
+use Rattle.bq_cfs.specs.declared.discipline.TheConstants.{GRANULARITY}
 use Rattle.bq_hooks.specs.declared.settled.By.{By}
 use Rattle.bq_hooks.specs.declared.settled.By.TheVariants as who
 use Rattle.bq_words.specs.declared.rule.Rule.{Rule}
@@ -18,7 +19,7 @@ eevdf_reason_of run (Some t) = if t.id == run then EarliestDeadline else Other
 -- the least runs: where the one that ran is more than 1,000,000 ahead of it, that gives way
 abbrev pub least_reason_of : Option Task → Task → Reason
 least_reason_of None l = LeastRuntime
-least_reason_of (Some f) l = if nat_lt (l.v + 1000000) f.v then GivesWay (f.v - l.v) else LeastRuntime
+least_reason_of (Some f) l = if nat_lt (l.v + GRANULARITY) f.v then GivesWay (f.v - l.v) else LeastRuntime
 
 -- under CFS it is the least, or it runs on though another one is less
 abbrev pub cfs_reason_of : Option Task → Option Task → Option Task → Reason

@@ -11,7 +11,7 @@ use std::alloc::{AllocError, Global};
 /// would be left out; the number of ids is limited.
 pub fn present<Q: RunQueue>(alloc: Global, cpu: &Cpu<Q>) -> Result<Vec<Entity>, AllocError>
     ensures few { IfOk result (λ tasks. length tasks.items ≤ TASKS) }
-    ensures all { IfOk result (λ tasks. length (present_at cpu.now.running) ≤ 1024 → tasks.items ≡ present_at cpu.now.running) }
+    ensures all { IfOk result (λ tasks. length (present_at cpu.now.running) ≤ TASKS → tasks.items ≡ present_at cpu.now.running) }
 {
     let mut tasks = Vec::new(alloc);
     if let Some(node) = cpu.current() {
@@ -35,7 +35,7 @@ pub fn waiting<Q: RunQueue>(alloc: Global, cpu: &Cpu<Q>) -> Result<Vec<Entity>, 
 fn add_queue<Q: RunQueue>(cpu: &Cpu<Q>, tasks: &mut Vec<Entity>) -> Result<(), AllocError>
     requires { length tasks.old.items ≤ TASKS }
     ensures few { OnOk result (length tasks.new.items ≤ TASKS) }
-    ensures all { OnOk result (length (tasks.old.items ++ cpu.now.running.queue) ≤ 1024 → tasks.new.items ≡ tasks.old.items ++ cpu.now.running.queue) }
+    ensures all { OnOk result (length (tasks.old.items ++ cpu.now.running.queue) ≤ TASKS → tasks.new.items ≡ tasks.old.items ++ cpu.now.running.queue) }
 {
     let mut last: Option<(u64, u16)> = None;
     while tasks.len() < usize::from(TASKS) {

@@ -1,5 +1,6 @@
 //! What a pull sees, and which part of the rule decides it.
 ghost use Rattle.std.specs.Prelude.{◌≡◌, ◌<◌, ◌≤◌, length, take, IfOk};
+ghost use Rattle.bq_disc.specs.declared.limits.TheConstants.{TASKS};
 ghost use Rattle.bq_disc.specs.Movable.{movable_to, ids};
 ghost use Rattle.bq_why.specs.Pulls.{Sees, own_pull_of};
 
@@ -97,7 +98,7 @@ pub fn sight<Q: RunQueue>(
 /// The tasks of a queue that may go to a processor.
 fn movable(queue: &[Entity], processor: u8) -> Movable
     requires inside { processor < PROCESSORS }
-    requires few { length queue.now ≤ 1024 }
+    requires few { length queue.now ≤ TASKS }
     ensures count { result.count ≡ length (movable_to processor queue.now) }
     ensures first { result.first.items ≡ take 8 (ids (movable_to processor queue.now)) }
 {

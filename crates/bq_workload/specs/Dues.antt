@@ -1,6 +1,7 @@
 -- What comes due, when, and its place in the order of one instant.
 use Rattle.std.specs.Prelude.{◌≡◌, ℕ, ◌+◌, ◌-◌, ◌*◌, ◌/◌, ◌^◌, ◌<◌, ◌≤◌, ◌==◌, ◌&&◌, min, nat_lt, nat_le, List, Option, Some, None, slice_get, if◌then◌else◌}
 use Rattle.std.specs.Option.{option_map_or}
+use Rattle.bq_disc.specs.declared.limits.TheConstants.{PROCESSORS, TASKS}
 use Rattle.bq_workload.specs.declared.progress.TaskProgress.{TaskProgress}
 use Rattle.bq_workload.specs.declared.due.Due.{Due}
 use Rattle.bq_workload.specs.declared.due.Due.TheVariants.{End, Wake, Tick, Pull}
@@ -9,10 +10,10 @@ use Rattle.bq_workload.specs.Minima.{at_place, never, number_of, ChangesOnly}
 
 -- processors have numbers below 64, and tasks below 1024
 abbrev pub IsDue : Due → Type 0
-IsDue (End processor) = processor < 64
-IsDue (Wake task) = task < 1024
-IsDue (Tick processor) = processor < 64
-IsDue (Pull processor) = processor < 64
+IsDue (End processor) = processor < PROCESSORS
+IsDue (Wake task) = task < TASKS
+IsDue (Tick processor) = processor < PROCESSORS
+IsDue (Pull processor) = processor < PROCESSORS
 
 abbrev pub place_of : Due → ℕ
 place_of (End processor) = processor
@@ -89,5 +90,5 @@ other_than processor (Some other) = if other == processor then None else Some ot
 -- from which processor this one pulls a task: from the largest, if that is another
 pub record IsSource (by_processor : List ProcessorState) (processor : ℕ) (source : Option ℕ) : Type 0 where
   pub largest : Option ℕ
-  pub has : HasLargest by_processor 64 largest
+  pub has : HasLargest by_processor PROCESSORS largest
   pub other : source ≡ other_than processor largest

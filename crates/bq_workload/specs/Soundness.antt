@@ -12,7 +12,7 @@ use Rattle.bq_workload.specs.Kinds.{tasks_in}
 use Rattle.bq_workload.specs.Lengths.{is_length, is_long, longest, takes_time}
 use Rattle.bq_workload.specs.declared.limits.TheConstants.{LONGEST_NAME}
 use Rattle.bq_disc.specs.Masks.{allows}
-use Rattle.bq_disc.specs.declared.limits.TheConstants.{GREATEST_SLICE, LEAST_SLICE}
+use Rattle.bq_disc.specs.declared.limits.TheConstants.{GREATEST_SLICE, LEAST_SLICE, TASKS}
 use Rattle.bq_weights.specs.VirtualTime.{is_nice}
 use Rattle.bq_words.specs.Sizes.{processors_in}
 
@@ -82,7 +82,7 @@ flaws_of_kinds processors kinds number (kind ∷ more) = flaws_of_kind processor
 
 -- of all kinds together: they have too many tasks
 abbrev pub flaws_of_count : List TaskKind → List Unsound
-flaws_of_count kinds = unless (nat_le (tasks_in kinds) 1024) flaw.Tasks
+flaws_of_count kinds = unless (nat_le (tasks_in kinds) TASKS) flaw.Tasks
 
 -- all flaws of a workload, in the order in which they are looked for
 abbrev pub flaws_of : Workload → List Unsound

@@ -1,5 +1,6 @@
 -- Which calls of a roster go astray, and fail, by the accounts that they find. None does where the accounts agree with the world and with the clock.
 use Rattle.std.specs.Prelude.{◌≡◌, ◌≢◌, ℕ, ◌+◌, ◌-◌, ◌^◌, ◌<◌, ◌≤◌, ◌⊎◌, false, Option, None, Some, slice_get}
+use Rattle.bq_disc.specs.declared.limits.TheConstants.{PROCESSORS, TASKS}
 use Rattle.bq_workload.specs.declared.processor_state.ProcessorState.{ProcessorState}
 use Rattle.bq_workload.specs.declared.progress.TaskProgress.{TaskProgress}
 use Rattle.bq_workload.specs.declared.roster.Periods.{Periods}
@@ -9,11 +10,11 @@ use Rattle.bq_workload.specs.Next.{Rests, runs_at}
 
 -- a number stands for no processor, or for none at which anything may come due
 abbrev pub IsStrayProcessor : ℕ → Accounts → Type 0
-IsStrayProcessor processor a = (slice_get a.by_processor processor ≡ None) ⊎ (64 ≤ processor)
+IsStrayProcessor processor a = (slice_get a.by_processor processor ≡ None) ⊎ (PROCESSORS ≤ processor)
 
 -- a number stands for no task, or for none that a timer may wake
 abbrev pub IsStrayTask : ℕ → Accounts → Type 0
-IsStrayTask task a = (slice_get a.by_task task ≡ None) ⊎ (1024 ≤ task)
+IsStrayTask task a = (slice_get a.by_task task ≡ None) ⊎ (TASKS ≤ task)
 
 -- the time between two things is none, or 64 bits do not count its first multiple after an instant
 abbrev pub HasNoNext : ℕ → ℕ → Type 0
@@ -85,19 +86,19 @@ IsStrayPass from to a = (size_at a.by_processor from ≡ 0) ⊎ IsStrayGrowth to
 
 -- a processor does not tick at this instant, or has no next tick
 abbrev pub IsStrayBeat : ℕ → ℕ → ℕ → Accounts → Type 0
-IsStrayBeat processor now tick a = (TicksAt a processor now → ⊥) ⊎ (64 ≤ processor) ⊎ HasNoNext tick now
+IsStrayBeat processor now tick a = (TicksAt a processor now → ⊥) ⊎ (PROCESSORS ≤ processor) ⊎ HasNoNext tick now
 
 -- a processor does not look for a task at this instant, or has no next look
 abbrev pub IsStrayLook : ℕ → ℕ → ℕ → Accounts → Type 0
-IsStrayLook processor now balance a = (LooksAt a processor now → ⊥) ⊎ (64 ≤ processor) ⊎ HasNoNext balance now
+IsStrayLook processor now balance a = (LooksAt a processor now → ⊥) ⊎ (PROCESSORS ≤ processor) ⊎ HasNoNext balance now
 
 -- a task to be woken does not rest, or is none that a timer may wake
 abbrev pub IsStrayWake : ℕ → Accounts → Type 0
-IsStrayWake task a = (Rests a task → ⊥) ⊎ (1024 ≤ task)
+IsStrayWake task a = (Rests a task → ⊥) ⊎ (TASKS ≤ task)
 
 -- a task that has come so far does not run at a processor, did not run there last, or has run past its phase
 abbrev pub IsStrayProgress : ℕ → ℕ → TaskProgress → Accounts → Type 0
-IsStrayProgress processor task c a = (runs_at a.by_processor processor task ≡ false) ⊎ (c.home ≢ processor) ⊎ (c.due < c.got) ⊎ (64 ≤ processor) ⊎ IsStrayTask task a
+IsStrayProgress processor task c a = (runs_at a.by_processor processor task ≡ false) ⊎ (c.home ≢ processor) ⊎ (c.due < c.got) ⊎ (PROCESSORS ≤ processor) ⊎ IsStrayTask task a
 
 -- no task runs at a processor that has got just what its phase takes
 abbrev pub NoneIsDone : ℕ → Accounts → Type 0

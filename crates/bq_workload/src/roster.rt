@@ -313,7 +313,7 @@ impl Roster {
     /// The timer of a task is put down where it sleeps by one.
     fn plan_timer(&mut self, task: u16, progress: &TaskProgress) -> Result<(), BrokenInvariant>
         ensures timer { OnOk result (PlansTimer self.old.periods.end task progress.now.task_state progress.now.timer self.old.event_queue self.new.event_queue) }
-        ensures stray { IfErr result (λ _. 1024 ≤ task) }
+        ensures stray { IfErr result (λ _. TASKS ≤ task) }
         ensures by_task { self.new.by_task ≡ self.old.by_task }
         ensures by_processor { self.new.by_processor ≡ self.old.by_processor }
         ensures periods { self.new.periods ≡ self.old.periods }

@@ -5,7 +5,7 @@ use Rattle.std.specs.Option.{IsSomeAnd}
 use Rattle.std.specs.declared.alloc.Global.{Global}
 use Rattle.toml.specs.Data.{Data, Items, no_items, item, Members, no_members, get_member, as_array, as_table}
 use Rattle.toml.specs.Parse.{parse_document}
-use Rattle.bq_disc.specs.declared.limits.TheConstants.{DEFAULT_SLICE, GREATEST_SLICE, LEAST_SLICE}
+use Rattle.bq_disc.specs.declared.limits.TheConstants.{DEFAULT_SLICE, GREATEST_SLICE, LEAST_SLICE, TASKS}
 use Rattle.bq_words.specs.Sizes.{processors_in}
 use Rattle.bq_words.specs.declared.rule.Rule.TheVariants.{Cfs}
 use Rattle.bq_words.specs.declared.processor_count.ProcessorCount.{ProcessorCount}
@@ -67,7 +67,7 @@ actions_in names ms = doing names (get_member (codes "do") ms) (get_member (code
 
 -- the numbers of a kind, on a machine with all these processors
 pub record HasNumbers (all : ℕ) (ms : Members) (count : ℕ) (nice : ℤ) (mask slice start : ℕ) (loops : Option ℕ) : Type 0 where
-  pub count_is : or_default 1 (number_in 1 1024) (get_member (codes "count") ms) ≡ Some count
+  pub count_is : or_default 1 (number_in 1 TASKS) (get_member (codes "count") ms) ≡ Some count
   pub nice_is : or_default (pos 0) nice_of (get_member (codes "nice") ms) ≡ Some nice
   pub mask_is : or_default all (mask_of all) (get_member (codes "cpus") ms) ≡ Some mask
   pub slice_is : or_default DEFAULT_SLICE (span_in LEAST_SLICE GREATEST_SLICE) (get_member (codes "slice") ms) ≡ Some slice
@@ -131,7 +131,7 @@ pub record IsWorkload (c : Changes) (document : Members) (w : Workload) : Type 0
   pub machine : (s : Setup) × IsMachine document s × (w.machine ≡ changed_by c s)
   pub tasks : HasTasks w.machine.size document w.tasks.items
   pub some : 0 < length w.tasks.items
-  pub few : sum_by (λ k. k.count) w.tasks.items ≤ 1024
+  pub few : sum_by (λ k. k.count) w.tasks.items ≤ TASKS
 
 -- the workload that a text describes
 abbrev pub Describes : List ℕ → Changes → Workload → Type 0

@@ -171,7 +171,7 @@ fn kinds<'a>(
     processors: Processors,
 ) -> Result<Vec<TaskKind>, Trouble<'a>>
     ensures kinds { IfOk result (λ v. AreKinds names.now processors.all (items_view tables.now) v.items) }
-    ensures few { IfOk result (λ v. sum_by (λ k. k.count) v.items ≤ 1024) }
+    ensures few { IfOk result (λ v. sum_by (λ k. k.count) v.items ≤ TASKS) }
 {
     let mut kinds = Vec::new(alloc);
     let mut tasks: u16 = 0;
