@@ -8,7 +8,7 @@ ghost use Rattle.bq_workload.specs.Soundness.{first_flaw};
 ghost use Rattle.bq_workload.specs.declared.workload.Workload.{Workload};
 ghost use Rattle.bq_simulate.specs.Faults.{flaw_told};
 ghost use Rattle.bq_simulate.specs.Order.{EndsEarly, GoesWell, HasGoneWell, HasProcessors, IfEndless, IsCutOff, StartsWell, WantsMemory};
-ghost use Rattle.bq_simulate.specs.Simulations.{Befell, GoesOn, GoesOut, HasEnough, HasProceeded, IsFollowed, IsSimulation, IsTooLong, RunsToEndOrEnough, RunsOut, opening_book, periods_of, with_seed};
+ghost use Rattle.bq_simulate.specs.Simulations.{Befell, GoesOn, GoesOut, HasEnough, HasProceeded, IsFollowed, IsSimulation, IsTooLong, RunsOut, RunsToEndOrEnough, opening_book, periods_of, with_seed};
 ghost use Rattle.bq_simulate.specs.Steps.{AreJust, KeepsOthers, all_processors, last_ticks};
 ghost use Rattle.bq_simulate.specs.declared.fault.SimulateFault.TheVariants as why;
 ghost use Rattle.bq_trace.specs.TraceEvents.{Gets};
