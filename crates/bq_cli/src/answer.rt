@@ -4,7 +4,7 @@ ghost use Rattle.std.specs.Process.{exit_status as status};
 ghost use Rattle.bq_console.specs.Status.{EndsFailed};
 ghost use Rattle.bq_cli.specs.Status.{status_of};
 
-use bq_console::status::{BAD_INPUT, REFUSED};
+use bq_console::status::{BAD_INPUT, BAD_WORDS};
 use bq_console::{Lines, OUT_OF_MEMORY, say_out_of_memory, written};
 use bq_policy_check::Answered;
 use std::alloc::AllocError;
@@ -17,7 +17,7 @@ pub fn exit_status_of(answer: &Result<Answered, AllocError>) -> u8
     match answer {
         Ok(Answered::Done(_)) => 0,
         Ok(Answered::Refused(_)) => BAD_INPUT,
-        Ok(Answered::Words(_)) => REFUSED,
+        Ok(Answered::Words(_)) => BAD_WORDS,
         Err(_) => OUT_OF_MEMORY,
     }
 }

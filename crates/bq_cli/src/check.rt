@@ -6,7 +6,7 @@ ghost use Rattle.bq_cli.specs.Words.{AreCheckWords, AreLimitWords, is_plain_chec
 
 use crate::answer::exit_status_of;
 use crate::policy_words::{most_bytes, name_nothing, policy_words};
-use bq_console::status::{IO_FAILED, OUT_OF_MEMORY, REFUSED};
+use bq_console::status::{BAD_WORDS, IO_FAILED, OUT_OF_MEMORY};
 use bq_console::{
     Lines, Name, WordsFault, all_words, is_set, read_input, reason, refused_words, say_unread,
     say_unwritten, word,
@@ -89,7 +89,7 @@ pub(crate) fn do_check(rt: &HostRuntime, words: &CheckWords) -> Result<ExitCode,
         Ok(most) => most,
         Err(fault) => {
             if let WordsFault::Words(why) = &fault {
-                let _ = unanswered(rt, words, None, "words", why.trim(), REFUSED);
+                let _ = unanswered(rt, words, None, "words", why.trim(), BAD_WORDS);
             }
             return Err(fault);
         }
@@ -152,7 +152,7 @@ fn answer_of(
         Ok(Answered::Words(why)) => {
             let shown = Lines(why.as_str());
             let _ = eprintln!(rt; "error: {shown}");
-            unanswered(rt, words, name, "words", why.as_str(), REFUSED)
+            unanswered(rt, words, name, "words", why.as_str(), BAD_WORDS)
         }
         Err(_) => {
             let _ = rt.eprintln("bqsim: out of memory");

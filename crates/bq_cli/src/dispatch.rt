@@ -33,23 +33,23 @@ pub fn do_command<T: Threads + Wait + Sync>(
 ) -> Result<ExitCode, WordsFault> {
     let given = given_words(rt)?;
     let words = as_texts(rt.alloc(), &given)?;
-    obey(rt, threads, words.as_slice())
+    do_words(rt, threads, words.as_slice())
 }
 
 /// Does what these words ask. The version goes to standard output: it is no refusal and no help.
-fn obey<T: Threads + Wait + Sync>(
+fn do_words<T: Threads + Wait + Sync>(
     rt: &HostRuntime,
     threads: &T,
     words: &[&str],
 ) -> Result<ExitCode, WordsFault> {
     match words {
         ["--version" | "-V"] => Ok(write_version(rt)),
-        words => execute(rt, threads, &job(rt.alloc(), words)?),
+        words => do_job(rt, threads, &job(rt.alloc(), words)?),
     }
 }
 
 /// Does a command: reads the files that its words name, or standard input, and writes to standard output.
-fn execute<T: Threads + Wait + Sync>(
+fn do_job<T: Threads + Wait + Sync>(
     rt: &HostRuntime,
     threads: &T,
     command: &Command,

@@ -1,7 +1,7 @@
 //! The files that `simulate` reads: its workload, and the policies at its hooks.
 
 use bq_complain::{TextKind, kind_of_text};
-use bq_console::status::{BAD_INPUT, REFUSED};
+use bq_console::status::{BAD_INPUT, BAD_WORDS};
 use bq_console::{
     Name, file_named, name_of, read_input, say_out_of_memory, say_unread, whole_input,
 };
@@ -156,7 +156,7 @@ fn policy_bytes(
     }
     if file_named(&words.shown.file).is_none() {
         let _ = rt.eprintln("error: standard input is the workload: name the file of the policy");
-        return Err(ExitCode::from(REFUSED));
+        return Err(ExitCode::from(BAD_WORDS));
     }
     whole_input(rt, &None, most)
 }

@@ -50,16 +50,6 @@ pub fn whole_input(rt: &HostRuntime, file: &Option<String>, most: u64) -> Result
     }
 }
 
-/// All bytes of a file, of at most `MOST_BYTES`.
-pub fn whole_file(rt: &HostRuntime, path: &str) -> Result<Vec<u8>, ExitCode>
-    ensures { IfErr result EndsFailed }
-{
-    match read_input(rt, Some(path), MOST_BYTES) {
-        Ok(bytes) => Ok(bytes),
-        Err(error) => Err(say_unread(rt, Some(path), &error)),
-    }
-}
-
 /// All bytes of the file of that name, or of standard input where no name is given, of at most this many.
 pub fn read_input(rt: &HostRuntime, name: Option<&str>, most: u64) -> io::Result<Vec<u8>> {
     let mut bytes = Vec::new(rt.alloc());

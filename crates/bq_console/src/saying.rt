@@ -7,7 +7,7 @@ ghost use Rattle.bq_console.specs.Status.{EndsFor, refused_status};
 use crate::fault::WordsFault;
 use crate::printable::{Lines, Name};
 use crate::reasons::reason;
-use crate::status::{IO_FAILED, OUT_OF_MEMORY, REFUSED};
+use crate::status::{BAD_WORDS, IO_FAILED, OUT_OF_MEMORY};
 use bq_streams::StreamFault;
 use std::fmt;
 use std::io::{Error, ErrorKind};
@@ -28,7 +28,7 @@ pub fn say_refused(rt: &HostRuntime, fault: &WordsFault) -> ExitCode
     match fault {
         WordsFault::Words(text) => {
             let _ = rt.eprint(Lines(text.as_str()));
-            ExitCode::from(REFUSED)
+            ExitCode::from(BAD_WORDS)
         }
         WordsFault::OutOfMemory => say_out_of_memory(rt),
     }

@@ -8,7 +8,7 @@ use bq_streams::StreamFault;
 pub const BAD_INPUT: u8 = 1;
 
 /// The exit status of words that ask for nothing.
-pub const REFUSED: u8 = 2;
+pub const BAD_WORDS: u8 = 2;
 
 /// The exit status where memory was wanted.
 pub const OUT_OF_MEMORY: u8 = 3;

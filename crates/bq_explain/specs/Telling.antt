@@ -26,14 +26,14 @@ abbrev pub NamesUnknown : List ℕ → Type 0
 NamesUnknown text = (text ≡ []) ⊎ ((names : List ℕ) × (text ≡ names ++ codes " unknown  ") × AreNames names)
 
 -- the state has each byte of the stack from the first up to the one past the last
-abbrev pub HasBytes : State → ℕ → ℕ → Type 0
-HasBytes s first past = (i : ℕ) → first ≤ i → i < past → (b : ℕ) × (s.stack i ≡ Some b)
+abbrev pub HasEachByte : State → ℕ → ℕ → Type 0
+HasEachByte s first past = (i : ℕ) → first ≤ i → i < past → (b : ℕ) × (s.stack i ≡ Some b)
 
 -- runs of bytes of the stack that are set in the state
 pub data TellsRuns : State → List ℕ → Type 0 where
   no_run_told : (s : State) → TellsRuns s []
   one_run_told : (s : State) (before : List ℕ) (first past : ℕ) → TellsRuns s before
-      → first < past → past ≤ stack_size → HasBytes s first past → TellsRuns s (before ++ run_text first past)
+      → first < past → past ≤ stack_size → HasEachByte s first past → TellsRuns s (before ++ run_text first past)
 
 abbrev pub TellsStack : State → List ℕ → Type 0
 TellsStack s text =

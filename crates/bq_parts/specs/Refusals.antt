@@ -69,15 +69,15 @@ abbrev pub begin_refusal : LobbyEntry → Option Carried → Option Refusal
 begin_refusal s hand = first_refusal ((is_absent s, no.NoTask) ∷ (is_away s, no.NotBlocked) ∷ (is_some hand, no.InHand) ∷ [])
 
 -- what is refused of a generation, where another stands at the hook and this many numbers were drawn
-abbrev pub install_refusal : ℕ → ℕ → ℕ → Option Refusal
-install_refusal newest drawn g = first_refusal ((nat_lt 0 newest && nat_le g newest, no.Older newest) ∷ (g == 0 || nat_lt drawn g, no.NotDrawn) ∷ [])
+abbrev pub generation_refusal : ℕ → ℕ → ℕ → Option Refusal
+generation_refusal newest drawn g = first_refusal ((nat_lt 0 newest && nat_le g newest, no.Older newest) ∷ (g == 0 || nat_lt drawn g, no.NotDrawn) ∷ [])
 
 -- what this world refuses
 abbrev pub state_refusal : World → Event → Option Refusal
 state_refusal w (Admit id nice mask slice) = first_refusal ((not (is_absent (entry w id)), no.TaskExists) ∷ [])
 state_refusal w (Retire id) = retire_refusal (entry w id)
 state_refusal w Draw = None
-state_refusal w (Install processor h g policy) = install_refusal (at_hook h (processor_at w processor).hooks).generation w.drawn g
+state_refusal w (Install processor h g policy) = generation_refusal (at_hook h (processor_at w processor).hooks).generation w.drawn g
 state_refusal w (BeginWake processor id) = begin_refusal (entry w id) (processor_at w processor).hand
 state_refusal w (EndWake processor now) = first_refusal ((is_none (processor_at w processor).hand, no.NothingInHand) ∷ [])
 state_refusal w (Drain processor now) = None

@@ -13,7 +13,7 @@ use Rattle.bq_parts.specs.declared.refusal.Refusal.TheVariants as no
 use Rattle.bq_parts.specs.Processors.{Processor, opening}
 use Rattle.bq_parts.specs.declared.carried.Carried.{Carried}
 use Rattle.bq_parts.specs.declared.wakes.Placement.{Placement}
-use Rattle.bq_parts.specs.Refusals.{is_absent, retire_refusal, begin_refusal, install_refusal}
+use Rattle.bq_parts.specs.Refusals.{is_absent, retire_refusal, begin_refusal, generation_refusal}
 use Rattle.bq_hooks.specs.declared.hook.Hook.{Hook}
 use Rattle.bq_installed.specs.Attachments.{Attached, at_hook, with_attached}
 use Rattle.bq_installed.specs.Standing.{MayStand}
@@ -106,8 +106,8 @@ Places s count processor now p calls (Some x) q = PlacesTask s count processor n
 -- a hook gets what may stand there, or refuses it, where this many generations were drawn
 abbrev pub Installs : Hook → ℕ → Processor → Attached → Result Reply Refusal → Processor → Type 0
 Installs h drawn p new (Ok r) q =
-    (install_refusal (at_hook h p.hooks).generation drawn new.generation ≡ None) × (r ≡ Installed) × (q ≡ record p { hooks = with_attached h p.hooks new }) × MayStand h new
-Installs h drawn p new (Err e) q = (install_refusal (at_hook h p.hooks).generation drawn new.generation ≡ Some e) × (q ≡ p)
+    (generation_refusal (at_hook h p.hooks).generation drawn new.generation ≡ None) × (r ≡ Installed) × (q ≡ record p { hooks = with_attached h p.hooks new }) × MayStand h new
+Installs h drawn p new (Err e) q = (generation_refusal (at_hook h p.hooks).generation drawn new.generation ≡ Some e) × (q ≡ p)
 
 -- a task of the other's queue enters this one's; where nothing runs, the choice does
 abbrev pub pulled_by : PolicySemantics → Processor → Processor → Decision → Processor

@@ -3,7 +3,7 @@ ghost use Rattle.std.specs.Prelude.{◌≡◌, ◌≤◌, ◌<◌, [], IfSome};
 ghost use Rattle.bq_bpf.specs.Counters.{Through};
 ghost use Rattle.bq_hooks.specs.OwnPlace.{HasPlace};
 ghost use Rattle.bq_installed.specs.Attachments.{IsFor};
-ghost use Rattle.bq_parts.specs.Refusals.{install_refusal};
+ghost use Rattle.bq_parts.specs.Refusals.{generation_refusal};
 ghost use Rattle.bq_parts.specs.Choices.{policies};
 ghost use Rattle.bq_parts.specs.Shares.{BeginsWake, Installs, Places};
 
@@ -116,7 +116,7 @@ impl<Q: RunQueue> Cpu<Q> {
 
 /// Why a generation may not stand where `newest` stands and this many numbers were drawn, if it may not.
 fn generation_refusal(newest: u64, drawn: u64, generation: u64) -> Option<Refusal>
-    ensures { result ≡ install_refusal newest drawn generation }
+    ensures { result ≡ generation_refusal newest drawn generation }
 {
     if newest > 0 && generation <= newest {
         Some(Refusal::Older(newest))

@@ -26,7 +26,7 @@ use Rattle.bq_parts.specs.World.{World, processor_at, entry, count_in, with_lobb
 use Rattle.bq_parts.specs.Counts.{counted}
 use Rattle.bq_parts.specs.Choices.{Decision, decided_by, own_pull, policies}
 use Rattle.bq_parts.specs.Moves.{after_leaving, as_it_leaves, taken_from, without_task}
-use Rattle.bq_parts.specs.Refusals.{either, install_refusal, is_away, same_hook}
+use Rattle.bq_parts.specs.Refusals.{either, generation_refusal, is_away, same_hook}
 use Rattle.bq_parts.specs.Shares.{after_time, remarked}
 use Rattle.bq_parts.specs.StandsOnce.{IsOrderly}
 use Rattle.bq_parts.specs.Steps.{WorldStep}
@@ -284,7 +284,7 @@ same_hook_itself hooks.Preempt = refl
 same_hook_itself hooks.Pull = refl
 
 -- a generation that was drawn, and is newer than that which stands there
-newer_stands : (newest drawn g : ℕ) → newest < g → g ≤ drawn → install_refusal newest drawn g ≡ None
+newer_stands : (newest drawn g : ℕ) → newest < g → g ≤ drawn → generation_refusal newest drawn g ≡ None
 newer_stands newest drawn g newer was = rw (and_right (nat_lt 0 newest) (nat_le g newest) (lt-leb g newest newer), or_from (g == 0) (nat_lt drawn g) (ne_eqb g 0 (λ e. omega arith)) (le-ltb drawn g was)) refl
 
 -- an install leaves them in agreement

@@ -15,7 +15,7 @@ use Rattle.bq_simulate.specs.declared.simulation.Simulation.{Simulation}
 use Rattle.bq_workload.specs.Bounds.{most_steps, steps_at_once}
 use Rattle.bq_simulate.specs.Chronicles.{Book, Deed, Lives, after_deeds}
 use Rattle.bq_workload.specs.Next.{IsAgreed, NothingComes}
-use Rattle.bq_simulate.specs.Simulations.{Begins, Goes, HasFirsts, IsFollowed, IsSimulation, IsTooLong, Lived, LivedFrom, Proceeds, ProceedsBy, ProceedsIn, ProceedsOut, Runs, RunsOn, RunsOut, book_of, opening_book, periods_of}
+use Rattle.bq_simulate.specs.Simulations.{Begins, Goes, HasFirsts, IsFollowed, IsSimulation, IsTooLong, Lived, LivedFrom, Proceeds, ProceedsBy, ProceedsIn, ProceedsOut, Runs, RunsOut, RunsToEndOrEnough, book_of, opening_book, periods_of}
 use Rattle.bq_simulate.specs.Steps.{AreAllAdmitted, AreAllMet, AreInstalled, AreMet, Opens}
 use Rattle.bq_simulate.proofs.DeedLemmas.{Goes-join, Goes-weaker, Lives-append, drives-of-lives}
 use Rattle.bq_simulate.proofs.OrderLemmas.{book-after}
@@ -208,7 +208,7 @@ simulation-of takes a b c policies w d s t first new runs =
 -- the same, where the sink may have enough before
 pub followed-of : {S : Type 0} (takes : S → ℕ → TraceEvent → S → Type 0) (sated : S → Bool) (a b c : S) (policies : List Accepted) (w : Workload) (d : Driver) (s t : Simulation)
     → Gets takes a b (λ told. Starts w.machine.rule w.machine.size told d) → IsNew w d s
-    → RunsOn takes sated policies w b s c t → Gets takes a c (IsFollowed (sated c) policies w)
+    → RunsToEndOrEnough takes sated policies w b s c t → Gets takes a c (IsFollowed (sated c) policies w)
 followed-of takes sated a b c policies w d s t first new runs =
     elim runs [
       | inl whole ↦ let g = simulation-of takes a b c policies w d s t first new whole in record { told = g.told; taken = g.taken; holds = inl g.holds }

@@ -200,8 +200,8 @@ abbrev pub HasProceeded : {S : Type 0} → Takes S → List Accepted → Workloa
 HasProceeded takes policies w old s new t = LivedFrom takes w.tasks.items (ProceedsIn policies w s.seed s.roster.periods) old s new t
 
 -- it goes on to its end, or until the sink has enough
-abbrev pub RunsOn : {S : Type 0} → Takes S → (S → Bool) → List Accepted → Workload → S → Simulation → S → Simulation → Type 0
-RunsOn takes sated policies w old s new t =
+abbrev pub RunsToEndOrEnough : {S : Type 0} → Takes S → (S → Bool) → List Accepted → Workload → S → Simulation → S → Simulation → Type 0
+RunsToEndOrEnough takes sated policies w old s new t =
     Runs takes policies w.tasks.items (most_steps w) w.machine.duration (processors_in w.machine.size) old s new t
     ⊎ ((sated new ≡ true) × HasProceeded takes policies w old s new t)
 

@@ -8,7 +8,7 @@ ghost use Rattle.bq_workload.specs.Soundness.{first_flaw};
 ghost use Rattle.bq_workload.specs.declared.workload.Workload.{Workload};
 ghost use Rattle.bq_simulate.specs.Faults.{flaw_told};
 ghost use Rattle.bq_simulate.specs.Order.{EndsEarly, GoesWell, HasGoneWell, HasProcessors, IfEndless, IsCutOff, StartsWell, WantsMemory};
-ghost use Rattle.bq_simulate.specs.Simulations.{Befell, GoesOn, GoesOut, HasEnough, HasProceeded, IsFollowed, IsSimulation, IsTooLong, RunsOn, RunsOut, opening_book, periods_of, with_seed};
+ghost use Rattle.bq_simulate.specs.Simulations.{Befell, GoesOn, GoesOut, HasEnough, HasProceeded, IsFollowed, IsSimulation, IsTooLong, RunsOut, RunsToEndOrEnough, opening_book, periods_of, with_seed};
 ghost use Rattle.bq_simulate.specs.Steps.{AreJust, KeepsOthers, all_processors, last_ticks};
 ghost use Rattle.bq_simulate.specs.declared.fault.SimulateFault.TheVariants as why;
 ghost use Rattle.bq_trace.specs.TraceEvents.{Gets};
@@ -151,7 +151,7 @@ impl Simulation {
         requires tasks { length self.old.roster.by_task.items ≡ 0 }
         requires streams { length self.old.streams.items ≡ 0 }
         ensures tasks { IfOk result (λ counts. counts.tasks ≡ tasks_in workload.now.tasks.items) }
-        ensures runs { OnOk result (RunsOn S.takes S.sated policies.now workload.now sink.old self.old sink.new self.new) }
+        ensures runs { OnOk result (RunsToEndOrEnough S.takes S.sated policies.now workload.now sink.old self.old sink.new self.new) }
         ensures ends { StartsWell workload.now self.old → IfErr result (EndsEarly workload.now) }
         ensures endless { StartsWell workload.now self.old → IfErr result (IfEndless (RunsOut S.takes policies.now workload.now sink.old self.old sink.new self.new)) }
     {
