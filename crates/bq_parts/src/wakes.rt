@@ -1,4 +1,4 @@
-//! What the two halves of a wake do to the processor.
+//! What the two halves of a wake do to the processor, and what an installation does to it.
 ghost use Rattle.std.specs.Prelude.{◌≡◌, ◌≤◌, ◌<◌, [], IfSome};
 ghost use Rattle.bq_bpf.specs.Counters.{Through};
 ghost use Rattle.bq_hooks.specs.OwnPlace.{HasPlace};
