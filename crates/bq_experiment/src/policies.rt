@@ -84,7 +84,7 @@ impl Policies {
         self.take(alloc, &asked, file)
     }
 
-    /// The same, for the hook that the file says.
+    /// Takes the policy that a file holds, as `add` does, for the hook that the file says.
     pub fn add_as_said(&mut self, alloc: Global, file: &[u8]) -> Result<(), AttachFault>
         ensures taken { OnOk result ((hook : Hook) × Takes (IsRead None file.now) hook self.old self.new) }
         ensures refused { OnErr result (self.new ≡ self.old) }

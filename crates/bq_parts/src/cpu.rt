@@ -62,7 +62,8 @@ impl<Q: RunQueue> Cpu<Q> {
         Cpu::over(Q::empty())
     }
 
-    /// The same over a queue that was made before, and that nothing has come to.
+    /// A processor to which nothing has come, and at whose hooks nothing stands, over a queue that was made before and that nothing
+    /// has come to.
     pub fn over(queue: Q) -> Cpu<Q>
         requires empty { Q.members queue ≡ [] }
         requires mark { Q.kept_mark queue ≡ 2 ^ 32 }

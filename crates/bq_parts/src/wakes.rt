@@ -37,7 +37,7 @@ impl<Q: RunQueue> Cpu<Q> {
         self.begin_with(lobby, task, loads.copy())
     }
 
-    /// The same with loads that were counted only for this wake.
+    /// A sleeping task of the lobby comes into the hand, with loads that were counted only for this wake.
     pub fn begin_with(
         &mut self,
         lobby: &mut Lobby,
