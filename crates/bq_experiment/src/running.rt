@@ -283,7 +283,7 @@ fn watch<W: Write, E: Write>(
     Ok(())
 }
 
-/// Names the tasks to the viewer. From then on each line number is higher by as many lines as these comments take.
+/// Names the tasks to the viewer. From then on each line number is higher by the number of these comments.
 fn name_tasks(alloc: Global, workload: &Workload, below: &mut Below) -> Result<(), AllocError>
     ensures schedule { below.new.viewer.schedule ≡ below.old.viewer.schedule }
     ensures troubles { below.new.viewer.troubles ≡ below.old.viewer.troubles }
