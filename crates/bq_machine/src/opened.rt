@@ -36,8 +36,8 @@ impl<Q: RunQueue + Drop, K: Clock + Drop, N: Naming + Counting, const P: usize> 
         Machine::with_queues(alloc, clock, queues, prepared, unnamed, seat_count)
     }
 
-    /// The machine that `N` names, with its seats, over queues that you hand in: one for each processor, without tasks and at the first
-    /// mark. Allocates all locks and seats.
+    /// The machine that `N` names, with its seats, over queues that you hand in: one for each processor, without
+    /// tasks and at the first mark. Allocates all locks and seats.
     pub fn with_queues(
         alloc: Global,
         clock: K,

@@ -31,7 +31,8 @@ pub fn admissions_are_taken()
     ensures { AdmissionsAreTaken }
 {}
 
-/// The wake of a task that sleeps is taken (its begin, its end, and what takes it in), and accounts and world still agree.
+/// The wake of a task that sleeps is taken (its begin, its end, and what takes it in), and accounts and world still
+/// agree.
 pub fn wakes_are_taken()
     ensures { WakesAreTaken }
 {}

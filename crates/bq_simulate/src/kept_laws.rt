@@ -21,7 +21,8 @@ pub fn generations_are_newer()
     ensures { GenerationsAreNewer }
 {}
 
-/// At each instant fewer things may still come than are counted for one instant, and each that is met takes at least one of them.
+/// At each instant fewer things may still come than are counted for one instant, and each that is met takes at least
+/// one of them.
 pub fn few_come_at_once()
     ensures { FewComeAtOnce }
 {}
