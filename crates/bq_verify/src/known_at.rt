@@ -116,7 +116,7 @@ fn known_in_pass(alloc: Global, subject: &Subject, until: usize) -> Result<Known
     Ok(KnownStates { states })
 }
 
-/// Makes one pass, and keeps the abstract state that arrives at each slot. `pending` takes those that wait: at first there is none.
+/// Makes one pass, and keeps the abstract state that arrives at each slot. `pending` takes those that wait: at first no slot has one.
 fn states_in_pass(
     alloc: Global,
     subject: &Subject,
