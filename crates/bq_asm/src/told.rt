@@ -17,7 +17,7 @@ pub fn says_instruction(line: &[u8]) -> bool
     }
 }
 
-/// The same of the words of a line.
+/// Whether these words of a line say an instruction: there are some, and the line sets no label.
 fn says(words: &[&[u8]]) -> bool
     ensures { result ≡ is_instruction (line_of (texts words.now)) }
 {

@@ -50,7 +50,7 @@ abbrev pub is_within : Effect → Glance → Stretch → Charge → Bool
 is_within Breaks g s best = false
 is_within c g s best = nat_le (min (at_most_owed g s) (2 ^ 64 - 1)) best.difference
 
--- the same where a stretch and a greatest are there
+-- whether `is_within` holds of the stretch and the greatest lag, if both are there
 abbrev pub is_within_of : Effect → Glance → Option Stretch → Option Charge → Bool
 is_within_of c g (Some s) (Some best) = is_within c g s best
 is_within_of c g s best = false

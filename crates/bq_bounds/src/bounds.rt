@@ -102,8 +102,8 @@ impl Bounds {
         self.forget_source(event, reply);
     }
 
-    /// The same by what is known of its tasks without a look at each, where that shows that none is owed more than one was before;
-    /// else nothing is done, and `owe` is to be asked. Whether it was done. It takes a time that does not grow with anything.
+    /// Does what `owe` does by what is known of the tasks, without a look at each, if that shows that none is owed more than one was
+    /// before. Answers whether it was done; if not, nothing has changed, and you call `owe`. It takes constant time.
     pub fn owe_unseen(
         &mut self,
         processor: u8,

@@ -67,8 +67,8 @@ impl Lags {
         }
     }
 
-    /// The same by what is known of the tasks without a look at each, where that shows that none is owed more than one was before;
-    /// else nothing is done. Whether it was done.
+    /// Does what `take` does by what is known of the tasks, without a look at each, if that shows that none is owed more than one was
+    /// before. Answers whether it was done; if not, nothing has changed.
     pub fn take_unseen(&mut self, event: &Event, reply: &Reply, rise: u64, glance: Glance) -> bool
         ensures done { (xs : List Task) → IsTrue result → IsGlance glance self.old.stretch xs → self.new ≡ lags_after (effect_of event.now reply.now) rise xs self.old }
         ensures left { result ≡ false → self.new ≡ self.old }

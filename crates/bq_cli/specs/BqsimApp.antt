@@ -11,7 +11,7 @@ head_rules = option_rule (codes "hook") ∷ option_rule (codes "maps") ∷ optio
 abbrev pub policy_rules : List Rule
 policy_rules = word_rule (codes "file") ∷ head_rules
 
--- the same, of which the hook may not be left out
+-- a file, and what is said of it: the hook may not be left out
 abbrev pub import_rules : List Rule
 import_rules = word_rule (codes "file") ∷ needed_rule (codes "hook") ∷ option_rule (codes "maps") ∷ option_rule (codes "format") ∷ option_rule (codes "max-bytes") ∷ []
 

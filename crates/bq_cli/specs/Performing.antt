@@ -32,7 +32,7 @@ abbrev pub PerformsIf : Bool → (List ℕ → Bool → List ℕ → Type 0) →
 PerformsIf true Writes from to old new accepted = AnswersAll Writes from to old new accepted
 PerformsIf false Writes from to old new accepted = (accepted ≡ false) × DoesNothing from to old new
 
--- The same, if it ended by a fault: then there was something to do.
+-- It ended by a fault: there were neither file nor options, and the writer got nothing, or a beginning of the answer.
 abbrev pub PerformsInPartIf : Bool → (List ℕ → Bool → List ℕ → Type 0) → Option (List ℕ) → Option (List ℕ) → Option (List ℕ) → Option (List ℕ) → Type 0
 PerformsInPartIf true Writes from to old new = BreaksOff Writes from to old new
 PerformsInPartIf false Writes from to old new = ⊥

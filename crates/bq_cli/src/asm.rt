@@ -61,7 +61,7 @@ pub(crate) fn do_asm<T: Threads + Wait + Sync>(
     Ok(assemble_form(rt, threads, command, words, most))
 }
 
-/// The same, of at most this many bytes.
+/// Assembles the file that is named, or standard input, of at most this many bytes.
 fn assemble_form<T: Threads + Wait + Sync>(
     rt: &HostRuntime,
     threads: &T,

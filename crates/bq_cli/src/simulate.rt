@@ -187,7 +187,8 @@ pub(crate) fn do_simulate<T: Threads + Sync>(
     }
 }
 
-/// The same, within these limits. An error is the exit status of what was refused.
+/// Runs the workload within these limits, and shows it. An error is the exit status: of a refusal, a failed write or
+/// a lack of memory.
 fn simulated<T: Threads + Sync>(
     rt: &HostRuntime,
     threads: &T,

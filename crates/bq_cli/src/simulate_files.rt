@@ -61,7 +61,7 @@ pub(crate) fn workload(
     }
 }
 
-/// Says what a file is that is no workload.
+/// Says what a file is that was given as a workload but is not one.
 fn say_no_workload(rt: &HostRuntime, name: &str, what: &str) -> ExitCode {
     let name = Name(name);
     let _ = eprintln!(rt; "{name}: {what}");

@@ -107,7 +107,8 @@ impl Comparing {
         self.add_by_names(alloc, &names)
     }
 
-    /// The same of tasks that have these names.
+    /// Adds the tasks that are asked for by name to those that are shown, where `names` has the names of the tasks. Answers what is
+    /// noted of the names that no task has.
     fn add_by_names(&mut self, alloc: Global, names: &Names) -> Result<String, AllocError>
         ensures tasks { OnOk result (self.new.window.tasks.items ≡ self.old.window.tasks.items ++ tasks_for names.now self.old.names.items) }
         ensures notes { IfOk result (λ notes. string_bytes notes ≡ uncalled_notes names.now self.old.names.items) }

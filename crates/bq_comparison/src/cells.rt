@@ -11,7 +11,7 @@ pub(crate) fn decimal(alloc: Global, thousandths: u128) -> Result<String, AllocE
     format!(in alloc; "{whole}.{part:03}")
 }
 
-/// The same where there are any, else another text.
+/// Thousandths, with three decimals, if there are any; else the other text.
 pub(crate) fn cell(
     alloc: Global,
     thousandths: Option<u128>,

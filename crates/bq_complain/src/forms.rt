@@ -20,7 +20,8 @@ pub(crate) fn form_of(alloc: Global, word: &str, mnemonic: Mnemonic) -> Result<S
     }
 }
 
-/// The same of what goes to memory, and of what loads a number of 64 bits or a map.
+/// The instruction that the word says, with operands that it takes, if it goes to memory, or loads a number of 64
+/// bits or a map.
 fn memory_form(alloc: Global, word: &str, mnemonic: Mnemonic) -> Result<String, AllocError> {
     match mnemonic {
         Mnemonic::StoreImm(_) => format!(in alloc; "{word} [r10-8], 0"),

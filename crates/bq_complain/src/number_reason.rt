@@ -56,17 +56,17 @@ fn kind_of(mnemonic: Mnemonic, place: usize) -> NumberKind {
 enum Slip {
     /// It is written with a unit, and has this many nanoseconds.
     Time(u64),
-    /// The same, of more than 32 bits.
+    /// It is written with a unit, and has this many nanoseconds, which do not fit 32 bits.
     LongTime(u64),
     /// It is no number, or does not fit 64 bits.
     NoNumber,
     /// It does not fit 32 bits.
     Long,
-    /// The same, of what stands for none in contexts and answers.
+    /// It does not fit 32 bits, and is the number that stands for none in contexts and answers.
     Nobody,
-    /// The same, of a number below 0, which has these 64 bits.
+    /// It is below 0 and does not fit 32 bits; in 64 bits it is this word.
     LongBelowZero(u64),
-    /// The same, of a helper or a map.
+    /// It numbers a helper or a map, and does not fit 32 bits.
     NoName,
     /// It has a `+`, where that is not taken.
     Plus,

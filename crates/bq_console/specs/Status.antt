@@ -27,6 +27,6 @@ pub record EndsFor (failed : ErrorKind) (code : ExitCode) : Type 0 where
   pub memory : failed ≡ kind.OutOfMemory → exit_status code ≡ 3
   pub other : failed ≢ kind.OutOfMemory → exit_status code ≡ 4
 
--- the same, whatever it was that failed
+-- how a program ends where some call of the system failed: by 3 or 4
 abbrev pub EndsFailed : ExitCode → Type 0
 EndsFailed code = (exit_status code ≡ 3) ⊎ (exit_status code ≡ 4)

@@ -22,7 +22,7 @@ pub fn given_words(rt: &HostRuntime) -> Result<Vec<String>, WordsFault> {
     }
 }
 
-/// The same, word by word.
+/// Reads the words after the program's name one by one, as bytes: they need not be UTF-8 text.
 fn words_of_bytes(rt: &HostRuntime) -> Result<Vec<String>, WordsFault> {
     let alloc = rt.alloc();
     let mut buffer = vec![in alloc; 0u8; WORD]?;

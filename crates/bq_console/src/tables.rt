@@ -14,11 +14,11 @@ use std::alloc::{AllocError, Global};
 pub enum Given {
     /// As a word without the option's name. The text names the value on a help page.
     Alone(&'static str),
-    /// The same, as several such words.
+    /// As several words without the option's name. The text names the value on a help page.
     Several(&'static str),
     /// By its name, and then one value.
     Once(&'static str),
-    /// The same, and it may not be left out.
+    /// By its name, and then one value. It may not be left out.
     Needed(&'static str),
     /// Several times, each time by its name and one value.
     Often(&'static str),

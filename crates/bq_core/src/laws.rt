@@ -11,17 +11,17 @@ pub fn step_keeps_order()
     ensures { StepKeepsOrder }
 {}
 
-/// So it does whatever the policies answer.
+/// Each event keeps a world in order, whatever the policies answer.
 pub fn step_keeps_order_anyhow()
     ensures { StepKeepsOrderAnyhow }
 {}
 
-/// Events one after another keep it so, and each of them leaves a world in order.
+/// Events one after another keep a world in order, and each of them leaves one in order.
 pub fn run_keeps_order()
     ensures { RunKeepsOrder }
 {}
 
-/// So every world that events leave of the opening one is in order.
+/// Every world that events leave of the opening one is in order.
 pub fn history_is_orderly()
     ensures { HistoryIsOrderly }
 {}

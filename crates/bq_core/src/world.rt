@@ -197,7 +197,7 @@ impl<Q: RunQueue> Parts<Q> {
         ensures step { WorldStep (policies Q.R.discipline) self.old event scratch.new result self.new }
         ensures board { Through B.leads board.old scratch.new board.new }
     {
-        // The same of the processors.
+        // To look at the processors brings to the proof what always holds of them.
         let _ = &self.cpus;
         scratch.clear();
         if let Some(refusal) = argument_refusal(self.processors(), &event) {

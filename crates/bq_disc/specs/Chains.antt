@@ -31,7 +31,7 @@ abbrev mutual
   IsStraightHeld None' = Unit {0}
   IsStraightHeld (Some' p n) = IsStraight n
 
--- the same of a link
+-- the tasks of the chain behind a link, if there is one; and that none of its nodes has a right link
 abbrev pub chain_behind : Option (Box Node Global) → List Task
 chain_behind None = []
 chain_behind (Some b) = chain b.value

@@ -11,7 +11,7 @@ pub fn allows(mask: u64, processor: u8) -> bool
     processor < PROCESSORS && has(mask, processor)
 }
 
-/// The same of a number that is a processor's.
+/// Whether a mask has this processor, whose number is below `PROCESSORS`.
 #[inline(always)]
 pub fn has(mask: u64, processor: u8) -> bool
     requires { processor < PROCESSORS }

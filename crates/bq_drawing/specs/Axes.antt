@@ -36,7 +36,7 @@ abbrev pub mark_text : Setting → ℕ → ℕ → ℕ → List ℕ
 mark_text s top edge at =
     grid_line (place_of s.extent at) top edge ++ grid_count (place_of s.extent at) (counted edge 20) (at / unit_length s.unit)
 
--- the same, if the extent is not over before
+-- a moment on the axis, as `mark_text` draws it, if the extent is not over before
 abbrev pub mark_if : Setting → ℕ → ℕ → ℕ → List ℕ
 mark_if s top edge at = if nat_le at s.extent.to then mark_text s top edge at else []
 

@@ -30,7 +30,7 @@ untold processors tasks = record {
 abbrev pub next_arrow : Past → ℕ
 next_arrow h = min (h.arrows + 1) (2 ^ 64 - 1)
 
--- the same, where an arrow begins
+-- the number of the next arrow if an arrow begins, else none
 abbrev pub arrow_if : Bool → Past → Option ℕ
 arrow_if begins h = if begins then Some (next_arrow h) else None
 

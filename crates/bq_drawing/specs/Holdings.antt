@@ -64,7 +64,7 @@ with_run (Some start) (Some part) held = with_more part.processor part.task (row
 abbrev pub with_stretch : ℕ → Stretch → Held → Held
 with_stretch processor wait held = with_more processor wait.task (row_with_wait wait) held
 
--- the same of the part of a wait
+-- what is held, with the part of a wait added to its processor's row, if any of it is shown
 abbrev pub with_wait : Option Slice → Held → Held
 with_wait None held = held
 with_wait (Some part) held = with_stretch part.processor (record { from = part.from; to = part.to; task = part.task }) held
@@ -73,12 +73,12 @@ with_wait (Some part) held = with_stretch part.processor (record { from = part.f
 abbrev pub waking : Wake → Stretch
 waking k = record { from = k.at; to = k.at; task = k.task }
 
--- the same of a wake, at the processor where its task was placed
+-- what is held, with a wake added to the row of the processor where its task was placed, if there is one
 abbrev pub with_wake : Option Wake → Held → Held
 with_wake None held = held
 with_wake (Some k) held = with_more k.to k.task (row_with_wake (waking k)) held
 
--- the same of a line between two rows
+-- what is held, with a line between two rows added
 abbrev pub with_link : Link → Held → Held
 with_link link held = record held { links = held.links ++ link ∷ []; tasks = with_task link.task held.tasks }
 
@@ -86,7 +86,7 @@ with_link link held = record held { links = held.links ++ link ∷ []; tasks = w
 abbrev pub HoldsRun : Window → Option Start → Option Slice → Held → Held → Type 0
 HoldsRun w start run old new = (part : Option Slice) × IsShownPart w run part × (new ≡ with_run start part old)
 
--- the same of a wait
+-- the shown part of a wait is added, if there is one
 abbrev pub HoldsWait : Window → Option Slice → Held → Held → Type 0
 HoldsWait w wait old new = (part : Option Slice) × IsShownPart w wait part × (new ≡ with_wait part old)
 

@@ -91,7 +91,7 @@ link_between s link from to =
     (halo_text left begin right end ++ line_text link.kind (colour_of s.tasks link.task) left begin right end (nat_lt from to))
     ++ link_title s link
 
--- the same, where both bands are there
+-- a line between two bands, as `link_between` draws it, if both are there
 abbrev pub link_if : Setting → Link → Option ℕ → Option ℕ → List ℕ
 link_if s link None to = []
 link_if s link (Some from) None = []

@@ -88,7 +88,7 @@ perfetto_end kind (Some arrow) run = end_text kind arrow run
 abbrev pub perfetto_ends : Arrows → Slice → List ℕ
 perfetto_ends arrows run = perfetto_end (codes "wake") arrows.wake run ++ perfetto_end (codes "migration") arrows.migration run
 
--- the same, if that is so
+-- the ends of the arrows that lead to a run, if it is whole
 abbrev pub perfetto_ends_if : Bool → Arrows → Slice → List ℕ
 perfetto_ends_if is_whole arrows run = if is_whole then perfetto_ends arrows run else []
 

@@ -33,7 +33,7 @@ row_of rows processor = slice_index_or rows processor empty_row
 abbrev pub stretch_cmp : Stretch → Stretch → Ordering
 stretch_cmp a b = ordering_then (nat_cmp a.from b.from) (ordering_then (nat_cmp a.to b.to) (nat_cmp a.task b.task))
 
--- the same stretches in the order in which they begin
+-- `sorted` has the stretches of `given`, in the order in which they begin
 pub record ArePutInOrder (given sorted : List Stretch) : Type 0 where
   pub same : IsPermutation given sorted
   pub order : IsSorted stretch_cmp sorted

@@ -89,7 +89,7 @@ impl History {
         self.arrows.saturating_add(1)
     }
 
-    /// The same, where an arrow begins.
+    /// The number of the next arrow if an arrow begins, else None.
     fn arrow_if(&self, begins: bool) -> Option<u64>
         ensures { result ≡ arrow_if begins self.now }
     {

@@ -43,7 +43,8 @@ pub record WritesTrace (w : Workload) (policies : List Accepted) (images : ByHoo
   pub few : events_in trace.told ≤ most
   pub added : Appends old new text
 
--- What is written of a workload that is run with these policies: a trace, and no notes; or what a viewer of a simulation has.
+-- What is written of a workload that is run with these policies. As a trace: its whole text, and no notes. In another form: notes that
+-- end with a viewer's last notes on a simulation. The text of that form is promised where it is made.
 abbrev pub IsWritten : ShownAs → Workload → Policies → ℕ → Option (List ℕ) → Option (List ℕ) → List ℕ → Type 0
 IsWritten Trace w policies most old new notes = WritesTrace w policies.loaded (image_for policies.images) most old new × (notes ≡ [])
 IsWritten (Timeline settings) w policies most old new notes = AreNotesOf policies.loaded w most notes

@@ -45,7 +45,7 @@ fn task_name(alloc: Global, kind: &TaskKind, number: u16) -> Result<String, Allo
     }
 }
 
-/// Tells a sink the name of each task, by the comment that names one in a trace. How many lines of a trace that takes.
+/// Tells a sink the name of each task, by the comment that names one in a trace. Answers how many lines of a trace that takes.
 pub fn tell_names<S: Sink>(
     alloc: Global,
     workload: &Workload,
@@ -64,8 +64,8 @@ pub fn tell_names<S: Sink>(
     Ok(names.len() as u64)
 }
 
-/// Tells a viewer the name of each task, as the comments of a trace do; but a name that is not ASCII is shown as it is. How many tasks
-/// that are.
+/// Tells a viewer the name of each task, as the comments of a trace do; but a name that is not ASCII is shown as it is. Answers how
+/// many tasks there are.
 pub(crate) fn show_names(
     alloc: Global,
     workload: &Workload,
@@ -92,7 +92,7 @@ pub fn workload_names(alloc: Global, workload: &Workload) -> Result<Names, Alloc
     Ok(names)
 }
 
-/// The comments that name the tasks to a viewer, a task a comment.
+/// The comments that name the tasks to a viewer, one for each task.
 fn shown_comments(alloc: Global, workload: &Workload) -> Result<Vec<String>, AllocError>
     ensures { IfOk result (λ comments. map string_bytes comments.items ≡ shown_comments workload.now) }
 {

@@ -73,7 +73,7 @@ impl Policies {
     }
 
     /// Takes the policy for this hook that a file holds: an image, the hex of one, or an assembler text whose head says what
-    /// it leaves out. Where one was taken for that hook before it is refused. Where it is not taken, all is as it was.
+    /// it leaves out. A second policy for a hook is refused. If the policy is not taken, all is as it was.
     pub fn add(&mut self, alloc: Global, hook: Hook, file: &[u8]) -> Result<(), AttachFault>
         ensures taken { OnOk result (Takes (IsRead (Some hook) file.now) hook self.old self.new) }
         ensures refused { OnErr result (self.new ≡ self.old) }
@@ -84,7 +84,7 @@ impl Policies {
         self.take(alloc, &asked, file)
     }
 
-    /// The same, for the hook that the file says.
+    /// Takes the policy that a file holds, as `add` does, for the hook that the file says.
     pub fn add_as_said(&mut self, alloc: Global, file: &[u8]) -> Result<(), AttachFault>
         ensures taken { OnOk result ((hook : Hook) × Takes (IsRead None file.now) hook self.old self.new) }
         ensures refused { OnErr result (self.new ≡ self.old) }

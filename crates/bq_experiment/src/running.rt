@@ -217,7 +217,7 @@ fn as_timeline<W: Write + Drop, E: Write + Drop>(
     }
 }
 
-/// Writes a timeline to its end. What goes to standard error then.
+/// Writes a timeline to its end. Answers the notes for standard error.
 fn write_timeline<W: Write, E: Write>(
     alloc: Global,
     workload: &Workload,
@@ -241,7 +241,7 @@ fn write_timeline<W: Write, E: Write>(
     }
 }
 
-/// Runs it before a viewer, which gets the names of its tasks first. The notes at the end.
+/// Runs the workload before a viewer, which gets the names of the tasks first. Answers the notes for standard error.
 fn view<W: Write, E: Write>(
     alloc: Global,
     workload: &Workload,
@@ -283,7 +283,7 @@ fn watch<W: Write, E: Write>(
     Ok(())
 }
 
-/// Names the tasks to the viewer. From then on each line number is higher by as many lines as these comments take.
+/// Names the tasks to the viewer. From then on each line number is higher by the number of these comments.
 fn name_tasks(alloc: Global, workload: &Workload, below: &mut Below) -> Result<(), AllocError>
     ensures schedule { below.new.viewer.schedule ≡ below.old.viewer.schedule }
     ensures troubles { below.new.viewer.troubles ≡ below.old.viewer.troubles }

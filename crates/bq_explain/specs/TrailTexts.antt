@@ -22,7 +22,7 @@ slot_text (Some line) slot = codes "line " ++ (decimal line ++ (codes ", slot " 
 abbrev pub place_text : Place → List ℕ
 place_text place = slot_text place.line place.slot
 
--- the same, and the instruction as a listing has it
+-- where an instruction stands, and the instruction as a listing has it
 abbrev pub place_line : Place → List ℕ
 place_line place = place_text place ++ (codes ":  " ++ line_body place.insn)
 

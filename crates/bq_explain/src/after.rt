@@ -141,7 +141,7 @@ fn passes(state: &mut AbstractState, test: Test, is_taken: bool) -> bool {
     true
 }
 
-/// The same, of an instruction behind which only the next one runs.
+/// Whether a run may pass an instruction after which only the next one runs; if so, the state is the one behind it.
 fn goes_on(state: &mut AbstractState, shapes: &[MapShape], context: usize, insn: Insn) -> bool
     requires context { context < 2 ^ 16 }
     requires few { length shapes.now ≤ 8 }

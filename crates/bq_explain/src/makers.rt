@@ -79,7 +79,7 @@ pub(crate) fn makers(
     swept(alloc, slots, register, slot, leading.as_mut_slice())
 }
 
-/// The same, over a list of the slots from which a way that spares the register leads to the slot; none is found yet.
+/// Finds what `makers` answers. `leading` marks the slots from which a way that spares the register leads to the slot: at first none.
 fn swept(
     alloc: Global,
     slots: &[Option<Insn>],

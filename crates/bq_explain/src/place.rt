@@ -77,7 +77,7 @@ pub(crate) fn place_text(alloc: Global, place: &Place) -> Result<String, AllocEr
     }
 }
 
-/// The same, behind the file's name if there is one, with the instruction.
+/// The place of an instruction, and the instruction as a listing has it, behind the file's name if there is one.
 pub(crate) fn instruction_line(
     alloc: Global,
     name: Option<&str>,

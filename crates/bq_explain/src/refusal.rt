@@ -68,7 +68,7 @@ pub(crate) fn refusal_of(
     }
 }
 
-/// The same, for a fault of the control graph.
+/// Why the verifier refuses the policy at that place for a fault of the control graph.
 fn graph_refusal(
     alloc: Global,
     file: &[u8],
@@ -107,7 +107,7 @@ fn label_of(
     }
 }
 
-/// The same, for what is not shown of the states.
+/// Why the verifier refuses the policy at that place for what is not shown of the states.
 fn state_refusal(
     alloc: Global,
     policy: &PolicySource,

@@ -30,7 +30,7 @@ pub(crate) fn state_text(
     Ok(text)
 }
 
-/// The same, by what is printed.
+/// Writes the lines of `state_text`.
 #[tactic(auto, using(crate::proofs::StateTextLemmas::is_state_text))]
 fn lines_of(alloc: Global, shapes: &[MapShape], state: &AbstractState) -> Result<String, AllocError>
     ensures { IfOk result (λ text. IsStateText shapes.now state.now (string_bytes text)) }

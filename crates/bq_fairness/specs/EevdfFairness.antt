@@ -66,7 +66,7 @@ NoneIsOwedMore =
 abbrev pub most_behind : ℕ → ℕ → Running → ℕ → ℕ
 most_behind E r p weight = (weight_at p - weight) * E + 1024 * r * ((length (present_at p) - 2) * weight_at p + weight)
 
--- The same bound, by the rise r alone
+-- No task is owed more than `most_behind` says for its weight
 abbrev pub NoneIsOwedLong : Type 0
 NoneIsOwedLong =
     (E r : ℕ) (p : Running) (j : ℕ) (b : Task) → IsSound p → IsBalanced E r p → task_at j p ≡ Some b →

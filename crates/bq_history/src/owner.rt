@@ -106,7 +106,7 @@ impl<E, T, K, L: Law<E, T, K>, N: Naming> Owner<E, T, K, L, N> {
         self.table.shared.join_seat::<Together>(&mut to.seat, seat);
     }
 
-    /// The same, of a holder that is used again.
+    /// One holder takes all that another has; the other is empty afterwards, and may be used again.
     pub fn gather(&self, to: &mut Holder<E, N>, from: &mut Holder<E, N>)
         ensures { (to.new ≡ to.old ++ from.old) × (from.new ≡ []) }
     {

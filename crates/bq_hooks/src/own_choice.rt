@@ -23,7 +23,7 @@ pub fn own_place(count: usize, loads: &Loads, task: &Entity) -> u8
     }
 }
 
-/// The first of the processors of a mask that are below `count`, from the last to the first.
+/// The best place, by `goes_before`, among a mask's processors below `count`; None if the mask has none of them.
 fn first_place(loads: &Loads, mask: u64, previous: Option<u8>, count: usize) -> Option<u8>
     requires few { count ≤ PROCESSORS }
     ensures { result ≡ first_place loads.now previous (filter (allows mask) (range_with_len 0 count)) }

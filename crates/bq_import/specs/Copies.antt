@@ -19,7 +19,7 @@ abbrev pub wide_copy : Bool → ℕ → ℕ → Insn
 wide_copy true dst value = MapRef dst (pos (value - reference 0))
 wide_copy false dst value = Imm64 dst value
 
--- the same instruction, beside this many maps, with this distance if it jumps
+-- the copy of an instruction, in a program of this many maps: it has this distance if it jumps
 abbrev pub copied : ℕ → Insn → ℤ → Insn
 copied maps (Goto off) distance = Goto distance
 copied maps (Goto32 imm) distance = Goto32 distance

@@ -57,7 +57,7 @@ pub record IsTextOf (settings : ImportSettings) (bytes text : List ℕ) : Type 0
   pub imported : Imports (length settings.form.shapes.items) bytes insns origins
   pub text_is : text ≡ settings_marks settings ++ listing_text insns
 
--- the same, where comments may stand above instructions
+-- the marks of what was asked for, and then the listing of what was imported, in which comments may stand above instructions
 pub record IsNotedTextOf (settings : ImportSettings) (bytes text : List ℕ) : Type 0 where
   pub insns : List Insn
   pub origins : List ℕ

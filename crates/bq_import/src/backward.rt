@@ -90,7 +90,7 @@ impl Backward {
     }
 }
 
-/// The same instruction, beside this many maps, with this distance if it jumps.
+/// The copy of an instruction, in a program of this many maps: it has this distance if it jumps.
 fn copied(insn: Insn, distance: i16, maps: usize) -> Insn
     requires { maps ≤ 8 }
     ensures { result ≡ copied maps insn distance }

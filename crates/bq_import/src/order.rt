@@ -56,7 +56,7 @@ pub fn order(alloc: Global, insns: &[Insn], maps: usize) -> Result<Ordered, Diso
     order_slots(alloc, slots.as_slice(), maps)
 }
 
-/// The same, of the program's slots.
+/// Puts a program, given by its slots, in order as `order` does.
 fn order_slots(alloc: Global, slots: &[Option<Insn>], maps: usize) -> Result<Ordered, Disorder>
     requires program { (insns : List Insn) × (slots.now ≡ spread insns) × (is_well_formed insns ≡ true) × AllFit insns }
     requires few { maps ≤ 8 }

@@ -97,7 +97,7 @@ pub fn imported(
     }
 }
 
-/// The same, with the lines of C.
+/// Imports a program as `imported` does, and answers beside the text the line of C of each instruction.
 #[tactic(auto, using(crate::proofs::RefusalLemmas::refused_by, crate::proofs::RefusalLemmas::refused_for_memory))]
 pub fn imported_text<'a>(
     alloc: Global,

@@ -99,7 +99,8 @@ pub fn encode(insns: &[Insn], out: &mut Vec<u8>) -> Result<(), AllocError>
     Ok(())
 }
 
-/// The same, for any list in range. Where memory is refused, a part of the bytes may stand there.
+/// Appends the bytes that spell these instructions, for any list in range. Where memory is refused, a part of the
+/// bytes may stand there.
 fn append_all(insns: &[Insn], out: &mut Vec<u8>) -> Result<(), AllocError>
     requires { list_all is_insn insns.now ≡ true }
     ensures ok { OnOk result (out.new.items ≡ out.old.items ++ spelling insns.now) }

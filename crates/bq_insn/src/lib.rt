@@ -201,7 +201,7 @@ pub enum Insn {
     Goto {
         off: i16,
     },
-    /// The same with a wider distance (section 4.3, JA of class JMP32).
+    /// Goes on this many slots after the next one, with a distance of 32 bits (section 4.3, JA of class JMP32).
     Goto32 {
         imm: i32,
     },

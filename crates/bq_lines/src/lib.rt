@@ -1,6 +1,6 @@
 //! The lines of a trace: what a line asks, and the line that has begun of a text in pieces.
 //! Promises that each line is read as the format says, whatever its bytes.
-//! Stands on the core's events, on the machine that a policy runs on, and on `bq_words` for words, numbers, rules and sizes.
+//! Stands on the events of `bq_parts`, on the hooks of `bq_hooks`, and on `bq_words` for words, numbers, rules and sizes.
 #![tactic(auto)]
 
 pub mod begun;

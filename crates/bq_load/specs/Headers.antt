@@ -8,7 +8,7 @@ use Rattle.bq_load.specs.Reading.{Spelled}
 abbrev pub spelled_of : Read → Spelled
 spelled_of h = record { version = h.version; hook = h.hook; shapes = h.shapes.now; slots = h.slots }
 
--- the same with shapes in place of their bytes
+-- a header with shapes in place of the bytes that spell them
 abbrev pub with_shapes : Spelled → List MapShape → Header
 with_shapes s shapes = record { version = s.version; hook = s.hook; shapes = shapes; slots = s.slots }
 

@@ -48,7 +48,7 @@ pub fn write_image(image: &Image, out: &mut Vec<u8>) -> Result<(), AllocError>
     Ok(())
 }
 
-/// The same. Where memory is refused, a part of the bytes may stand there.
+/// Appends the bytes of an image. Where memory is refused, a part of the bytes may stand there.
 fn append(image: &Image, out: &mut Vec<u8>) -> Result<(), AllocError>
     requires { is_length image.now.program.items ≡ true }
     ensures ok { OnOk result (out.new.items ≡ out.old.items ++ written image.now) }

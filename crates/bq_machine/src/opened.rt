@@ -36,7 +36,8 @@ impl<Q: RunQueue + Drop, K: Clock + Drop, N: Naming + Counting, const P: usize> 
         Machine::with_queues(alloc, clock, queues, prepared, unnamed, seat_count)
     }
 
-    /// The same over queues that you hand in, one for each processor, without tasks and at the first mark.
+    /// The machine that `N` names, with its seats, over queues that you hand in: one for each processor, without
+    /// tasks and at the first mark. Allocates all locks and seats.
     pub fn with_queues(
         alloc: Global,
         clock: K,

@@ -20,7 +20,7 @@ pub enum Lack {
     Number,
     /// It is the answer of a look-up, which may be 0.
     Answer,
-    /// The same, and a number was added to it on some way.
+    /// It is the answer of a look-up, which may be 0, and a number was added to it on some way.
     MovedAnswer,
     /// It is the reference of a map.
     Reference,
@@ -59,7 +59,7 @@ pub(crate) fn lack_of(
     }
 }
 
-/// The same of a pointer into the context, which is only read.
+/// Why a pointer into the context, which is only read, does not show the access to be good, unless it does.
 #[tactic(auto, using(crate::proofs::AccessLemmas::shown_in_context))]
 fn context_lack(
     policy: &PolicySource,
@@ -82,7 +82,7 @@ fn context_lack(
     }
 }
 
-/// The same of a pointer into the stack, of which only what is set is read.
+/// Why a pointer into the stack, of which only set bytes are read, does not show the access to be good, unless it does.
 #[tactic(auto, using(crate::proofs::AccessLemmas::written_on_stack, crate::proofs::AccessLemmas::read_from_stack))]
 fn stack_lack(
     policy: &PolicySource,
@@ -107,7 +107,7 @@ fn stack_lack(
     }
 }
 
-/// The same of a pointer into a value of that map.
+/// Why a pointer into a value of that map does not show the access to be good, unless it does.
 #[tactic(auto, using(crate::proofs::AccessLemmas::shown_in_value))]
 fn value_lack(
     policy: &PolicySource,

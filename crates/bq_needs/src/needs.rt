@@ -60,7 +60,7 @@ pub fn need_of(policy: &PolicySource, state: &AbstractState, insn: Insn, cause: 
     }
 }
 
-/// The same, if the abstract state does not give what the cause says.
+/// The need that the abstract state does not give, by the cause; None if it gives what the cause says.
 fn lacking(policy: &PolicySource, state: &AbstractState, insn: Insn, cause: Cause) -> Option<Need>
     ensures { MatchOption result (IsMet policy.now state.now insn cause) (Lacking policy.now state.now insn cause) }
 {

@@ -156,7 +156,8 @@ fn pointer_rule(insn: Insn, pointer: Pointer) -> &'static str
     }
 }
 
-/// The same, of what neither stores nor compares: the answer of a look-up may be moved after its test.
+/// What may be done with a pointer, where the instruction neither stores nor compares it: the answer of a look-up may be moved after
+/// its test.
 fn other_rule(insn: Insn, pointer: Pointer) -> &'static str
     ensures { result.now ≡ other_rule insn pointer }
 {

@@ -32,7 +32,7 @@ pub fn check(file: &[u8], headers: &[u8], policy: Symbol) -> Result<(), ObjectFa
     Ok(())
 }
 
-/// The same, of the relocations of the section of that number.
+/// Refuses the function for the first relocation within it that the section of that number has.
 fn check_at(file: &[u8], headers: &[u8], index: u64, policy: Symbol) -> Result<(), ObjectFault>
     ensures ok { OnOk result ((section : Header) → IsSection headers.now index section → IsSectionClear file.now section policy) }
     ensures err { IfErr result (IsRelocationFault file.now headers.now policy) }
@@ -43,7 +43,7 @@ fn check_at(file: &[u8], headers: &[u8], index: u64, policy: Symbol) -> Result<(
     }
 }
 
-/// The same, of those of one section.
+/// Refuses the function for the first relocation within it that this section has.
 fn check_section(file: &[u8], section: Section, policy: Symbol) -> Result<(), ObjectFault>
     ensures ok { OnOk result (IsSectionClear file.now section policy) }
     ensures err { IfErr result (IsSectionFault file.now section policy) }
@@ -61,7 +61,7 @@ fn check_section(file: &[u8], section: Section, policy: Symbol) -> Result<(), Ob
     Ok(())
 }
 
-/// The same, of the relocation of that number.
+/// Refuses the function if the relocation of that number is within it.
 fn check_entry(entries: &[u8], size: u64, index: u64, policy: Symbol) -> Result<(), ObjectFault>
     requires { 16 ≤ size }
     ensures ok { OnOk result ((at kind : ℕ) → IsRelocation entries.now size index at kind → ¬ IsWithin policy at) }

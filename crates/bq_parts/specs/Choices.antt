@@ -1,4 +1,4 @@
--- Decision choices: a policy's answer where it is permitted, and else the discipline's own.
+-- Settled choices: a policy's answer where it is permitted, else the discipline's own choice.
 use Rattle.std.specs.Prelude.{◌≡◌, ℕ, ◌==◌, Bool, List, [], Option, Some, None, unwrap_or}
 use Rattle.bq_disc.specs.Tasks.{Task, id_of}
 use Rattle.bq_disc.specs.Discipline.{Discipline}

@@ -126,7 +126,8 @@ pub record Pulls (s : PolicySemantics) (processor from now : ℕ) (p other : Pro
   pub here : q ≡ pulled_by s (after_time s.discipline now p) (remarked s.discipline other) settled
   pub there : other' ≡ record (remarked s.discipline other) { running = without_task (remarked s.discipline other).running (task_numbered settled.choice) }
 
--- the same, where the two are at their places among some processors
+-- a pull, as `Pulls` says, between two processors of a list, each at its place: the list then has both as the pull
+-- leaves them
 abbrev pub PullsBetween : PolicySemantics → ℕ → ℕ → ℕ → List Processor → List Asked → Reply → List Processor → Type 0
 PullsBetween s processor from now cpus calls r cpus' =
     (q : Processor) × (other : Processor)

@@ -24,7 +24,7 @@ use bq_installed::Scratch;
 use bq_interp::{Done, Env};
 
 impl<T> Decision<T> {
-    /// What the discipline chose where no policy was asked.
+    /// The decision that is a choice of the discipline, with no policy asked.
     #[inline(always)]
     pub(crate) fn unasked(choice: T) -> Decision<T>
         ensures { result ≡ record { choice = choice; by = By.Discipline; steps = 0 } }
@@ -36,7 +36,7 @@ impl<T> Decision<T> {
         }
     }
 
-    /// What was chosen after a policy took this many steps.
+    /// The decision that is this choice, after a policy took this many steps.
     #[inline(always)]
     pub(crate) fn after(chosen: Choice<T>, steps: u32) -> Decision<T>
         ensures { result ≡ record { choice = chosen.value; by = chosen.by; steps = steps } }

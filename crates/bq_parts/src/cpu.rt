@@ -62,7 +62,8 @@ impl<Q: RunQueue> Cpu<Q> {
         Cpu::over(Q::empty())
     }
 
-    /// The same over a queue that was made before, and that nothing has come to.
+    /// A processor to which nothing has come, and at whose hooks nothing stands, over a queue that was made before and that nothing
+    /// has come to.
     pub fn over(queue: Q) -> Cpu<Q>
         requires empty { Q.members queue ≡ [] }
         requires mark { Q.kept_mark queue ≡ 2 ^ 32 }
@@ -101,7 +102,7 @@ impl<Q: RunQueue> Cpu<Q> {
         self.queue.kept()
     }
 
-    /// The queue's task of least (v, id) above the one given; of none, the task of least (v, id).
+    /// The queue's task of least (v, id) above the pair that is given. If none is given, the task of least (v, id).
     pub fn after(&self, last: Option<(u64, u16)>) -> Option<&Node>
         ensures task { option_map (λ n. task_of n.now) result ≡ find (follows last) self.now.running.queue }
         ensures rising { IsRising self.now.running.queue }
@@ -117,7 +118,7 @@ impl<Q: RunQueue> Cpu<Q> {
         self.hooks.generation(hook)
     }
 
-    /// What the policy at a hook answered when it was asked last: a run of it gives so, in this many steps. `None` where it was
+    /// What the policy at a hook answered when it was asked last, and in how many steps: some run of it gives that. `None` if it was
     /// not asked since it was installed.
     pub fn answered(&self, hook: Hook) -> Option<Done>
         ensures { WasAnswered (at_hook hook self.now.hooks).policy result }
@@ -177,7 +178,7 @@ impl<Q: RunQueue> Cpu<Q> {
         }
     }
 
-    /// Where nothing runs the queue's choice runs.
+    /// If nothing runs, the queue's choice starts to run.
     pub fn start_if_idle(&mut self)
         ensures { self.new ≡ record self.old { running = started_if_idle Q.R.discipline self.old.running self.old.running.current } }
     {

@@ -45,7 +45,8 @@ impl<Q: RunQueue> Cpu<Q> {
         }
     }
 
-    /// A task of the other's queue, if any, comes here; where nothing runs here, the choice does. Answers who runs here.
+    /// The task of this id, if any, comes here from the other's queue. If nothing runs here then, the queue's choice starts to run.
+    /// Answers who runs here.
     fn take_task(&mut self, source: &mut Cpu<Q>, task: Option<u16>) -> Option<u16>
         requires fresh { IfSome (taken_from source.old.running task) (λ t. with_id t.id self.old.running.queue ≡ None) }
         ensures run { result ≡ id_of self.new.running.current }

@@ -80,7 +80,7 @@ impl fmt::Display for Refusal {
     }
 }
 
-/// The same text.
+/// The text that a trace is answered, for debugging too.
 impl fmt::Debug for Refusal {
     fn fmt<W: fmt::Write>(&self, f: &mut fmt::Formatter<W>) -> fmt::Result {
         fmt::Display::fmt(self, f)

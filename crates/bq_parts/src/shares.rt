@@ -1,4 +1,6 @@
-//! What each event does to the parts that it touches: one processor, and with it its inbox or the lobby.
+//! What an event does to the parts that it touches: one processor, its inbox, the lobby. Here are the shares of an
+//! admission, a retirement, a tick, a drain and a block. Those of a wake and an installation are in `wakes`, that of
+//! a pull in `pulls`.
 ghost use Rattle.std.specs.Prelude.{◌≡◌, ◌≤◌, ◌<◌, ◌++◌, [], None, IfOk};
 ghost use Rattle.bq_bpf.specs.Counters.{Through};
 ghost use Rattle.bq_disc.specs.OneProcessor.{present_at};

@@ -1,4 +1,4 @@
-//! What the two halves of a wake do to the processor.
+//! What the two halves of a wake do to the processor, and what an installation does to it.
 ghost use Rattle.std.specs.Prelude.{◌≡◌, ◌≤◌, ◌<◌, [], IfSome};
 ghost use Rattle.bq_bpf.specs.Counters.{Through};
 ghost use Rattle.bq_hooks.specs.OwnPlace.{HasPlace};
@@ -37,7 +37,7 @@ impl<Q: RunQueue> Cpu<Q> {
         self.begin_with(lobby, task, loads.copy())
     }
 
-    /// The same with loads that were counted only for this wake.
+    /// A sleeping task of the lobby comes into the hand, with loads that were counted only for this wake.
     pub fn begin_with(
         &mut self,
         lobby: &mut Lobby,

@@ -24,7 +24,8 @@ pub fn accepted_image(
     }
 }
 
-/// The same, by what the words say beside the file, and their limits.
+/// The bytes of the image of the policy in these bytes, if it is accepted under the terms: what the words say beside the file, and
+/// their limits. None if it is not.
 fn image_under(alloc: Global, terms: &Terms, bytes: &[u8]) -> Result<Option<Vec<u8>>, AllocError>
     ensures { IfOk result (IsFoundUnder bytes.now terms.now.head terms.now.limits) }
 {

@@ -126,7 +126,7 @@ pub(crate) fn reason_text(
     }
 }
 
-/// The same, behind the file's name.
+/// The reason behind the file's name, and behind its place unless that is the whole file.
 fn named_text(alloc: Global, name: Name<'_>, at: &str, why: &str) -> Result<String, AllocError> {
     if at.is_empty() {
         return format!(in alloc; "{name}: {why}");

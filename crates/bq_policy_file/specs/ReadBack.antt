@@ -15,7 +15,7 @@ pub record AsksNothing (h : Head) : Type 0 where
   pub maps : h.maps ≡ None
   pub format : h.format ≡ None
 
--- the same choice, version, maps and program
+-- two policies have the same hook, version, maps and program
 pub record IsSame (p q : PolicySource) : Type 0 where
   pub hook : q.form.hook ≡ p.form.hook
   pub version : q.form.version ≡ p.form.version

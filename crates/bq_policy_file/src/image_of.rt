@@ -22,7 +22,7 @@ pub(crate) fn image_of(
     Ok(bytes)
 }
 
-/// The same again.
+/// A copy of the form.
 pub(crate) fn copy_of(alloc: Global, form: &PolicyForm) -> Result<PolicyForm, AllocError>
     ensures hook { IfOk result (λ copy. copy.hook ≡ form.now.hook) }
     ensures version { IfOk result (λ copy. copy.version ≡ form.now.version) }

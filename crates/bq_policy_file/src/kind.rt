@@ -25,7 +25,7 @@ pub fn kind_of(bytes: &[u8]) -> FileKind
     kind_at(first_dark(bytes))
 }
 
-/// The same, where no image begins, by the first byte that is no blank.
+/// What bytes that begin no image are to be read as, by the first byte that is no blank.
 fn kind_at(first: Option<u8>) -> FileKind
     ensures { result ≡ kind_at first }
 {

@@ -64,7 +64,7 @@ fn from_text(alloc: Global, bytes: &[u8], given: &Head) -> Result<PolicySource, 
     }
 }
 
-/// The same, of bytes that are text.
+/// The policy of an assembler text whose bytes are UTF-8.
 fn from_str(alloc: Global, text: &str, given: &Head) -> Result<PolicySource, PolicyFault>
     ensures policy { IfOk result (IsOfText text.now given.now) }
     ensures numbers { IfOk result (λ p. AllFit p.insns.items) }

@@ -28,7 +28,7 @@ entry_line m k bytes = codes "map " ++ (decimal m ++ (codes " entry " ++ (decima
 abbrev pub map_changes : Arrays → Arrays → ℕ → List ℕ
 map_changes before after m = flat_map (λ k. entry_line m k (entry_of after m k)) (changed_entries before after m)
 
--- the same of each map whose bytes before are there, in rising order
+-- the changed entries of each map whose bytes before are there, in rising order of maps
 abbrev pub changes_text : Arrays → Arrays → List ℕ
 changes_text before after = flat_map (map_changes before after) (range_with_len 0 (length before.bytes))
 

@@ -19,7 +19,7 @@ abbrev pub InTurn : {W S : Type 0} → (W → S → S → Type 0) → List W →
 InTurn step [] before after = after ≡ before
 InTurn {W} {S} step (word ∷ words) before after = (between : S) × step word before between × InTurn step words between after
 
--- the same of texts
+-- each text makes its step, one after another, by its bytes
 abbrev pub TextsInTurn : {S : Type 0} → (List ℕ → S → S → Type 0) → List (String Global) → S → S → Type 0
 TextsInTurn step texts before after = InTurn (λ (t : String Global). step (string_bytes t)) texts before after
 

@@ -89,7 +89,7 @@ pub(crate) fn field_named(hook: Hook, version: Version, name: &str) -> Option<Fi
     Some(field)
 }
 
-/// The same, wherever the context ends.
+/// The field of that name, wherever the context ends.
 fn field_by(hook: Hook, name: &str) -> Option<Field>
     ensures some { IfSome result (GoesBy hook name.now) }
     ensures none { IfNone result ((field : OfField) → field.at < 2 ^ 64 → ¬ GoesBy hook name.now field) }

@@ -23,8 +23,8 @@ fn fits(verified: &Verified, inputs: &Inputs) -> bool
     inputs.context.len() == length && same_shapes(inputs.maps.shapes(), verified.shapes())
 }
 
-/// The one run of the program on the inputs, whose maps and counters it leaves as the run does. None where the context has
-/// not the length of the program's hook and version, or the maps are of other shapes: then all is left as it was.
+/// Runs the program once on the inputs, and leaves their maps and counters as the run does. None if the context has not the length
+/// of the program's hook and version, or the maps are of other shapes: then all is left as it was.
 pub fn run_once(verified: &Verified, inputs: &mut Inputs) -> Option<RunOutcome>
     ensures run { IfSome result (λ r. IsRunOn verified.now inputs.old r inputs.new) }
     ensures fits { IfSome result (λ _. Fits verified.now inputs.old) }
@@ -48,8 +48,8 @@ pub fn run_once(verified: &Verified, inputs: &mut Inputs) -> Option<RunOutcome>
     ))
 }
 
-/// This many runs, one after another: each begins with the maps and counters that the one before it left. Nothing if there are none,
-/// which is for the same causes: then all is left as it was.
+/// Runs the program this many times: each run begins with the maps and counters that the one before it left. None for the causes for
+/// which `run_once` answers None: then all is left as it was.
 pub fn run_often(verified: &Verified, inputs: &mut Inputs, count: u32) -> Option<()>
     ensures runs { IfSome result (λ _. AreRuns verified.now inputs.old.context.items inputs.old.env.now inputs.old.env.processor count (kept_in inputs.old) (kept_in inputs.new)) }
     ensures fits { IfSome result (λ _. 0 < count → Fits verified.now inputs.old) }
@@ -67,9 +67,9 @@ pub fn run_often(verified: &Verified, inputs: &mut Inputs, count: u32) -> Option
     Some(())
 }
 
-/// The same as `run_once`, with what each instruction of the run began from, put into a list that is empty: as many as steps, and
-/// the machine's chain of as many steps, with the run's calls as far as it has come, leads to each. Where memory is wanted the context, the time and the processor are left as they
-/// were; of maps and counters nothing is said.
+/// Runs the program as `run_once` does, and keeps what each instruction began from. `snapshots`, empty before, has one for each step
+/// afterwards: the machine's chain of the steps before it, with the run's calls so far, leads to it. If memory runs out the context, the
+/// time and the processor are left as they were; of maps and counters nothing is said.
 pub fn trace_once(
     verified: &Verified,
     inputs: &mut Inputs,

@@ -47,7 +47,7 @@ IsByOrder Less = Unit {0}
 IsByOrder LessEqual = Unit {0}
 IsByOrder _ = ⊥
 
--- the same on operands of the width
+-- where the least range of an operation is promised, by the ranges of its operands, which fit the width
 abbrev pub IsTightWithin : Width → Operation → Range → Range → Type 0
 IsTightWithin w Add a b = a.hi + b.hi < modulus w
 IsTightWithin w Sub a b = b.hi ≤ a.lo

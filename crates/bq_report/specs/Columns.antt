@@ -18,7 +18,7 @@ right width n = styled_decimal (format_spec 32 3 0 width (2 ^ 64 - 1)) n
 abbrev pub right_signed : ℕ → ℤ → List ℕ
 right_signed width z = styled_signed_decimal (format_spec 32 3 0 width (2 ^ 64 - 1)) z
 
--- the same with zeros before it
+-- a number at the right end of this many columns, with zeros before it
 abbrev pub zeros : ℕ → ℕ → List ℕ
 zeros width n = styled_decimal (format_spec 32 0 4 width (2 ^ 64 - 1)) n
 
@@ -30,7 +30,7 @@ left width text = styled_text (format_spec 32 1 0 width width) text
 abbrev pub thousandths_in : ℕ → ℕ → List ℕ
 thousandths_in width n = right width (n / 1000) ++ (codes "." ++ three_decimals n)
 
--- the same in a cell: a space stands before it, so cells stay apart however long the number is
+-- a number in a cell, and thousandths in one: a space stands before each, so cells stay apart however long the number is
 abbrev pub cell : ℕ → ℕ → List ℕ
 cell width n = codes " " ++ right width n
 

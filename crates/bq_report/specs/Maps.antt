@@ -123,7 +123,7 @@ letters = codes "ABCDEFGHIJKLMNOPQRSTUVWXYZabcdefghijklmnopqrstuvwxyz0123456789"
 abbrev pub letter_at : ℕ → ℕ
 letter_at place = slice_index_or letters place 42
 
--- the same of a task that may have no place
+-- the letter of a task that may have no place: `*` for one without
 abbrev pub letter_if : Option ℕ → ℕ
 letter_if None = 42
 letter_if (Some place) = letter_at place

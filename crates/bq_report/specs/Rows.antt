@@ -12,7 +12,7 @@ abbrev pub slice_row : Slice → List ℕ
 slice_row s =
     decimal s.processor ++ (codes "," ++ (decimal s.task ++ (codes "," ++ (decimal s.from ++ (codes "," ++ (decimal s.to ++ codes "\n"))))))
 
--- the same, and nothing for no slice
+-- the row of a slice if there is one, else nothing
 abbrev pub row_of : Option Slice → List ℕ
 row_of None = []
 row_of (Some s) = slice_row s

@@ -28,7 +28,7 @@ pub fn write_task(text: &mut String, task: u16, name: &str) -> Result<(), AllocE
     write!(text, "{task:>5} {name:<14.14}")
 }
 
-/// A time in milliseconds, in 13 columns: more where it is longer, with a space before it at all times.
+/// Writes a time in nanoseconds as milliseconds, in 13 columns: wider if needed, always after a space.
 pub fn write_millis(text: &mut String, time: u64) -> Result<(), AllocError>
     ensures { OnOk result (string_bytes text.new ≡ string_bytes text.old ++ millis_column time) }
 {
@@ -38,7 +38,7 @@ pub fn write_millis(text: &mut String, time: u64) -> Result<(), AllocError>
     write!(text, " {whole:>8}.{decimals}")
 }
 
-/// A latency in microseconds, in 12 columns, so too; `-` for no latency.
+/// Writes a latency in nanoseconds as microseconds, in 12 columns: wider if needed, always after a space; `-` for no latency.
 fn write_latency(text: &mut String, latency: Option<u64>) -> Result<(), AllocError>
     ensures { OnOk result (string_bytes text.new ≡ string_bytes text.old ++ latency_column latency) }
 {

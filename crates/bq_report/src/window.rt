@@ -37,7 +37,7 @@ impl Window {
         }
     }
 
-    /// The same stretch of time and the same processors, of every task.
+    /// A window of every task, with the same stretch of time and the same processors.
     pub fn with_every_task(&self, alloc: Global) -> Window
         ensures tasks { result.tasks.items ≡ [] }
         ensures rest { (result.from ≡ self.now.from) × (result.to ≡ self.now.to) × (result.processors ≡ self.now.processors) }
@@ -108,7 +108,7 @@ impl Window {
         }
     }
 
-    /// The same of a slice that may be there.
+    /// The part of a slice that is shown, if there is a slice and any of it is shown.
     pub fn shown_part(&self, slice: Option<Slice>) -> Option<Slice>
         ensures { IsShownPart self.now slice result }
     {

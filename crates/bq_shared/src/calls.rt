@@ -89,7 +89,7 @@ pub fn hold_calls(rooms: &mut Option<CallRooms>, calls: &[Call]) -> (Calls, Call
     filled_twice(rooms, calls)
 }
 
-/// The same of some calls. It stands apart, as most events have none.
+/// These calls, at least one, for the record and for the receipt. It stands apart, as most events have none.
 #[inline(never)]
 fn filled_twice(rooms: &mut Option<CallRooms>, calls: &[Call]) -> (Calls, Calls)
     requires few { length calls.now ≤ MOST_CALLS }

@@ -54,7 +54,7 @@ pub record Mirrors (w : World) (a : Accounts) : Type 0 where
   pub tasks : (task : ℕ) → StandsAs (state_at a.by_task task) (entry w task)
   pub processors : RunsAs w a
 
--- The same while a task goes to sleep: its state says so already, and it is still away.
+-- The accounts mirror a world except for one task, which goes to sleep: its state says so already, and it is still away.
 pub record MirrorsBut (task : ℕ) (w : World) (a : Accounts) : Type 0 where
   pub others : (other : ℕ) → other ≢ task → StandsAs (state_at a.by_task other) (entry w other)
   pub sleeps : option_map_or can_run (state_at a.by_task task) true ≡ false
@@ -78,7 +78,7 @@ pub record AgreesWith (w : World) (a : Accounts) : Type 0 where
   pub mirrors : Mirrors w a
   pub homes : HaveProcessors (count_in w) a
 
--- The same while a task goes to sleep.
+-- Accounts agree with a world in order except for one task, which goes to sleep.
 pub record AgreesBut (task : ℕ) (w : World) (a : Accounts) : Type 0 where
   pub orderly : IsOrderly w
   pub entries : length w.lobby ≡ TASKS

@@ -20,7 +20,7 @@ use Rattle.bq_workload.specs.Next.{IsAgreed, NothingComes, StaysAgreed}
 use Rattle.bq_simulate.specs.Chronicles.{Book, Deed, Lives, after_deeds, events_of}
 use Rattle.bq_simulate.specs.Steps.{AreAllMet, AreJust, AreMet, IsJoin, Opens, all_processors, last_ticks}
 
--- the same workload with another seed
+-- a workload with another seed
 abbrev pub with_seed : Workload → ℕ → Workload
 with_seed w seed = record w { machine = record w.machine { seed = seed } }
 

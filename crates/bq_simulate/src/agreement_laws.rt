@@ -6,32 +6,33 @@ pub fn ticks_are_taken()
     ensures { TicksAreTaken }
 {}
 
-/// So is the block of a task that goes to sleep.
+/// The block of a task that goes to sleep is taken, and accounts and world still agree.
 pub fn blocks_are_taken()
     ensures { BlocksAreTaken }
 {}
 
-/// So is a pull of one processor from another.
+/// A pull of one processor from another is taken, and accounts and world still agree.
 pub fn pulls_are_taken()
     ensures { PullsAreTaken }
 {}
 
-/// So is the draw of a number.
+/// The draw of a number is taken, and accounts and world still agree.
 pub fn draws_are_taken()
     ensures { DrawsAreTaken }
 {}
 
-/// So is an install as a newer generation that was drawn.
+/// An install as a newer generation that was drawn is taken, and accounts and world still agree.
 pub fn installs_are_taken()
     ensures { InstallsAreTaken }
 {}
 
-/// So is the admission of the next task.
+/// The admission of the next task is taken, and accounts and world still agree.
 pub fn admissions_are_taken()
     ensures { AdmissionsAreTaken }
 {}
 
-/// So is the wake of a task that sleeps: its begin, its end, and what takes it in.
+/// The wake of a task that sleeps is taken (its begin, its end, and what takes it in), and accounts and world still
+/// agree.
 pub fn wakes_are_taken()
     ensures { WakesAreTaken }
 {}
@@ -41,7 +42,7 @@ pub fn meetings_agree()
     ensures { MeetingsAgree }
 {}
 
-/// So they do at the end of a simulation, and wherever one has been followed to.
+/// World and accounts agree at the end of a simulation, and wherever one has been followed to.
 pub fn simulations_agree()
     ensures { SimulationsAgree }
 {}
@@ -51,7 +52,7 @@ pub fn only_memory_is_wanted()
     ensures { OnlyMemoryIsWanted }
 {}
 
-/// So does each call of a simulation, while world and accounts agree and its instant can be read.
+/// A call of a simulation fails only if memory is wanted, while world and accounts agree and its instant can be read.
 pub fn calls_fail_for_memory()
     ensures { CallsFailForMemory }
 {}

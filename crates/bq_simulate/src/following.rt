@@ -24,10 +24,10 @@ use bq_workload::{Periods, Roster, Setup, Workload, most_steps, soundness};
 use std::alloc::Global;
 
 /// Follows a workload to its end, with these policies at all processors, and tells a sink of its events: line 1 of their
-/// trace makes the machine, and each event is a line. What was counted besides. Each sleep lasts just its length, each tick and
-/// each look for a task to pull comes exactly when it is to, what is done next is what comes first, and no timer, no end of a
-/// phase, no tick and no look that comes until the end is left out. Where the sink has enough before, that is the fault: it got all
-/// that came until then.
+/// trace makes the machine, and each event is a line. Answers what was counted besides. Each sleep lasts exactly its length. Each tick
+/// and each look for a task to pull comes exactly when it is to. What comes first is done next. No timer, no end of a phase, no tick
+/// and no look that comes until the end is left out. If the sink has enough before the end, that is the fault: it got all that came
+/// until then.
 ///
 /// A workload with a flaw is refused for the first of its flaws, as `Unsound`, and nothing is reported. One without is followed to
 /// its end, unless memory runs out, the sink has enough, or 2^64 - 1 things came due; that last comes only where 64 bits do not
@@ -140,7 +140,7 @@ impl Simulation {
         })
     }
 
-    /// From the opening machine to the end, or until the sink has enough. What was counted.
+    /// Runs from the opening machine to the end, or until the sink has enough. Answers what was counted.
     fn run<S: Sink + Enough>(
         &mut self,
         alloc: Global,
@@ -167,7 +167,7 @@ impl Simulation {
         Ok(self.counted(tasks))
     }
 
-    /// From the opening machine to where nothing comes due any more, or the sink has enough. How many tasks there are.
+    /// Runs from the opening machine until nothing comes due any more, or the sink has enough. Answers how many tasks there are.
     fn proceed<S: Sink + Enough>(
         &mut self,
         alloc: Global,
@@ -192,7 +192,7 @@ impl Simulation {
         Ok(tasks)
     }
 
-    /// What was counted, and that many tasks.
+    /// What was counted so far, with this number of tasks.
     fn counted(&self, tasks: u16) -> Counts
         ensures { result.tasks ≡ tasks }
     {

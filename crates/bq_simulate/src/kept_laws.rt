@@ -11,7 +11,7 @@ pub fn all_is_kept()
     ensures { AllIsKept }
 {}
 
-/// So it is wherever a simulation has been followed to.
+/// All is kept wherever a simulation has been followed to.
 pub fn beginnings_are_kept()
     ensures { BeginningsAreKept }
 {}
@@ -21,12 +21,13 @@ pub fn generations_are_newer()
     ensures { GenerationsAreNewer }
 {}
 
-/// At no instant as many things come as are counted for one.
+/// At each instant fewer things may still come than are counted for one instant, and each that is met takes at least
+/// one of them.
 pub fn few_come_at_once()
     ensures { FewComeAtOnce }
 {}
 
-/// So fewer come in all than are counted for all instants until the end.
+/// Fewer things come in all than are counted for all instants until the end.
 pub fn few_come_until_the_end()
     ensures { FewComeUntilTheEnd }
 {}

@@ -13,11 +13,11 @@ pub enum ValueKind {
     Context,
     /// The lowest byte of the stack.
     Stack,
-    /// The start of some entry of a map of the shape of that one.
+    /// The start of an entry of the map with this number, or of a map of its shape.
     Entry(u8),
-    /// The answer of a look-up in such a map, before its test: the start of some entry, or 0.
+    /// The answer of a look-up in the map with this number or one of its shape, before its test: the start of an entry, or 0.
     EntryOrNull(u8),
-    /// The reference of such a map.
+    /// The reference of the map with this number, or of a map of its shape.
     Map(u8),
 }
 

@@ -31,7 +31,7 @@ BeginsBy rule asked old new = Stays old new
 abbrev pub Begins : Screen → Screen → Type 0
 Begins old new = BeginsBy old.rule old.asked old new
 
--- the same, with the schedule that begins with the machine
+-- It begins, as `Begins` says, if there is a schedule, which begins with the machine; else all stays.
 abbrev pub BeginsWith : Option Figures → Screen → Screen → Type 0
 BeginsWith None old new = Stays old new
 BeginsWith (Some s) old new = Begins old new

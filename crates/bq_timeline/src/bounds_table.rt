@@ -13,7 +13,7 @@ use bq_why::{place_of, present};
 use bq_words::Rule;
 use std::alloc::{AllocError, Global};
 
-/// Above the lines of the bounds.
+/// The head of the table, above the lines of the bounds.
 const HEAD: &str = "  cpu law                 charges left out  greatest ms   at most ms   of it\n";
 
 /// The charges of all processors, measured against the bounds of the rule as the trace comes.

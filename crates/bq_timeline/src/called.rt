@@ -104,7 +104,7 @@ fn tasks_called(alloc: Global, name: &str, names: &Names) -> Result<Vec<u16>, Al
     Ok(tasks)
 }
 
-/// Whether it is the name, if there is one.
+/// Whether there is another name, and it is this one.
 fn is_named(name: &str, other: Option<&str>) -> bool
     ensures { result ≡ is_named name.now (option_map (λ o. o.now) other.entry) }
 {

@@ -57,7 +57,7 @@ impl FormName {
         !matches!(self, FormName::Report | FormName::Json)
     }
 
-    /// Whether it is as wide as it is asked to be.
+    /// Whether `--width` sets how wide it is.
     pub fn has_width(self) -> bool
         ensures { result ≡ has_width self }
     {

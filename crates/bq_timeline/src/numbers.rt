@@ -59,7 +59,7 @@ fn is_name(part: &[u8]) -> bool
     }
 }
 
-/// Adds the tasks that a part names by their numbers; whether it is a number, a range or a name.
+/// Adds the tasks that a part names by their numbers. Answers whether it is a number, a range or a name.
 #[tactic(auto, using(crate::proofs::TaskLemmas::name_adds))]
 fn push_tasks(tasks: &mut Vec<u16>, part: &[u8]) -> Result<bool, AllocError>
     ensures { IfOk result (λ named. MatchBool named (AddsPart part.now tasks.old.items tasks.new.items) (tasks_of_part part.now ≡ None)) }
@@ -91,7 +91,7 @@ fn push_range(tasks: &mut Vec<u16>, first: u16, last: u16) -> Result<(), AllocEr
     Ok(())
 }
 
-/// The first and the last task of a number or a range: the same of a number, and in order. None where the part is neither.
+/// The first and the last task of a range, in order; for a number, that task twice. None if the part is neither.
 fn ends(part: &[u8]) -> Option<(u16, u16)>
     ensures tasks { option_map (λ e. range_with_len e.0 (e.1 + 1 - e.0)) result ≡ tasks_at part.now (position is_dash part.now) }
     ensures order { IfSome result (λ e. e.0 ≤ e.1) }
@@ -128,7 +128,7 @@ fn is_dash(byte: u8) -> bool
 
 /// The columns that a word asks for: from `LEAST_WIDTH` to `GREATEST_WIDTH`.
 ///
-/// None where the word is no number or another.
+/// None if the word is no number, or one outside that range.
 pub fn width(word: &str) -> Option<usize>
     ensures { result ≡ width_of word.now }
 {

@@ -87,8 +87,8 @@ impl Screen {
         self.rule = Some(rule);
     }
 
-    /// The form begins under the rule of the machine, if it has not: the one that is asked for, of the tasks that are asked for, those of
-    /// the names too that have come so far.
+    /// Begins the form that is asked for under the rule of the machine, if there is one and the form has not begun. It shows the tasks
+    /// that are asked for, by number or by a name that has come so far.
     pub fn begin(&mut self, alloc: Global, schedule: &Schedule) -> Result<(), AllocError>
         ensures { OnOk result (Begins self.old self.new) }
     {
@@ -143,7 +143,7 @@ impl Screen {
         }
     }
 
-    /// The form that is asked for, of the tasks that have the names that are asked for, too.
+    /// The form that is asked for: its window also has the tasks that are asked for by name.
     fn form_of(&mut self, alloc: Global, settings: Settings) -> Result<Shown, AllocError>
         ensures form { IfOk result (IsAskedFor settings self.old.names) }
         ensures tasks { OnOk result (self.new.tasks.items ≡ settings.window.tasks.items ++ tasks_for self.old.names settings.names.items) }

@@ -43,9 +43,9 @@ pub struct Words {
 /// What a timeline is to show.
 #[derive(Drop)]
 pub struct Settings {
-    /// In which form.
+    /// The form in which it is shown.
     pub form: FormName,
-    /// Which stretch of time, which processors, and which tasks by their numbers.
+    /// The stretch of time, the processors, and the tasks by their numbers.
     pub window: Window,
     /// The names of the tasks that are asked for by name.
     pub names: Vec<String>,
@@ -94,7 +94,7 @@ pub enum SettingsFault {
     /// These are no tasks.
     #[error("{words}", words = TASKS)]
     Tasks,
-    /// That is no width.
+    /// The word for the width is no width.
     #[error("--width: a width is a number from {least} to {greatest}", least = LEAST_WIDTH, greatest = GREATEST_WIDTH)]
     Width,
     /// No theme has that name.
@@ -176,7 +176,7 @@ impl Settings {
     }
 }
 
-/// That the form heeds each option that is given, or the first that it does not heed.
+/// Checks that the form heeds each option that is given; the fault names the first that it does not heed.
 fn heed_all(form: FormName, words: &Words) -> Result<(), SettingsFault>
     ensures all { OnOk result (HeedsAll form words.now) }
     ensures fault { IfErr result (IsUnheeded form words.now) }

@@ -23,8 +23,8 @@ pub struct Outcome {
     pub notes: String,
 }
 
-/// Reads a trace to its end and writes its timeline. Notes on lines that do not stand in it go to `errors` as the lines come; that one
-/// is not taken there stops nothing.
+/// Reads a trace to its end and writes its timeline. Notes on lines that do not stand in it go to `errors` as the lines come. If a note
+/// cannot be written there, that stops nothing.
 pub fn show<R: Read, W: Write, E: Write>(
     alloc: Global,
     settings: Settings,

@@ -21,7 +21,7 @@ pub record Continues (s : TracePosition) (begun piece text : List ℕ) (t : Trac
   pub chain : AnswersAll s.progress (map strip_carriage_return ended) text t.progress
   pub stands : StandsFor t.begun rest
 
--- The same, and the text is what the writer got.
+-- The piece goes on with the line that has begun, by `Continues`, and the writer got the text.
 pub record Feeds (s : TracePosition) (begun piece : List ℕ) (t : TracePosition) (old new : Option (List ℕ)) : Type 0 where
   pub text : List ℕ
   pub goes_on : Continues s begun piece text t

@@ -66,7 +66,7 @@ LoadHappens m n c hook generation image told k =
     ⊎ ((bytes : List ℕ) × (policy : Accepted) × (answer : Result Reply Refusal) × (decode_of image ≡ Ok bytes) × Loads bytes policy
     × Happens m n (Install c hook generation (Some policy)) answer told k))
 
--- the same of an installation
+-- An image is refused, and nothing happens, or its policy is installed as an event, as an installation asks.
 abbrev pub InstallationHappens : Driven → ℕ → Installation → Told → Driven → Type 0
 InstallationHappens m n i told k = LoadHappens m n i.processor i.hook i.generation i.image told k
 

@@ -71,7 +71,7 @@ abbrev pub processor_line : ℕ → Running → List ℕ
 processor_line c p =
     codes "show " ++ (decimal c ++ (codes " mark " ++ (decimal p.kept ++ (codes " run " ++ (current_text p.current ++ (codes " queue" ++ (spaced_entities p.queue ++ codes "\n")))))))
 
--- the same, or the refusal of a processor that the machine doesn't have
+-- the line that shows a processor, or the refusal of one that the machine doesn't have
 abbrev pub show_line : World → ℕ → List ℕ
 show_line w c = if nat_lt c (count_in w) then processor_line c (processor_at w c).running else event_line (Err NoProcessor)
 

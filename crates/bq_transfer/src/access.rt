@@ -31,7 +31,7 @@ pub struct Location {
     pub at: Range,
 }
 
-/// Where an access goes, if it stays inside. Unproven is that the register is set where nothing is known of it, and else that the access is good.
+/// Where an access goes, if it stays inside. Fails with `Unset` if nothing is known of the register, else with `Access`.
 pub fn locate(
     state: &AbstractState,
     shapes: &[MapShape],

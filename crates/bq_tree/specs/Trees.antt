@@ -46,7 +46,7 @@ abbrev mutual
   IsTreeHeld knows None' = Unit {0}
   IsTreeHeld knows (Some' p n) = IsTree knows n
 
--- the same of a link
+-- the tasks and the height of what hangs from a link, if anything does, and that it is a tree
 abbrev pub in_order_behind : Option (Box Node Global) → List Task
 in_order_behind None = []
 in_order_behind (Some b) = in_order b.value
@@ -74,7 +74,7 @@ left_height (Node' entity left right due totals height) = height_held left
 abbrev pub right_height : Node → ℕ
 right_height (Node' entity left right due totals height) = height_held right
 
--- the same of a link
+-- what hangs from a link, if anything does, is a fork; and the heights of its sides
 abbrev pub IsForkBehind : Knowledge → Option (Box Node Global) → Type 0
 IsForkBehind knows None = Unit {0}
 IsForkBehind knows (Some b) = IsFork knows b.value

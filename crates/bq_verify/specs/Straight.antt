@@ -253,7 +253,7 @@ pub record IsStraightProgram (p : Subject) : Type 0 where
   pub faultless : IsFaultless p.slots
   pub each : (slot : ℕ) (insn : Insn) → instruction_at p.slots slot ≡ Some insn → Needs p.slots p.shapes p.context slot insn
 
--- the same, only of the instructions before that slot, in a control graph that has no fault anywhere
+-- a program straight before a slot: its control graph has no fault anywhere, and each instruction before the slot has what it needs
 pub record IsStraightBefore (p : Subject) (slot : ℕ) : Type 0 where
   pub faultless : IsFaultless p.slots
   pub before : (k : ℕ) (insn : Insn) → k < slot → instruction_at p.slots k ≡ Some insn → Needs p.slots p.shapes p.context k insn

@@ -89,7 +89,7 @@ pub fn visit(
     go_on(alloc, subject, slot, insn, state, pending)
 }
 
-/// The same, of an instruction that calls no counter.
+/// Visits one slot, as `visit` does, where the instruction calls no counter.
 fn go_on(
     alloc: Global,
     subject: &Subject,

@@ -82,7 +82,7 @@ pub fn known_states(
     known_in_slots(alloc, program, until)
 }
 
-/// The same, of a program of 1 to 4,096 slots.
+/// The abstract states that `known_states` answers, for a program of 1 to 4,096 slots.
 fn known_in_slots(alloc: Global, program: &Program, until: usize) -> Result<KnownStates, AllocError>
     requires registers { list_all is_insn program.now.insns.items ≡ true }
     requires some { 0 < length (spread program.now.insns.items) }
@@ -106,7 +106,7 @@ fn known_in_slots(alloc: Global, program: &Program, until: usize) -> Result<Know
     }
 }
 
-/// The same, of a program whose control graph has no fault.
+/// The abstract states that `known_states` answers, for a program whose control graph has no fault.
 fn known_in_pass(alloc: Global, subject: &Subject, until: usize) -> Result<KnownStates, AllocError>
     requires { CanBePassed (judged subject.now) }
     ensures { IfOk result (AreKnown (judged subject.now) until) }
@@ -116,7 +116,7 @@ fn known_in_pass(alloc: Global, subject: &Subject, until: usize) -> Result<Known
     Ok(KnownStates { states })
 }
 
-/// The same, with a list for waiting abstract states, empty at first: one pass, which keeps what arrives at each slot.
+/// Makes one pass, and keeps the abstract state that arrives at each slot. `pending` takes those that wait: at first no slot has one.
 fn states_in_pass(
     alloc: Global,
     subject: &Subject,

@@ -111,7 +111,7 @@ pub fn verify(alloc: Global, program: Program) -> Result<Verified, Refused>
     verify_slots(alloc, program)
 }
 
-/// The same, of a program of 1 to 4,096 slots.
+/// Verifies a program of 1 to 4,096 slots, as `verify` does.
 fn verify_slots(alloc: Global, program: Program) -> Result<Verified, Refused>
     requires registers { list_all is_insn program.insns.items ≡ true }
     requires some { 0 < length (spread program.insns.items) }

@@ -51,7 +51,7 @@ impl Verified {
         &self.slots
     }
 
-    /// The same instructions in their flat form.
+    /// The instruction of each slot in its flat form.
     pub fn code(&self) -> &[Packed]
         ensures { Stands result.now self.now.slots }
     {

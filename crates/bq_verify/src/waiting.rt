@@ -1,4 +1,4 @@
-//! AbstractStates that wait, each in a box, for the slots that ways lead to.
+//! Abstract states that wait, each in a box, for the slots that ways lead to.
 
 ghost use Rattle.std.specs.Prelude.{◌≡◌, ◌<◌, ℕ, true, None, length, slice_index_or, IfOk, OnOk};
 ghost use Rattle.bq_bpf.specs.Memory.{Setting, State};

@@ -32,7 +32,7 @@ abbrev pub eligibility_text : Bool → List ℕ
 eligibility_text true = codes "eligible"
 eligibility_text false = codes "not eligible"
 
--- the same of a row
+-- whether a row's task may run, in words
 abbrev pub eligibility : TaskRow → List ℕ
 eligibility row = eligibility_text row.is_eligible
 

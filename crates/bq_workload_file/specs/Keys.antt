@@ -36,7 +36,7 @@ abbrev pub unknown_key : Why → Option (List ℕ)
 unknown_key (UnknownKey key known) = Some key.now
 unknown_key why = None
 
--- the same, of what is reported with its place
+-- the key of which it is reported, with its place, that it means nothing
 abbrev pub unknown_there : Trouble → Option (List ℕ)
 unknown_there (At place why) = unknown_key why
 unknown_there OutOfMemory = None
