@@ -24,7 +24,7 @@ FACTS = [
     ('the list of the helpers', r'\bUPDATE\W+(?:helper\W+)?NOW\b', {'bq_bpf/src/helper.rt'}),
     ('which helpers are of counters', r'ADD_COUNTER \|\| \*?helper == READ_COUNTER', {'bq_bpf/src/instruction.rt'}),
     ('the size of the stack', r'(?m)^(?! *(?:requires|ensures|ghost)\b)[^"\n]*?(?<!; )\b512\b', {'bq_bpf/src/addresses.rt'}),
-    ('the number of a fault or a cause', r'(?:Cause|Doubt)::\w+ => \d', {'bq_insn/src/fault.rt', 'bq_asm/src/fault.rt', 'bq_verify/src/graph_cause.rt', 'bq_transfer/src/doubt.rt'}),
+    ('the number of a fault or a cause', r'(?:Cause|Obligation)::\w+ => \d', {'bq_insn/src/fault.rt', 'bq_asm/src/fault.rt', 'bq_verify/src/graph_cause.rt', 'bq_transfer/src/obligation.rt'}),
     ('the number of processors of a machine', r'ProcessorCount::\w+ => \d', {'bq_words/src/processor_count.rt'}),
     ('the word of a rule', r'b?"(?:cfs|eevdf)"', {'bq_words/src/rule.rt'}),
     ('the word of a version', r'Version::\w+ => \d', {'bq_hooks/src/hook.rt'}),
