@@ -28,7 +28,9 @@ pub use found::{all_words, is_set, value, word};
 pub use given::{as_texts, given_words};
 pub use printable::{Lines, NO_TEXT, Name, Quoted};
 pub use progress::{Done, EVENTS, Progress};
-pub use reading::{MOST_BYTES, file_named, name_of, opened, read_input, waiting_input, whole_input};
+pub use reading::{
+    MOST_BYTES, file_named, name_of, opened, read_input, waiting_input, whole_input,
+};
 pub use reasons::reason;
 pub use refused::{refused_value, refused_words};
 pub use saying::{say_out_of_memory, say_refused, say_unread, say_unwritten};
