@@ -6,7 +6,7 @@ ghost use Rattle.bq_cli.specs.Words.{AreCheckWords, AreLimitWords, is_plain_chec
 
 use crate::answer::exit_status_of;
 use crate::policy_words::{most_bytes, name_nothing, policy_words};
-use bq_console::status::{BAD_WORDS, IO_FAILED, OUT_OF_MEMORY};
+use bq_console::status::{BAD_INPUT, BAD_WORDS, IO_FAILED, OUT_OF_MEMORY};
 use bq_console::{
     Lines, Name, WordsFault, all_words, is_set, read_input, reason, refused_words, say_unread,
     say_unwritten, word,
@@ -15,7 +15,7 @@ use bq_policy_check::{Answered, CheckWords, LimitWords, accepted_image, check, u
 use clap::ArgMatches;
 use std::alloc::{AllocError, Global};
 use std::fs;
-use std::io::{Error, ErrorKind, Write};
+use std::io::{Error, ErrorKind, IsTerminal, Write};
 use std::process::ExitCode;
 
 /// The line of JSON where memory is wanted for another.
@@ -103,7 +103,17 @@ pub(crate) fn do_check(rt: &HostRuntime, words: &CheckWords) -> Result<ExitCode,
         let named = if name == "-" { None } else { Some(name) };
         worst = worst.max(check_one(rt, words, named, most));
     }
+    if worst == BAD_INPUT {
+        say_how_explained(rt, words);
+    }
     Ok(ExitCode::from(worst))
+}
+
+/// Says on a terminal how to learn why a policy is refused, unless the answer has that already.
+fn say_how_explained(rt: &HostRuntime, words: &CheckWords) {
+    if !words.is_explained && !words.is_json && rt.stderr().is_terminal() {
+        let _ = rt.eprintln("bqsim: give --explain too, to see why");
+    }
 }
 
 /// What is said of `--image` with several files, or as `-`.

@@ -17,7 +17,7 @@ use bq_console::{
 };
 use bq_lines::with_first_line;
 use bq_streams::{Counted, Kept};
-use std::io::Read;
+use std::io::{IsTerminal, Read};
 use std::process::ExitCode;
 use std::sync::Wait;
 use std::thread::Threads;
@@ -88,7 +88,24 @@ pub(crate) fn perform_from<T: Threads + Wait + Sync, R: Read + Drop>(
     if matches!((command, &outcome), (Command::Replay(_), Ok(true))) && input.calls() == 1 {
         let _ = rt.eprintln(EMPTY);
     }
+    if matches!(&outcome, Ok(false)) {
+        say_other_form(rt, command);
+    }
     ended(rt, name, &outcome, input, output)
+}
+
+/// Says on a terminal which form of `check` or `dis` reads more than hex, where the hex was refused.
+fn say_other_form(rt: &HostRuntime, command: &Command) {
+    let form = match command {
+        Command::Check(_) => "check --explain -",
+        Command::Dis(_) => "dis -",
+        _ => return,
+    };
+    if rt.stderr().is_terminal() {
+        let _ = eprintln!(rt;
+            "bqsim: without a file this reads hex; bqsim {form} reads a policy in any form"
+        );
+    }
 }
 
 /// Writes the version of the program.

@@ -34,27 +34,32 @@ const ASM_OPTIONS: &[OptionText] = options! {
     ("file", Alone("FILE"), "The assembler text; standard input without it, or as -"),
     ("hook", Once("HOOK"), with_hooks!("Writes an image for this hook: ")),
     ("maps", Once("MAPS"), "The value size and the entries of each map, as in 8:2,16:4"),
-    ("format", Once("FORMAT"), with_versions!("The version of the image: ", "; 1 without this"))
+    ("format", Once("FORMAT"), with_versions!("The version of the image: ", "; 1 is the default"))
 };
 
-/// The file of a policy.
-const POLICY_FILE: &[OptionText] = options! {
+/// The file of the policy that is run.
+const RUN_FILE: &[OptionText] = options! {
     ("file", Alone("FILE"), "The policy: an image, its hex, or assembler text with ;@ lines that describe it; standard input without it, or as -")
 };
 
-/// The files of policies.
-const POLICY_FILES: &[OptionText] = options! {
-    ("file", Several("FILE"), "The policies, each an image, its hex, or assembler text with ;@ lines that describe it; standard input without one, or as -")
+/// The file of the policy that is listed. With no word at all, `dis` reads hex alone.
+const DIS_FILE: &[OptionText] = options! {
+    ("file", Alone("FILE"), "The policy: an image, its hex, or assembler text with ;@ lines that describe it; standard input as -, or with options alone")
+};
+
+/// The files of the policies that are judged. With no word at all, `check` reads hex alone.
+const CHECK_FILES: &[OptionText] = options! {
+    ("file", Several("FILE"), "The policies, each an image, its hex, or assembler text with ;@ lines that describe it; standard input as -, or with options alone")
 };
 
 /// How much is read.
 const READING_OPTIONS: &[OptionText] = options! {
-    ("max-bytes", Once("N"), "Refuses files of more than N bytes (without this 16777216, for files that are read whole)")
+    ("max-bytes", Once("N"), "Refuses files of more than N bytes; the default is 16777216, and no limit for a trace")
 };
 
 /// How long a run is.
 const LIMIT_OPTIONS: &[OptionText] = options! {
-    ("max-events", Once("N"), "Cuts off a run that has more than N events (without this there is no limit)")
+    ("max-events", Once("N"), "Cuts off a run that has more than N events; there is no limit without it")
 };
 
 /// What the file of a policy leaves unsaid.
@@ -103,7 +108,7 @@ const IMPORT_OPTIONS: &[OptionText] = options! {
     ("file", Alone("FILE"), "The object file or the text section; standard input without it, or as -"),
     ("hook", Needed("HOOK"), with_hooks!("The policy's hook: ")),
     ("maps", Once("MAPS"), "The value size and the entries of each map, as in 8:2,16:4"),
-    ("format", Once("FORMAT"), with_versions!("The version of the image: ", "; 1 without this"))
+    ("format", Once("FORMAT"), with_versions!("The version of the image: ", "; 1 is the default"))
 };
 
 /// What `par` runs.
@@ -121,7 +126,7 @@ const REPLAY_OPTIONS: &[OptionText] = options! {
 /// The trace of `timeline`, and its form.
 const TIMELINE_OPTIONS: &[OptionText] = options! {
     ("file", Alone("FILE"), "The trace; standard input without it, or as -"),
-    ("as", Once("FORM"), with_forms!("report (without it), "))
+    ("as", Once("FORM"), with_forms!("report (the default), "))
 };
 
 /// The part of a schedule that is shown.
@@ -131,7 +136,7 @@ const PART_OPTIONS: &[OptionText] = options! {
     ("cpus", Once("LIST"), "Shows only these processors, as in 0-3,8"),
     ("tasks", Once("LIST"), "Shows only these tasks, as in 1-3,editor: numbers, ranges and names; a name begins with no digit"),
     ("width", Once("COLUMNS"), with_columns!("How wide a map is, ", " without it")),
-    ("theme", Once("THEME"), with_themes!("How an svg looks: light (without it), ")),
+    ("theme", Once("THEME"), with_themes!("How an svg looks: light (the default), ")),
     ("title", Once("TEXT"), "The title above an svg")
 };
 
@@ -147,7 +152,7 @@ const WORKLOAD_OPTIONS: &[OptionText] = options! {
 
 /// What help says of the policy at a hook.
 const HOOK_HELP: &str =
-    "The policy at this hook of every processor: the file of an image, of its hex or of assembler text with ;@ lines; or none, as without this";
+    "The policy at this hook of every processor: the file of an image, of its hex or of assembler text with ;@ lines; or none, the default";
 
 /// The policies of `simulate`, and its form.
 const SIMULATE_OPTIONS: &[OptionText] = options! {
@@ -155,7 +160,7 @@ const SIMULATE_OPTIONS: &[OptionText] = options! {
     ("preempt", Once("POLICY"), HOOK_HELP),
     ("pull", Once("POLICY"), HOOK_HELP),
     ("against", Often("POLICY"), "Runs the same seeds again with this policy instead, or with none, and shows both side by side; give it once for each policy"),
-    ("as", Once("FORM"), with_forms!("report (without it), trace, "))
+    ("as", Once("FORM"), with_forms!("report (the default), trace, "))
 };
 
 /// The commands on programs.
@@ -177,18 +182,18 @@ static POLICY_COMMANDS: [CommandText<'static>; 3] = [
     CommandText {
         name: "check",
         about: "Judges policies: accepted, or refused and why. Without a file and options it reads the hex of an image and writes its hook and budget",
-        options: &[POLICY_FILES, POLICY_OPTIONS, READING_OPTIONS, CHECK_OPTIONS],
+        options: &[CHECK_FILES, POLICY_OPTIONS, READING_OPTIONS, CHECK_OPTIONS],
     },
     CommandText {
         name: "dis",
         about: "Lists a policy under the ;@ lines that describe it. Without a file and options it reads the hex of a program and writes its listing",
-        options: &[POLICY_FILE, POLICY_OPTIONS, READING_OPTIONS, DIS_OPTIONS],
+        options: &[DIS_FILE, POLICY_OPTIONS, READING_OPTIONS, DIS_OPTIONS],
     },
     CommandText {
         name: "run",
         about: "Runs an accepted policy once: its answer, whether that is permitted, its instructions, and the maps and counters that it changed",
         options: &[
-            POLICY_FILE,
+            RUN_FILE,
             POLICY_OPTIONS,
             READING_OPTIONS,
             INPUT_OPTIONS,
