@@ -3,7 +3,8 @@
 
     tests/long_work.py BQSIM
 
-The line is to come on standard error if that is a terminal, and not otherwise; it is to be erased at the end. The last line is
+The line is to come on standard error if that is a terminal, and not otherwise; it is to be erased at the end. So is the advice that
+`check` and `dis` give there where they refuse something, but that stays. The last line is
 `N passed, M failed`; the exit status is 1 where one failed.
 """
 import os
@@ -50,7 +51,7 @@ class LongWork:
             print(f"FAILED {name}: {seen!r}")
 
     def run(self, *words):
-        done = subprocess.run([self.program, *words], cwd=self.folder, capture_output=True, timeout=SECONDS, text=True)
+        done = subprocess.run([self.program, *words], cwd=self.folder, stdin=subprocess.DEVNULL, capture_output=True, timeout=SECONDS, text=True)
         return done.returncode, done.stdout, done.stderr
 
     def cuts(self):
@@ -122,6 +123,27 @@ class LongWork:
         self.case("short work shows nothing", (status, seen) == (0, b""), (status, seen))
 
 
+    def advice(self):
+        """What a refusal adds on a terminal, and only there."""
+        policy = os.path.join(self.folder, "refused.s")
+        with open(policy, "w", encoding="ascii") as file:
+            file.write(";@ hook preempt\nldxw r0, [r1+200]\nexit\n")
+        explain = b"bqsim: give --explain too, to see why\r\n"
+        other = b"bqsim: without a file this reads hex; bqsim %s reads a policy in any form\r\n"
+        for words, said in (
+            (("check", policy), explain),
+            (("check", "--explain", policy), b""),
+            (("check", "--json", policy), b""),
+            (("check",), other % b"check --explain -"),
+            (("dis",), other % b"dis -"),
+        ):
+            name = " ".join(words)
+            status, text, seen = self.on_terminal(*words)
+            self.case(f"{name}: its advice", (status, seen) == (1, said), (status, seen))
+            ended, piped, silent = self.run(*words)
+            self.case(f"{name}: no advice without a terminal", (ended, piped.encode(), silent) == (1, text, ""), (ended, silent))
+
+
 def read_all(terminal, seen):
     """What comes to a terminal until its other end is closed."""
     while True:
@@ -140,6 +162,7 @@ def main():
         work.cuts()
         work.closed()
         work.progress()
+        work.advice()
     print(f"{work.passed} passed, {work.failed} failed")
     return work.failed > 0
 
