@@ -7,7 +7,7 @@ use Rattle.bq_policy_check.specs.Saying.{option_bytes}
 use Rattle.bq_timeline.specs.Settings.{AsksFor, IsNoSettings, asked_or, form_asked}
 use Rattle.bq_timeline.specs.declared.settings.Words.{Words}
 use Rattle.bq_words.specs.Sizes.{rule_of}
-use Rattle.bq_words.specs.Durations.{duration_of}
+use Rattle.bq_workload.specs.Durations.{duration_with_unit}
 use Rattle.bq_workload_file.specs.declared.changes.Changes.{Changes}
 use Rattle.bq_experiment.specs.declared.asked.ShownAs.{ShownAs}
 use Rattle.bq_experiment.specs.declared.asked.ShownAs.TheVariants.{Trace, Timeline}
@@ -24,8 +24,9 @@ change_asked read word = asked_or None (λ w. option_map Some (read w)) word
 abbrev pub simulable : ℕ → Option ℕ
 simulable time = if nat_le 1 time && nat_le time longest then Some time else None
 
+-- the time that a word writes with its unit, if it can be simulated
 abbrev pub time_in : List ℕ → Option ℕ
-time_in word = option_and_then simulable (duration_of word)
+time_in word = option_and_then simulable (duration_with_unit word)
 
 -- the words ask for these changes of the machine
 pub record AskForChanges (w : MachineWords) (c : Changes) : Type 0 where

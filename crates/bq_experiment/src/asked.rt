@@ -8,7 +8,8 @@ ghost use Rattle.bq_experiment.specs.Asking.{AskForChanges, AskToShow, IsNoChang
 use crate::words::StudyWords;
 use bq_timeline::{Settings, SettingsFault, Words, with_forms};
 use bq_words::quantities::{decimal, size};
-use bq_words::{ProcessorCount, Rule, duration, with_rules, with_sizes, with_units};
+use bq_words::{ProcessorCount, Rule, with_rules, with_sizes, with_units};
+use bq_workload::duration_with_unit;
 use bq_workload::limits::LONGEST;
 use bq_workload_file::Changes;
 use std::alloc::Global;
@@ -158,11 +159,11 @@ fn seed_asked(word: &Option<String>) -> Option<Option<u64>>
     }
 }
 
-/// A duration that can be simulated.
+/// A duration, with its unit, that can be simulated.
 fn time(word: &[u8]) -> Option<u64>
     ensures { result ≡ time_in word.now }
 {
-    let time = duration(word)?;
+    let time = duration_with_unit(word)?;
     if 1 <= time && time <= LONGEST {
         Some(time)
     } else {

@@ -51,6 +51,11 @@ static REFUSED: [(&str, &str); 37] = [
         "[[task]]\nname = \"a\"\nrun = \"1ms\"\n[[task]]\nname = \"server\"\ndo = [{ run = \"2mss\" }]\n",
         ": [[task]] 2 (server): do 1: run: \"2mss\" is not a duration (a number and ns, us, ms or s, as 1500us or 1.5ms)",
     ),
+    // no unit
+    (
+        "[[task]]\nname = \"a\"\nrun = \"60\"\n",
+        ": [[task]] 1 (a): run: \"60\" is not a duration (a number and ns, us, ms or s, as 1500us or 1.5ms)",
+    ),
     // two points
     (
         "[[task]]\nname = \"a\"\nrun = \"1.5.5ms\"\n",

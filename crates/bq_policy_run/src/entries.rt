@@ -56,7 +56,7 @@ fn put_entry(maps: &mut Maps, alloc: Global, text: &str) -> Result<(), WordsFaul
         return Err(refused(alloc, "map", text, why));
     };
     let Some(mut bytes) = bytes_named(alloc, value)? else {
-        return Err(refused(alloc, "map", text, "the value is no hex"));
+        return Err(refused(alloc, "map", text, "the value is no hex, two digits a byte"));
     };
     if !maps.lookup(map, entry) {
         return Err(refused(alloc, "map", text, "there is no such entry"));

@@ -1,3 +1,4 @@
+pub mod Durations
 pub mod Lengths
 pub mod Streams
 pub mod Draws

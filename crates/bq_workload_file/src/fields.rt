@@ -10,7 +10,8 @@ use crate::tables::at;
 use crate::why::{Range, Wanted, Why};
 use bq_weights::is_nice;
 use bq_words::processor_sets::processors;
-use bq_words::{ProcessorCount, Rule, duration};
+use bq_words::{ProcessorCount, Rule};
+use bq_workload::duration_with_unit;
 use bq_workload::limits::LONGEST_NAME;
 use toml::{Table, Value};
 
@@ -26,12 +27,12 @@ fn within(number: u64, range: Range) -> Option<u64>
     }
 }
 
-/// A duration in a range of nanoseconds.
+/// A duration, with its unit, in a range of nanoseconds.
 pub(crate) fn span(value: &Value, range: Range) -> Option<u64>
     ensures { result ≡ span_in range.least range.greatest (view value.now) }
 {
     let word = value.as_str()?;
-    let span = duration(word.as_bytes())?;
+    let span = duration_with_unit(word.as_bytes())?;
     within(span, range)
 }
 
