@@ -84,6 +84,8 @@ FACTS = [
     ('how often a processor ticks in `par`', r'0 to 1000000\b', {'bq_cli/src/par.rt'}),
     ('how many seeds there may be', r'1 to 1000\b', set()),
     ('how many waits of a processor are drawn', r'LANES: usize', {'bq_drawing/src/lanes.rt'}),
+    ('how many tasks there may be, in clauses', r'[<≤≡)] 1024\b|\b1024 ≤', set()),
+    ('from which to which length slices are, in clauses', r'\b100000 ≤|≤ 100000000\b', set()),
 ]
 
 # The same of definitions.
@@ -96,6 +98,10 @@ DEFINED = [
     ('which numbers are nice values', r'negsuc 19\b', {'bq_weights/specs/VirtualTime.antt'}),
     ('from which to which length slices are', r'slice 100000\b|(?:nat_le|span_in) 100000\b', set()),
     ('how long a name may be', r'nat_le \(length [^)]*\)+ 1024\b', set()),
+    ('how many tasks there may be', r'(?<![*/] )\b1024\b(?! [*∷])', set()),
+    ('how many processors there may be', r'\bprocessor (?:<|≤) 64\b|count_in [^\n]*≤ 64\b|\b64 ≤ processor|\) 64 (?:lines|third|second|runs)\b', set()),
+    ('how far ahead a task may be under CFS', r'\+ 1000000\b', set()),
+    ('the longest line', r'\b131072\b', set()),
     ('how many counters there are', r'replicate 64 0|nat_lt i 64\b|counter < 64\b|length words ≡ 64\b', set()),
     ('how many calls of counters a run makes at most', r'calls ≤ 16\b|16 ≤ count', {'bq_bpf/specs/Safe.antt'}),
     ('the size of the stack', r'(?<!the )\b51[23]\b', {'bq_bpf/specs/Memory.antt'}),
