@@ -7,7 +7,7 @@ use std::alloc::Global;
 use std::test::Fail;
 
 /// A text, and what is said of it after the name of its file.
-static REFUSED: [(&str, &str); 37] = [
+static REFUSED: [(&str, &str); 38] = [
     // no task
     ("", ": [[task]] is missing"),
     // no task beside a machine
